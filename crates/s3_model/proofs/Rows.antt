@@ -1,0 +1,62 @@
+-- Tables of names, as the code keeps them.
+use Rattle.std.proofs.Common.{◌≡◌, ◌≢◌, ◌<◌, ◌∙◌, ℕ, zero, suc, Option, Some, None, List, [], ◌∷◌, Bor, ap, sym, subst, refl, map, length, get_or, slice_get, arith, Bool, true, false}
+use Rattle.std.specs.Option.{option_map, option_and_then}
+use Rattle.std.specs.Map.{lookup}
+use Rattle.std.specs.List.{list_all}
+use Rattle.std.specs.Str.{bytes_eq}
+use Rattle.std.proofs.lemmas.Option.{slice_get-map, slice_get-get_or}
+use Rattle.std.proofs.lemmas.Slice.Eq.{bytes_eq-Decides}
+use Rattle.std.proofs.lemmas.Bool.{cond_both, and_parts}
+use Rattle.std.proofs.lemmas.Bool.Decides.{not_from_Decides}
+use Rattle.s3_model.specs.FirstRow.{IsFirstRow}
+
+-- the name of a row inside the table
+pub row_name : (names : List (Bor (List ℕ))) (i : ℕ) (d : Bor (List ℕ)) → i < length names → slice_get (map (λ row. row.now) names) i ≡ Some (get_or names i d).now
+row_name names i d h = slice_get-map (λ row. row.now) names i ∙ ap (option_map (λ row. row.now)) (slice_get-get_or names i d h)
+
+pub some_injective : {A : Type 0} (x y : A) → Some x ≡ Some y → x ≡ y
+some_injective x y e = cc
+
+-- the value of a row
+abbrev value_at : List (List ℕ × List ℕ) → Option ℕ → Option (List ℕ)
+value_at table row = option_and_then (slice_get (map (λ each. each.1) table)) row
+
+found_here : (e : List ℕ × List ℕ) (es : List (List ℕ × List ℕ)) (name : List ℕ) (row : Option ℕ) → name ≡ e.0
+    → IsFirstRow (map (λ each. each.0) (e ∷ es)) name row → Some e.1 ≡ value_at (e ∷ es) row
+found_here e es name None same h = absurd (h 0 (ap Some (sym same)))
+found_here e es name (Some zero) same h = refl
+found_here e es name (Some (suc k)) same h = absurd (h.1 0 (omega arith) (ap Some (sym same)))
+
+found_later : (e : List ℕ × List ℕ) (es : List (List ℕ × List ℕ)) (name : List ℕ) (found : Option (List ℕ)) (row : Option ℕ) → name ≢ e.0
+    → ((r : Option ℕ) → IsFirstRow (map (λ each. each.0) es) name r → found ≡ value_at es r)
+    → IsFirstRow (map (λ each. each.0) (e ∷ es)) name row → found ≡ value_at (e ∷ es) row
+found_later e es name found None differs rest h = rest None (λ k. h (suc k))
+found_later e es name found (Some zero) differs rest h = absurd (differs (sym (some_injective _ _ h.0)))
+found_later e es name found (Some (suc k)) differs rest h = rest (Some k) (h.0, λ j lt. h.1 (suc j) (omega arith))
+
+-- looking a name up is finding its first row
+lookup_first_row : (table : List (List ℕ × List ℕ)) (name : List ℕ) (row : Option ℕ) → IsFirstRow (map (λ each. each.0) table) name row
+    → lookup (bytes_eq name) table ≡ value_at table row
+lookup_first_row [] name None h = refl
+lookup_first_row [] name (Some k) h = refl
+lookup_first_row (e ∷ es) name row h =
+    cond_both (bytes_eq name e.0) (Some e.1) (lookup (bytes_eq name) es) (λ found. found ≡ value_at (e ∷ es) row)
+    (λ same. found_here e es name row ((bytes_eq-Decides name e.0).0 same) h)
+    (λ other. found_later e es name _ row (not_from_Decides _ (bytes_eq-Decides name e.0) other) (lookup_first_row es name) h)
+
+-- the same, where the names stand in a list of their own
+pub lookup_found : (table : List (List ℕ × List ℕ)) (names : List (List ℕ)) (wanted name : List ℕ) (row : Option ℕ) → names ≡ map (λ each. each.0) table → name ≡ wanted
+    → IsFirstRow names name row → lookup (bytes_eq wanted) table ≡ option_and_then (slice_get (map (λ each. each.1) table)) row
+lookup_found table names wanted name row are same h =
+    subst (λ (w : List ℕ). lookup (bytes_eq w) table ≡ value_at table row) same
+    (lookup_first_row table name row (subst (λ (ns : List (List ℕ)). IsFirstRow ns name row) are h))
+
+-- a name that fails a test which all rows pass is no row's
+pub lookup_fails : (passes : List ℕ → Bool) (table : List (List ℕ × List ℕ)) (name : List ℕ) → list_all (λ each. passes each.0) table ≡ true → passes name ≡ false
+    → lookup (bytes_eq name) table ≡ None
+lookup_fails passes [] name all fails = refl
+lookup_fails passes (e ∷ es) name all fails =
+    let parts = and_parts (passes e.0) (list_all (λ each. passes each.0) es) all in
+    cond_both (bytes_eq name e.0) (Some e.1) (lookup (bytes_eq name) es) (λ found. found ≡ None)
+    (λ same. let equal = (bytes_eq-Decides name e.0).0 same in let clash : true ≡ false = sym parts.0 ∙ ap passes (sym equal) ∙ fails in cc)
+    (λ other. lookup_fails passes es name parts.1 fails)

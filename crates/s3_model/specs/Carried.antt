@@ -1,0 +1,111 @@
+-- What the wires show of the jobs: every job given is carried, and nothing else is sent.
+use Rattle.std.specs.Prelude.{◌≡◌, ◌≢◌, ◌+◌, ◌-◌, ◌^◌, ◌<◌, ◌≤◌, ◌++◌, ◌⊎◌, ◌==◌, ℕ, Bool, true, List, [], ◌∷◌, Option, Some, None, map, filter, filter_map, flat_map, length, slice_get, Contains, AllPairs, IsSome, min, nat_le, if◌then◌else◌}
+use Rattle.s3_model.specs.declared.requests.Ask.{Ask}
+use Rattle.s3_model.specs.declared.requests.Op.TheVariants as op
+use Rattle.s3_model.specs.declared.outcomes.JobId.{JobId}
+use Rattle.s3_model.specs.declared.outcomes.Event.{Event}
+use Rattle.s3_model.specs.declared.outcomes.Event.TheVariants as entry
+use Rattle.s3_model.specs.declared.answers.Class.{Class}
+use Rattle.s3_model.specs.declared.answers.Class.TheVariants as class
+use Rattle.s3_model.specs.declared.tries.Mark.{Mark}
+use Rattle.s3_model.specs.declared.tries.Mark.TheVariants as mark
+use Rattle.s3_model.specs.Classes.{is_tried_again}
+use Rattle.s3_model.specs.Talks.{Talk, Note, Moment, Pause, Began}
+use Rattle.s3_model.specs.Dispatches.{Attempt, Dispatched, dispatches, last_of}
+use Rattle.s3_model.specs.Schedule.{Setting, IsBefore, IsFailed, IsStopped}
+
+abbrev pub mark_of : Class → Mark
+mark_of (class.Success reply) = mark.Success
+mark_of (class.Refusal code message) = mark.Refusal
+mark_of (class.Uncertain why) = mark.Uncertain
+
+abbrev pub talks_of : Dispatched → List Talk
+talks_of c = map (λ (attempt : Attempt). attempt.talk) c.dispatch.attempts
+
+abbrev pub IsPrefixOf : List ℕ → List ℕ → Type 0
+IsPrefixOf xs ys = (rest : List ℕ) × (xs ++ rest ≡ ys)
+
+-- the pauses before the nth attempt of a job
+abbrev pub pauses_before : ℕ → List ℕ
+pauses_before n = if nat_le n 1 then [] else min 20 (2 ^ (n - 2)) ∷ []
+
+abbrev pub pause_of : Note → Option ℕ
+pause_of (Pause seconds) = Some seconds
+pause_of (Moment seconds) = None
+pause_of Began = None
+
+-- an attempt with the job that it is of, and its number, counted from 1
+pub record Numbered : Type 0 where
+  pub of : Dispatched
+  pub number : ℕ
+  pub attempt : Attempt
+
+abbrev pub numbered_from : Dispatched → ℕ → List Attempt → List Numbered
+numbered_from c k [] = []
+numbered_from c k (attempt ∷ attempts) = record { of = c; number = c.dispatch.earlier + k + 1; attempt = attempt } ∷ numbered_from c (k + 1) attempts
+
+abbrev pub in_lane : ℕ → List Dispatched → List Dispatched
+in_lane lane dispatched = filter (λ (c : Dispatched). c.dispatch.lane == lane) dispatched
+
+-- `Shows ask limit talk class bytes`: the talk has that class for the ask, and its answer that body;
+-- `request_text ask body moment`: the text of a request, signed at that moment
+module _ (Shows : Ask → ℕ → Talk → Class → List ℕ → Type 0) (request_text : Ask → List ℕ → ℕ → List ℕ) (host : List ℕ) (port : ℕ) where
+  -- the whole text was sent, or a beginning of it where the answer leaves it open
+  abbrev pub SaysAll : Class → List ℕ → List ℕ → Type 0
+  SaysAll (class.Success reply) sent text = sent ≡ text
+  SaysAll (class.Refusal code message) sent text = sent ≡ text
+  SaysAll (class.Uncertain why) sent text = IsPrefixOf sent text
+
+  -- the talk goes to the endpoint and says the request at that moment
+  pub record IsSaid (a : Numbered) (moment : ℕ) : Type 0 where
+    pub to_host : a.attempt.talk.host ≡ host
+    pub to_port : a.attempt.talk.port ≡ port
+    pub text : (shown : Class) (bytes : List ℕ) → Shows a.of.ask a.of.limit a.attempt.talk shown bytes
+        → SaysAll shown a.attempt.talk.sent (request_text a.of.ask a.of.body moment)
+    pub beginning : IsPrefixOf a.attempt.talk.sent (request_text a.of.ask a.of.body moment)
+
+  -- The notes of a wire: before each attempt its pause and then a moment, at which it is signed.
+  -- Only a pause after which memory was wanted is followed by no attempt.
+  abbrev pub AreNoted : Bool → List Numbered → List Note → Type 0
+  AreNoted may_wait [] notes = ¬ (Contains notes Began) × ((filter_map pause_of notes ≡ []) ⊎ (may_wait ≡ true))
+  AreNoted may_wait (a ∷ attempts) notes =
+      (front : List Note) × (seconds : ℕ) × (rest : List Note) × (extra : List ℕ) × (notes ≡ front ++ Moment seconds ∷ Began ∷ rest) × ¬ (Contains front Began)
+      × (filter_map pause_of front ≡ extra ++ pauses_before a.number) × ((extra ≡ []) ⊎ (may_wait ≡ true)) × IsSaid a seconds × AreNoted may_wait attempts rest
+
+  -- A job may stop before its attempts are through where it is no Abort and it is cut, or where something else of its task had failed or the run was cancelled.
+  abbrev pub MayStop : Setting → List Dispatched → Dispatched → Type 0
+  MayStop s coming c =
+      IsSome c.dispatch.job.task × (c.dispatch.job.op ≢ op.Abort)
+      × (((other : Dispatched) × Contains coming other × (other.dispatch.job ≡ c.dispatch.job) × IsBefore c.dispatch.came_at other.dispatch.given_at)
+      ⊎ IsStopped s c.dispatch.job.task
+      ⊎ ((failed : Dispatched) × IsFailed Shows s coming failed × (failed.dispatch.job.task ≡ c.dispatch.job.task) × (failed.dispatch.job ≢ c.dispatch.job)))
+
+  abbrev pub IsWanting : Setting → Dispatched → Type 0
+  IsWanting s c = s.wanted_memory c.dispatch.job.task ≡ true
+
+  -- the last attempt may be tried again, as far as its talk shows
+  abbrev pub WouldGoOn : Dispatched → Attempt → Type 0
+  WouldGoOn c attempt = (shown : Class) × (bytes : List ℕ) × Shows c.ask c.limit attempt.talk shown bytes × (is_tried_again shown ≡ true)
+
+  pub record IsCarried (s : Setting) (journal : List Event) (logs : ℕ → List Talk) (notes : ℕ → List Note) (dispatched coming : List Dispatched) : Type 0 where
+    -- the dispatches are those of the journal, with the talks of the logs; each comes once, with as many talks as marks, in the order of its lane
+    pub shown : map (λ (c : Dispatched). c.dispatch) dispatched ≡ dispatches journal logs
+    pub comes : (c : Dispatched) → Contains dispatched c → (place : ℕ) × (tries : List Mark) × (c.dispatch.came_at ≡ Some place)
+        × (slice_get journal place ≡ Some (entry.Came c.dispatch.job c.dispatch.lane tries)) × (length tries ≡ length c.dispatch.attempts)
+    pub nothing_else : (place lane : ℕ) (job : JobId) (tries : List Mark) → slice_get journal place ≡ Some (entry.Came job lane tries)
+        → (c : Dispatched) × Contains dispatched c × (c.dispatch.came_at ≡ Some place)
+    pub in_turn : (lane : ℕ) → AllPairs (λ (a b : Dispatched). (at : ℕ) → b.dispatch.came_at ≡ Some at → IsBefore a.dispatch.came_at at) (in_lane lane dispatched)
+    pub gained : (lane : ℕ) → logs lane ≡ flat_map talks_of (in_lane lane dispatched)
+    pub noted : (lane : ℕ) → (may_wait : Bool) × (may_wait ≡ true → (c : Dispatched) × Contains (in_lane lane dispatched) c × IsWanting s c)
+        × AreNoted may_wait (flat_map (λ (c : Dispatched). numbered_from c 0 c.dispatch.attempts) (in_lane lane dispatched)) (notes lane)
+    -- a mark is the talk's class, but that the last may be Uncertain for want of memory
+    pub marks : (c : Dispatched) (k : ℕ) (attempt : Attempt) → Contains dispatched c → slice_get c.dispatch.attempts k ≡ Some attempt
+        → ((shown : Class) × (bytes : List ℕ) × Shows c.ask c.limit attempt.talk shown bytes × (attempt.mark ≡ mark_of shown))
+        ⊎ ((k + 1 ≡ length c.dispatch.attempts) × (attempt.mark ≡ mark.Uncertain) × IsWanting s c)
+    -- each attempt but the last is tried again, and a job stops early only as above
+    pub again : (c : Dispatched) (k : ℕ) (attempt : Attempt) → Contains dispatched c → slice_get c.dispatch.attempts k ≡ Some attempt → k + 1 < length c.dispatch.attempts
+        → WouldGoOn c attempt
+    pub at_most : (c : Dispatched) → Contains dispatched c → c.dispatch.earlier + length c.dispatch.attempts ≤ s.config.attempts
+    pub to_the_end : (c : Dispatched) (attempt : Attempt) → Contains dispatched c → last_of c.dispatch.attempts ≡ Some attempt → WouldGoOn c attempt
+        → (c.dispatch.earlier + length c.dispatch.attempts ≡ s.config.attempts) ⊎ IsWanting s c ⊎ MayStop s coming c
+    pub silent : (c : Dispatched) → Contains dispatched c → c.dispatch.attempts ≡ [] → IsWanting s c ⊎ MayStop s coming c

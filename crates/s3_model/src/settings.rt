@@ -1,0 +1,48 @@
+use crate::text::Text;
+
+/// What a service allows of uploads in parts, in bytes; `max_parts` is a count.
+#[derive(Clone, Copy, Debug, PartialEq, Eq)]
+pub struct Limits {
+    pub min_part: u64,
+    pub max_part: u64,
+    pub max_parts: u32,
+    pub max_object: u64,
+}
+
+/// How transfers are made. `threshold` and `chunk` are in bytes, the others are counts.
+#[derive(Clone, Copy, Debug, PartialEq, Eq)]
+pub struct Config {
+    pub threshold: u64,
+    pub chunk: u64,
+    pub lanes: u32,
+    pub queue: u32,
+    pub buffers: u32,
+    pub attempts: u32,
+}
+
+/// What requests are signed with. It has no `Debug`, so that no secret is printed.
+#[derive(Drop)]
+pub struct Keys {
+    pub id: Text,
+    pub secret: Text,
+    pub token: Option<Text>,
+    pub region: Text,
+}
+
+/// What a run takes from its settings.
+#[derive(Drop)]
+pub struct Settings {
+    pub keys: Keys,
+    pub config: Config,
+}
+
+/// What the environment and the command line say of the settings; `named` says that the command line named the profile.
+#[derive(Drop)]
+pub struct EnvWords {
+    pub id: Option<Text>,
+    pub secret: Option<Text>,
+    pub token: Option<Text>,
+    pub region: Option<Text>,
+    pub profile: Option<Text>,
+    pub named: bool,
+}

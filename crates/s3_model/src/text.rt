@@ -1,0 +1,83 @@
+ghost use Rattle.std.specs.Prelude.{◌≡◌, IfOk};
+ghost use Rattle.std.specs.List.{flat_map};
+
+use crate::list::OutOfMemory;
+use std::alloc::Global;
+use std::marker::Model;
+
+/// An owned text. Contracts see the list of its UTF-8 bytes.
+#[derive(Debug, Drop)]
+pub struct Text {
+    inner: String,
+}
+
+impl Model for Text {
+    ghost use Rattle.std.specs.Prelude.{List, ℕ, string_bytes};
+
+    ghost Value = { List ℕ };
+
+    ghost view = { λ t. string_bytes t.inner };
+}
+
+fn size_of_all(pieces: &[&str]) -> usize {
+    let mut size: usize = 0;
+    for piece in pieces {
+        size = size.saturating_add(piece.len());
+    }
+    size
+}
+
+impl Text {
+    /// A copy of a text.
+    pub fn of(alloc: Global, s: &str) -> Result<Text, OutOfMemory>
+        ensures { IfOk result (λ text. text ≡ s.now) }
+    {
+        match String::from_str(alloc, s) {
+            Ok(inner) => Ok(Text { inner }),
+            Err(_) => Err(OutOfMemory),
+        }
+    }
+
+    /// The pieces one after another, in one text of just that size.
+    pub fn joined(alloc: Global, pieces: &[&str]) -> Result<Text, OutOfMemory>
+        ensures { IfOk result (λ text. text ≡ flat_map (λ piece. piece.now) pieces.now) }
+    {
+        let Ok(mut inner) = String::with_capacity(alloc, size_of_all(pieces)) else {
+            return Err(OutOfMemory);
+        };
+        for piece in pieces {
+            if inner.push_str(piece).is_err() {
+                return Err(OutOfMemory);
+            }
+        }
+        Ok(Text { inner })
+    }
+
+    /// The text, lent.
+    pub fn as_str(&self) -> &str
+        ensures { result.now ≡ self.now }
+    {
+        self.inner.as_str()
+    }
+
+    /// A second owner of the same text.
+    pub fn copy(&self) -> Result<Text, OutOfMemory>
+        ensures { IfOk result (λ text. text ≡ self.now) }
+    {
+        match self.inner.clone() {
+            Ok(inner) => Ok(Text { inner }),
+            Err(_) => Err(OutOfMemory),
+        }
+    }
+}
+
+/// A text that was put together takes over the string, without memory.
+impl From<String> for Text {
+    ghost use Rattle.std.specs.Prelude.{◌≡◌, string_bytes};
+
+    ghost from_gives = { λ s t. t ≡ string_bytes s };
+
+    fn from(inner: String) -> Text {
+        Text { inner }
+    }
+}
