@@ -1,0 +1,13 @@
+-- A list of talks with its last one written.
+use Rattle.std.proofs.Common.{◌≡◌, ℕ, zero, suc, ◌+◌, List, [], ◌∷◌, map, length, slice_index_or, slice_set, ap, arith}
+use Rattle.s3_model.specs.Talks.{Talk}
+use Rattle.s3_outside.specs.Wire.{change_last}
+use Rattle.s3_outside.specs.TalkLog.{talk_of}
+use Rattle.s3_outside.specs.declared.talk_log.TalkRecord.{TalkRecord}
+
+pub last_changed : (change : Talk → Talk) (talks : List TalkRecord) (i : ℕ) (default new : TalkRecord) → i + 1 ≡ length talks → talk_of new ≡ change (talk_of (slice_index_or talks i default)) → map talk_of (slice_set talks i new) ≡ change_last change (map talk_of talks)
+last_changed change [] i default new last changed = absurd (omega arith)
+last_changed change (talk ∷ []) zero default new last changed = ap (λ (t : Talk). t ∷ []) changed
+last_changed change (talk ∷ []) (suc i) default new last changed = absurd (omega arith)
+last_changed change (talk ∷ next ∷ talks) zero default new last changed = absurd (omega arith)
+last_changed change (talk ∷ next ∷ talks) (suc i) default new last changed = ap (λ (ts : List Talk). talk_of talk ∷ ts) (last_changed change (next ∷ talks) i default new (omega arith) changed)

@@ -1,0 +1,4 @@
+mod Below
+mod LastTalk
+pub mod TellsLemmas
+mod TextMaps

@@ -1,0 +1,9 @@
+pub mod Env
+pub mod Files
+pub mod MemFiles
+pub mod Sink
+pub mod StoreCode
+pub mod TalkLog
+pub mod TextMap
+pub mod Told
+pub mod Wire

@@ -1,0 +1,50 @@
+-- What the calls of a wire add to its log.
+use Rattle.std.specs.Prelude.{◌++◌, ◌==◌, ◌&&◌, ℕ, Bool, List, [], ◌∷◌, Result, Ok, Err, length, take, not, if◌then◌else◌}
+use Rattle.s3_model.specs.Talks.{Talk, Ending, Failed, Closed, Finished, Note, Began, WireLog}
+
+abbrev pub noted : Note → WireLog → WireLog
+noted note log = record log { notes = log.notes ++ note ∷ [] }
+
+-- A talk begins, also where the connection could not be opened.
+abbrev pub begun : List ℕ → ℕ → Bool → WireLog → WireLog
+begun host port opened log = record {
+  talks = log.talks ++ record { host = host; port = port; sent = []; got = []; ending = if opened then Finished else Failed } ∷ [];
+  notes = log.notes ++ Began ∷ [];
+}
+
+-- the talks with the last of them changed
+abbrev pub change_last : (Talk → Talk) → List Talk → List Talk
+change_last change [] = []
+change_last change (talk ∷ []) = change talk ∷ []
+change_last change (talk ∷ next ∷ talks) = talk ∷ change_last change (next ∷ talks)
+
+abbrev pub last_talk : (Talk → Talk) → WireLog → WireLog
+last_talk change log = record log { talks = change_last change log.talks }
+
+-- a talk in which a call failed stays one that failed
+abbrev pub after_close : Ending → Ending
+after_close Failed = Failed
+after_close Closed = Closed
+after_close Finished = Closed
+
+abbrev pub fails : Talk → Talk
+fails talk = record talk { ending = Failed }
+
+abbrev pub closes : Talk → Talk
+closes talk = record talk { ending = after_close talk.ending }
+
+abbrev pub sends : List ℕ → Talk → Talk
+sends bytes talk = record talk { sent = talk.sent ++ bytes }
+
+abbrev pub gets : List ℕ → Talk → Talk
+gets bytes talk = record talk { got = talk.got ++ bytes }
+
+-- the bytes that were taken are sent
+abbrev pub after_send : {E : Type 0} → List ℕ → Result ℕ E → WireLog → WireLog
+after_send bytes (Ok count) log = last_talk (sends (take count bytes)) log
+after_send bytes (Err fault) log = last_talk fails log
+
+-- the bytes that came are got; none that came into a place with room are the end
+abbrev pub after_take : {E : Type 0} → List ℕ → Result ℕ E → WireLog → WireLog
+after_take into (Ok count) log = if count == 0 && not (length into == 0) then last_talk closes log else last_talk (gets (take count into)) log
+after_take into (Err fault) log = last_talk fails log

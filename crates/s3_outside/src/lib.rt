@@ -1,0 +1,38 @@
+//! What a run meets outside: wires, files, outputs and the environment, each with a count of its faults, and with
+//! what it holds where it tells it.
+#![tactic(auto)]
+
+mod disk_files;
+mod env;
+mod file_table;
+mod files;
+mod mem_env;
+mod mem_files;
+mod mem_sink;
+mod real_env;
+mod script_wire;
+mod sink;
+mod socket_wire;
+mod std_sink;
+mod talk_log;
+mod text_map;
+mod wire;
+
+pub use disk_files::DiskFiles;
+pub use env::{Env, EnvFault};
+pub use file_table::{FileTable, MemFile};
+pub use files::{FileFault, FileNote, Files, Shape};
+pub use mem_env::MemEnv;
+pub use mem_files::MemFiles;
+pub use mem_sink::MemSink;
+pub use real_env::{RealEnv, S3_LIMITS};
+pub use script_wire::{ScriptWire, WireCall};
+pub use sink::Sink;
+pub use socket_wire::SocketWire;
+pub use std_sink::StdSink;
+pub use talk_log::{TalkEnding, TalkLog, TalkRecord, WireNote};
+pub use text_map::TextMap;
+pub use wire::{Failed, Wire};
+
+#[cfg(test)]
+mod tests;
