@@ -1,0 +1,4 @@
+pub mod EndpointLemmas
+pub mod FirstPlace
+pub mod TempNames
+pub mod UriLemmas

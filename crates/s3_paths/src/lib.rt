@@ -1,0 +1,15 @@
+//! S3 URIs, the names of a transfer's two sides, and endpoints.
+#![tactic(auto)]
+
+mod endpoints;
+mod joins;
+mod names;
+mod uris;
+
+pub use endpoints::endpoint;
+pub use names::{key_of, local_of};
+pub use s3_model::{Endpoint, EndpointFault, KeySkip, UriFault};
+pub use uris::S3Uri;
+
+#[cfg(test)]
+mod tests;
