@@ -1,0 +1,4 @@
+pub mod Filters
+pub mod Patterns
+pub mod Runs
+pub mod Sets
