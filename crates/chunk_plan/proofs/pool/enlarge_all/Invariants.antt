@@ -1,0 +1,10 @@
+use Rattle.std.proofs.Common.{◌≤◌, ℕ}
+use Rattle.std.specs.List.{AllWithin}
+use Rattle.chunk_plan.specs.Pool.{HaveRoom}
+use Rattle.chunk_plan.proofs.pool.enlarge_all.Given as goal
+
+abbrev pub invariant-loop-part : goal.invariant-loop-part
+invariant-loop-part l = record {
+  kept : (room : ℕ) → HaveRoom room l.initial.parts → HaveRoom room l.parts;
+  enlarged : AllWithin (λ part. l.bytes ≤ part.bytes.room) l.parts 0 l.part-index;
+}

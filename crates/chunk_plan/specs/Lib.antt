@@ -1,0 +1,3 @@
+pub mod Adjusted
+pub mod Cover
+pub mod Pool
