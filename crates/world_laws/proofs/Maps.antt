@@ -1,0 +1,89 @@
+-- Maps at one key: what is there after a change.
+use Rattle.std.proofs.Common.{◌≡◌, ◌∙◌, ◌⊎◌, ℕ, Bool, true, false, cond, List, Option, Some, None, refl, sym, ap, inl, inr}
+use Rattle.std.specs.Prelude.{IsNone}
+use Rattle.std.specs.Ordering.{eq_by_cmp, is_eq, nat_cmp}
+use Rattle.std.specs.declared.cmp.Ordering.{Ordering}
+use Rattle.std.specs.declared.cmp.Ordering.TheVariants.{Less, Equal, Greater}
+use Rattle.std.specs.Cmp.{IsTotalOrder, eq_by_cmp_equiv}
+use Rattle.std.specs.Cmp.Lexicographic.{slice_cmp, nat_list_cmp_total}
+use Rattle.std.specs.FinMap.{FinMap, get, insert, remove, empty, get-insert, get-remove, get-empty, IsAntisymmetric, slice_cmp-IsAntisymmetric, nat_cmp-IsAntisymmetric}
+
+either_way : (b : Bool) → (b ≡ true) ⊎ (b ≡ false)
+either_way true = inl refl
+either_way false = inr refl
+
+equal_from_test : (o : Ordering) → is_eq o ≡ true → o ≡ Equal
+equal_from_test Less e = cc
+equal_from_test Equal e = refl
+equal_from_test Greater e = cc
+
+pub none_is_some : {V : Type 0} (w : V) → ◌≡◌ {A = Option V} None (Some w) → ⊥
+none_is_some w e = cc
+
+pub some_is : {V : Type 0} (a b : V) → Some a ≡ Some b → a ≡ b
+some_is a b e = cc
+
+-- nothing and something are never found at once
+pub not_both : {V : Type 0} (found : Option V) (w : V) → found ≡ None → found ≡ Some w → ⊥
+not_both found w none some = none_is_some w (sym none ∙ some)
+
+pub nothing_is : {V : Type 0} (found : Option V) → IsNone found → found ≡ None
+nothing_is None h = refl
+nothing_is (Some w) h = cc
+
+pub is_nothing : {V : Type 0} (found : Option V) → found ≡ None → IsNone found
+is_nothing None e = refl
+is_nothing (Some w) e = absurd (none_is_some w (sym e))
+
+pub found_in_empty : {K V : Type 0} (R : K → K → Ordering) (q : K) (w : V) → get (empty {X = V} {R = R}) q ≡ Some w → ⊥
+found_in_empty R q w e = none_is_some w (sym (get-empty R q) ∙ e)
+
+module _ {K : Type 0} {R : K → K → Ordering} (total : IsTotalOrder R) (exact : IsAntisymmetric R) where
+  -- two keys are one or differ
+  pub key_decided : (x y : K) → (x ≡ y) ⊎ (x ≡ y → ⊥)
+  key_decided x y = elim (either_way (eq_by_cmp R x y)) [
+    | inl e ↦ inl (exact x y (equal_from_test _ e))
+    | inr e ↦ inr (λ same. let alike : eq_by_cmp R x y ≡ true = sym (ap (eq_by_cmp R x) same) ∙ (eq_by_cmp_equiv total).refl x in differ (eq_by_cmp R x y) alike e)
+  ]
+    where
+      differ : (b : Bool) → b ≡ true → b ≡ false → ⊥
+      differ b t f = cc
+
+  other_key : (x y : K) → (x ≡ y → ⊥) → eq_by_cmp R x y ≡ false
+  other_key x y apart = elim (either_way (eq_by_cmp R x y)) [ inl e ↦ absurd (apart (exact x y (equal_from_test _ e))) | inr e ↦ e ]
+
+  pub get-insert_same : {V : Type 0} (m : FinMap R V) (k : K) (v : V) → get (insert m k v) k ≡ Some v
+  get-insert_same m k v = get-insert total m k v k ∙ ap (λ b. cond b (Some v) (get m k)) ((eq_by_cmp_equiv total).refl k)
+
+  pub get-insert_other : {V : Type 0} (m : FinMap R V) (k : K) (v : V) (q : K) → (q ≡ k → ⊥) → get (insert m k v) q ≡ get m q
+  get-insert_other m k v q apart = get-insert total m k v q ∙ ap (λ b. cond b (Some v) (get m q)) (other_key q k apart)
+
+  pub get-remove_same : {V : Type 0} (m : FinMap R V) (k : K) → get (remove m k) k ≡ None
+  get-remove_same m k = get-remove total m k k ∙ ap (λ b. cond b None (get m k)) ((eq_by_cmp_equiv total).refl k)
+
+  pub get-remove_other : {V : Type 0} (m : FinMap R V) (k q : K) → (q ≡ k → ⊥) → get (remove m k) q ≡ get m q
+  get-remove_other m k q apart = get-remove total m k q ∙ ap (λ b. cond b None (get m q)) (other_key q k apart)
+
+  -- what stands at a key after an insertion is the new value, or what stood there
+  pub found_after_insert : {V : Type 0} (m : FinMap R V) (k : K) (v : V) (q : K) (w : V) → get (insert m k v) q ≡ Some w → ((q ≡ k) × (v ≡ w)) ⊎ (get m q ≡ Some w)
+  found_after_insert m k v q w e =
+      elim (key_decided q k) [
+        | inl same ↦ inl (same, some_is v w (sym (get-insert_same m k v) ∙ ap (get (insert m k v)) (sym same) ∙ e))
+        | inr other ↦ inr (sym (get-insert_other m k v q other) ∙ e)
+      ]
+
+  -- what stands at a key after a removal stood there
+  pub found_after_remove : {V : Type 0} (m : FinMap R V) (k q : K) (w : V) → get (remove m k) q ≡ Some w → get m q ≡ Some w
+  found_after_remove m k q w e =
+      elim (key_decided q k) [
+        | inl same ↦ absurd (not_both (get (remove m k) q) w (ap (get (remove m k)) same ∙ get-remove_same m k) e)
+        | inr other ↦ sym (get-remove_other m k q other) ∙ e
+      ]
+
+-- ---- keys that are texts
+
+pub text_exact : IsAntisymmetric (slice_cmp nat_cmp)
+text_exact = slice_cmp-IsAntisymmetric nat_cmp-IsAntisymmetric
+
+pub text_decided : (x y : List ℕ) → (x ≡ y) ⊎ (x ≡ y → ⊥)
+text_decided x y = key_decided nat_list_cmp_total text_exact x y

@@ -1,0 +1,157 @@
+-- Moved objects: the source goes only once the destination is new.
+use Rattle.std.proofs.Common.{append_assoc, ◌≡◌, ◌∙◌, ◌⊎◌, ◌++◌, ℕ, List, [], ◌∷◌, Option, None, refl, sym, ap, subst, inl, inr, Contains, filter_map, slice_get}
+use Rattle.std.proofs.lemmas.List.{map-append}
+use Rattle.std.proofs.lemmas.List.Elements.{filter_map-append}
+use Rattle.s3_model.specs.declared.requests.Ask.{Ask}
+use Rattle.s3_model.specs.declared.requests.Ask.TheVariants as ask
+use Rattle.s3_model.specs.declared.answers.Reply.{Reply}
+use Rattle.s3_model.specs.declared.answers.Reply.TheVariants as reply
+use Rattle.s3_model.specs.declared.answers.Class.{Class}
+use Rattle.s3_model.specs.declared.outcomes.JobId.{JobId}
+use Rattle.s3_model.specs.declared.outcomes.Event.{Event}
+use Rattle.s3_model.specs.declared.outcomes.Event.TheVariants as entry
+use Rattle.s3_model.specs.declared.settings.Limits.{Limits}
+use Rattle.s3_model.specs.Talks.{Talk}
+use Rattle.s3_model.specs.ServiceState.{State, Object, object_at}
+use Rattle.s3_model.specs.Serves.{Replied, Succeeds, MayChange, ExternalWrite, Writes, Removes, after_external}
+use Rattle.s3_model.specs.Dispatches.{Dispatched}
+use Rattle.s3_model.specs.Traces.{Request, Step, TraceEvent, Given, Begin, Serve, External, Came, Steps, state_after, states, events_of, event_of}
+use Rattle.s3_model.specs.Fits.{request_at}
+use Rattle.s3_model.specs.Endings.{IsDeleted}
+use Rattle.world_laws.specs.Premises.{IsFitting, IsPlace, AreGiven, HasCome, HasSucceeded}
+use Rattle.world_laws.specs.Moves.{IsGivenAfter, IsWritten, CopyComesFirst, CopiedPartsComeFirst, SourceIsGone}
+use Rattle.world_laws.proofs.Members.{Has, has, contains_of, place_in_front}
+use Rattle.world_laws.proofs.Objects.{object_at-without_object, place_decided}
+use Rattle.world_laws.proofs.Requests.{IsWriteOf}
+use Rattle.world_laws.proofs.Traces.{begun_through, step_of, event_of_whole}
+use Rattle.world_laws.proofs.Fitting as fitting
+use Rattle.world_laws.proofs.Fitting.{come_by}
+use Rattle.world_laws.proofs.Frame.{any_decided}
+use Rattle.world_laws.proofs.Order.{begins_after}
+use Rattle.world_laws.proofs.Kept.{unwritten}
+use Rattle.world_laws.proofs.Destinations as dest
+use Rattle.world_laws.proofs.SmallTransfers as small
+use Rattle.world_laws.proofs.InParts as in_parts
+use Rattle.world_laws.proofs.Multipart.{IsWholeOf}
+
+-- what has come in the first part has come
+come_later : (front rest : List Step) (c : Dispatched) → HasCome (filter_map event_of (events_of front)) c → HasCome (filter_map event_of (events_of (front ++ rest))) c
+come_later front rest c come =
+    let both : filter_map event_of (events_of (front ++ rest)) ≡ filter_map event_of (events_of front) ++ filter_map event_of (events_of rest) =
+    ap (filter_map event_of) (map-append (λ (step : Step). step.event) front rest) ∙ filter_map-append event_of (events_of front) (events_of rest) in (
+      come.0,
+      come.1,
+      come.2,
+      ap (λ (j : List Event). slice_get j come.0) both
+          ∙ place_in_front (filter_map event_of (events_of front)) (filter_map event_of (events_of rest)) come.0 (entry.Came c.dispatch.job c.dispatch.lane come.1) come.3,
+    )
+
+module _ (Shows : Ask → ℕ → Talk → Class → List ℕ → Type 0) where
+  -- ---- the destination
+
+  module _ (limits : Limits) (start : State) (trace : List Step) (dispatched : List Dispatched) (journal : List Event) (bucket key : List ℕ)
+      (p : IsFitting Shows limits start trace journal dispatched (IsPlace bucket key)) (given : AreGiven journal dispatched) (IsNew : Option Object → Type 0)
+      (makes_new : dest.MakesNew Shows limits start trace dispatched journal p.runs p.fits bucket key IsNew) where
+    pub new_once_begun : (part late : List Step) → trace ≡ part ++ late → (c : Dispatched) → Contains dispatched c → MayChange c.ask bucket key → HasCome journal c → HasSucceeded Shows c
+        → (job : JobId) → IsGivenAfter c job dispatched → (lane : ℕ) (sent : Request) → Has (events_of part) (Begin lane sent) → sent.job ≡ job → IsNew (object_at (state_after start part) bucket key)
+    new_once_begun part late is c known may come succeeded job waits lane sent begun same =
+        let at = step_of part (Begin lane sent) begun in
+        let in_two : trace ≡ (at.front ++ at.step ∷ at.back) ++ late = is ∙ ap (λ (t : List Step). t ++ late) at.is in
+        let so_far = begins_after Shows limits start trace dispatched journal p.runs p.fits given c job come waits at.front at.step (at.back ++ late) lane sent
+        (in_two ∙ append_assoc at.front (at.step ∷ at.back) late) at.is_event same in
+        subst (λ (t : List Step). IsNew (object_at (state_after start t) bucket key)) (sym at.is)
+        (dest.success_makes_new Shows limits start trace dispatched journal p.runs p.fits bucket key IsNew makes_new
+        (dest.unwritten_is_new Shows limits start trace dispatched journal p.runs p.fits bucket key IsNew (unwritten start trace (IsPlace bucket key) p.honest bucket key (refl, refl)))
+        (at.front ++ at.step ∷ at.back) late in_two c known may (come_later at.front (at.step ∷ at.back) c so_far) succeeded)
+
+  pub copy_comes_first : CopyComesFirst Shows
+  copy_comes_first bucket key from_bucket from_key etag limits start trace part late journal dispatched p ours given c known may come succeeded job waits is lane sent begun same =
+      new_once_begun limits start trace dispatched journal bucket key p given (small.IsContent Shows bucket key from_bucket from_key etag (states start trace))
+      (λ d old answered bytes new served changes. small.copies Shows bucket key from_bucket from_key etag limits start trace dispatched d old answered bytes new served (ours d served.known changes))
+      part late is c known may come succeeded job waits lane sent (has (events_of part) (Begin lane sent) begun) same
+
+  pub copied_parts_come_first : CopiedPartsComeFirst Shows
+  copied_parts_come_first bucket key from_bucket from_key etag ranges count limits start trace part late journal dispatched p ours given c known may come succeeded job waits is lane sent begun same =
+      in_parts.copied_of Shows bucket key from_bucket from_key etag ranges count limits start trace journal dispatched p ours (object_at (state_after start part) bucket key)
+      (new_once_begun limits start trace dispatched journal bucket key p given
+      (IsWholeOf (in_parts.IsCopied Shows bucket key from_bucket from_key etag ranges count limits start trace journal dispatched p ours) count)
+      (in_parts.copy_makes_new Shows bucket key from_bucket from_key etag ranges count limits start trace journal dispatched p ours)
+      part late is c known may come succeeded job waits lane sent (has (events_of part) (Begin lane sent) begun) same)
+
+  -- ---- the source
+
+  -- an event writes the object from outside
+  abbrev IsWriteAt : List ℕ → List ℕ → TraceEvent → Type 0
+  IsWriteAt bucket key (External (Writes b k object)) = (b ≡ bucket) × (k ≡ key)
+  IsWriteAt bucket key (External (Removes b k)) = ⊥
+  IsWriteAt bucket key (Given job lane) = ⊥
+  IsWriteAt bucket key (Begin lane sent) = ⊥
+  IsWriteAt bucket key (Serve sent answer) = ⊥
+  IsWriteAt bucket key (Came job lane tries) = ⊥
+
+  write_at_decided : (bucket key : List ℕ) (event : TraceEvent) → IsWriteAt bucket key event ⊎ (IsWriteAt bucket key event → ⊥)
+  write_at_decided bucket key (External (Writes b k object)) = place_decided b k bucket key
+  write_at_decided bucket key (External (Removes b k)) = inr (λ h. h)
+  write_at_decided bucket key (Given job lane) = inr (λ h. h)
+  write_at_decided bucket key (Begin lane sent) = inr (λ h. h)
+  write_at_decided bucket key (Serve sent answer) = inr (λ h. h)
+  write_at_decided bucket key (Came job lane tries) = inr (λ h. h)
+
+  written_by : (trace : List Step) (bucket key : List ℕ) (event : TraceEvent) → Has (events_of trace) event → IsWriteAt bucket key event → IsWritten trace bucket key
+  written_by trace bucket key (External (Writes b k object)) h at = (
+    object,
+    contains_of (events_of trace) (External (Writes bucket key object))
+        (subst (λ (x : List ℕ). Has (events_of trace) (External (Writes bucket x object))) at.1 (subst (λ (x : List ℕ). Has (events_of trace) (External (Writes x k object))) at.0 h)),
+  )
+  written_by trace bucket key (External (Removes b k)) h at = absurd at
+  written_by trace bucket key (Given job lane) h at = absurd at
+  written_by trace bucket key (Begin lane sent) h at = absurd at
+  written_by trace bucket key (Serve sent answer) h at = absurd at
+  written_by trace bucket key (Came job lane tries) h at = absurd at
+
+  delete_is_gone : (limits : Limits) (old : State) (bucket key body : List ℕ) (answered : Reply) (bytes : List ℕ) (new : State) → Succeeds limits old (ask.Delete bucket key) body answered bytes new → answered ≡ reply.Gone
+  delete_is_gone limits old bucket key body reply.Gone bytes new h = refl
+  delete_is_gone limits old bucket key body answered bytes new h = absurd h
+
+  removed_is_none : (bucket key : List ℕ) (write : ExternalWrite) (old : State) → (IsWriteAt bucket key (External write) → ⊥) → IsWriteOf write bucket key → object_at (after_external write old) bucket key ≡ None
+  removed_is_none bucket key (Writes b k object) old apart at = absurd (apart at)
+  removed_is_none bucket key (Removes b k) old apart at =
+      subst (λ (x : List ℕ). object_at (after_external (Removes b k) old) bucket x ≡ None) at.1
+      (subst (λ (x : List ℕ). object_at (after_external (Removes b k) old) x k ≡ None) at.0 (object_at-without_object old b k))
+
+  pub source_is_gone : SourceIsGone Shows
+  source_is_gone limits start trace part journal dispatched bucket key runs fits ours whole c known may come succeeded = (deleted, gone)
+    where
+      sent : Request
+      sent = request_at c succeeded.place
+
+      served : Has (events_of trace) (Serve sent (Replied succeeded.reply succeeded.bytes))
+      served = subst (λ (t : List Step). Has (events_of t) (Serve sent (Replied succeeded.reply succeeded.bytes))) (sym whole.1)
+          (event_of_whole part whole.0 (Serve sent (Replied succeeded.reply succeeded.bytes))
+          (fitting.success_is_served Shows limits start trace dispatched journal runs fits part whole.0 whole.1 c known (come_by journal trace part whole c come) succeeded))
+
+      is_delete : c.ask ≡ ask.Delete bucket key
+      is_delete = ours c known may
+
+      deleted : IsDeleted trace bucket key
+      deleted =
+          let at = step_of trace (Serve sent (Replied succeeded.reply succeeded.bytes)) served in
+          let steps = subst (λ (event : TraceEvent). Steps limits (begun_through [] at.front) (state_after start at.front) event at.step.state) at.is_event
+          (fitting.steps_at Shows limits start trace dispatched journal runs fits at.front at.step at.back at.is) in
+          let is_gone : succeeded.reply ≡ reply.Gone = delete_is_gone limits (state_after start at.front) bucket key c.body succeeded.reply succeeded.bytes at.step.state
+          (subst (λ (asked : Ask). Succeeds limits (state_after start at.front) asked c.body succeeded.reply succeeded.bytes at.step.state) is_delete steps.1) in (
+            sent,
+            succeeded.bytes,
+            is_delete,
+            contains_of (events_of trace) (Serve sent (Replied reply.Gone succeeded.bytes))
+                (subst (λ (r : Reply). Has (events_of trace) (Serve sent (Replied r succeeded.bytes))) is_gone served),
+          )
+
+      gone : (object_at (state_after start part) bucket key ≡ None) ⊎ IsWritten trace bucket key
+      gone = elim (any_decided (IsWriteAt bucket key) (write_at_decided bucket key) (events_of trace)) [
+        | inl written ↦ inr (written_by trace bucket key written.0 written.1 written.2)
+        | inr none ↦ inl (dest.success_makes_new Shows limits start trace dispatched journal runs fits bucket key (λ (found : Option Object). found ≡ None)
+            (λ d old answered bytes new served_too changes. small.removes Shows bucket key limits start trace dispatched d old answered bytes new served_too (ours d served_too.known changes))
+            (λ write old happened at. removed_is_none bucket key write old (λ is_write. none (External write) happened is_write) at)
+            part whole.0 whole.1 c known may (come_by journal trace part whole c come) succeeded)
+      ]

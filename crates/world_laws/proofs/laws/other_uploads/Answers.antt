@@ -1,0 +1,8 @@
+use Rattle.world_laws.proofs.UploadIds as ids
+use Rattle.world_laws.proofs.laws.other_uploads.Goals as goal
+
+pub returns-clause-stay : goal.returns-clause-stay
+returns-clause-stay g c = ids.other_uploads_stay g.R.Reading.shows
+
+pub returns-clause-once : goal.returns-clause-once
+returns-clause-once g c = ids.ids_are_created_once

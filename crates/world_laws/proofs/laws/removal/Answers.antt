@@ -1,0 +1,8 @@
+use Rattle.world_laws.proofs.SmallTransfers as transfers
+use Rattle.world_laws.proofs.laws.removal.Goals as goal
+
+pub returns-clause-removes : goal.returns-clause-removes
+returns-clause-removes g c = transfers.delete_removes_object g.R.Reading.shows
+
+pub returns-clause-whole : goal.returns-clause-whole
+returns-clause-whole g c = transfers.delete_is_whole g.R.Reading.shows

@@ -1,0 +1,25 @@
+-- What no request of a run may change, and nobody else writes, stays as it was.
+use Rattle.std.specs.Prelude.{◌≡◌, ◌++◌, ◌⊎◌, ℕ, List, [], Contains}
+use Rattle.s3_model.specs.declared.requests.Ask.{Ask}
+use Rattle.s3_model.specs.declared.answers.Class.{Class}
+use Rattle.s3_model.specs.declared.outcomes.Event.{Event}
+use Rattle.s3_model.specs.declared.settings.Limits.{Limits}
+use Rattle.s3_model.specs.Talks.{Talk}
+use Rattle.s3_model.specs.ServiceState.{State, object_at}
+use Rattle.s3_model.specs.Serves.{MayChange}
+use Rattle.s3_model.specs.Dispatches.{Dispatched}
+use Rattle.s3_model.specs.Traces.{Step, IsTrace, state_after, events_of}
+use Rattle.s3_model.specs.Fits.{Fits}
+use Rattle.s3_model.specs.Truthful.{IsExternal}
+
+-- some dispatched request may change the object
+abbrev pub IsAskedOf : List Dispatched → List ℕ → List ℕ → Type 0
+IsAskedOf dispatched bucket key = (c : Dispatched) × Contains dispatched c × MayChange c.ask bucket key
+
+-- `Shows ask limit talk class bytes`: the talk has that class for the ask, and its answer that body
+module _ (Shows : Ask → ℕ → Talk → Class → List ℕ → Type 0) where
+  -- Some request may change the object, somebody else wrote it, or it is as it was, after each beginning of a trace.
+  abbrev pub OthersStay : Type 0
+  OthersStay = (limits : Limits) (start : State) (trace part late : List Step) (journal : List Event) (dispatched : List Dispatched) (bucket key : List ℕ)
+      → IsTrace limits [] start trace → Fits Shows (events_of trace) journal dispatched → trace ≡ part ++ late
+      → IsAskedOf dispatched bucket key ⊎ IsExternal trace bucket key ⊎ (object_at (state_after start part) bucket key ≡ object_at start bucket key)

@@ -1,0 +1,54 @@
+-- Moved objects: the source goes only once the destination is new.
+use Rattle.std.specs.Prelude.{◌≡◌, ◌++◌, ◌⊎◌, ℕ, List, [], None, Contains}
+use Rattle.s3_model.specs.declared.requests.Ask.{Ask}
+use Rattle.s3_model.specs.declared.answers.Class.{Class}
+use Rattle.s3_model.specs.declared.outcomes.JobId.{JobId}
+use Rattle.s3_model.specs.declared.outcomes.Event.{Event}
+use Rattle.s3_model.specs.declared.settings.Limits.{Limits}
+use Rattle.s3_model.specs.Talks.{Talk}
+use Rattle.s3_model.specs.ServiceState.{State, Object, object_at}
+use Rattle.s3_model.specs.Serves.{MayChange, Writes}
+use Rattle.s3_model.specs.Dispatches.{Dispatched}
+use Rattle.s3_model.specs.Traces.{Request, Step, Begin, External, IsTrace, state_after, states, events_of}
+use Rattle.s3_model.specs.Fits.{Fits}
+use Rattle.s3_model.specs.Schedule.{IsBefore}
+use Rattle.s3_model.specs.Endings.{IsDeleted}
+use Rattle.s3_model.specs.Truthful.{IsWhole}
+use Rattle.world_laws.specs.Premises.{IsFitting, IsPlace, AreGiven, HasCome, HasSucceeded}
+use Rattle.world_laws.specs.Destinations.{AllThatChange}
+use Rattle.world_laws.specs.SmallTransfers.{Copies, Deletes, AreAll, IsCopied}
+use Rattle.world_laws.specs.Multipart.{AreCopiedParts, IsCopiedInParts}
+
+-- the job is given only after that dispatch has come
+abbrev pub IsGivenAfter : Dispatched → JobId → List Dispatched → Type 0
+IsGivenAfter c job dispatched = (d : Dispatched) → Contains dispatched d → d.dispatch.job ≡ job → IsBefore c.dispatch.came_at d.dispatch.given_at
+
+-- somebody else wrote the object
+abbrev pub IsWritten : List Step → List ℕ → List ℕ → Type 0
+IsWritten trace bucket key = (object : Object) × Contains (events_of trace) (External (Writes bucket key object))
+
+-- `Shows ask limit talk class bytes`: the talk has that class for the ask, and its answer that body
+module _ (Shows : Ask → ℕ → Talk → Class → List ℕ → Type 0) where
+  -- Where a job is given only after a success for the object, the object is new from the time that a request of this job begins.
+  abbrev pub IsNewOnceBegun : List ℕ → List ℕ → (List Event → List Dispatched → Type 0) → (List State → State → Type 0) → Type 0
+  IsNewOnceBegun bucket key AreOurs IsNew = (limits : Limits) (start : State) (trace part late : List Step) (journal : List Event) (dispatched : List Dispatched)
+      → IsFitting Shows limits start trace journal dispatched (IsPlace bucket key) → AreOurs journal dispatched → AreGiven journal dispatched
+      → (c : Dispatched) → Contains dispatched c → MayChange c.ask bucket key → HasCome journal c → HasSucceeded Shows c
+      → (job : JobId) → IsGivenAfter c job dispatched
+      → trace ≡ part ++ late → (lane : ℕ) (sent : Request) → Contains (events_of part) (Begin lane sent) → sent.job ≡ job
+      → IsNew (states start trace) (state_after start part)
+
+  abbrev pub CopyComesFirst : Type 0
+  CopyComesFirst = (bucket key from_bucket from_key etag : List ℕ)
+      → IsNewOnceBegun bucket key (AreAll bucket key (Copies bucket key from_bucket from_key etag)) (IsCopied bucket key from_bucket from_key etag)
+
+  abbrev pub CopiedPartsComeFirst : Type 0
+  CopiedPartsComeFirst = (bucket key from_bucket from_key etag : List ℕ) (ranges : ℕ → ℕ × ℕ) (count : ℕ)
+      → IsNewOnceBegun bucket key (AreCopiedParts Shows bucket key from_bucket from_key etag ranges count) (IsCopiedInParts bucket key from_bucket from_key etag ranges count)
+
+  -- After its Delete came with success the source is absent, at the end and at every later moment, or somebody else wrote it.
+  abbrev pub SourceIsGone : Type 0
+  SourceIsGone = (limits : Limits) (start : State) (trace part : List Step) (journal : List Event) (dispatched : List Dispatched) (bucket key : List ℕ)
+      → IsTrace limits [] start trace → Fits Shows (events_of trace) journal dispatched → AllThatChange bucket key (Deletes bucket key) dispatched
+      → IsWhole journal trace part → (c : Dispatched) → Contains dispatched c → MayChange c.ask bucket key → HasCome journal c → HasSucceeded Shows c
+      → IsDeleted trace bucket key × ((object_at (state_after start part) bucket key ≡ None) ⊎ IsWritten trace bucket key)

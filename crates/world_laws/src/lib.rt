@@ -1,0 +1,9 @@
+//! Laws over every honest trace of a service: what a run's requests leave there, whatever is lost, refused or served late.
+#![tactic(auto)]
+
+mod laws;
+
+pub use laws::{
+    Reading, abort, moved_copy, multipart_copy, multipart_upload, other_uploads, others_stay,
+    refusal, removal, small_copy, small_upload,
+};
