@@ -1,0 +1,12 @@
+pub mod Single
+pub mod Jobs
+pub mod Wires
+pub mod Rules
+pub mod Truth
+pub mod Law
+pub mod OneTrace
+pub mod Example
+pub mod Idle
+pub mod Idleness
+pub mod Settled
+pub mod Willing

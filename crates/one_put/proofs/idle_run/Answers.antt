@@ -1,0 +1,5 @@
+use Rattle.one_put.proofs.Idle.{idle_is_truthful}
+use Rattle.one_put.proofs.idle_run.Goals as goal
+
+pub returns : goal.returns
+returns g c = idle_is_truthful g.R.Reading.shows

@@ -1,0 +1,3 @@
+pub mod OnePut
+pub mod Example
+pub mod Idle
