@@ -1,0 +1,11 @@
+pub mod AskLemmas
+pub mod BodyLemmas
+pub mod ExchangeLemmas
+pub mod FramingLemmas
+pub mod HeadLemmas
+pub mod OneAnswer
+pub mod RangeLemmas
+pub mod ReceiveLemmas
+pub mod TagLemmas
+pub mod TakeLemmas
+pub mod TalkLemmas

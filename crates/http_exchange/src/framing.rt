@@ -1,0 +1,9 @@
+/// How the end of an answer's body is found (RFC 9112, section 6.3).
+#[derive(Clone, Copy, Debug, PartialEq, Eq)]
+pub enum Framing {
+    NoBody,
+    Length(u64),
+    Chunked,
+    /// The body ends with the connection.
+    ToClose,
+}

@@ -1,0 +1,170 @@
+ghost use Rattle.std.specs.Prelude.{◌≡◌, ◌≤◌, ◌++◌, IfSome, None};
+ghost use Rattle.s3_model.specs.Counts.{Rose};
+ghost use Rattle.http_exchange.specs.Answer.{IsOfTalk, body_limit, goes_into, is_success};
+ghost use Rattle.http_exchange.specs.Exchange.{IfBroken, Exchanges, Request};
+ghost use Rattle.http_exchange.specs.Steps.{EndsAt, HasWireCause, Hears, Receives, TakesAnswer, TakesHeld, talked_of};
+
+use crate::head::{Found, Head};
+use crate::receive::{greatest_length, take_body, take_head};
+use crate::send::ask;
+use s3_model::{Answered, Bytes, Endpoint, Talked, Why};
+use s3_outside::Wire;
+use std::alloc::Global;
+
+/// The greatest length of a 2xx body that the caller set no limit for, in bytes.
+const DOCUMENT_LIMIT: u64 = 8_388_608;
+
+/// The greatest length of any other body in bytes.
+const ERROR_LIMIT: u64 = 65_536;
+
+/// Sends one request and reads the answer (RFC 9112), in one talk.
+///
+/// `head_only` says that the request is a HEAD. Under `Some(limit)` the body of a 2xx answer goes to `into`, which is
+/// cleared first, and has at most `limit` bytes; under `None` it has at most 8,388,608. Any other body has at most
+/// 65,536 bytes. A head has at most 65,536 bytes and 100 header lines. The connection may be kept after an answer
+/// where `keep` is true and the answer allows it.
+///
+/// # Errors
+///
+/// `Broken` says why there is no answer: `WireFailed` where a call of the wire failed, `Memory` where memory was
+/// wanted, and else what is wrong with the bytes that came. After it `into` may hold any bytes.
+pub fn exchange<W: Wire>(
+    alloc: Global,
+    wire: &mut W,
+    endpoint: &Endpoint,
+    head: &[u8],
+    body: &[u8],
+    head_only: bool,
+    keep: bool,
+    limit: Option<u64>,
+    into: &mut Bytes,
+) -> Talked
+    requires { IfSome limit (λ most. most ≤ into.old.room) }
+    ensures talk { let request : Request = record { endpoint = endpoint.now; bytes = head.now ++ body.now; head_only = head_only; limit = limit }
+        in Exchanges request (W.told wire.old) (W.told wire.new) (W.faults wire.old) (W.faults wire.new) into.old into.new result }
+    ensures failed { result ≡ Talked.Broken Why.WireFailed → Rose (W.faults wire.old) (W.faults wire.new) }
+    ensures later { W.faults wire.old ≤ W.faults wire.new }
+    ensures own { IfBroken result IsOfTalk }
+    ensures room { into.old.room ≤ into.new.room }
+    ensures untouched { limit ≡ None → into.new ≡ into.old }
+{
+    match ask(wire, endpoint, head, body) {
+        Ok(()) => {
+            let answer = receive(alloc, wire, head_only, limit, into);
+            end(wire, keep, answer)
+        }
+        Err(_) => end(wire, false, Err(Why::WireFailed)),
+    }
+}
+
+/// Ends a talk.
+fn end<W: Wire>(wire: &mut W, keep: bool, answer: Result<Answered, Why>) -> Talked
+    ensures talked { result ≡ talked_of answer }
+    ensures log { W.told wire.new ≡ W.told wire.old }
+    ensures later { W.faults wire.old ≤ W.faults wire.new }
+{
+    match answer {
+        Ok(answered) => {
+            wire.finish(keep && answered.keep);
+            Talked::Answered(answered)
+        }
+        Err(why) => {
+            wire.finish(false);
+            Talked::Broken(why)
+        }
+    }
+}
+
+/// Reads the answer to a request that was sent.
+fn receive<W: Wire>(
+    alloc: Global,
+    wire: &mut W,
+    head_only: bool,
+    limit: Option<u64>,
+    into: &mut Bytes,
+) -> Result<Answered, Why>
+    requires { IfSome limit (λ most. most ≤ into.old.room) }
+    ensures heard { Hears (W.told wire.old) (W.told wire.new) (Receives head_only limit into.old into.new result) }
+    ensures cause { HasWireCause (W.faults wire.old) (W.faults wire.new) result }
+    ensures room { into.new.room ≡ into.old.room }
+    ensures untouched { limit ≡ None → into.new ≡ into.old }
+{
+    let Found { got, head } = take_head(alloc, wire, head_only)?;
+    let status = head.answer.status;
+    let most = greatest_length(head.framing, body_limit(limit, status))? as usize;
+    let first = &got[head.len..];
+    if goes_into(limit, status) {
+        take_into(alloc, wire, head, first, most, into)
+    } else {
+        take_held(alloc, wire, head, first, most)
+    }
+}
+
+/// Takes a body into the caller's place.
+fn take_into<W: Wire>(
+    alloc: Global,
+    wire: &mut W,
+    head: Head,
+    first: &[u8],
+    most: usize,
+    into: &mut Bytes,
+) -> Result<Answered, Why>
+    requires room { most ≤ into.old.room }
+    requires fits { EndsAt head.framing most }
+    ensures heard { Hears (W.told wire.old) (W.told wire.new) (TakesAnswer head first.now most into.new.bytes head.answer.body.bytes result) }
+    ensures cause { HasWireCause (W.faults wire.old) (W.faults wire.new) result }
+    ensures room_kept { into.new.room ≡ into.old.room }
+{
+    into.clear();
+    take_body(alloc, wire, head.framing, first, most, into)?;
+    let mut answered = head.answer;
+    answered.taken = into.as_slice().len() as u64;
+    Ok(answered)
+}
+
+/// Takes a body into the answer.
+fn take_held<W: Wire>(
+    alloc: Global,
+    wire: &mut W,
+    head: Head,
+    first: &[u8],
+    most: usize,
+) -> Result<Answered, Why>
+    requires { EndsAt head.framing most }
+    ensures heard { Hears (W.told wire.old) (W.told wire.new) (TakesHeld head first.now most result) }
+    ensures cause { HasWireCause (W.faults wire.old) (W.faults wire.new) result }
+{
+    let Ok(mut body) = Bytes::make(alloc, most as u64) else {
+        return Err(Why::Memory);
+    };
+    take_body(alloc, wire, head.framing, first, most, &mut body)?;
+    let mut answered = head.answer;
+    answered.taken = body.as_slice().len() as u64;
+    answered.body = body;
+    Ok(answered)
+}
+
+/// Whether the body goes to the place that the caller gave.
+fn goes_into(limit: Option<u64>, status: u16) -> bool
+    ensures { result ≡ goes_into limit status }
+{
+    limit.is_some() && is_success(status)
+}
+
+/// Whether a status is 2xx (RFC 9110, section 15.3).
+fn is_success(status: u16) -> bool
+    ensures { result ≡ is_success status }
+{
+    (200..300).contains(&status)
+}
+
+/// How long the body of an answer with this status may be.
+fn body_limit(limit: Option<u64>, status: u16) -> u64
+    ensures { result ≡ body_limit limit status }
+{
+    if is_success(status) {
+        limit.unwrap_or(DOCUMENT_LIMIT)
+    } else {
+        ERROR_LIMIT
+    }
+}
