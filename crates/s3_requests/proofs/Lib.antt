@@ -1,0 +1,8 @@
+pub mod BodyLemmas
+pub mod EscapeLemmas
+pub mod HeaderLemmas
+pub mod JoinLemmas
+pub mod RequestLemmas
+pub mod SignedLemmas
+pub mod SortLemmas
+pub mod TimesLemmas

@@ -1,0 +1,6 @@
+use Rattle.std.proofs.Common.{◌≡◌, ◌++◌, string_bytes, flat_map}
+use Rattle.s3_requests.specs.Requests.{escape_markup}
+use Rattle.s3_requests.proofs.body.push_markup.Given as goal
+
+abbrev pub invariant-loop-ch : goal.invariant-loop-ch
+invariant-loop-ch l = string_bytes l.out ≡ string_bytes l.initial.out ++ flat_map escape_markup l.yielded

@@ -1,0 +1,70 @@
+-- Headers, parameters and parts of a request as the code holds them.
+use Rattle.std.specs.Prelude.{◌++◌, ◌∷◌, [], ℕ, Bool, List, String, Option, Some, None, codes, map, string_bytes, if◌then◌else◌}
+use Rattle.std.specs.List.{flat_map, join_with_byte}
+use Rattle.std.specs.Option.{option_copied, option_map}
+use Rattle.std.specs.declared.alloc.Global.{Global}
+use Rattle.s3_requests.specs.declared.headers.Header.{Header}
+use Rattle.s3_requests.specs.declared.signing.SignedParts.{SignedParts}
+use Rattle.s3_requests.specs.declared.own.OwnHeaders.{OwnHeaders}
+use Rattle.s3_requests.specs.Pairs.{Pair}
+use Rattle.s3_requests.specs.Requests.{optional}
+use Rattle.s3_requests.specs.Signing.{canonical_header, encode_query, signed_names}
+
+-- the names and values of lent headers
+abbrev pub pairs_of : List Header → List Pair
+pairs_of headers = map (λ (h : Header). (h.name.now, h.value.now)) headers
+
+-- a piece with the separator in front of it, unless it is the first
+abbrev pub next_piece : List ℕ → Bool → List ℕ → List ℕ
+next_piece separator first piece = if first then piece else separator ++ piece
+
+-- escaped names and values
+abbrev pub escaped_pairs : List (String Global × String Global) → List Pair
+escaped_pairs pairs = map (λ (p : String Global × String Global). (string_bytes p.0, string_bytes p.1)) pairs
+
+-- the method, the path and the query, each with a line feed
+abbrev pub target_lines : SignedParts → List ℕ
+target_lines parts = parts.method.now ++ codes "\n" ++ parts.path.now ++ codes "\n" ++ parts.query.now ++ codes "\n"
+
+-- the headers and their names, each with a line feed
+abbrev pub header_block : List Pair → List ℕ
+header_block headers = flat_map canonical_header headers ++ codes "\n" ++ signed_names headers ++ codes "\n"
+
+-- the canonical request of parts whose path and query are escaped
+abbrev pub canonical_with : SignedParts → List ℕ
+canonical_with parts = join_with_byte 10 (
+    parts.method.now ∷ parts.path.now ∷ parts.query.now
+    ∷ flat_map canonical_header (pairs_of parts.headers.now) ∷ signed_names (pairs_of parts.headers.now) ∷ parts.payload_hash.now ∷ [])
+
+-- the first parameters of a listing's query, each with `&` behind it
+abbrev pub token_text : Option (List ℕ) → List ℕ
+token_text None = []
+token_text (Some token) = codes "continuation-token=" ++ encode_query token ++ codes "&"
+
+abbrev pub delimiter_text : Bool → List ℕ
+delimiter_text delimited = if delimited then codes "delimiter=%2F&" else []
+
+-- a text that was written, where there is one
+abbrev pub written : Option (String Global) → Option (List ℕ)
+written text = option_map string_bytes text
+
+-- the headers of an ask's own, in the order of their names
+abbrev pub own_pairs : OwnHeaders → List Pair
+own_pairs own =
+    optional (codes "content-type") (option_copied own.content_type)
+    ++ (optional (codes "if-match") (option_copied own.if_match)
+    ++ (optional (codes "range") (written own.range)
+    ++ (optional (codes "x-amz-copy-source") (written own.copy_source)
+    ++ (optional (codes "x-amz-copy-source-if-match") (option_copied own.copy_if_match)
+    ++ optional (codes "x-amz-copy-source-range") (written own.copy_range)))))
+
+-- all headers, in the order of their names
+abbrev pub all_headers : (own : OwnHeaders) (host hash date : List ℕ) (token : Option (List ℕ)) → List Pair
+all_headers own host hash date token =
+    optional (codes "content-type") (option_copied own.content_type)
+    ++ ((codes "host", host) ∷ (optional (codes "if-match") (option_copied own.if_match)
+    ++ (optional (codes "range") (written own.range)
+    ++ ((codes "x-amz-content-sha256", hash) ∷ (optional (codes "x-amz-copy-source") (written own.copy_source)
+    ++ (optional (codes "x-amz-copy-source-if-match") (option_copied own.copy_if_match)
+    ++ (optional (codes "x-amz-copy-source-range") (written own.copy_range)
+    ++ (codes "x-amz-date", date) ∷ optional (codes "x-amz-security-token") token)))))))

@@ -1,0 +1,7 @@
+pub mod Headers
+pub mod Hmac
+pub mod Keeping
+pub mod Pairs
+pub mod Requests
+pub mod Signing
+pub mod Times

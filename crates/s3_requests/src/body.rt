@@ -1,0 +1,115 @@
+ghost use Rattle.std.specs.Prelude.{◌≡◌, ◌++◌, OnOk, IfOk, codes, string_bytes};
+ghost use Rattle.s3_requests.specs.Requests as spec;
+
+use itoa::Buffer;
+use s3_model::{Ask, Bytes, OutOfMemory, Text};
+use std::alloc::{AllocError, Global};
+
+fn push_escaped(out: &mut String, ch: char) -> Result<(), AllocError>
+    ensures { OnOk result (string_bytes out.new ≡ string_bytes out.old ++ spec.escape_markup ch) }
+{
+    if ch == '&' {
+        return out.push_str("&amp;");
+    }
+    if ch == '<' {
+        return out.push_str("&lt;");
+    }
+    if ch == '>' {
+        return out.push_str("&gt;");
+    }
+    if ch == '"' {
+        return out.push_str("&quot;");
+    }
+    out.push(ch)
+}
+
+/// Adds a text as it stands in a document, with `&`, `<`, `>` and `"` as references.
+fn push_markup(out: &mut String, text: &str) -> Result<(), AllocError>
+    ensures { OnOk result (string_bytes out.new ≡ string_bytes out.old ++ spec.markup text.now) }
+{
+    for ch in text.chars() {
+        push_escaped(out, ch)?;
+    }
+    Ok(())
+}
+
+#[tactic(auto, using(crate::proofs::JoinLemmas::pieces), unfolding(crate::specs::Requests::etag_element))]
+fn push_etag(out: &mut String, etag: &str) -> Result<(), AllocError>
+    ensures { OnOk result (string_bytes out.new ≡ string_bytes out.old ++ spec.etag_element etag.now) }
+{
+    out.push_str("<ETag>")?;
+    push_markup(out, etag)?;
+    out.push_str("</ETag>")
+}
+
+#[tactic(auto, using(crate::proofs::JoinLemmas::pieces), unfolding(crate::specs::Requests::number_element))]
+fn push_number(out: &mut String, number: usize) -> Result<(), AllocError>
+    ensures { OnOk result (string_bytes out.new ≡ string_bytes out.old ++ spec.number_element number) }
+{
+    out.push_str("<PartNumber>")?;
+    out.push_str(Buffer::new().format(number))?;
+    out.push_str("</PartNumber>")
+}
+
+/// Adds the element of one part.
+#[tactic(auto, using(crate::proofs::JoinLemmas::pieces), unfolding(crate::specs::Requests::part_element))]
+fn push_part(out: &mut String, number: usize, etag: &Text) -> Result<(), AllocError>
+    ensures { OnOk result (string_bytes out.new ≡ string_bytes out.old ++ spec.part_element (number, etag.now)) }
+{
+    out.push_str("<Part>")?;
+    push_etag(out, etag.as_str())?;
+    push_number(out, number)?;
+    out.push_str("</Part>")
+}
+
+/// Adds the elements of the parts, numbered from 1.
+fn push_parts(out: &mut String, etags: &[Text]) -> Result<(), AllocError>
+    ensures { OnOk result (string_bytes out.new ≡ string_bytes out.old ++ spec.part_elements etags.now) }
+{
+    for (i, etag) in etags.iter().enumerate() {
+        push_part(out, i + 1, etag)?;
+    }
+    Ok(())
+}
+
+/// The document that ends an upload in parts.
+#[tactic(auto, using(crate::proofs::JoinLemmas::pieces), unfolding(crate::specs::Requests::completion))]
+fn completion(alloc: Global, etags: &[Text]) -> Result<String, AllocError>
+    ensures { IfOk result (λ text. string_bytes text ≡ spec.completion etags.now) }
+{
+    let mut out = String::with_capacity(alloc, 128)?;
+    out.push_str("<CompleteMultipartUpload xmlns=\"http://s3.amazonaws.com/doc/2006-03-01/\">")?;
+    push_parts(&mut out, etags)?;
+    out.push_str("</CompleteMultipartUpload>")?;
+    Ok(out)
+}
+
+/// The bytes, with their length as their room.
+fn bytes_of(alloc: Global, text: &[u8]) -> Result<Bytes, OutOfMemory>
+    ensures { IfOk result (λ bytes. bytes.bytes ≡ text.now) }
+{
+    let mut bytes = Bytes::make(alloc, text.len() as u64)?;
+    bytes.add(text);
+    Ok(bytes)
+}
+
+/// The document that an ask sends. It is empty for every ask but `Complete`; the body of `Put` and `Part` is the
+/// object's bytes, which the caller has.
+#[tactic(auto, unfolding(crate::specs::Requests::document_of))]
+pub fn body_text(alloc: Global, ask: &Ask) -> Result<Bytes, OutOfMemory>
+    ensures { IfOk result (λ body. body.bytes ≡ spec.document_of ask.now) }
+{
+    match ask {
+        Ask::Complete { etags, .. } => match completion(alloc, etags.as_slice()) {
+            Ok(text) => bytes_of(alloc, text.as_bytes()),
+            Err(_) => Err(OutOfMemory),
+        },
+        Ask::Head { .. } | Ask::Get { .. } | Ask::Put { .. } | Ask::Copy { .. } => {
+            Bytes::make(alloc, 0)
+        }
+        Ask::Delete { .. } | Ask::Create { .. } | Ask::Part { .. } | Ask::PartCopy { .. } => {
+            Bytes::make(alloc, 0)
+        }
+        Ask::Abort { .. } | Ask::List { .. } | Ask::Buckets => Bytes::make(alloc, 0),
+    }
+}

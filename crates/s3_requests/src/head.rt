@@ -1,0 +1,247 @@
+ghost use Rattle.std.specs.Prelude.{◌≡◌, ◌++◌, ◌<◌, OnOk, IfOk, codes, string_bytes};
+ghost use Rattle.std.specs.List.{flat_map};
+ghost use Rattle.s3_requests.specs.Requests as spec;
+ghost use Rattle.s3_requests.specs.Headers.{pairs_of};
+ghost use Rattle.s3_requests.specs.Keeping.{IsKey};
+ghost use Rattle.s3_requests.specs.Signing.{canonical_query, encode_path};
+ghost use Rattle.s3_requests.specs.Times.{basic_time};
+
+use crate::headers::{Header, push_header_line, push_header_lines, push_signed_names};
+use crate::own::{CommonHeaders, own_headers};
+use crate::parts::{has_body, lent, method, push_ask_query, push_target_path};
+use crate::signing::{SignedParts, canonical_text, push_scope, signature_under};
+use crate::times::push_basic_time;
+use itoa::Buffer;
+use s3_model::{Ask, Endpoint, Keys};
+use std::alloc::{AllocError, Global};
+
+/// What a request is signed with: the keys, a moment in seconds since 1970, and the signing key of its date.
+#[derive(Clone, Copy)]
+pub struct Key<'a> {
+    pub keys: &'a Keys,
+    pub moment: u64,
+    pub key: &'a [u8; 32],
+}
+
+/// The escaped path and query of an ask.
+#[derive(Drop)]
+struct Target {
+    path: String,
+    query: String,
+}
+
+fn target_of(alloc: Global, ask: &Ask) -> Result<Target, AllocError>
+    ensures path { IfOk result (λ t. string_bytes t.path ≡ encode_path (spec.path_of ask.now)) }
+    ensures query { IfOk result (λ t. string_bytes t.query ≡ canonical_query (spec.query_of ask.now)) }
+{
+    let mut path = String::with_capacity(alloc, 128)?;
+    push_target_path(&mut path, ask)?;
+    let mut query = String::new(alloc);
+    push_ask_query(&mut query, ask)?;
+    Ok(Target { path, query })
+}
+
+/// Adds `?` and the query, where there is one; `uploads` stands there without `=`.
+#[tactic(auto, unfolding(crate::specs::Requests::target_query))]
+fn push_target_query(out: &mut String, ask: &Ask, query: &str) -> Result<(), AllocError>
+    requires { query.now ≡ canonical_query (spec.query_of ask.now) }
+    ensures { OnOk result (string_bytes out.new ≡ string_bytes out.old ++ spec.target_query ask.now) }
+{
+    if let Ask::Create { .. } = ask {
+        return out.push_str("?uploads");
+    }
+    if query.is_empty() {
+        return Ok(());
+    }
+    out.push_str("?")?;
+    out.push_str(query)
+}
+
+/// Adds the method and the escaped path.
+#[tactic(auto, using(crate::proofs::JoinLemmas::pieces), unfolding(crate::specs::Requests::method_and_path))]
+fn push_method_and_path(out: &mut String, ask: &Ask, path: &str) -> Result<(), AllocError>
+    requires { path.now ≡ encode_path (spec.path_of ask.now) }
+    ensures { OnOk result (string_bytes out.new ≡ string_bytes out.old ++ spec.method_and_path ask.now) }
+{
+    out.push_str(method(ask))?;
+    out.push_str(" ")?;
+    out.push_str(path)
+}
+
+/// Adds the request line.
+#[tactic(auto, using(crate::proofs::JoinLemmas::pieces), unfolding(crate::specs::Requests::request_line))]
+fn push_request_line(out: &mut String, ask: &Ask, target: &Target) -> Result<(), AllocError>
+    requires path { string_bytes target.now.path ≡ encode_path (spec.path_of ask.now) }
+    requires query { string_bytes target.now.query ≡ canonical_query (spec.query_of ask.now) }
+    ensures { OnOk result (string_bytes out.new ≡ string_bytes out.old ++ spec.request_line ask.now) }
+{
+    push_method_and_path(out, ask, target.path.as_str())?;
+    push_target_query(out, ask, target.query.as_str())?;
+    out.push_str(" HTTP/1.1\r\n")
+}
+
+/// Adds the content length, where the request has a body.
+fn push_length_line(out: &mut String, ask: &Ask, length: u64) -> Result<(), AllocError>
+    ensures { OnOk result (string_bytes out.new ≡ string_bytes out.old ++ spec.length_line ask.now length) }
+{
+    if has_body(ask) {
+        push_header_line(out, "content-length", Buffer::new().format(length))?;
+    }
+    Ok(())
+}
+
+/// Adds the credential: the id of the keys and the scope.
+#[tactic(auto, using(crate::proofs::JoinLemmas::pieces), unfolding(crate::specs::Requests::credential))]
+fn push_credential(out: &mut String, keys: &Keys, moment: u64) -> Result<(), AllocError>
+    requires { moment < 253402300800 }
+    ensures { OnOk result (string_bytes out.new ≡ string_bytes out.old ++ spec.credential keys.now moment) }
+{
+    out.push_str(keys.id.as_str())?;
+    out.push_str("/")?;
+    push_scope(out, moment, keys.region.as_str())
+}
+
+/// Adds the value of the authorization header.
+#[tactic(auto, using(crate::proofs::JoinLemmas::pieces), unfolding(crate::specs::Requests::authorization))]
+fn push_authorization(
+    out: &mut String,
+    keys: &Keys,
+    moment: u64,
+    headers: &[Header<'_>],
+    signed: &str,
+) -> Result<(), AllocError>
+    requires { moment < 253402300800 }
+    ensures { OnOk result (string_bytes out.new ≡ string_bytes out.old ++ spec.authorization keys.now moment (pairs_of headers.now) signed.now) }
+{
+    out.push_str("AWS4-HMAC-SHA256 Credential=")?;
+    push_credential(out, keys, moment)?;
+    out.push_str(", SignedHeaders=")?;
+    push_signed_names(out, headers)?;
+    out.push_str(", Signature=")?;
+    out.push_str(signed)
+}
+
+/// Adds the headers, the content length and the authorization, and an empty line.
+#[tactic(auto, using(crate::proofs::JoinLemmas::pieces))]
+fn push_lines(
+    out: &mut String,
+    ask: &Ask,
+    headers: &[Header<'_>],
+    length: u64,
+    authorization: &str,
+) -> Result<(), AllocError>
+    ensures { OnOk result (string_bytes out.new ≡ string_bytes out.old ++ (flat_map spec.header_line (pairs_of headers.now) ++ spec.length_line ask.now length
+        ++ spec.header_line (codes "authorization", authorization.now) ++ codes "\r\n")) }
+{
+    push_header_lines(out, headers)?;
+    push_length_line(out, ask, length)?;
+    push_header_line(out, "authorization", authorization)?;
+    out.push_str("\r\n")
+}
+
+/// The signature of a request with these headers.
+#[tactic(auto, unfolding(crate::specs::Requests::signature_of, crate::specs::Signing::canonical_request))]
+fn sign(
+    alloc: Global,
+    ask: &Ask,
+    target: &Target,
+    key: &Key<'_>,
+    headers: &[Header<'_>],
+    payload_hash: &str,
+) -> Result<String, AllocError>
+    requires moment { key.now.moment < 253402300800 }
+    requires key { IsKey key.now }
+    requires path { string_bytes target.now.path ≡ encode_path (spec.path_of ask.now) }
+    requires query { string_bytes target.now.query ≡ canonical_query (spec.query_of ask.now) }
+    ensures { IfOk result (λ text. string_bytes text ≡ spec.signature_of ask.now (pairs_of headers.now) key.now.keys.now key.now.moment payload_hash.now) }
+{
+    let parts = SignedParts {
+        method: method(ask),
+        path: target.path.as_str(),
+        query: target.query.as_str(),
+        headers,
+        payload_hash,
+    };
+    let canonical = canonical_text(alloc, &parts)?;
+    signature_under(
+        alloc,
+        key.key,
+        key.moment,
+        key.keys.region.as_str(),
+        canonical.as_str(),
+    )
+}
+
+/// The value of the authorization header.
+fn authorization(
+    alloc: Global,
+    key: &Key<'_>,
+    headers: &[Header<'_>],
+    signed: &str,
+) -> Result<String, AllocError>
+    requires { key.now.moment < 253402300800 }
+    ensures { IfOk result (λ text. string_bytes text ≡ spec.authorization key.now.keys.now key.now.moment (pairs_of headers.now) signed.now) }
+{
+    let mut out = String::with_capacity(alloc, 256)?;
+    push_authorization(&mut out, key.keys, key.moment, headers, signed)?;
+    Ok(out)
+}
+
+/// The head of a request with these headers.
+#[tactic(auto, unfolding(crate::specs::Requests::head_with))]
+fn head_with(
+    alloc: Global,
+    ask: &Ask,
+    key: &Key<'_>,
+    headers: &[Header<'_>],
+    payload_hash: &str,
+    length: u64,
+) -> Result<String, AllocError>
+    requires moment { key.now.moment < 253402300800 }
+    requires key { IsKey key.now }
+    ensures { IfOk result (λ text. string_bytes text ≡ spec.head_with ask.now (pairs_of headers.now) key.now.keys.now key.now.moment payload_hash.now length) }
+{
+    let target = target_of(alloc, ask)?;
+    let signed = sign(alloc, ask, &target, key, headers, payload_hash)?;
+    let authorization = authorization(alloc, key, headers, signed.as_str())?;
+    let mut out = String::with_capacity(alloc, 768)?;
+    push_request_line(&mut out, ask, &target)?;
+    push_lines(&mut out, ask, headers, length, authorization.as_str())?;
+    Ok(out)
+}
+
+/// The moment as YYYYMMDDTHHMMSSZ.
+fn basic_time_text(alloc: Global, moment: u64) -> Result<String, AllocError>
+    requires { moment < 253402300800 }
+    ensures { IfOk result (λ text. string_bytes text ≡ basic_time moment) }
+{
+    let mut out = String::with_capacity(alloc, 16)?;
+    push_basic_time(&mut out, moment)?;
+    Ok(out)
+}
+
+/// The head of a request, under the signing key of the moment's date.
+#[tactic(auto, unfolding(crate::specs::Requests::signed_headers), using(crate::proofs::SignedLemmas::all_headers_sorted))]
+pub fn head_under(
+    alloc: Global,
+    ask: &Ask,
+    endpoint: &Endpoint,
+    key: &Key<'_>,
+    payload_hash: &str,
+    length: u64,
+) -> Result<String, AllocError>
+    requires moment { key.now.moment < 253402300800 }
+    requires key { IsKey key.now }
+    ensures { IfOk result (λ text. string_bytes text ≡ spec.request_head ask.now endpoint.now key.now.keys.now key.now.moment payload_hash.now length) }
+{
+    let date = basic_time_text(alloc, key.moment)?;
+    let own = own_headers(alloc, ask)?;
+    let common = CommonHeaders {
+        host: endpoint.written.as_str(),
+        payload_hash,
+        date: date.as_str(),
+        token: lent(&key.keys.token),
+    };
+    let headers = own.with_common(alloc, &common)?;
+    head_with(alloc, ask, key, &headers, payload_hash, length)
+}
