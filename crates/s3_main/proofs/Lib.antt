@@ -1,0 +1,12 @@
+pub mod CarryLemmas
+pub mod CourseLemmas
+pub mod GainLemmas
+pub mod JudgeLemmas
+pub mod KeysLemmas
+pub mod OutputLemmas
+pub mod PromiseLemmas
+pub mod SourceLemmas
+pub mod StartLemmas
+pub mod TopLemmas
+pub mod UploadLemmas
+pub mod WordsLemmas

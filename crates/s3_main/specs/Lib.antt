@@ -1,0 +1,12 @@
+pub mod Carrying
+pub mod Lines
+pub mod Printed
+pub mod Rooms
+pub mod Runs
+pub mod Settings
+pub mod Sources
+pub mod Starts
+pub mod Texts
+pub mod Uploading
+pub mod Words
+pub mod Worked

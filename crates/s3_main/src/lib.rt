@@ -1,0 +1,20 @@
+//! The top call of the program `s3`: a command line, settings, files and a service come in, and an exit status comes back.
+#![tactic(auto)]
+
+mod carry;
+mod keys;
+mod lines;
+mod output;
+mod report;
+mod run;
+mod source;
+mod start;
+#[cfg(test)]
+mod tests;
+mod top;
+mod upload;
+mod words;
+mod work;
+
+pub use run::{Fatal, Run};
+pub use top::run_s3;
