@@ -8,9 +8,11 @@ use Rattle.s3_model.specs.declared.outcomes.Event.TheVariants as entry
 use Rattle.s3_model.specs.declared.tries.Mark.{Mark}
 use Rattle.s3_model.specs.Talks.{Talk, Note}
 use Rattle.s3_model.specs.Dispatches.{Dispatched}
-use Rattle.s3_model.specs.Schedule.{Setting}
+use Rattle.s3_model.specs.Validity.{IsValidConfig, IsValidLimits}
+use Rattle.s3_model.specs.Schedule.{Setting, Gained, IsSchedule}
 use Rattle.s3_model.specs.Carried.{IsCarried}
 use Rattle.world_laws.specs.Premises.{AreGiven, HasCome}
+use Rattle.world_laws.specs.Tasks.{AreApart, IsPlanning, IsScheduled}
 use Rattle.world_laws.proofs.Given.{stands, given_is_dispatched}
 
 some_is : (m n : ℕ) → Some m ≡ Some n → m ≡ n
@@ -34,4 +36,30 @@ module _ (Shows : Ask → ℕ → Talk → Class → List ℕ → Type 0) (reque
         let come = carried.comes found.0 found.1 in
         let level = some_is come.0 place (sym come.2 ∙ found.2) in
         (found.0, found.1, came_job found.0.dispatch.job job found.0.dispatch.lane lane come.1 tries (sym come.3 ∙ ap (slice_get journal) level ∙ e), found.2);
+  }
+
+  -- with the clauses on given jobs they are what the laws on tasks take
+  pub is_scheduled : (IsPlanned : Gained → Dispatched → Type 0) → IsSchedule Shows setting IsPlanned dispatched coming → ((gained : Gained) (c : Dispatched) → IsPlanned gained c → IsPlanning c.ask)
+      → AreApart setting.tasks → IsValidConfig setting.config → IsValidLimits setting.limits → IsScheduled Shows setting journal dispatched coming
+  is_scheduled IsPlanned schedule planned apart config limits = record {
+    schedule = record {
+      is_coming = schedule.is_coming;
+      in_order = schedule.in_order;
+      asks = schedule.asks;
+      plans = λ c known none. planned _ c (schedule.plans c known none);
+      planned_limit = schedule.planned_limit;
+      dry = schedule.dry;
+      twice = schedule.twice;
+      no_third = schedule.no_third;
+      stops = schedule.stops;
+      abort_last = schedule.abort_last;
+      aborts = schedule.aborts;
+      completed_stays = schedule.completed_stays;
+      moves_last = schedule.moves_last;
+    };
+    given = are_given;
+    come = has_come;
+    apart = apart;
+    config = config;
+    limits = limits;
   }

@@ -14,12 +14,13 @@ use Rattle.s3_model.specs.Serves.{Succeeds, bytes_within, IsThere}
 use Rattle.s3_model.specs.Dispatches.{Dispatched}
 use Rattle.s3_model.specs.Traces.{Step, TraceEvent, IsTrace, Steps, begun_after, state_after, states}
 use Rattle.world_laws.specs.Premises.{IsFitting, IsPlace}
-use Rattle.world_laws.specs.SmallTransfers.{HadContent}
-use Rattle.world_laws.specs.Multipart.{joined, AreParts, AreCopiedParts, PartsAreStored, PartsAreWhole, CopiedPartsAreStored, CopiedPartsAreWhole, AbortsAreFinal}
+use Rattle.world_laws.specs.Destinations.{IsNewOnceCome}
+use Rattle.world_laws.specs.SmallTransfers.{HadContent, IsStored}
+use Rattle.world_laws.specs.Multipart.{joined, IsCopiedInParts, AreParts, AreCopiedParts, PartsAreStored, PartsAreWhole, CopiedPartsAreStored, CopiedPartsAreWhole, AbortsAreFinal}
 use Rattle.world_laws.proofs.Maps.{is_nothing}
 use Rattle.world_laws.proofs.Members.{Has, contains_of}
-use Rattle.world_laws.proofs.Traces.{begun_through, trace_parts, trace_beginning, IsStable, stable_along}
-use Rattle.world_laws.proofs.Fitting.{come_by}
+use Rattle.world_laws.proofs.Traces.{begun_through, trace_parts, IsStable, stable_along}
+use Rattle.world_laws.proofs.SmallTransfers.{after_success}
 use Rattle.world_laws.proofs.Kept.{unwritten, one_content}
 use Rattle.world_laws.proofs.Uploads as up
 use Rattle.world_laws.proofs.Uploads.{StoresPart, HasEnded}
@@ -63,12 +64,15 @@ module _ (Shows : Ask → ℕ → Talk → Class → List ℕ → Type 0) where
     part_writes_new : dest.WritesNew Shows limits start trace dispatched journal p.runs p.fits bucket key (IsWholeOf IsPiece count)
     part_writes_new = dest.unwritten_is_new Shows limits start trace dispatched journal p.runs p.fits bucket key (IsWholeOf IsPiece count) (unwritten start trace (IsPlace bucket key) p.honest bucket key (refl, refl))
 
-  pub parts_are_stored : PartsAreStored Shows
-  parts_are_stored bucket key pieces count limits start trace part journal dispatched p ours whole c known may come succeeded =
+  pub parts_once_come : (bucket key : List ℕ) (pieces : ℕ → List ℕ) (count : ℕ) → IsNewOnceCome Shows bucket key (AreParts Shows bucket key pieces count) (IsStored bucket key (joined pieces 1 count))
+  parts_once_come bucket key pieces count limits start trace part late journal dispatched p ours is c known may come succeeded =
       made_of (λ n bytes. bytes ≡ pieces n) pieces count (object_at (state_after start part) bucket key) (λ n bytes is. is)
       (dest.success_makes_new Shows limits start trace dispatched journal p.runs p.fits bucket key (IsWholeOf (λ n bytes. bytes ≡ pieces n) count)
       (part_makes_new bucket key pieces count limits start trace journal dispatched p ours) (part_writes_new bucket key pieces count limits start trace journal dispatched p ours)
-      part whole.0 whole.1 c known may (come_by journal trace part whole c come) succeeded)
+      part late is c known may come succeeded)
+
+  pub parts_are_stored : PartsAreStored Shows
+  parts_are_stored bucket key pieces count = after_success Shows bucket key (AreParts Shows bucket key pieces count) (IsStored bucket key (joined pieces 1 count)) (parts_once_come bucket key pieces count)
 
   pub parts_are_whole : PartsAreWhole Shows
   parts_are_whole bucket key pieces count limits start trace part late journal dispatched p ours is =
@@ -82,7 +86,7 @@ module _ (Shows : Ask → ℕ → Talk → Class → List ℕ → Type 0) where
 
   module _ (bucket key from_bucket from_key etag : List ℕ) (ranges : ℕ → ℕ × ℕ) (count : ℕ) (limits : Limits) (start : State) (trace : List Step) (journal : List Event) (dispatched : List Dispatched)
       (p : IsFitting Shows limits start trace journal dispatched (IsPlace bucket key)) (ours : AreCopiedParts Shows bucket key from_bucket from_key etag ranges count journal dispatched) where
-    abbrev pub IsCopied : ℕ → List ℕ → Type 0
+    abbrev IsCopied : ℕ → List ℕ → Type 0
     IsCopied n bytes = (source : List ℕ) × HadContent (states start trace) from_bucket from_key etag source × (bytes ≡ bytes_within (ranges n) source)
 
     copies_piece : (c : Dispatched) (old : State) (id : List ℕ) (number : ℕ) (bytes : List ℕ) → Contains dispatched c → Has (states start trace) old → StoresPart c.ask c.body old bucket key id number bytes → IsCopied number bytes
@@ -93,14 +97,14 @@ module _ (Shows : Ask → ℕ → Talk → Class → List ℕ → Type 0) where
         subst (λ (x : List ℕ). IsThere old from_bucket from_key x copy.4) said.2 (subst (λ (x : List ℕ). IsThere old from_bucket x copy.2 copy.4) said.1 (subst (λ (x : List ℕ). IsThere old x copy.1 copy.2 copy.4) said.0 copy.6)) in
         (copy.4.bytes, (old, copy.4, contains_of (states start trace) old among, there, refl), copy.7 ∙ ap (λ range. bytes_within range copy.4.bytes) said.3)
 
-    pub copy_makes_new : dest.MakesNew Shows limits start trace dispatched journal p.runs p.fits bucket key (IsWholeOf IsCopied count)
+    copy_makes_new : dest.MakesNew Shows limits start trace dispatched journal p.runs p.fits bucket key (IsWholeOf IsCopied count)
     copy_makes_new = multi.makes_new Shows limits start trace dispatched journal bucket key p IsCopied count copies_piece ours.completes
 
     copy_writes_new : dest.WritesNew Shows limits start trace dispatched journal p.runs p.fits bucket key (IsWholeOf IsCopied count)
     copy_writes_new = dest.unwritten_is_new Shows limits start trace dispatched journal p.runs p.fits bucket key (IsWholeOf IsCopied count) (unwritten start trace (IsPlace bucket key) p.honest bucket key (refl, refl))
 
     -- all its pieces are of one content
-    pub copied_of : (found : Option Object) → IsWholeOf IsCopied count found
+    copied_of : (found : Option Object) → IsWholeOf IsCopied count found
         → (bytes : List ℕ) × HadContent (states start trace) from_bucket from_key etag bytes × ((object : Object) × (found ≡ Some object) × (object.bytes ≡ joined (λ n. bytes_within (ranges n) bytes) 1 count))
     copied_of found whole =
         let first = first_of IsCopied whole.pieces whole.some whole.are in
@@ -111,14 +115,20 @@ module _ (Shows : Ask → ℕ → Talk → Class → List ℕ → Type 0) where
               (λ n bytes is. is.2 ∙ ap (bytes_within (ranges n)) (one_content start trace (IsPlace bucket key) p.honest from_bucket from_key etag is.0 source is.1 first.1.1)) whole,
         )
 
-  pub copied_parts_are_stored : CopiedPartsAreStored Shows
-  copied_parts_are_stored bucket key from_bucket from_key etag ranges count limits start trace part journal dispatched p ours whole c known may come succeeded =
+  pub copied_parts_once_come : (bucket key from_bucket from_key etag : List ℕ) (ranges : ℕ → ℕ × ℕ) (count : ℕ)
+      → IsNewOnceCome Shows bucket key (AreCopiedParts Shows bucket key from_bucket from_key etag ranges count) (IsCopiedInParts bucket key from_bucket from_key etag ranges count)
+  copied_parts_once_come bucket key from_bucket from_key etag ranges count limits start trace part late journal dispatched p ours is c known may come succeeded =
       copied_of bucket key from_bucket from_key etag ranges count limits start trace journal dispatched p ours (object_at (state_after start part) bucket key)
       (dest.success_makes_new Shows limits start trace dispatched journal p.runs p.fits bucket key
       (IsWholeOf (IsCopied bucket key from_bucket from_key etag ranges count limits start trace journal dispatched p ours) count)
       (copy_makes_new bucket key from_bucket from_key etag ranges count limits start trace journal dispatched p ours)
       (copy_writes_new bucket key from_bucket from_key etag ranges count limits start trace journal dispatched p ours)
-      part whole.0 whole.1 c known may (come_by journal trace part whole c come) succeeded)
+      part late is c known may come succeeded)
+
+  pub copied_parts_are_stored : CopiedPartsAreStored Shows
+  copied_parts_are_stored bucket key from_bucket from_key etag ranges count =
+      after_success Shows bucket key (AreCopiedParts Shows bucket key from_bucket from_key etag ranges count) (IsCopiedInParts bucket key from_bucket from_key etag ranges count)
+      (copied_parts_once_come bucket key from_bucket from_key etag ranges count)
 
   pub copied_parts_are_whole : CopiedPartsAreWhole Shows
   copied_parts_are_whole bucket key from_bucket from_key etag ranges count limits start trace part late journal dispatched p ours is =
@@ -144,9 +154,9 @@ abort_ends limits old bucket key id body bytes new h = up.closed_has_ended old n
 pub aborts_are_final : AbortsAreFinal
 aborts_are_final limits start trace runs front mid late step sent bucket key id bytes is is_event is_abort =
     let parts = trace_parts limits front (step ∷ (mid ++ late)) [] start (subst (λ (t : List Step). IsTrace limits [] start t) is runs) in
+    let so_far = trace_parts limits mid late (begun_after (begun_through [] front) step.event) step.state parts.1.1 in
     let steps = subst (λ (event : TraceEvent). Steps limits (begun_through [] front) (state_after start front) event step.state) is_event parts.1.0 in
     let succeeds = subst (λ (asked : Ask). Succeeds limits (state_after start front) asked sent.body reply.Gone bytes step.state) is_abort steps.1 in
-    let ended = stable_along limits (λ (t : State). HasEnded t id Aborted) (aborted_is_stable limits id) mid (begun_after (begun_through [] front) step.event) step.state
-    (trace_beginning limits mid late (begun_after (begun_through [] front) step.event) step.state parts.1.1)
+    let ended = stable_along limits (λ (t : State). HasEnded t id Aborted) (aborted_is_stable limits id) mid (begun_after (begun_through [] front) step.event) step.state so_far.0
     (abort_ends limits (state_after start front) bucket key id sent.body bytes step.state succeeds) in
     is_nothing (get (state_after step.state mid).uploads id) ended.not_open

@@ -56,13 +56,16 @@ task_same (Some m) None e = cc
 made_of : (t u : Option ℕ) (o q : Op) (m n : ℕ) → t ≡ u → o ≡ q → m ≡ n → ◌≡◌ {A = JobId} (record { task = t; op = o; number = m }) (record { task = u; op = q; number = n })
 made_of t u o q m n e f g = cc
 
-job_is : (a b : JobId) → a.task ≡ b.task → a.op ≡ b.op → a.number ≡ b.number → a ≡ b
+pub job_is : (a b : JobId) → a.task ≡ b.task → a.op ≡ b.op → a.number ≡ b.number → a ≡ b
 job_is a b e f g = made_of a.task b.task a.op b.op a.number b.number e f g
+
+pub op_same : (a b : Op) → op_number a ≡ op_number b → a ≡ b
+op_same a b e = sym (op_back a) ∙ ap op_of e ∙ op_back b
 
 pub job_same : (a b : JobId) → is_job a b ≡ true → a ≡ b
 job_same a b e =
     let each = each_of_three (is_task a.task b.task) (is_op a.op b.op) (a.number == b.number) e in
-    job_is a b (task_same a.task b.task each.0) (sym (op_back a.op) ∙ ap op_of (number_same (op_number a.op) (op_number b.op) each.1) ∙ op_back b.op) (number_same a.number b.number each.2)
+    job_is a b (task_same a.task b.task each.0) (op_same a.op b.op (number_same (op_number a.op) (op_number b.op) each.1)) (number_same a.number b.number each.2)
 
 other_test : (test : Bool) → test ≡ true → test ≡ false → ⊥
 other_test test p q = cc

@@ -20,6 +20,14 @@ module _ (start : State) (trace : List Step) (IsKept : List ℕ → List ℕ →
     not_removed = λ b k happened at. honest.not_removed b k happened (subst (λ (x : List ℕ). IsKept b x) (sym at.1) (subst (λ (x : List ℕ). IsKept x key) (sym at.0) kept));
   }
 
+  -- and it keeps fewer
+  pub kept_none : IsHonest start trace (λ bucket key. ⊥)
+  kept_none = record {
+    one_content = honest.one_content;
+    not_written = λ b k object happened at. at;
+    not_removed = λ b k happened at. at;
+  }
+
   -- an ETag of a key stands for one content
   pub one_content : (bucket key etag a b : List ℕ) → HadContent (states start trace) bucket key etag a → HadContent (states start trace) bucket key etag b → a ≡ b
   one_content bucket key etag a b at_a at_b =

@@ -1,5 +1,5 @@
 -- Moved objects: the source goes only once the destination is new.
-use Rattle.std.proofs.Common.{append_assoc, ◌≡◌, ◌∙◌, ◌⊎◌, ◌++◌, ℕ, List, [], ◌∷◌, Option, None, refl, sym, ap, subst, inl, inr, Contains, filter_map, slice_get}
+use Rattle.std.proofs.Common.{append_assoc, ◌≡◌, ◌∙◌, ◌⊎◌, ◌++◌, ℕ, List, [], ◌∷◌, Option, None, refl, sym, ap, subst, inl, inr, filter_map, slice_get}
 use Rattle.std.proofs.lemmas.List.{map-append}
 use Rattle.std.proofs.lemmas.List.Elements.{filter_map-append}
 use Rattle.s3_model.specs.declared.requests.Ask.{Ask}
@@ -7,19 +7,21 @@ use Rattle.s3_model.specs.declared.requests.Ask.TheVariants as ask
 use Rattle.s3_model.specs.declared.answers.Reply.{Reply}
 use Rattle.s3_model.specs.declared.answers.Reply.TheVariants as reply
 use Rattle.s3_model.specs.declared.answers.Class.{Class}
-use Rattle.s3_model.specs.declared.outcomes.JobId.{JobId}
 use Rattle.s3_model.specs.declared.outcomes.Event.{Event}
 use Rattle.s3_model.specs.declared.outcomes.Event.TheVariants as entry
 use Rattle.s3_model.specs.declared.settings.Limits.{Limits}
 use Rattle.s3_model.specs.Talks.{Talk}
 use Rattle.s3_model.specs.ServiceState.{State, Object, object_at}
-use Rattle.s3_model.specs.Serves.{Replied, Succeeds, MayChange, ExternalWrite, Writes, Removes, after_external}
+use Rattle.s3_model.specs.Serves.{Replied, Succeeds, ExternalWrite, Writes, Removes, after_external}
 use Rattle.s3_model.specs.Dispatches.{Dispatched}
 use Rattle.s3_model.specs.Traces.{Request, Step, TraceEvent, Given, Begin, Serve, External, Came, Steps, state_after, states, events_of, event_of}
 use Rattle.s3_model.specs.Fits.{request_at}
 use Rattle.s3_model.specs.Endings.{IsDeleted}
-use Rattle.world_laws.specs.Premises.{IsFitting, IsPlace, AreGiven, HasCome, HasSucceeded}
-use Rattle.world_laws.specs.Moves.{IsGivenAfter, IsWritten, CopyComesFirst, CopiedPartsComeFirst, SourceIsGone}
+use Rattle.world_laws.specs.Premises.{HasCome}
+use Rattle.world_laws.specs.Destinations.{IsNewOnceCome}
+use Rattle.world_laws.specs.Multipart.{AreCopiedParts, IsCopiedInParts}
+use Rattle.world_laws.specs.SmallTransfers.{Copies, AreAll, IsCopied}
+use Rattle.world_laws.specs.Moves.{IsNewOnceBegun, IsWritten, CopyComesFirst, CopiedPartsComeFirst, SourceIsGone}
 use Rattle.world_laws.proofs.Members.{Has, has, contains_of, place_in_front}
 use Rattle.world_laws.proofs.Objects.{object_at-without_object, place_decided}
 use Rattle.world_laws.proofs.Requests.{IsWriteOf}
@@ -28,14 +30,12 @@ use Rattle.world_laws.proofs.Fitting as fitting
 use Rattle.world_laws.proofs.Fitting.{come_by}
 use Rattle.world_laws.proofs.Frame.{any_decided}
 use Rattle.world_laws.proofs.Order.{begins_after}
-use Rattle.world_laws.proofs.Kept.{unwritten}
 use Rattle.world_laws.proofs.Destinations as dest
 use Rattle.world_laws.proofs.SmallTransfers as small
 use Rattle.world_laws.proofs.InParts as in_parts
-use Rattle.world_laws.proofs.Multipart.{IsWholeOf}
 
 -- what has come in the first part has come
-come_later : (front rest : List Step) (c : Dispatched) → HasCome (filter_map event_of (events_of front)) c → HasCome (filter_map event_of (events_of (front ++ rest))) c
+pub come_later : (front rest : List Step) (c : Dispatched) → HasCome (filter_map event_of (events_of front)) c → HasCome (filter_map event_of (events_of (front ++ rest))) c
 come_later front rest c come =
     let both : filter_map event_of (events_of (front ++ rest)) ≡ filter_map event_of (events_of front) ++ filter_map event_of (events_of rest) =
     ap (filter_map event_of) (map-append (λ (step : Step). step.event) front rest) ∙ filter_map-append event_of (events_of front) (events_of rest) in (
@@ -49,34 +49,24 @@ come_later front rest c come =
 module _ (Shows : Ask → ℕ → Talk → Class → List ℕ → Type 0) where
   -- ---- the destination
 
-  module _ (limits : Limits) (start : State) (trace : List Step) (dispatched : List Dispatched) (journal : List Event) (bucket key : List ℕ)
-      (p : IsFitting Shows limits start trace journal dispatched (IsPlace bucket key)) (given : AreGiven journal dispatched) (IsNew : Option Object → Type 0)
-      (makes_new : dest.MakesNew Shows limits start trace dispatched journal p.runs p.fits bucket key IsNew) where
-    pub new_once_begun : (part late : List Step) → trace ≡ part ++ late → (c : Dispatched) → Contains dispatched c → MayChange c.ask bucket key → HasCome journal c → HasSucceeded Shows c
-        → (job : JobId) → IsGivenAfter c job dispatched → (lane : ℕ) (sent : Request) → Has (events_of part) (Begin lane sent) → sent.job ≡ job → IsNew (object_at (state_after start part) bucket key)
-    new_once_begun part late is c known may come succeeded job waits lane sent begun same =
-        let at = step_of part (Begin lane sent) begun in
-        let in_two : trace ≡ (at.front ++ at.step ∷ at.back) ++ late = is ∙ ap (λ (t : List Step). t ++ late) at.is in
-        let so_far = begins_after Shows limits start trace dispatched journal p.runs p.fits given c job come waits at.front at.step (at.back ++ late) lane sent
-        (in_two ∙ append_assoc at.front (at.step ∷ at.back) late) at.is_event same in
-        subst (λ (t : List Step). IsNew (object_at (state_after start t) bucket key)) (sym at.is)
-        (dest.success_makes_new Shows limits start trace dispatched journal p.runs p.fits bucket key IsNew makes_new
-        (dest.unwritten_is_new Shows limits start trace dispatched journal p.runs p.fits bucket key IsNew (unwritten start trace (IsPlace bucket key) p.honest bucket key (refl, refl)))
-        (at.front ++ at.step ∷ at.back) late in_two c known may (come_later at.front (at.step ∷ at.back) c so_far) succeeded)
+  -- what is new once a success has come is new once a request begins that waits for it
+  pub once_begun : (bucket key : List ℕ) (AreOurs : List Event → List Dispatched → Type 0) (IsNew : List State → State → Type 0) → IsNewOnceCome Shows bucket key AreOurs IsNew → IsNewOnceBegun Shows bucket key AreOurs IsNew
+  once_begun bucket key AreOurs IsNew once limits start trace part late journal dispatched p ours given c known may come succeeded job waits is lane sent begun same =
+      let at = step_of part (Begin lane sent) (has (events_of part) (Begin lane sent) begun) in
+      let in_two : trace ≡ (at.front ++ at.step ∷ at.back) ++ late = is ∙ ap (λ (t : List Step). t ++ late) at.is in
+      let so_far = begins_after Shows limits start trace dispatched journal p.runs p.fits given c job come waits at.front at.step (at.back ++ late) lane sent
+      (in_two ∙ append_assoc at.front (at.step ∷ at.back) late) at.is_event same in
+      subst (λ (t : List Step). IsNew (states start trace) (state_after start t)) (sym at.is)
+      (once limits start trace (at.front ++ at.step ∷ at.back) late journal dispatched p ours in_two c known may (come_later at.front (at.step ∷ at.back) c so_far) succeeded)
 
   pub copy_comes_first : CopyComesFirst Shows
-  copy_comes_first bucket key from_bucket from_key etag limits start trace part late journal dispatched p ours given c known may come succeeded job waits is lane sent begun same =
-      new_once_begun limits start trace dispatched journal bucket key p given (small.IsContent Shows bucket key from_bucket from_key etag (states start trace))
-      (λ d old answered bytes new served changes. small.copies Shows bucket key from_bucket from_key etag limits start trace dispatched d old answered bytes new served (ours d served.known changes))
-      part late is c known may come succeeded job waits lane sent (has (events_of part) (Begin lane sent) begun) same
+  copy_comes_first bucket key from_bucket from_key etag =
+      once_begun bucket key (AreAll bucket key (Copies bucket key from_bucket from_key etag)) (IsCopied bucket key from_bucket from_key etag) (small.copy_once_come Shows bucket key from_bucket from_key etag)
 
   pub copied_parts_come_first : CopiedPartsComeFirst Shows
-  copied_parts_come_first bucket key from_bucket from_key etag ranges count limits start trace part late journal dispatched p ours given c known may come succeeded job waits is lane sent begun same =
-      in_parts.copied_of Shows bucket key from_bucket from_key etag ranges count limits start trace journal dispatched p ours (object_at (state_after start part) bucket key)
-      (new_once_begun limits start trace dispatched journal bucket key p given
-      (IsWholeOf (in_parts.IsCopied Shows bucket key from_bucket from_key etag ranges count limits start trace journal dispatched p ours) count)
-      (in_parts.copy_makes_new Shows bucket key from_bucket from_key etag ranges count limits start trace journal dispatched p ours)
-      part late is c known may come succeeded job waits lane sent (has (events_of part) (Begin lane sent) begun) same)
+  copied_parts_come_first bucket key from_bucket from_key etag ranges count =
+      once_begun bucket key (AreCopiedParts Shows bucket key from_bucket from_key etag ranges count) (IsCopiedInParts bucket key from_bucket from_key etag ranges count)
+      (in_parts.copied_parts_once_come Shows bucket key from_bucket from_key etag ranges count)
 
   -- ---- the source
 

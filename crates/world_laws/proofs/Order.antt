@@ -217,13 +217,17 @@ module _ (Shows : Ask → ℕ → Talk → Class → List ℕ → Type 0) (limit
       let found = given.each_given at.place was.0 sent.job at.at in
       (found.0, found.1, found.2, subst (λ n. n < length (filter_map event_of (events_of front))) (sym found.3) at.inside)
 
+  -- what came before a dispatch was given had come when one of its requests begins
+  pub came_before : (c d : Dispatched) → HasCome journal c → IsBefore c.dispatch.came_at d.dispatch.given_at → (front rest : List TraceEvent) → events_of trace ≡ front ++ rest → d.dispatch.given_at < length (filter_map event_of front)
+      → HasCome (filter_map event_of front) c
+  came_before c d come before front rest is reached =
+      let earlier : come.0 < d.dispatch.given_at = subst (λ (o : Option ℕ). IsBefore o d.dispatch.given_at) come.2 before in
+      (come.0, come.1, come.2, in_front front rest come.0 (entry.Came c.dispatch.job c.dispatch.lane come.1) is (omega arith) come.3)
+
   -- a request of a job that is given only after another came begins only after that
   pub begins_after : (c : Dispatched) (job : JobId) → HasCome journal c → ((d : Dispatched) → Contains dispatched d → d.dispatch.job ≡ job → IsBefore c.dispatch.came_at d.dispatch.given_at)
       → (front : List Step) (step : Step) (back : List Step) (lane : ℕ) (sent : Request) → trace ≡ front ++ step ∷ back → step.event ≡ Begin lane sent → sent.job ≡ job
       → HasCome (filter_map event_of (events_of front)) c
   begins_after c job come waits front step back lane sent is is_event same =
       let of = begun_is_after front step back lane sent is is_event in
-      let in_events : events_of trace ≡ events_of front ++ step.event ∷ events_of back = ap events_of is ∙ map-append (λ (s : Step). s.event) front (step ∷ back) in
-      let before : come.0 < of.0.dispatch.given_at = subst (λ (o : Option ℕ). IsBefore o of.0.dispatch.given_at) come.2 (waits of.0 of.1 (of.2 ∙ same)) in
-      let reached = of.3 in
-      (come.0, come.1, come.2, in_front (events_of front) (step.event ∷ events_of back) come.0 (entry.Came c.dispatch.job c.dispatch.lane come.1) in_events (omega arith) come.3)
+      came_before c of.0 come (waits of.0 of.1 (of.2 ∙ same)) (events_of front) (step.event ∷ events_of back) (ap events_of is ∙ map-append (λ (s : Step). s.event) front (step ∷ back)) of.3

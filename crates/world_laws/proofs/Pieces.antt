@@ -2,6 +2,7 @@
 use Rattle.std.proofs.Common.{◌≡◌, ◌∙◌, ◌+◌, ◌-◌, ◌*◌, ◌<◌, ◌≤◌, ◌++◌, ℕ, zero, suc, min, List, refl, sym, ap, length, take, drop, arith}
 use Rattle.std.proofs.lemmas.List.{take_min, length-drop}
 use Rattle.std.proofs.Math.Seq.{take-add, take_all, drop-drop}
+use Rattle.std.proofs.lemmas.Nat.{le-div}
 use Rattle.std.proofs.Math.Nat.{div-mul-le_self, mul-le-mul_right}
 use Rattle.s3_model.specs.Parts.{piece_count, piece_of}
 use Rattle.s3_model.specs.Schedule.{asked_range}
@@ -53,7 +54,7 @@ piece_is_range bytes piece number some inside =
     let long : start + min piece (length bytes - start) - 1 + 1 - start ≡ min piece (length bytes - start) = omega arith in
     ap (λ k. take k (drop start bytes)) (long ∙ ap (min piece) (sym (length-drop start bytes))) ∙ take_min piece (drop start bytes)
 
-joined_same : (f g : ℕ → List ℕ) (n at : ℕ) → ((k : ℕ) → at ≤ k → k < at + n → f k ≡ g k) → joined f at n ≡ joined g at n
+pub joined_same : (f g : ℕ → List ℕ) (n at : ℕ) → ((k : ℕ) → at ≤ k → k < at + n → f k ≡ g k) → joined f at n ≡ joined g at n
 joined_same f g zero at same = refl
 joined_same f g (suc n) at same =
     ap (λ piece. piece ++ joined f (at + 1) n) (same at (omega arith) (omega arith))
@@ -66,3 +67,7 @@ ranges_make_whole bytes piece some sized =
     joined_same (λ n. bytes_within (asked_range (length bytes) piece n) bytes) (piece_of bytes piece) (piece_count (length bytes) piece) 1
     (λ k low high. piece_is_range bytes piece k some (begins_inside (length bytes) piece k some sized low (omega arith)))
     ∙ pieces_make_whole bytes piece some
+
+-- what is not empty has a piece
+pub some_pieces : (size piece : ℕ) → 1 ≤ size → 1 ≤ piece → 1 ≤ piece_count size piece
+some_pieces size piece sized some = le-div 1 (size + piece - 1) piece some (omega arith)

@@ -5,6 +5,7 @@ use Rattle.s3_model.specs.declared.requests.Ask.TheVariants as ask
 use Rattle.s3_model.specs.declared.answers.Reply.{Reply}
 use Rattle.s3_model.specs.declared.answers.Reply.TheVariants as reply
 use Rattle.s3_model.specs.declared.answers.Class.{Class}
+use Rattle.s3_model.specs.declared.outcomes.Event.{Event}
 use Rattle.s3_model.specs.declared.settings.Limits.{Limits}
 use Rattle.s3_model.specs.Talks.{Talk}
 use Rattle.s3_model.specs.ServiceState.{State, Object, object_at, HasBytes}
@@ -12,8 +13,8 @@ use Rattle.s3_model.specs.Serves.{Succeeds, IsThere}
 use Rattle.s3_model.specs.Dispatches.{Dispatched}
 use Rattle.s3_model.specs.Traces.{Step, states}
 use Rattle.world_laws.specs.Premises.{IsPlace}
-use Rattle.world_laws.specs.Destinations.{AllThatChange, IsNewAfterSuccess, IsOldOrNew, IsOldAfterRefusals}
-use Rattle.world_laws.specs.SmallTransfers.{Puts, Copies, Deletes, HadContent, UploadStores, UploadIsWhole, CopyStores, CopyIsWhole, DeleteRemoves, DeleteIsWhole}
+use Rattle.world_laws.specs.Destinations.{AllThatChange, IsNewOnceCome, IsNewAfterSuccess, IsOldOrNew, IsOldAfterRefusals}
+use Rattle.world_laws.specs.SmallTransfers.{Puts, Copies, Deletes, AreAll, HadContent, IsStored, IsCopied, IsRemoved, UploadStores, UploadIsWhole, CopyStores, CopyIsWhole, DeleteRemoves, DeleteIsWhole}
 use Rattle.world_laws.proofs.Members.{contains_of}
 use Rattle.world_laws.proofs.Objects.{object_at-with_object, object_at-without_object}
 use Rattle.world_laws.proofs.Fitting.{IsServed, come_by}
@@ -42,16 +43,22 @@ delete_removes limits old bucket key body answered bytes new h = absurd h
 -- ---- whole traces
 
 module _ (Shows : Ask → ℕ → Talk → Class → List ℕ → Type 0) where
+  -- what has come by the end is a success that has come
+  pub after_success : (bucket key : List ℕ) (AreOurs : List Event → List Dispatched → Type 0) (IsNew : List State → State → Type 0) → IsNewOnceCome Shows bucket key AreOurs IsNew
+      → IsNewAfterSuccess Shows bucket key AreOurs IsNew
+  after_success bucket key AreOurs IsNew once limits start trace part journal dispatched fitting ours whole c known may come succeeded =
+      once limits start trace part whole.0 journal dispatched fitting ours whole.1 c known may (come_by journal trace part whole c come) succeeded
+
   -- a destination that each request for it makes new
   module _ (bucket key : List ℕ) (IsSuch : Dispatched → Type 0) (IsNew : List State → Option Object → Type 0)
       (makes_new : (limits : Limits) (start : State) (trace : List Step) (dispatched : List Dispatched) (c : Dispatched) (old : State) (answered : Reply) (bytes : List ℕ) (new : State)
       → IsServed Shows limits start trace dispatched c old answered bytes new → IsSuch c → IsNew (states start trace) (object_at new bucket key)) where
-    pub new_after_success : IsNewAfterSuccess Shows bucket key (λ journal dispatched. AllThatChange bucket key IsSuch dispatched) (λ moments t. IsNew moments (object_at t bucket key))
-    new_after_success limits start trace part journal dispatched fitting ours whole c known may come succeeded =
+    pub new_once_come : IsNewOnceCome Shows bucket key (λ journal dispatched. AllThatChange bucket key IsSuch dispatched) (λ moments t. IsNew moments (object_at t bucket key))
+    new_once_come limits start trace part late journal dispatched fitting ours is c known may come succeeded =
         dest.success_makes_new Shows limits start trace dispatched journal fitting.runs fitting.fits bucket key (IsNew (states start trace))
         (λ d old answered bytes new served may. makes_new limits start trace dispatched d old answered bytes new served (ours d served.known may))
         (dest.unwritten_is_new Shows limits start trace dispatched journal fitting.runs fitting.fits bucket key (IsNew (states start trace)) (unwritten start trace (IsPlace bucket key) fitting.honest bucket key (refl, refl)))
-        part whole.0 whole.1 c known may (come_by journal trace part whole c come) succeeded
+        part late is c known may come succeeded
 
     pub old_or_new : IsOldOrNew Shows bucket key (λ journal dispatched. AllThatChange bucket key IsSuch dispatched) (λ moments t. IsNew moments (object_at t bucket key))
     old_or_new limits start trace part late journal dispatched fitting ours is =
@@ -75,8 +82,11 @@ module _ (Shows : Ask → ℕ → Talk → Class → List ℕ → Type 0) where
       let succeeds = subst (λ (asked : Ask). Succeeds limits old asked c.body answered bytes new) puts.1 served.succeeds in
       subst (λ (b : List ℕ). HasBytes new bucket key b) puts.2 (put_stores limits old bucket key puts.0 c.body answered bytes new succeeds)
 
+  pub upload_once_come : (bucket key body : List ℕ) → IsNewOnceCome Shows bucket key (AreAll bucket key (Puts bucket key body)) (IsStored bucket key body)
+  upload_once_come bucket key body = new_once_come bucket key (Puts bucket key body) (IsBody body) (stores bucket key body)
+
   pub upload_stores : UploadStores Shows
-  upload_stores bucket key body = new_after_success bucket key (Puts bucket key body) (IsBody body) (stores bucket key body)
+  upload_stores bucket key body = after_success bucket key (AreAll bucket key (Puts bucket key body)) (IsStored bucket key body) (upload_once_come bucket key body)
 
   pub upload_is_whole : UploadIsWhole Shows
   upload_is_whole bucket key body = old_or_new bucket key (Puts bucket key body) (IsBody body) (stores bucket key body)
@@ -94,9 +104,14 @@ module _ (Shows : Ask → ℕ → Talk → Class → List ℕ → Type 0) where
         let stored = copy_stores limits old bucket key from_bucket from_key etag c.body answered bytes new succeeds in
         (stored.0.bytes, (old, stored.0, contains_of (states start trace) old served.among, stored.1, refl), stored.2)
 
+  pub copy_once_come : (bucket key from_bucket from_key etag : List ℕ)
+      → IsNewOnceCome Shows bucket key (AreAll bucket key (Copies bucket key from_bucket from_key etag)) (IsCopied bucket key from_bucket from_key etag)
+  copy_once_come bucket key from_bucket from_key etag =
+      new_once_come bucket key (Copies bucket key from_bucket from_key etag) (IsContent bucket key from_bucket from_key etag) (copies bucket key from_bucket from_key etag)
+
   pub copy_stores_content : CopyStores Shows
   copy_stores_content bucket key from_bucket from_key etag =
-      new_after_success bucket key (Copies bucket key from_bucket from_key etag) (IsContent bucket key from_bucket from_key etag) (copies bucket key from_bucket from_key etag)
+      after_success bucket key (AreAll bucket key (Copies bucket key from_bucket from_key etag)) (IsCopied bucket key from_bucket from_key etag) (copy_once_come bucket key from_bucket from_key etag)
 
   pub copy_is_whole : CopyIsWhole Shows
   copy_is_whole bucket key from_bucket from_key etag =
@@ -112,8 +127,11 @@ module _ (Shows : Ask → ℕ → Talk → Class → List ℕ → Type 0) where
   removes bucket key limits start trace dispatched c old answered bytes new served is_delete =
       delete_removes limits old bucket key c.body answered bytes new (subst (λ (asked : Ask). Succeeds limits old asked c.body answered bytes new) is_delete served.succeeds)
 
+  pub delete_once_come : (bucket key : List ℕ) → IsNewOnceCome Shows bucket key (AreAll bucket key (Deletes bucket key)) (IsRemoved bucket key)
+  delete_once_come bucket key = new_once_come bucket key (Deletes bucket key) IsAbsent (removes bucket key)
+
   pub delete_removes_object : DeleteRemoves Shows
-  delete_removes_object bucket key = new_after_success bucket key (Deletes bucket key) IsAbsent (removes bucket key)
+  delete_removes_object bucket key = after_success bucket key (AreAll bucket key (Deletes bucket key)) (IsRemoved bucket key) (delete_once_come bucket key)
 
   pub delete_is_whole : DeleteIsWhole Shows
   delete_is_whole bucket key = old_or_new bucket key (Deletes bucket key) IsAbsent (removes bucket key)

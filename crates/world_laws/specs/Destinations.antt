@@ -1,5 +1,5 @@
 -- What a run's requests leave at one destination: the forms of the laws on it.
-use Rattle.std.specs.Prelude.{◌≡◌, ◌++◌, ◌⊎◌, ℕ, List, Contains}
+use Rattle.std.specs.Prelude.{◌≡◌, ◌++◌, ◌⊎◌, ℕ, List, Contains, filter_map}
 use Rattle.s3_model.specs.declared.requests.Ask.{Ask}
 use Rattle.s3_model.specs.declared.answers.Class.{Class}
 use Rattle.s3_model.specs.declared.outcomes.Event.{Event}
@@ -8,7 +8,7 @@ use Rattle.s3_model.specs.Talks.{Talk}
 use Rattle.s3_model.specs.ServiceState.{State, object_at}
 use Rattle.s3_model.specs.Serves.{MayChange}
 use Rattle.s3_model.specs.Dispatches.{Dispatched}
-use Rattle.s3_model.specs.Traces.{Step, state_after, states}
+use Rattle.s3_model.specs.Traces.{Step, state_after, states, events_of, event_of}
 use Rattle.s3_model.specs.Truthful.{IsWhole}
 use Rattle.world_laws.specs.Premises.{IsFitting, IsPlace, HasCome, HasSucceeded, AllRefused}
 
@@ -19,7 +19,14 @@ AllThatChange bucket key IsSuch dispatched = (c : Dispatched) → Contains dispa
 -- `Shows ask limit talk class bytes`: the talk has that class for the ask, and its answer that body.
 -- `AreOurs` says which requests were dispatched for the object, and `IsNew moments t` that they made it new at t, one of those moments.
 module _ (Shows : Ask → ℕ → Talk → Class → List ℕ → Type 0) where
-  -- After a success the object is new, at the end and at every later moment.
+  -- Once a success has come the object is new, then and at every later moment.
+  abbrev pub IsNewOnceCome : List ℕ → List ℕ → (List Event → List Dispatched → Type 0) → (List State → State → Type 0) → Type 0
+  IsNewOnceCome bucket key AreOurs IsNew = (limits : Limits) (start : State) (trace part late : List Step) (journal : List Event) (dispatched : List Dispatched)
+      → IsFitting Shows limits start trace journal dispatched (IsPlace bucket key) → AreOurs journal dispatched → trace ≡ part ++ late
+      → (c : Dispatched) → Contains dispatched c → MayChange c.ask bucket key → HasCome (filter_map event_of (events_of part)) c → HasSucceeded Shows c
+      → IsNew (states start trace) (state_after start part)
+
+  -- So after a success it is new at the end, and at every later moment.
   abbrev pub IsNewAfterSuccess : List ℕ → List ℕ → (List Event → List Dispatched → Type 0) → (List State → State → Type 0) → Type 0
   IsNewAfterSuccess bucket key AreOurs IsNew = (limits : Limits) (start : State) (trace part : List Step) (journal : List Event) (dispatched : List Dispatched)
       → IsFitting Shows limits start trace journal dispatched (IsPlace bucket key) → AreOurs journal dispatched → IsWhole journal trace part

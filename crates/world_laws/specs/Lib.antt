@@ -1,7 +1,11 @@
 pub mod Destinations
+pub mod Downloads
 pub mod Frame
 pub mod Moves
 pub mod Multipart
 pub mod Premises
+pub mod Rounds
 pub mod SmallTransfers
+pub mod Tasks
 pub mod Uploads
+pub mod Witnesses

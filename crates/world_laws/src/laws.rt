@@ -3,11 +3,15 @@ ghost use Rattle.s3_model.specs.declared.requests.Ask.{Ask};
 ghost use Rattle.s3_model.specs.Talks.{Talk};
 ghost use Rattle.std.specs.Prelude.{List, ℕ};
 ghost use Rattle.world_laws.specs.Destinations.{IsOldAfterRefusals};
+ghost use Rattle.world_laws.specs.Downloads.{GetTells, RangesTell};
 ghost use Rattle.world_laws.specs.Frame.{OthersStay};
 ghost use Rattle.world_laws.specs.Moves.{CopiedPartsComeFirst, CopyComesFirst, SourceIsGone};
 ghost use Rattle.world_laws.specs.Multipart.{AbortsAreFinal, CopiedPartsAreStored, CopiedPartsAreWhole, PartsAreStored, PartsAreWhole};
+ghost use Rattle.world_laws.specs.Rounds.{Told};
 ghost use Rattle.world_laws.specs.SmallTransfers.{CopyIsWhole, CopyStores, DeleteIsWhole, DeleteRemoves, UploadIsWhole, UploadStores};
+ghost use Rattle.world_laws.specs.Tasks.{MovedSourceIsGone, MovedTaskIsNew, OtherObjectsStay, TaskEnds, TaskIsNew, TaskIsOld, TaskIsWhole};
 ghost use Rattle.world_laws.specs.Uploads.{IdsAreCreatedOnce, OtherUploadsStay};
+ghost use Rattle.world_laws.specs.Witnesses.{AbortIsMet, CopiedMoveIsMet, CopiedPartsAreMet, CopyIsMet, DeleteIsMet, FrameIsMet, GetIsMet, MoveIsMet, OtherUploadIsMet, PartsAreMet, RangesAreMet, RefusalIsMet, RefusedTaskIsMet, TaskIsMet, UploadIsMet};
 
 /// How talks are read: `shows ask limit talk class bytes` says that the talk has that class for the ask, and its
 /// answer that body.
@@ -18,12 +22,14 @@ pub trait Reading {
 /// An object that no request of a run may change, and that nobody else writes, is as it was after each beginning of
 /// the trace, and so at every later moment.
 pub fn others_stay<R: Reading>()
-    ensures { OthersStay R.shows }
+    ensures stay { OthersStay R.shows }
+    ensures met { FrameIsMet }
 {}
 
 /// A destination all of whose requests were refused is as before, at every moment.
 pub fn refusal<R: Reading>()
-    ensures { IsOldAfterRefusals R.shows }
+    ensures old { IsOldAfterRefusals R.shows }
+    ensures met { RefusalIsMet }
 {}
 
 /// An object that every request which may change it puts whole, with one body: after a success it is the body from
@@ -31,6 +37,7 @@ pub fn refusal<R: Reading>()
 pub fn small_upload<R: Reading>()
     ensures stores { UploadStores R.shows }
     ensures whole { UploadIsWhole R.shows }
+    ensures met { UploadIsMet }
 {}
 
 /// An object that every request which may change it copies there from one source, under one ETag: after a success it
@@ -38,6 +45,7 @@ pub fn small_upload<R: Reading>()
 pub fn small_copy<R: Reading>()
     ensures stores { CopyStores R.shows }
     ensures whole { CopyIsWhole R.shows }
+    ensures met { CopyIsMet }
 {}
 
 /// An object that every request which may change it deletes: after a success it is absent; else it is as before or
@@ -45,6 +53,7 @@ pub fn small_copy<R: Reading>()
 pub fn removal<R: Reading>()
     ensures removes { DeleteRemoves R.shows }
     ensures whole { DeleteIsWhole R.shows }
+    ensures met { DeleteIsMet }
 {}
 
 /// An object that every request which may change it makes by completing an upload in parts that the run created,
@@ -53,6 +62,7 @@ pub fn removal<R: Reading>()
 pub fn multipart_upload<R: Reading>()
     ensures stores { PartsAreStored R.shows }
     ensures whole { PartsAreWhole R.shows }
+    ensures met { PartsAreMet }
 {}
 
 /// The same for parts that are copied from one source under one ETag: the object becomes the ranges of what the source
@@ -60,11 +70,13 @@ pub fn multipart_upload<R: Reading>()
 pub fn multipart_copy<R: Reading>()
     ensures stores { CopiedPartsAreStored R.shows }
     ensures whole { CopiedPartsAreWhole R.shows }
+    ensures met { CopiedPartsAreMet }
 {}
 
 /// An upload whose Abort was answered with success is open at no later moment.
 pub fn abort()
-    ensures { AbortsAreFinal }
+    ensures last { AbortsAreFinal }
+    ensures met { AbortIsMet }
 {}
 
 /// A copy that is moved: from the time that a request of a job begins which is given only after the copy came with
@@ -74,10 +86,68 @@ pub fn moved_copy<R: Reading>()
     ensures small { CopyComesFirst R.shows }
     ensures in_parts { CopiedPartsComeFirst R.shows }
     ensures source { SourceIsGone R.shows }
+    ensures met { MoveIsMet }
+    ensures met_in_parts { CopiedMoveIsMet }
 {}
 
 /// An upload that was begun, and that no request of a run names, stays as it is; and an id is created once.
 pub fn other_uploads<R: Reading>()
     ensures stay { OtherUploadsStay R.shows }
     ensures once { IdsAreCreatedOnce }
+    ensures met { OtherUploadIsMet }
 {}
+
+/// What a Get that came with success tells: the body of a Get of the whole is what the object had under the asked ETag
+/// at some moment, and the bodies of all ranges of it are that content in order, whoever rewrites the object.
+pub fn download<R: Reading>()
+    ensures whole { GetTells R.shows }
+    ensures ranges { RangesTell R.shows }
+    ensures met { GetIsMet }
+    ensures met_in_ranges { RangesAreMet }
+{}
+
+/// What the clauses on given and on carried jobs make of the objects, over every honest trace that fits. A task whose
+/// destination is an object ends as its outcome says, where that outcome is what its deciding request and the source of
+/// its move show. Its destination is new once the request that decides it came with success, as before where each attempt
+/// of that request was refused or none was made, and else one or the other. Of a copy that is moved the Delete of the
+/// source begins only once the destination is new, and after that Delete came with success the source is gone. Every
+/// object that is no destination and no moved source, and that nobody else wrote, is as before.
+pub fn task<R: Reading>()
+    ensures ends { TaskEnds R.shows }
+    ensures new { TaskIsNew R.shows }
+    ensures old { TaskIsOld R.shows }
+    ensures whole { TaskIsWhole R.shows }
+    ensures moved { MovedTaskIsNew R.shows }
+    ensures gone { MovedSourceIsGone R.shows }
+    ensures others { OtherObjectsStay R.shows }
+    ensures met { TaskIsMet }
+    ensures met_refused { RefusedTaskIsMet }
+{}
+
+#[cfg(test)]
+mod tests {
+    use super::*;
+
+    // The reading of talks over which each law has a run.
+    struct Plain;
+
+    impl Reading for Plain {
+        ghost shows = { Told };
+    }
+
+    #[test]
+    fn each_law_stands() {
+        others_stay::<Plain>();
+        refusal::<Plain>();
+        small_upload::<Plain>();
+        small_copy::<Plain>();
+        removal::<Plain>();
+        multipart_upload::<Plain>();
+        multipart_copy::<Plain>();
+        abort();
+        moved_copy::<Plain>();
+        other_uploads::<Plain>();
+        download::<Plain>();
+        task::<Plain>();
+    }
+}

@@ -4,6 +4,6 @@
 mod laws;
 
 pub use laws::{
-    Reading, abort, moved_copy, multipart_copy, multipart_upload, other_uploads, others_stay,
-    refusal, removal, small_copy, small_upload,
+    Reading, abort, download, moved_copy, multipart_copy, multipart_upload, other_uploads,
+    others_stay, refusal, removal, small_copy, small_upload, task,
 };

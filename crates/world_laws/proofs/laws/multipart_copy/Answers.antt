@@ -1,4 +1,5 @@
 use Rattle.world_laws.proofs.InParts as in_parts
+use Rattle.world_laws.proofs.PartsWitness.{copied_parts_are_met}
 use Rattle.world_laws.proofs.laws.multipart_copy.Goals as goal
 
 pub returns-clause-stores : goal.returns-clause-stores
@@ -6,3 +7,6 @@ returns-clause-stores g c = in_parts.copied_parts_are_stored g.R.Reading.shows
 
 pub returns-clause-whole : goal.returns-clause-whole
 returns-clause-whole g c = in_parts.copied_parts_are_whole g.R.Reading.shows
+
+pub returns-clause-met : goal.returns-clause-met
+returns-clause-met g c = copied_parts_are_met

@@ -1,0 +1,103 @@
+-- What a Get that came with success tells of the object.
+use Rattle.std.proofs.Common.{◌≡◌, ◌∙◌, ◌⊎◌, ◌≤◌, ℕ, List, [], ◌∷◌, Option, Some, None, refl, sym, ap, subst, inl, inr, Contains, length, filter_map, slice_get, arith}
+use Rattle.std.proofs.lemmas.List.{append-nil}
+use Rattle.s3_model.specs.declared.requests.Ask.{Ask}
+use Rattle.s3_model.specs.declared.requests.Ask.TheVariants as ask
+use Rattle.s3_model.specs.declared.answers.Reply.{Reply}
+use Rattle.s3_model.specs.declared.answers.Reply.TheVariants as reply
+use Rattle.s3_model.specs.declared.answers.Class.{Class}
+use Rattle.s3_model.specs.declared.outcomes.Event.{Event}
+use Rattle.s3_model.specs.declared.settings.Limits.{Limits}
+use Rattle.s3_model.specs.Talks.{Talk}
+use Rattle.s3_model.specs.ServiceState.{State, Object}
+use Rattle.s3_model.specs.Serves.{Replied, Succeeds, IsThere, bytes_within}
+use Rattle.s3_model.specs.Dispatches.{Dispatched}
+use Rattle.s3_model.specs.Traces.{Step, TraceEvent, Serve, Steps, state_after, states, events_of, event_of}
+use Rattle.s3_model.specs.Fits.{request_at}
+use Rattle.s3_model.specs.Parts.{piece_count}
+use Rattle.s3_model.specs.Schedule.{asked_range}
+use Rattle.world_laws.specs.Premises.{IsFitting, HasCome}
+use Rattle.world_laws.specs.SmallTransfers.{HadContent}
+use Rattle.world_laws.specs.Multipart.{joined}
+use Rattle.world_laws.specs.Downloads.{IsPartial, IsGot, GetTells, RangesTell}
+use Rattle.world_laws.proofs.Members.{Has, contains_of}
+use Rattle.world_laws.proofs.Traces.{begun_through, step_of, has_state_after}
+use Rattle.world_laws.proofs.Fitting as fitting
+use Rattle.world_laws.proofs.Kept.{one_content}
+use Rattle.world_laws.proofs.Pieces.{some_pieces, joined_same, ranges_make_whole}
+
+-- ---- one Get
+
+-- all of it, or a part that is the range
+abbrev Tells : Option (ℕ × ℕ) → Reply → List ℕ → List ℕ → Type 0
+Tells None answered bytes content = bytes ≡ content
+Tells (Some asked) answered bytes content = IsPartial answered → bytes ≡ bytes_within asked content
+
+-- what an object has at some moment
+had : (moments : List State) (t : State) (bucket key etag : List ℕ) (object : Object) → Contains moments t → IsThere t bucket key etag object → HadContent moments bucket key etag object.bytes
+had moments t bucket key etag object among there = (t, object, among, there, refl)
+
+two_statuses : (status : ℕ) → status ≡ 200 → status ≡ 206 → ⊥
+two_statuses status e f = omega arith
+
+get_tells : (limits : Limits) (old : State) (bucket key etag : List ℕ) (range : Option (ℕ × ℕ)) (body : List ℕ) (answered : Reply) (bytes : List ℕ) (new : State)
+    → Succeeds limits old (ask.Get bucket key etag range) body answered bytes new → (object : Object) × IsThere old bucket key etag object × Tells range answered bytes object.bytes
+get_tells limits old bucket key etag None body (reply.Got status told size) bytes new h = (h.0, h.1, h.2.2)
+get_tells limits old bucket key etag (Some asked) body (reply.Got status told size) bytes new h = (h.0, h.1, which h.2.1)
+  where
+    which : ((status ≡ 200) × (size ≡ length h.0.bytes) × (bytes ≡ h.0.bytes)) ⊎ ((status ≡ 206) × (told ≡ Some (asked.0, asked.1, length h.0.bytes)) × (size ≡ length bytes) × (bytes ≡ bytes_within asked h.0.bytes))
+        → (status ≡ 206) → bytes ≡ bytes_within asked h.0.bytes
+    which (inl whole) partial = absurd (two_statuses status whole.0 partial)
+    which (inr part) partial = part.3
+get_tells limits old bucket key etag range body answered bytes new h = absurd h
+
+module _ (Shows : Ask → ℕ → Talk → Class → List ℕ → Type 0) where
+  -- what a Get was told
+  got : (limits : Limits) (start : State) (trace : List Step) (journal : List Event) (dispatched : List Dispatched) (bucket key etag : List ℕ) (range : Option (ℕ × ℕ)) (bytes : List ℕ)
+      → IsFitting Shows limits start trace journal dispatched (λ b k. ⊥) → (is : IsGot Shows dispatched journal bucket key etag range bytes)
+      → (content : List ℕ) × HadContent (states start trace) bucket key etag content × Tells range is.succeeded.reply bytes content
+  got limits start trace journal dispatched bucket key etag range bytes p is =
+      let come : HasCome (filter_map event_of (events_of trace)) is.get = (is.come.0, is.come.1, is.come.2, ap (λ (j : List Event). slice_get j is.come.0) p.fits.moves ∙ is.come.3) in
+      let served = fitting.success_is_served Shows limits start trace dispatched journal p.runs p.fits trace [] (sym (append-nil trace)) is.get is.known come is.succeeded in
+      let at = step_of trace (Serve (request_at is.get is.succeeded.place) (Replied is.succeeded.reply is.succeeded.bytes)) served in
+      let steps = subst (λ (event : TraceEvent). Steps limits (begun_through [] at.front) (state_after start at.front) event at.step.state) at.is_event
+      (fitting.steps_at Shows limits start trace dispatched journal p.runs p.fits at.front at.step at.back at.is) in
+      let tells = get_tells limits (state_after start at.front) bucket key etag range is.get.body is.succeeded.reply is.succeeded.bytes at.step.state
+      (subst (λ (asked : Ask). Succeeds limits (state_after start at.front) asked is.get.body is.succeeded.reply is.succeeded.bytes at.step.state) is.is_get steps.1) in
+      let among = subst (λ (t : List Step). Has (states start t) (state_after start at.front)) (sym at.is) (has_state_after at.front (at.step ∷ at.back) start) in (
+        tells.0.bytes,
+        had (states start trace) (state_after start at.front) bucket key etag tells.0 (contains_of (states start trace) (state_after start at.front) among) tells.1,
+        subst (λ (b : List ℕ). Tells range is.succeeded.reply b tells.0.bytes) is.is_body tells.2,
+      )
+
+  pub whole_tells : GetTells Shows
+  whole_tells limits start trace journal dispatched bucket key etag bytes p is =
+      let told = got limits start trace journal dispatched bucket key etag None bytes p is in
+      subst (λ (b : List ℕ). HadContent (states start trace) bucket key etag b) (sym told.2) told.1
+
+  pub ranges_tell : RangesTell Shows
+  ranges_tell limits start trace journal dispatched bucket key etag size piece bodies p sized some long each = subst (λ (b : List ℕ). HadContent (states start trace) bucket key etag b) (sym all) first.1
+    where
+      counted : 1 ≤ piece_count size piece
+      counted = some_pieces size piece sized some
+
+      first : (content : List ℕ) × HadContent (states start trace) bucket key etag content × Tells (Some (asked_range size piece 1)) (each 1 (omega arith) counted).0.succeeded.reply (bodies 1) content
+      first = got limits start trace journal dispatched bucket key etag (Some (asked_range size piece 1)) (bodies 1) p (each 1 (omega arith) counted).0
+
+      content : List ℕ
+      content = first.0
+
+      -- each body is its range of the one content
+      of_content : (k : ℕ) → 1 ≤ k → k ≤ piece_count size piece → bodies k ≡ bytes_within (asked_range size piece k) content
+      of_content k low high =
+          let of = each k low high in
+          let told = got limits start trace journal dispatched bucket key etag (Some (asked_range size piece k)) (bodies k) p of.0 in
+          told.2 of.1 ∙ ap (bytes_within (asked_range size piece k)) (one_content start trace (λ b q. ⊥) p.honest bucket key etag told.0 content told.1 first.1)
+
+      size_is : length content ≡ size
+      size_is = long content first.1
+
+      all : joined bodies 1 (piece_count size piece) ≡ content
+      all =
+          joined_same bodies (λ k. bytes_within (asked_range size piece k) content) (piece_count size piece) 1 (λ k low high. of_content k low (omega arith))
+          ∙ ap (λ (n : ℕ). joined (λ k. bytes_within (asked_range n piece k) content) 1 (piece_count n piece)) (sym size_is) ∙ ranges_make_whole content piece some (subst (λ n. 1 ≤ n) (sym size_is) sized)

@@ -1,0 +1,122 @@
+-- Runs with a Get: of the whole, and of a range that is all there is.
+use Rattle.std.proofs.Common.{◌≡◌, ◌∙◌, ◌+◌, ◌-◌, ◌*◌, ◌/◌, ◌<◌, ◌≤◌, ℕ, false, List, [], ◌∷◌, Some, None, refl, sym, ap, subst, inl, inr, length, arith}
+use Rattle.std.proofs.lemmas.Nat.{div-mul-add}
+use Rattle.s3_model.specs.declared.requests.Ask.TheVariants as ask
+use Rattle.s3_model.specs.declared.requests.Op.TheVariants as op
+use Rattle.s3_model.specs.declared.settings.Limits.{Limits}
+use Rattle.s3_model.specs.Parts.{piece_count}
+use Rattle.s3_model.specs.ServiceState.{State, with_object}
+use Rattle.s3_model.specs.Serves.{IsThere, IsWithin, bytes_within}
+use Rattle.s3_model.specs.Traces.{states}
+use Rattle.s3_model.specs.Schedule.{job_of, asked_range}
+use Rattle.world_laws.specs.SmallTransfers.{HadContent}
+use Rattle.world_laws.specs.Downloads.{IsGot, IsPartial}
+use Rattle.world_laws.specs.Rounds.{Told, Round, dispatch_at, dispatched_from, journal_of, steps_from, AreServed}
+use Rattle.world_laws.specs.Witnesses.{IsGetMet, GetIsMet, AreRangesMet, RangesAreMet}
+use Rattle.world_laws.proofs.Members.{has}
+use Rattle.world_laws.proofs.Objects.{object_at-with_object}
+use Rattle.world_laws.proofs.Rounds.{AreApart, rounds_come}
+use Rattle.world_laws.proofs.Faithful.{IsFaithful, object_of, bare, bare_is_faithful, faithful_with, states_faithful, rounds_fitting}
+use Rattle.world_laws.proofs.Witnesses.{round, succeeds}
+
+-- what has bytes has one piece of all its length
+one_piece : (size : ℕ) → 1 ≤ size → piece_count size size ≡ 1
+one_piece size some =
+    let sum : size + size - 1 ≡ 1 * size + (size - 1) = omega arith in
+    let below : size - 1 < size = omega arith in
+    ap (λ n. n / size) sum ∙ div-mul-add 1 size (size - 1) below
+
+module _ (limits : Limits) (bucket key etag : List ℕ) where
+  abbrev start : State
+  start = with_object (bare (bucket ∷ [])) bucket key (object_of etag)
+
+  is_there : IsThere start bucket key etag (object_of etag)
+  is_there = record { held = object_at-with_object (bare (bucket ∷ [])) bucket key (object_of etag); etag = refl }
+
+  is_faithful : IsFaithful start
+  is_faithful = faithful_with (bare (bucket ∷ [])) bucket key etag (bare_is_faithful (bucket ∷ []))
+
+  abbrev get_all : Round
+  get_all = round (job_of 0 op.Get 0) (ask.Get bucket key etag None) [] etag start
+
+  alone : (r : Round) → AreApart (r ∷ [])
+  alone r = (λ other h. absurd h, tt)
+
+  get_met : IsGetMet limits bucket key etag
+  get_met = record {
+    start = start;
+    trace = steps_from 0 start (get_all ∷ []);
+    journal = journal_of (get_all ∷ []);
+    dispatched = dispatched_from 0 (get_all ∷ []);
+    bytes = etag;
+    fitting = rounds_fitting limits start (get_all ∷ []) ((object_of etag, is_there, (refl, refl, refl), refl), tt) (alone get_all) is_faithful (is_faithful, tt) (λ b k. ⊥);
+    got = record {
+      get = dispatch_at 0 get_all;
+      known = (0, omega arith, refl);
+      is_get = refl;
+      come = rounds_come (get_all ∷ []) start (alone get_all) (dispatch_at 0 get_all) (inl refl);
+      succeeded = succeeds 0 get_all refl;
+      is_body = refl;
+    };
+  }
+
+  module _ (some : 1 ≤ length etag) where
+    abbrev range : ℕ × ℕ
+    range = asked_range (length etag) (length etag) 1
+
+    abbrev get_range : Round
+    get_range = record {
+      job = job_of 0 op.Get 1;
+      ask = ask.Get bucket key etag (Some range);
+      body = [];
+      refused = false;
+      got = bytes_within range etag;
+      size = length etag;
+      after = start;
+    }
+
+    inside : IsWithin range etag
+    inside = (omega arith, omega arith)
+
+    range_served : AreServed limits start (get_range ∷ [])
+    range_served = ((object_of etag, is_there, (inside, inr (refl, refl, refl, refl)), refl), tt)
+
+    got_range : IsGot Told (dispatched_from 0 (get_range ∷ [])) (journal_of (get_range ∷ [])) bucket key etag (Some range) (bytes_within range etag)
+    got_range = record {
+      get = dispatch_at 0 get_range;
+      known = (0, omega arith, refl);
+      is_get = refl;
+      come = rounds_come (get_range ∷ []) start (alone get_range) (dispatch_at 0 get_range) (inl refl);
+      succeeded = succeeds 0 get_range refl;
+      is_body = refl;
+    }
+
+    size_known : (bytes : List ℕ) → HadContent (states start (steps_from 0 start (get_range ∷ []))) bucket key etag bytes → length bytes ≡ length etag
+    size_known bytes had =
+        let faithful = states_faithful (get_range ∷ []) 0 start is_faithful (is_faithful, tt) had.0 (has (states start (steps_from 0 start (get_range ∷ []))) had.0 had.2) bucket key had.1 had.3.held in
+        ap length (sym had.4 ∙ sym faithful ∙ had.3.etag)
+
+    abbrev GotPart : ℕ → Type 0
+    GotPart k = (get : IsGot Told (dispatched_from 0 (get_range ∷ [])) (journal_of (get_range ∷ [])) bucket key etag (Some (asked_range (length etag) (length etag) k)) (bytes_within range etag)) × IsPartial get.succeeded.reply
+
+    ranges_met : AreRangesMet limits bucket key etag
+    unfolding got_range
+    ranges_met = record {
+      start = start;
+      trace = steps_from 0 start (get_range ∷ []);
+      journal = journal_of (get_range ∷ []);
+      dispatched = dispatched_from 0 (get_range ∷ []);
+      bodies = λ k. bytes_within range etag;
+      fitting = rounds_fitting limits start (get_range ∷ []) range_served (alone get_range) is_faithful (is_faithful, tt) (λ b k. ⊥);
+      known_size = size_known;
+      got = λ k low high.
+          let one = one_piece (length etag) some in
+          let first : 1 ≡ k = omega arith in
+          subst GotPart first (got_range, refl);
+    }
+
+pub get_is_met : GetIsMet
+get_is_met limits bucket key etag = get_met limits bucket key etag
+
+pub ranges_are_met : RangesAreMet
+ranges_are_met limits bucket key etag some = ranges_met limits bucket key etag some

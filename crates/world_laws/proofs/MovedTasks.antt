@@ -1,0 +1,125 @@
+-- Of tasks: moves wait for their destinations, moved sources are gone, and nothing else is changed.
+use Rattle.std.proofs.Common.{append_assoc, ◌≡◌, ◌∙◌, ◌⊎◌, ◌++◌, ℕ, Bool, true, false, List, [], ◌∷◌, Option, Some, refl, sym, ap, subst, inl, inr, Contains, slice_get}
+use Rattle.std.proofs.lemmas.List.{map-append}
+use Rattle.s3_model.specs.declared.requests.Ask.{Ask}
+use Rattle.s3_model.specs.declared.requests.Op.{Op}
+use Rattle.s3_model.specs.declared.requests.Op.TheVariants as op
+use Rattle.s3_model.specs.declared.answers.Reply.{Reply}
+use Rattle.s3_model.specs.declared.answers.Reply.TheVariants as reply
+use Rattle.s3_model.specs.declared.answers.Class.{Class}
+use Rattle.s3_model.specs.declared.outcomes.JobId.{JobId}
+use Rattle.s3_model.specs.declared.outcomes.Event.{Event}
+use Rattle.s3_model.specs.declared.places.Place.{Place}
+use Rattle.s3_model.specs.declared.tasks.Kind.{Kind}
+use Rattle.s3_model.specs.declared.tasks.Kind.TheVariants as kind
+use Rattle.s3_model.specs.declared.tasks.Task.{Task}
+use Rattle.s3_model.specs.Talks.{Talk}
+use Rattle.s3_model.specs.ServiceState.{State}
+use Rattle.s3_model.specs.Serves.{MayChange}
+use Rattle.s3_model.specs.Dispatches.{Dispatched}
+use Rattle.s3_model.specs.Traces.{Step, states, state_after, events_of}
+use Rattle.s3_model.specs.Schedule.{Setting, Gained, IsObject, IsSource, IsTaskAsk, IsDecidedBy, is_small, job_of, source_bytes, gained_before}
+use Rattle.s3_model.specs.Endings.{IsNew, IsGone}
+use Rattle.world_laws.specs.Destinations.{AllThatChange}
+use Rattle.world_laws.specs.SmallTransfers.{Deletes}
+use Rattle.world_laws.specs.Tasks.{deciding, IsScheduled, MovedTaskIsNew, MovedSourceIsGone, OtherObjectsStay}
+use Rattle.world_laws.proofs.Members.{found_or_not, has_at, contains_of}
+use Rattle.world_laws.proofs.Traces.{state_after_step}
+use Rattle.world_laws.proofs.Frame.{others_stay}
+use Rattle.world_laws.proofs.Order.{begun_is_after, came_before}
+use Rattle.world_laws.proofs.Moves as moves
+use Rattle.world_laws.proofs.Rows as rows
+use Rattle.world_laws.proofs.Tasks as tasks
+use Rattle.world_laws.proofs.TaskLaws as laws
+
+-- a copy is decided by its deciding request
+decided_by : (small : Bool) (n count : ℕ) (gained : Gained) → IsDecidedBy kind.Copy small n count gained → (answered : Reply) × gained (job_of n (deciding kind.Copy small) 0) answered
+decided_by true n count gained h = (reply.Copied, h)
+decided_by false n count gained h = (reply.Completed, h)
+
+as_deciding : (job : JobId) (n : ℕ) (small : Bool) (of_kind : Kind) → of_kind ≡ kind.Copy → job ≡ job_of n (deciding kind.Copy small) 0 → job ≡ job_of n (deciding of_kind small) 0
+as_deciding job n small of_kind is_kind is_job = is_job ∙ ap (λ (k : Kind). job_of n (deciding k small) 0) (sym is_kind)
+
+not_a_removal : kind.Copy ≡ kind.RemoveObject → ⊥
+not_a_removal e = cc
+
+module _ (Shows : Ask → ℕ → Talk → Class → List ℕ → Type 0) where
+  pub moved_task_is_new : MovedTaskIsNew Shows
+  moved_task_is_new s excused held start trace front later step journal dispatched coming r p is n task bucket key object is_kind lane sent is_event same =
+      let of = begun_is_after Shows s.limits start trace dispatched journal p.runs p.fits r.given front step later lane sent is is_event in
+      let is_job : of.0.dispatch.job ≡ job_of n op.Delete 0 = of.2 ∙ same in
+      let own = tasks.row_of_job Shows s journal dispatched coming r n task bucket key object.is_task object.is_dest of.0 op.Delete 0 of.1 is_job in
+      let source = rows.row_source (gained_before Shows dispatched of.0.dispatch.given_at) task (record { number = n; bytes = source_bytes s.held task.source; piece = own.piece; count = own.count })
+      task.kind (is_small s task) of.0.dispatch.job.number of.0.ask of.0.body
+      (subst (λ (o : Op). IsTaskAsk (gained_before Shows dispatched of.0.dispatch.given_at) task (record { number = n; bytes = source_bytes s.held task.source; piece = own.piece; count = own.count })
+      task.kind (is_small s task) o of.0.dispatch.job.number of.0.ask of.0.body) (ap (λ (j : JobId). j.op) is_job) own.row)
+      (λ removal. not_a_removal (sym is_kind ∙ removal)) in
+      let decided = r.schedule.moves_last of.0 n task of.1 (ap (λ (j : JobId). j.task) is_job) object.is_task source.moves (ap (λ (j : JobId). j.op) is_job) own.piece own.count own.pieces in
+      let gained = decided_by (is_small s task) n own.count (gained_before Shows dispatched of.0.dispatch.given_at) (subst (λ (k : Kind). IsDecidedBy k (is_small s task) n own.count (gained_before Shows dispatched of.0.dispatch.given_at)) is_kind decided) in
+      let c = gained.1.0 in
+      let is_deciding : c.dispatch.job ≡ job_of n (deciding task.kind (is_small s task)) 0 = as_deciding c.dispatch.job n (is_small s task) task.kind is_kind gained.1.2 in
+      let in_events : events_of trace ≡ events_of front ++ step.event ∷ events_of later = ap events_of is ∙ map-append (λ (x : Step). x.event) front (step ∷ later) in
+      let come = came_before Shows s.limits start trace dispatched journal p.runs p.fits r.given c of.0 (r.come c gained.1.1) gained.1.3 (events_of front) (step.event ∷ events_of later) in_events of.3 in
+      let split : trace ≡ (front ++ step ∷ []) ++ later = is ∙ sym (append_assoc front (step ∷ []) later) in
+      subst (λ (t : State). IsNew excused s.held (states start trace) (record { state = t; held = held }) task task.kind) (state_after_step front step start)
+      (laws.new_once_come Shows s journal dispatched coming r n task bucket key object.is_task object.is_dest excused held start trace (front ++ step ∷ []) later p split object.has_source c gained.1.1 is_deciding
+      (moves.come_later front (step ∷ []) c come) (tasks.replied Shows c gained.0 gained.1.4).0)
+
+  -- a request that may change an object changes its task's destination, or deletes the source of its move
+  pub what_changes : (s : Setting) (journal : List Event) (dispatched coming : List Dispatched) → IsScheduled Shows s journal dispatched coming → (bucket key : List ℕ) (c : Dispatched) → Contains dispatched c → MayChange c.ask bucket key
+      → (m : ℕ) × (task : Task) × (slice_get s.tasks m ≡ Some task) × (IsObject task.dest bucket key ⊎ rows.DeletesSource task c.ask bucket key)
+  what_changes s journal dispatched coming r bucket key c known may = elim (found_or_not c.dispatch.job.task) [
+    | inl none ↦ absurd (tasks.planning_changes_nothing c.ask bucket key (r.schedule.plans c known none) may)
+    | inr some ↦
+        let found = tasks.row_of Shows s journal dispatched coming r c some.0 known some.1 in (
+          some.0,
+          found.0,
+          found.1,
+          elim (rows.row_changes (gained_before Shows dispatched c.dispatch.given_at) found.0 (record { number = some.0; bytes = source_bytes s.held found.0.source; piece = found.2.piece; count = found.2.count }) bucket key
+              found.0.kind (is_small s found.0) c.dispatch.job.op c.dispatch.job.number c.ask c.body found.2.row may) [
+                | inl there ↦ inl there.is_dest
+                | inr source ↦ inr source
+              ],
+        )
+  ]
+
+  pub other_objects_stay : OtherObjectsStay Shows
+  other_objects_stay s start trace part late journal dispatched coming r p is bucket key =
+      elim (others_stay Shows s.limits start trace dispatched journal p.runs p.fits bucket key part late is) [
+        | inr rest ↦ inr (inr rest)
+        | inl asked ↦
+            let what = what_changes s journal dispatched coming r bucket key asked.0 asked.1 asked.2 in
+            elim what.3 [
+              | inl there ↦ inl (what.1, contains_of s.tasks what.1 (has_at s.tasks what.0 what.1 what.2), rows.place_is what.1.dest bucket key there)
+              | inr source ↦ inr (inl (what.1, contains_of s.tasks what.1 (has_at s.tasks what.0 what.1 what.2), source.moves, rows.source_is what.1.source bucket key source.is_source))
+            ]
+      ]
+
+  pub moved_source_is_gone : MovedSourceIsGone Shows
+  moved_source_is_gone s held start trace part journal dispatched coming r p whole n task bucket key is_task moved is_source c known is_job other succeeded =
+      subst (λ (o : Option Place). IsGone trace (record { state = state_after start part; held = held }) o) (sym is_source)
+      (moves.source_is_gone Shows s.limits start trace part journal dispatched bucket key p.runs p.fits deletes_alone whole c known may (r.come c known) succeeded)
+    where
+      here : IsSource task.source bucket key
+      here = subst (λ (o : Option Place). IsSource o bucket key) (sym is_source) (refl, refl)
+
+      deletes_alone : AllThatChange bucket key (Deletes bucket key) dispatched
+      deletes_alone d among changes =
+          let what = what_changes s journal dispatched coming r bucket key d among changes in
+          elim what.3 [
+            | inl there ↦ absurd (r.apart.sources n what.0 task what.1 bucket key is_task what.2 moved here there)
+            | inr source ↦ source.deletes
+          ]
+
+      own_of : (found : (t : Task) × (slice_get s.tasks n ≡ Some t) × tasks.IsRow Shows s journal dispatched coming r n t c) → tasks.IsRow Shows s journal dispatched coming r n task c
+      own_of found = subst (λ (t : Task). tasks.IsRow Shows s journal dispatched coming r n t c) (tasks.some_task found.0 task (sym found.1 ∙ is_task)) found.2
+
+      may : MayChange c.ask bucket key
+      may =
+          let own = own_of (tasks.row_of Shows s journal dispatched coming r c n known (ap (λ (j : JobId). j.task) is_job)) in
+          let source = rows.row_source (gained_before Shows dispatched c.dispatch.given_at) task (record { number = n; bytes = source_bytes s.held task.source; piece = own.piece; count = own.count })
+          task.kind (is_small s task) c.dispatch.job.number c.ask c.body
+          (subst (λ (o : Op). IsTaskAsk (gained_before Shows dispatched c.dispatch.given_at) task (record { number = n; bytes = source_bytes s.held task.source; piece = own.piece; count = own.count })
+          task.kind (is_small s task) o c.dispatch.job.number c.ask c.body) (ap (λ (j : JobId). j.op) is_job) own.row) other in
+          let at = subst (λ (o : Option Place). IsSource o source.from.bucket source.from.key) is_source source.from.is_source in
+          subst (λ (a : Ask). MayChange a bucket key) (sym source.deletes) (sym at.0, sym at.1)

@@ -1,0 +1,178 @@
+-- What a run that keeps to the clauses on given and carried jobs leaves of each task whose destination is an object.
+use Rattle.std.specs.Prelude.{◌≡◌, ◌≢◌, ◌++◌, ◌⊎◌, ℕ, Bool, true, false, List, [], ◌∷◌, Option, Some, None, Contains, length, slice_get}
+use Rattle.std.specs.Bool.{OnTrue}
+use Rattle.std.specs.FinMap.{get}
+use Rattle.s3_model.specs.declared.requests.Ask.{Ask}
+use Rattle.s3_model.specs.declared.requests.Ask.TheVariants as ask
+use Rattle.s3_model.specs.declared.requests.Op.{Op}
+use Rattle.s3_model.specs.declared.requests.Op.TheVariants as op
+use Rattle.s3_model.specs.declared.answers.Class.{Class}
+use Rattle.s3_model.specs.declared.outcomes.Event.{Event}
+use Rattle.s3_model.specs.declared.outcomes.Outcome.{Outcome}
+use Rattle.s3_model.specs.declared.outcomes.Outcome.TheVariants as outcome
+use Rattle.s3_model.specs.declared.places.Place.{Place}
+use Rattle.s3_model.specs.declared.places.Place.TheVariants as place
+use Rattle.s3_model.specs.declared.tasks.Kind.{Kind}
+use Rattle.s3_model.specs.declared.tasks.Kind.TheVariants as kind
+use Rattle.s3_model.specs.declared.tasks.Task.{Task}
+use Rattle.s3_model.specs.Maps.{MapOf}
+use Rattle.s3_model.specs.Talks.{Talk}
+use Rattle.s3_model.specs.Validity.{IsValidConfig, IsValidLimits}
+use Rattle.s3_model.specs.Files.{HeldFile}
+use Rattle.s3_model.specs.ServiceState.{State, object_at}
+use Rattle.s3_model.specs.Dispatches.{Dispatched}
+use Rattle.s3_model.specs.Traces.{Request, Step, Begin, IsTrace, IsHonest, state_after, states, events_of}
+use Rattle.s3_model.specs.Fits.{Fits}
+use Rattle.s3_model.specs.Schedule.{Setting, IsObject, IsSource, IsSchedule, is_small, job_of}
+use Rattle.s3_model.specs.Endings.{Excused, IsNew, IsGone, IsGoneOrThere, IsSpared, IsEnded}
+use Rattle.s3_model.specs.Truthful.{IsDest, IsMovedSource, IsExternal, IsWhole}
+use Rattle.world_laws.specs.Premises.{AreGiven, HasCome, HasSucceeded, AllRefused}
+use Rattle.world_laws.specs.SmallTransfers.{HadContent}
+
+-- no two tasks have one destination, and no destination is the source of a move
+pub record AreApart (tasks : List Task) : Type 0 where
+  pub destinations : (m n : ℕ) (a b : Task) (bucket key : List ℕ) → slice_get tasks m ≡ Some a → slice_get tasks n ≡ Some b → IsObject a.dest bucket key → IsObject b.dest bucket key → m ≡ n
+  pub sources : (m n : ℕ) (a b : Task) (bucket key : List ℕ) → slice_get tasks m ≡ Some a → slice_get tasks n ≡ Some b → a.moves ≡ true → IsSource a.source bucket key → IsObject b.dest bucket key → ⊥
+
+-- planning asks for heads, pages and buckets
+abbrev pub IsPlanning : Ask → Type 0
+IsPlanning (ask.Head bucket key) = Unit {0}
+IsPlanning (ask.List bucket prefix delimited token) = Unit {0}
+IsPlanning ask.Buckets = Unit {0}
+IsPlanning asked = ⊥
+
+-- the request that decides a task whose destination is an object
+abbrev pub deciding : Kind → Bool → Op
+deciding kind.Upload true = op.Put
+deciding kind.Upload false = op.Complete
+deciding kind.Copy true = op.Copy
+deciding kind.Copy false = op.Complete
+deciding of_kind small = op.Delete
+
+-- an uploaded file is there, with the size that was planned
+abbrev pub HasSourceFile : MapOf HeldFile → Task → Type 0
+HasSourceFile held task = (path : List ℕ) × (file : HeldFile) × (task.source ≡ Some (place.File path)) × (get held path ≡ Some file) × (length file.bytes ≡ task.size)
+
+-- a copied object has the size that was planned, under the planned ETag
+abbrev pub HasSourceObject : List State → Task → Type 0
+HasSourceObject moments task = (bucket : List ℕ) × (key : List ℕ) × (task.source ≡ Some (place.Object bucket key))
+    × ((bytes : List ℕ) → HadContent moments bucket key task.etag bytes → length bytes ≡ task.size)
+
+-- what planning made sure of, by the kinds whose destination is an object
+abbrev pub HasSource : MapOf HeldFile → List State → Task → Kind → Bool → Type 0
+HasSource held moments task kind.Upload small = HasSourceFile held task
+HasSource held moments task kind.Copy true = (bucket : List ℕ) × (key : List ℕ) × (task.source ≡ Some (place.Object bucket key))
+HasSource held moments task kind.Copy false = HasSourceObject moments task
+HasSource held moments task kind.RemoveObject small = task.moves ≡ false
+HasSource held moments task of_kind small = ⊥
+
+-- a task whose destination is an object, and whose source is as it was planned
+pub record IsObjectTask (s : Setting) (moments : List State) (n : ℕ) (task : Task) (bucket key : List ℕ) : Type 0 where
+  pub is_task : slice_get s.tasks n ≡ Some task
+  pub is_dest : task.dest ≡ place.Object bucket key
+  pub has_source : HasSource s.held moments task task.kind (is_small s task)
+
+abbrev pub IsTaskNew : Setting → Excused → MapOf HeldFile → List State → Task → State → Type 0
+IsTaskNew s excused held moments task t = IsNew excused s.held moments (record { state = t; held = held }) task task.kind
+
+-- what an outcome shows of a task: of its deciding request, and of the source of a move
+abbrev pub IsShown : Outcome → Type 0 → Type 0 → Type 0 → Type 0 → Type 0 → Type 0
+IsShown outcome.Done decided refused taken left spared = decided × taken
+IsShown (outcome.Copied cause) decided refused taken left spared = decided × left
+IsShown (outcome.Failed cause) decided refused taken left spared = refused × spared
+IsShown (outcome.Unknown cause) decided refused taken left spared = spared
+IsShown outcome.Dry decided refused taken left spared = refused × spared
+IsShown outcome.Skipped decided refused taken left spared = refused × spared
+
+-- `Shows ask limit talk class bytes`: the talk has that class for the ask, and its answer that body
+module _ (Shows : Ask → ℕ → Talk → Class → List ℕ → Type 0) where
+  -- the clauses on given jobs, and what the clauses on carried jobs add to them
+  pub record IsScheduled (s : Setting) (journal : List Event) (dispatched coming : List Dispatched) : Type 0 where
+    pub schedule : IsSchedule Shows s (λ gained c. IsPlanning c.ask) dispatched coming
+    pub given : AreGiven journal dispatched
+    pub come : (c : Dispatched) → Contains dispatched c → HasCome journal c
+    pub apart : AreApart s.tasks
+    pub config : IsValidConfig s.config
+    pub limits : IsValidLimits s.limits
+
+  -- an honest trace that fits, in which nobody else writes a destination
+  pub record IsTraceOf (s : Setting) (start : State) (trace : List Step) (journal : List Event) (dispatched : List Dispatched) : Type 0 where
+    pub runs : IsTrace s.limits [] start trace
+    pub honest : IsHonest start trace (IsDest s.tasks)
+    pub fits : Fits Shows (events_of trace) journal dispatched
+
+  -- ---- the laws
+
+  -- Where the deciding request came with success, the destination is new at the end and at every later moment.
+  abbrev pub TaskIsNew : Type 0
+  TaskIsNew = (s : Setting) (excused : Excused) (held : MapOf HeldFile) (start : State) (trace part : List Step) (journal : List Event) (dispatched coming : List Dispatched)
+      → IsScheduled s journal dispatched coming → IsTraceOf s start trace journal dispatched → IsWhole journal trace part
+      → (n : ℕ) (task : Task) (bucket key : List ℕ) → IsObjectTask s (states start trace) n task bucket key
+      → (c : Dispatched) → Contains dispatched c → c.dispatch.job ≡ job_of n (deciding task.kind (is_small s task)) 0 → HasSucceeded Shows c
+      → IsTaskNew s excused held (states start trace) task (state_after start part)
+
+  -- Where each attempt of it was refused, or it was never given, the destination is as before, at every moment.
+  abbrev pub TaskIsOld : Type 0
+  TaskIsOld = (s : Setting) (start : State) (trace part late : List Step) (journal : List Event) (dispatched coming : List Dispatched)
+      → IsScheduled s journal dispatched coming → IsTraceOf s start trace journal dispatched → trace ≡ part ++ late
+      → (n : ℕ) (task : Task) (bucket key : List ℕ) → slice_get s.tasks n ≡ Some task → task.dest ≡ place.Object bucket key
+      → ((c : Dispatched) → Contains dispatched c → c.dispatch.job ≡ job_of n (deciding task.kind (is_small s task)) 0 → AllRefused Shows c)
+      → object_at (state_after start part) bucket key ≡ object_at start bucket key
+
+  -- Whatever was answered, it is as before or new, at every moment.
+  abbrev pub TaskIsWhole : Type 0
+  TaskIsWhole = (s : Setting) (excused : Excused) (held : MapOf HeldFile) (start : State) (trace part late : List Step) (journal : List Event) (dispatched coming : List Dispatched)
+      → IsScheduled s journal dispatched coming → IsTraceOf s start trace journal dispatched → trace ≡ part ++ late
+      → (n : ℕ) (task : Task) (bucket key : List ℕ) → IsObjectTask s (states start trace) n task bucket key
+      → (object_at (state_after start part) bucket key ≡ object_at start bucket key) ⊎ IsTaskNew s excused held (states start trace) task (state_after start part)
+
+  -- Of a copy that is moved, the destination is new from the time that the Delete of its source begins.
+  abbrev pub MovedTaskIsNew : Type 0
+  MovedTaskIsNew = (s : Setting) (excused : Excused) (held : MapOf HeldFile) (start : State) (trace front later : List Step) (step : Step) (journal : List Event) (dispatched coming : List Dispatched)
+      → IsScheduled s journal dispatched coming → IsTraceOf s start trace journal dispatched → trace ≡ front ++ step ∷ later
+      → (n : ℕ) (task : Task) (bucket key : List ℕ) → IsObjectTask s (states start trace) n task bucket key → task.kind ≡ kind.Copy
+      → (lane : ℕ) (sent : Request) → step.event ≡ Begin lane sent → sent.job ≡ job_of n op.Delete 0
+      → IsTaskNew s excused held (states start trace) task step.state
+
+  -- After the Delete of a moved source came with success the source is gone, at the end and at every later moment.
+  abbrev pub MovedSourceIsGone : Type 0
+  MovedSourceIsGone = (s : Setting) (held : MapOf HeldFile) (start : State) (trace part : List Step) (journal : List Event) (dispatched coming : List Dispatched)
+      → IsScheduled s journal dispatched coming → IsTraceOf s start trace journal dispatched → IsWhole journal trace part
+      → (n : ℕ) (task : Task) (bucket key : List ℕ) → slice_get s.tasks n ≡ Some task → task.moves ≡ true → task.source ≡ Some (place.Object bucket key)
+      → (c : Dispatched) → Contains dispatched c → c.dispatch.job ≡ job_of n op.Delete 0 → task.kind ≢ kind.RemoveObject → HasSucceeded Shows c
+      → IsGone trace (record { state = state_after start part; held = held }) task.source
+
+  -- Nothing else is changed: every object is a destination, a moved source, written by somebody else, or as before.
+  abbrev pub OtherObjectsStay : Type 0
+  OtherObjectsStay = (s : Setting) (start : State) (trace part late : List Step) (journal : List Event) (dispatched coming : List Dispatched)
+      → IsScheduled s journal dispatched coming → IsTraceOf s start trace journal dispatched → trace ≡ part ++ late → (bucket key : List ℕ)
+      → IsDest s.tasks bucket key ⊎ IsMovedSource s.tasks bucket key ⊎ IsExternal trace bucket key ⊎ (object_at (state_after start part) bucket key ≡ object_at start bucket key)
+
+  -- ---- how a task ended
+
+  -- the deciding request came with success
+  pub record IsDecidedIn (s : Setting) (dispatched : List Dispatched) (n : ℕ) (task : Task) : Type 0 where
+    pub request : Dispatched
+    pub known : Contains dispatched request
+    pub decides : request.dispatch.job ≡ job_of n (deciding task.kind (is_small s task)) 0
+    pub succeeded : HasSucceeded Shows request
+
+  -- each attempt of it was refused, or none was made
+  abbrev pub IsRefusedIn : Setting → List Dispatched → ℕ → Task → Type 0
+  IsRefusedIn s dispatched n task = (c : Dispatched) → Contains dispatched c → c.dispatch.job ≡ job_of n (deciding task.kind (is_small s task)) 0 → AllRefused Shows c
+
+  -- the source of a move: its Delete came with success, or the file is no more
+  abbrev pub IsTaken : List Dispatched → MapOf HeldFile → ℕ → Option Place → Type 0
+  IsTaken dispatched held n None = Unit {0}
+  IsTaken dispatched held n (Some (place.Object bucket key)) = (c : Dispatched) × Contains dispatched c × (c.dispatch.job ≡ job_of n op.Delete 0) × HasSucceeded Shows c
+  IsTaken dispatched held n (Some (place.File path)) = get held path ≡ None
+
+  -- A task ended as its outcome says, over every honest trace.
+  abbrev pub TaskEnds : Type 0
+  TaskEnds = (s : Setting) (excused : Excused) (held : MapOf HeldFile) (start : State) (trace part : List Step) (journal : List Event) (dispatched coming : List Dispatched)
+      → IsScheduled s journal dispatched coming → IsTraceOf s start trace journal dispatched → IsWhole journal trace part
+      → (n : ℕ) (task : Task) (bucket key : List ℕ) → IsObjectTask s (states start trace) n task bucket key → (how : Outcome)
+      → IsShown how (IsDecidedIn s dispatched n task) (IsRefusedIn s dispatched n task) (OnTrue task.moves (IsTaken dispatched held n task.source))
+      (OnTrue task.moves (IsGoneOrThere (record { state = start; held = s.held }) (record { state = state_after start part; held = held }) task.source))
+      (OnTrue task.moves (IsSpared n journal (record { state = start; held = s.held }) (record { state = state_after start part; held = held }) task.source))
+      → IsEnded excused journal start trace (record { state = start; held = s.held }) (record { state = state_after start part; held = held }) n task how
