@@ -1,0 +1,22 @@
+//! Workers behind lanes, each in a thread of its own, and a boss that gives them jobs through one desk.
+#![tactic(auto)]
+
+mod bell;
+mod beside;
+mod boss;
+mod desk;
+mod lane;
+mod open;
+mod outbox;
+mod parts;
+mod run;
+mod station;
+mod worker;
+
+pub use boss::Boss;
+pub use desk::Desk;
+pub use run::with_workers;
+pub use worker::Worker;
+
+#[cfg(test)]
+mod tests;

@@ -1,0 +1,84 @@
+ghost use Rattle.std.specs.Prelude.{◌≡◌, IfOk, replicate};
+
+use crate::bell::Bell;
+use crate::outbox::Outbox;
+use rtrb::{Consumer, Producer, RingBuffer};
+use std::alloc::{AllocError, Global};
+use std::collections::VecDeque;
+use std::marker::Model;
+use std::sync::Arc;
+
+// All that a lane needs beside its worker, so that a worker moves only once no memory is wanted any more.
+//
+// Contracts see the depth of the lane.
+#[derive(Drop)]
+pub(crate) struct Parts<R, J, D> {
+    pub(crate) depth: u32,
+    pub(crate) outbox: Outbox<J>,
+    pub(crate) jobs: Consumer<J>,
+    pub(crate) to: Producer<D>,
+    pub(crate) outcomes: Consumer<D>,
+    pub(crate) bell: Arc<Bell>,
+    pub(crate) worker_bell: Arc<Bell>,
+    pub(crate) desk_bell: Arc<Bell>,
+    pub(crate) rt: R,
+}
+
+impl<R, J, D> Model for Parts<R, J, D> {
+    ghost use Rattle.std.specs.Prelude.{ℕ};
+
+    ghost Value = { ℕ };
+
+    ghost use Rattle.bounded_executor.specs.Parts.{AreReady};
+
+    ghost view = { λ p. p.depth };
+
+    ghost invariant = { λ p. AreReady p.depth p.outbox p.jobs p.to p.outcomes };
+}
+
+impl<R: Clone, J: Drop, D: Drop> Parts<R, J, D> {
+    pub(crate) fn new(
+        rt: &R,
+        alloc: Global,
+        depth: u32,
+        desk_bell: &Arc<Bell>,
+    ) -> Result<Self, AllocError>
+        ensures { IfOk result (λ parts. parts ≡ depth) }
+    {
+        let (ring, jobs) = RingBuffer::new(alloc, depth as usize)?;
+        let (to, outcomes) = RingBuffer::new(alloc, depth as usize)?;
+        let waiting = VecDeque::with_capacity(alloc, depth as usize)?;
+        let bell = Arc::new(alloc, Bell::new())?;
+        let worker_bell = Arc::try_clone(&bell)?;
+        let desk_bell = Arc::try_clone(desk_bell)?;
+        let rt = rt.clone()?;
+        Ok(Parts {
+            depth,
+            outbox: Outbox { ring, waiting },
+            jobs,
+            to,
+            outcomes,
+            bell,
+            worker_bell,
+            desk_bell,
+            rt,
+        })
+    }
+}
+
+// The parts of `count` lanes.
+pub(crate) fn all_parts<R: Clone + Drop, J: Drop, D: Drop>(
+    rt: &R,
+    alloc: Global,
+    count: usize,
+    depth: u32,
+    desk_bell: &Arc<Bell>,
+) -> Result<Vec<Parts<R, J, D>>, AllocError>
+    ensures { IfOk result (λ parts. parts.items ≡ replicate count depth) }
+{
+    let mut parts = Vec::with_capacity(alloc, count)?;
+    for _made in 0..count {
+        parts.push(Parts::new(rt, alloc, depth, desk_bell)?)?;
+    }
+    Ok(parts)
+}
