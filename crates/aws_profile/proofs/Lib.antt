@@ -1,0 +1,4 @@
+pub mod ReaderLemmas
+pub mod SlotLemmas
+pub mod TextLemmas
+pub mod ValueLemmas

@@ -1,0 +1,10 @@
+pub mod Answers
+pub mod Contexts
+pub mod Lines
+pub mod Sections
+pub mod Shown
+pub mod ShownKeys
+pub mod ShownLimits
+pub mod ShownValues
+pub mod Slots
+pub mod Values

@@ -1,0 +1,19 @@
+//! The settings of the AWS CLI's two files and of its variables.
+#![tactic(auto)]
+
+mod amounts;
+mod answers;
+mod context;
+mod keys;
+mod kinds;
+mod limits;
+mod lines;
+mod reader;
+mod slots;
+#[cfg(test)]
+mod tests;
+mod texts;
+mod values;
+
+pub use answers::settings;
+pub use s3_model::{Config, EnvWords, Keys, ProfileFault, Settings};
