@@ -1,10 +1,15 @@
-//! Times parts of the product for the scripts in `bench/`: `timings handovers LANES JOBS` prints nanoseconds.
-//! Without words it gives a few jobs and prints the sum of their outcomes.
+//! Times parts of the product for the scripts in `bench/`.
+//!
+//! `timings handovers LANES JOBS` prints nanoseconds and the sum of the outcomes; `timings listing` prints a listing, and
+//! `timings listings READS` prints nanoseconds, the listing's length in bytes, and how many objects were read. Without
+//! words it gives a few jobs, reads a listing, and prints the sum and the number of objects.
 #![tactic(auto)]
 
 mod handovers;
+mod listings;
 
 use handovers::hand_over;
+use listings::{listing, read_again};
 use std::alloc::Global;
 use std::process::ExitCode;
 use std::rt::Runtime;
@@ -13,7 +18,10 @@ use std::thread::Threads;
 use std::time::Instant;
 use std::{env, io};
 
-/// Prints how long it took to hand that many jobs over, and ends with 2 where that many lanes can't be had.
+/// The status where the words are not understood, or what they ask for can't be had.
+const REFUSED: u8 = 2;
+
+/// Prints how long it took to hand that many jobs over.
 fn time_handovers<R: Runtime + Threads + Wait + Send + 'static>(
     rt: &R,
     alloc: Global,
@@ -22,11 +30,46 @@ fn time_handovers<R: Runtime + Threads + Wait + Send + 'static>(
 ) -> io::Result<u8> {
     let begun = Instant::now(rt)?;
     let Some(sum) = hand_over(rt, alloc, lanes, jobs)? else {
-        return Ok(2);
+        return Ok(REFUSED);
     };
     let took = begun.elapsed(rt)?.as_nanos();
     println!(rt; "{took} {sum}")?;
     Ok(0)
+}
+
+/// Prints how long it took to read a listing that often.
+fn time_listings<R: Runtime>(rt: &R, alloc: Global, reads: u32) -> io::Result<u8> {
+    let text = listing(alloc)?;
+    let begun = Instant::now(rt)?;
+    let Some(objects) = read_again(alloc, text.as_str(), reads) else {
+        return Ok(REFUSED);
+    };
+    let took = begun.elapsed(rt)?.as_nanos();
+    let size = text.len();
+    println!(rt; "{took} {size} {objects}")?;
+    Ok(0)
+}
+
+fn show_listing<R: Runtime>(rt: &R, alloc: Global) -> io::Result<u8> {
+    let text = listing(alloc)?;
+    println!(rt; "{text}")?;
+    Ok(0)
+}
+
+fn show_both<R: Runtime + Threads + Wait + Send + 'static>(
+    rt: &R,
+    alloc: Global,
+) -> io::Result<u8> {
+    let text = listing(alloc)?;
+    let sum = hand_over(rt, alloc, 4, 1_000)?;
+    let objects = read_again(alloc, text.as_str(), 1);
+    match (sum, objects) {
+        (Some(sum), Some(objects)) => {
+            println!(rt; "{sum} {objects}")?;
+            Ok(0)
+        }
+        _ => Ok(REFUSED),
+    }
 }
 
 fn run<R: Runtime + Threads + Wait + Send + 'static>(
@@ -35,18 +78,17 @@ fn run<R: Runtime + Threads + Wait + Send + 'static>(
     words: &[String],
 ) -> io::Result<u8> {
     match words {
-        [] => match hand_over(rt, alloc, 4, 1_000)? {
-            Some(sum) => {
-                println!(rt; "{sum}")?;
-                Ok(0)
-            }
-            None => Ok(2),
+        [] => show_both(rt, alloc),
+        [what] if what.as_str() == "listing" => show_listing(rt, alloc),
+        [what, reads] if what.as_str() == "listings" => match reads.parse() {
+            Ok(reads) => time_listings(rt, alloc, reads),
+            Err(_) => Ok(REFUSED),
         },
         [what, lanes, jobs] if what.as_str() == "handovers" => match (lanes.parse(), jobs.parse()) {
             (Ok(lanes), Ok(jobs)) => time_handovers(rt, alloc, lanes, jobs),
-            _ => Ok(2),
+            _ => Ok(REFUSED),
         },
-        _ => Ok(2),
+        _ => Ok(REFUSED),
     }
 }
 

@@ -1,0 +1,69 @@
+-- A document is one page.
+use Rattle.std.proofs.Common.{◌≡◌, ◌∙◌, ℕ, Bool, true, false, List, [], Option, Some, None, sym, refl, subst, ap, codes}
+use Rattle.std.specs.List.{AllZip}
+use Rattle.s3_model.specs.declared.answers.Listed.{Listed}
+use Rattle.s3_model.specs.declared.places.Entry.{Entry}
+use Rattle.s3_replies.specs.declared.elements.Element.TheVariants as element
+use Rattle.s3_replies.specs.Contents.{Content, named}
+use Rattle.s3_replies.specs.Children.{AtMostOnce, HasLeaf, IsFormed, IsLeafOf}
+use Rattle.s3_replies.specs.Listing.{HasEncoding, HasObject, HasPage, IsListing, IsWritten, MeansEntry, MeansText, Page}
+use Rattle.s3_replies.specs.Numbers.{SpellsTruth}
+use Rattle.s3_replies.proofs.ChildLemmas.{nothing_there, leaf_same, Once-same, IsLeafOf-same, IsFormed-same}
+use Rattle.s3_replies.proofs.EachLemmas.{Each-same}
+use Rattle.s3_replies.proofs.NumberLemmas.{SpellsTruth-same}
+use Rattle.s3_replies.proofs.ObjectLemmas.{HasObject-same}
+use Rattle.s3_replies.proofs.PageLemmas.{HasLeaf-same}
+use Rattle.s3_replies.proofs.WholeLemmas.{IsOf-same}
+
+page_of : Bool → Option (List ℕ) → Bool → List Entry → List (List ℕ) → Page
+page_of more token url entries prefixes = record { more = more; token = token; url = url; entries = entries; prefixes = prefixes }
+
+page_is : (p : Page) → page_of p.more p.token p.url p.entries p.prefixes ≡ p
+unfolding page_of
+page_is p = refl
+
+pages_same : (p q : Page) → q.more ≡ p.more → q.token ≡ p.token → q.url ≡ p.url → q.entries ≡ p.entries → q.prefixes ≡ p.prefixes → q ≡ p
+pages_same p q more token url entries prefixes =
+    sym (page_is q) ∙ ap (λ m. page_of m q.token q.url q.entries q.prefixes) more ∙ ap (λ t. page_of p.more t q.url q.entries q.prefixes) token
+    ∙ ap (λ u. page_of p.more p.token u q.entries q.prefixes) url ∙ ap (λ es. page_of p.more p.token p.url es q.prefixes) entries
+    ∙ ap (λ ps. page_of p.more p.token p.url p.entries ps) prefixes ∙ page_is p
+
+pub at_most_same : {V : Type 0} (P : Content → V → Type 0) → ((c : Content) (v w : V) → P c v → P c w → w ≡ v) → (contents : List Content) (o p : Option V) → AtMostOnce P contents o → AtMostOnce P contents p → p ≡ o
+at_most_same P alone contents None None r s = refl
+at_most_same P alone contents None (Some w) r s = absurd (nothing_there s.0 [] (sym s.1 ∙ r))
+at_most_same P alone contents (Some v) None r s = absurd (nothing_there r.0 [] (sym r.1 ∙ s))
+at_most_same P alone contents (Some v) (Some w) r s = ap Some (Once-same P alone contents v w r s)
+
+encoding_same : (contents : List Content) (u v : Bool) → HasEncoding contents u → HasEncoding contents v → v ≡ u
+encoding_same contents false false r s = refl
+encoding_same contents false true r s = absurd (nothing_there s.0 [] (sym s.1 ∙ r))
+encoding_same contents true false r s = absurd (nothing_there r.0 [] (sym r.1 ∙ s))
+encoding_same contents true true r s = refl
+
+HasPage-same : (c : Content) (p q : Page) → HasPage c p → HasPage c q → q ≡ p
+HasPage-same c p q r s =
+    pages_same p q (leaf_same SpellsTruth (λ text v w a b. SpellsTruth-same text w v b a) (named element.IsTruncated c) p.more q.more r.more s.more)
+    (
+    at_most_same (IsLeafOf (IsFormed element.NextContinuationToken)) (IsLeafOf-same (IsFormed element.NextContinuationToken) (IsFormed-same element.NextContinuationToken))
+    (named element.NextContinuationToken c) p.token q.token r.token s.token
+    )
+    (encoding_same (named element.EncodingType c) p.url q.url r.encoding s.encoding)
+    (Each-same HasObject HasObject-same (named element.Contents c) p.entries q.entries r.entries s.entries)
+    (Each-same (HasLeaf element.Prefix) (HasLeaf-same element.Prefix) (named element.CommonPrefixes c) p.prefixes q.prefixes r.prefixes s.prefixes)
+
+pub IsWritten-same : (doc : List ℕ) (p q : Page) → IsWritten doc p → IsWritten doc q → q ≡ p
+IsWritten-same doc p q r s = IsOf-same HasPage (codes "ListBucketResult") doc HasPage-same p q r s
+
+-- what a page's entries and prefixes cannot mean, no listing says
+pub no_entries : (doc : List ℕ) (page : Page) (rows : List Entry) → IsWritten doc page → rows ≡ page.entries → ((entries : List Entry) → ¬ (AllZip (MeansEntry page.url) rows entries)) → (listed : Listed) → ¬ (IsListing doc listed)
+no_entries doc page rows w e none listed l =
+    let same = IsWritten-same doc page l.0 w l.1 in
+    none listed.entries.items (subst (λ (es : List Entry). AllZip (MeansEntry page.url) es listed.entries.items) (sym e)
+    (subst (λ (p : Page). AllZip (MeansEntry p.url) p.entries listed.entries.items) same l.2.entries))
+
+pub no_prefixes : (doc : List ℕ) (page : Page) (rows : List (List ℕ)) → IsWritten doc page → rows ≡ page.prefixes → ((prefixes : List (List ℕ)) → ¬ (AllZip (MeansText page.url) rows prefixes)) → (listed : Listed)
+    → ¬ (IsListing doc listed)
+no_prefixes doc page rows w e none listed l =
+    let same = IsWritten-same doc page l.0 w l.1 in
+    none listed.prefixes.items (subst (λ (ps : List (List ℕ)). AllZip (MeansText page.url) ps listed.prefixes.items) (sym e)
+    (subst (λ (p : Page). AllZip (MeansText p.url) p.prefixes listed.prefixes.items) same l.2.prefixes))

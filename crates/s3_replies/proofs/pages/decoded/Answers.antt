@@ -1,0 +1,9 @@
+use Rattle.std.proofs.Common.{ℕ, List, Err, ap, subst}
+use Rattle.s3_replies.specs.UrlText.{SpellsUrlText}
+use Rattle.s3_replies.proofs.PlainLemmas.{no_url}
+use Rattle.s3_replies.proofs.pages.decoded.Goals as goal
+
+pub returns-in-Err-Bad-clause-refused : goal.returns-in-Err-Bad-clause-refused
+returns-in-Err-Bad-clause-refused c text m =
+    let none : (t : List ℕ) → ¬ (SpellsUrlText c.args.written t) = subst (λ (w : List ℕ). (t : List ℕ) → ¬ (SpellsUrlText w t)) c.as_str.ensures (c.in-Err-Bad.ensures.refused (ap Err c.in-Err-Bad.field-0-is)) in
+    no_url c.args.url c.args.written text c.if-not-url.false none m

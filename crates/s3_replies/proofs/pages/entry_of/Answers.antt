@@ -1,0 +1,10 @@
+use Rattle.std.proofs.Common.{◌∙◌, sym, subst}
+use Rattle.std.proofs.lemmas.Bool.{false≢true}
+use Rattle.s3_replies.specs.Forms.{IsKey}
+use Rattle.s3_replies.proofs.PlainLemmas.{MeansText-same}
+use Rattle.s3_replies.proofs.pages.entry_of.Goals as goal
+
+pub returns-then-not-is_key-clause-refused : goal.returns-then-not-is_key-clause-refused
+returns-then-not-is_key-clause-refused c entry m =
+    let same = MeansText-same c.args.url c.args.row.key c.in_ok-key.key entry.key c.in_ok-key.ensures.value m.key in
+    false≢true (c.if-not-is_key.ensures.1 (subst IsKey (same ∙ sym c.as_str.ensures) m.form))

@@ -1,0 +1,18 @@
+use Rattle.std.proofs.Common.{Bool, List, ℕ, IfOk, sym, subst}
+use Rattle.s3_replies.specs.Faults.{IfRefused}
+use Rattle.s3_replies.specs.Results.{IsCopied}
+use Rattle.s3_replies.proofs.results.read_copied.Goals as goal
+
+pub returns-then-part-clause-value : goal.returns-then-part-clause-value
+returns-then-part-clause-value c = subst (λ (part : Bool). IfOk c.only_leaf.result (IsCopied part c.args.doc.now)) (sym c.if-part.true) c.only_leaf.ensures.value
+
+pub returns-then-part-clause-refused : goal.returns-then-part-clause-refused
+returns-then-part-clause-refused c =
+    subst (λ (part : Bool). IfRefused c.only_leaf.result ((etag : List ℕ) → ¬ (IsCopied part c.args.doc.now etag))) (sym c.if-part.true) c.only_leaf.ensures.refused
+
+pub returns-clause-value : goal.returns-clause-value
+returns-clause-value c = subst (λ (part : Bool). IfOk c.only_leaf-2.result (IsCopied part c.args.doc.now)) (sym c.if-part.false) c.only_leaf-2.ensures.value
+
+pub returns-clause-refused : goal.returns-clause-refused
+returns-clause-refused c =
+    subst (λ (part : Bool). IfRefused c.only_leaf-2.result ((etag : List ℕ) → ¬ (IsCopied part c.args.doc.now etag))) (sym c.if-part.false) c.only_leaf-2.ensures.refused

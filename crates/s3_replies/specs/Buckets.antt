@@ -1,0 +1,38 @@
+-- The list of buckets (Amazon S3 API Reference, ListBuckets).
+use Rattle.std.specs.Prelude.{◌≡◌, ℕ, List, [], Option, Some, None, codes}
+use Rattle.s3_model.specs.Lists.{Reserved}
+use Rattle.s3_model.specs.declared.places.Entry.{Entry}
+use Rattle.s3_replies.specs.declared.elements.Element.TheVariants as element
+use Rattle.s3_replies.specs.Contents.{Content, named}
+use Rattle.s3_replies.specs.Children.{Each, HasLeaf, IsFormed, IsLeafOf, Once}
+use Rattle.s3_replies.specs.Documents.{IsOf}
+use Rattle.s3_replies.specs.Reading.{EachLeft, LeafLeft, OnceLeft}
+use Rattle.s3_replies.specs.Times.{SpellsTime}
+
+-- a bucket: its name, and when it was made; it has no size and no entity tag
+pub record HasBucket (content : Content) (entry : Entry) : Type 0 where
+  pub name : HasLeaf element.Name content entry.key
+  pub created : Once (IsLeafOf SpellsTime) (named element.CreationDate content) entry.micros
+  pub size : entry.size ≡ 0
+  pub etag : entry.etag ≡ []
+
+-- the buckets, in order
+abbrev pub HasEachBucket : Content → List Entry → Type 0
+HasEachBucket content entries = Each HasBucket (named element.Bucket content) entries
+
+abbrev pub HasBuckets : Content → List Entry → Type 0
+HasBuckets content entries = Once HasEachBucket (named element.Buckets content) entries
+
+abbrev pub IsBucketList : List ℕ → List Entry → Type 0
+IsBucketList = IsOf (codes "ListAllMyBucketsResult") HasBuckets
+
+-- what is left to be found of one bucket, of the buckets, and of their list
+abbrev pub BucketLeft : Option (List ℕ) → Option ℕ → Content → List ℕ × ℕ → Type 0
+BucketLeft name created content value = LeafLeft (IsFormed element.Name) element.Name name content value.0 × LeafLeft SpellsTime element.CreationDate created content value.1
+
+abbrev pub BucketsLeft : List Entry → Content → List Entry → Type 0
+BucketsLeft rows content entries = EachLeft HasBucket rows (named element.Bucket content) entries
+
+abbrev pub ListLeft : Option (Reserved Entry) → Content → List Entry → Type 0
+ListLeft None content entries = OnceLeft HasEachBucket None (named element.Buckets content) entries
+ListLeft (Some rows) content entries = OnceLeft HasEachBucket (Some rows.items) (named element.Buckets content) entries

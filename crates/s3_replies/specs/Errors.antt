@@ -1,0 +1,20 @@
+-- The document that names an error (Amazon S3 API Reference, "Error responses").
+use Rattle.std.specs.Prelude.{◌≡◌, ℕ, List, [], Option, unwrap_or, codes}
+use Rattle.s3_replies.specs.declared.elements.Element.TheVariants as element
+use Rattle.s3_replies.specs.Contents.{Content, named}
+use Rattle.s3_replies.specs.Children.{AtMostOnce, HasLeaf, IsFormed, IsLeafOf}
+use Rattle.s3_replies.specs.Documents.{IsOf}
+use Rattle.s3_replies.specs.Reading.{AtMostLeft, LeafLeft}
+
+-- the code, and the message, which is empty where it is absent
+abbrev pub HasError : Content → List ℕ × List ℕ → Type 0
+HasError content value =
+    HasLeaf element.Code content value.0
+    × ((message : Option (List ℕ)) × AtMostOnce (IsLeafOf (IsFormed element.Message)) (named element.Message content) message × (value.1 ≡ unwrap_or message []))
+
+abbrev pub IsError : List ℕ → List ℕ × List ℕ → Type 0
+IsError = IsOf (codes "Error") HasError
+
+-- what is left to be found of a code and a message
+abbrev pub ErrorLeft : (code message : Option (List ℕ)) → Content → List ℕ × Option (List ℕ) → Type 0
+ErrorLeft code message content value = LeafLeft (IsFormed element.Code) element.Code code content value.0 × AtMostLeft (IsFormed element.Message) element.Message message content value.1

@@ -1,0 +1,22 @@
+-- The documents that name an upload or an entity tag (Amazon S3 API Reference: CreateMultipartUpload, CompleteMultipartUpload, CopyObject and UploadPartCopy).
+use Rattle.std.specs.Prelude.{ℕ, Bool, true, false, List, codes}
+use Rattle.s3_replies.specs.declared.elements.Element.TheVariants as element
+use Rattle.s3_replies.specs.Documents.{IsOf}
+use Rattle.s3_replies.specs.Children.{HasLeaf}
+
+-- an upload was made, with this id
+abbrev pub IsCreated : List ℕ → List ℕ → Type 0
+IsCreated = IsOf (codes "InitiateMultipartUploadResult") (HasLeaf element.UploadId)
+
+-- an upload was completed, to an object with this entity tag
+abbrev pub IsCompleted : List ℕ → List ℕ → Type 0
+IsCompleted = IsOf (codes "CompleteMultipartUploadResult") (HasLeaf element.ETag)
+
+-- the root of the answer to a copy, of an object or of a part
+abbrev pub copy_root : Bool → List ℕ
+copy_root false = codes "CopyObjectResult"
+copy_root true = codes "CopyPartResult"
+
+-- an object or a part was copied, to one with this entity tag
+abbrev pub IsCopied : Bool → List ℕ → List ℕ → Type 0
+IsCopied part = IsOf (copy_root part) (HasLeaf element.ETag)

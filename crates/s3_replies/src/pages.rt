@@ -1,0 +1,105 @@
+ghost use Rattle.std.specs.Prelude.{◌≡◌, ℕ, List, IfOk};
+ghost use Rattle.std.specs.List.{AllZip};
+ghost use Rattle.s3_model.specs.declared.answers.Listed.{Listed};
+ghost use Rattle.s3_model.specs.declared.places.Entry.{Entry};
+ghost use Rattle.s3_replies.specs.Faults.{IfRefused};
+ghost use Rattle.s3_replies.specs.Listing.{IsListing, MeansEntry, MeansText};
+
+use crate::elements::Element;
+use crate::faults::DocFault;
+use crate::listing::{Written, written_page};
+use crate::values::forms::is_key;
+use crate::values::url_text::{UrlFault, url_decode};
+use s3_model::{Entries, Entry, Listed, Text, Texts};
+use std::alloc::Global;
+
+/// The text of a written key or prefix, which is that of a URL where `url` is true.
+fn decoded(alloc: Global, url: bool, written: Text) -> Result<Text, DocFault>
+    ensures value { IfOk result (λ text. MeansText url written text) }
+    ensures refused { IfRefused result ((text : List ℕ) → ¬ (MeansText url written text)) }
+{
+    if !url {
+        return Ok(written);
+    }
+    match url_decode(alloc, written.as_str()) {
+        Ok(text) => Ok(text),
+        Err(UrlFault::Bad) => Err(DocFault::BadEscape),
+        Err(UrlFault::Memory) => Err(DocFault::Memory),
+    }
+}
+
+/// An entry, by its written key.
+fn entry_of(alloc: Global, url: bool, row: Entry) -> Result<Entry, DocFault>
+    ensures value { IfOk result (λ entry. MeansEntry url row entry) }
+    ensures refused { IfRefused result ((entry : Entry) → ¬ (MeansEntry url row entry)) }
+{
+    let Entry {
+        key: written,
+        size,
+        etag,
+        micros,
+    } = row;
+    let key = decoded(alloc, url, written)?;
+    if !is_key(key.as_str()) {
+        return Err(DocFault::BadText(Element::Key));
+    }
+    Ok(Entry {
+        key,
+        size,
+        etag,
+        micros,
+    })
+}
+
+/// The entries, by their written keys.
+pub(crate) fn entries_of(alloc: Global, url: bool, rows: Vec<Entry>) -> Result<Entries, DocFault>
+    ensures value { IfOk result (λ entries. AllZip (MeansEntry url) rows.items entries.items) }
+    ensures refused { IfRefused result ((entries : List Entry) → ¬ (AllZip (MeansEntry url) rows.items entries)) }
+{
+    let mut entries = Entries::make(alloc);
+    if entries.reserve(rows.len()).is_err() {
+        return Err(DocFault::Memory);
+    }
+    for row in rows {
+        entries.push(entry_of(alloc, url, row)?);
+    }
+    Ok(entries)
+}
+
+/// The prefixes, by their written texts.
+pub(crate) fn prefixes_of(alloc: Global, url: bool, rows: Vec<Text>) -> Result<Texts, DocFault>
+    ensures value { IfOk result (λ prefixes. AllZip (MeansText url) rows.items prefixes.items) }
+    ensures refused { IfRefused result ((prefixes : List (List ℕ)) → ¬ (AllZip (MeansText url) rows.items prefixes)) }
+{
+    let mut prefixes = Texts::make(alloc);
+    if prefixes.reserve(rows.len()).is_err() {
+        return Err(DocFault::Memory);
+    }
+    for row in rows {
+        prefixes.push(decoded(alloc, url, row)?);
+    }
+    Ok(prefixes)
+}
+
+/// Reads a page of a listing. Where the page names the encoding `url`, keys and prefixes are unescaped, with `+` as a
+/// space. Keys have 1 to 1,024 bytes, and entity tags 1 to 256 visible characters.
+pub fn read_list(alloc: Global, doc: &[u8]) -> Result<Listed, DocFault>
+    ensures value { IfOk result (λ listed. IsListing doc.now listed) }
+    ensures refused { IfRefused result ((listed : Listed) → ¬ (IsListing doc.now listed)) }
+{
+    let Written {
+        more,
+        token,
+        url,
+        entries: rows,
+        prefixes: roots,
+    } = written_page(alloc, doc)?;
+    let entries = entries_of(alloc, url, rows)?;
+    let prefixes = prefixes_of(alloc, url, roots)?;
+    Ok(Listed {
+        entries,
+        prefixes,
+        more,
+        token,
+    })
+}
