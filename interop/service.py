@@ -30,14 +30,13 @@ def free_port():
         return probe.getsockname()[1]
 
 
-def program(root):
-    """The path of the built program; it is built first where it is not there."""
-    path = os.path.join(root, "crates", "s3", "out", "s3")
-    folder = os.path.join(root, "crates", "s3")
-    built = subprocess.run(["rt", "run", "--", "--version"], cwd=folder, capture_output=True, text=True)
+def program(root, crate="s3", words=("--", "--version")):
+    """The path of a built program of this repository; it is built first, and run with these words."""
+    folder = os.path.join(root, "crates", crate)
+    built = subprocess.run(["rt", "run", *words], cwd=folder, capture_output=True, text=True)
     if built.returncode != 0:
         sys.exit("the program was not built:\n" + built.stdout + built.stderr)
-    return path
+    return os.path.join(folder, "out", crate)
 
 
 class Service:
