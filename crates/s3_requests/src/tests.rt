@@ -333,14 +333,14 @@ fn heads_of_listings(rt: HostRuntime) -> Result<(), Fail> {
         bucket: text(alloc, "b")?,
         prefix: text(alloc, "p/")?,
         delimited: true,
-        token: text_of(alloc, "T1")?,
+        token: text_of(alloc, "page-token")?,
     };
     check_head(
         &rt,
         alloc,
         &ask,
         (b"", 0),
-        "69a3137ac04e247bccb33828a36d91eab9a43c12121ec7bfbfc962cabaa9310c",
+        "679c13f60da4770317987baba00505eace6736939efd4d3c6a376690c0b317a0",
     )?;
     let ask = Ask::List {
         bucket: text(alloc, "b")?,
