@@ -1,18 +1,16 @@
 -- What an answer means for its request: which answers are a success, which are a refusal that changed nothing, and which leave it open.
-use Rattle.std.specs.Prelude.{◌≡◌, ◌≢◌, ◌≤◌, ◌<◌, ◌⊎◌, ℕ, Bool, true, false, List, [], ◌∷◌, Option, Some, None, codes, ◌==◌, if◌then◌else◌}
+use Rattle.std.specs.Prelude.{◌≡◌, ◌≢◌, ◌≤◌, ◌<◌, ◌⊎◌, ℕ, Bool, true, false, List, [], ◌∷◌, Some, codes, ◌==◌, if◌then◌else◌}
 use Rattle.std.specs.Fmt.{decimal}
 use Rattle.s3_model.specs.declared.requests.Ask.{Ask}
 use Rattle.s3_model.specs.declared.requests.Ask.TheVariants as ask
 use Rattle.s3_model.specs.declared.answers.Answered.{Answered}
-use Rattle.s3_model.specs.declared.answers.Listed.{Listed}
 use Rattle.s3_model.specs.declared.answers.Reply.{Reply}
 use Rattle.s3_model.specs.declared.answers.Reply.TheVariants as reply
 use Rattle.s3_model.specs.declared.answers.Class.{Class}
 use Rattle.s3_model.specs.declared.answers.Class.TheVariants as class
-use Rattle.s3_model.specs.declared.answers.Why.{Why}
 use Rattle.s3_model.specs.declared.answers.Why.TheVariants as why
-use Rattle.s3_model.specs.declared.places.Entry.{Entry}
 use Rattle.s3_model.specs.Files.{is_listed}
+use Rattle.s3_model.specs.Replies.{IsSameReply, IsSameClass}
 
 -- ---- the texts of codes
 
@@ -46,7 +44,7 @@ IsTwoHundred status = (200 ≤ status) × (status < 300)
 abbrev pub MayFailLate : Ask → Type 0
 MayFailLate (ask.Copy bucket key from_bucket from_key etag) = Unit {0}
 MayFailLate (ask.PartCopy bucket key upload number from_bucket from_key etag range) = Unit {0}
-MayFailLate (ask.Complete bucket key upload etags) = Unit {0}
+MayFailLate (ask.Complete bucket key upload etags fresh) = Unit {0}
 MayFailLate asked = ⊥
 
 -- an answer to HEAD has no body
@@ -54,50 +52,65 @@ abbrev pub HasBody : Ask → Type 0
 HasBody (ask.Head bucket key) = ⊥
 HasBody asked = Unit {0}
 
--- `ReadsError document code message`: the body is an Error document. `ReadsReply ask document reply`: it is the document that the ask
--- needs, and says this reply.
+-- `ReadsError document code message`: the document is an Error document. `ReadsReply ask document reply`: it is the one that the ask
+-- needs, and says this reply. `document` is the body that the grammar of the answer gives.
 module _ (ReadsError : List ℕ → List ℕ → List ℕ → Type 0) (ReadsReply : Ask → List ℕ → Reply → Type 0) where
   -- the headers and the document that the ask needs are there
-  abbrev pub Succeeded : Ask → Answered → Reply → Type 0
-  Succeeded (ask.Head bucket key) answered (reply.Found size etag micros) =
+  abbrev pub Succeeded : Ask → Answered → (document : List ℕ) → Reply → Type 0
+  Succeeded (ask.Head bucket key) answered document (reply.Found size etag micros) =
       (answered.length ≡ Some size) × (answered.etag ≡ Some etag) × (answered.micros ≡ Some micros)
-  Succeeded (ask.Get bucket key etag range) answered (reply.Got status told length) =
-      (status ≡ answered.status) × (told ≡ answered.range) × (length ≡ answered.taken)
-  Succeeded (ask.Put bucket key content) answered reply.Stored = Unit {0}
-  Succeeded (ask.Delete bucket key) answered reply.Gone = Unit {0}
-  Succeeded (ask.Abort bucket key upload) answered reply.Gone = Unit {0}
-  Succeeded (ask.Part bucket key upload number) answered (reply.PartStored etag) = answered.etag ≡ Some etag
-  Succeeded (ask.Copy bucket key from_bucket from_key etag) answered reply.Copied = ReadsReply (ask.Copy bucket key from_bucket from_key etag) answered.body.bytes reply.Copied
-  Succeeded (ask.PartCopy bucket key upload number from_bucket from_key etag range) answered (reply.PartStored stored) =
-      ReadsReply (ask.PartCopy bucket key upload number from_bucket from_key etag range) answered.body.bytes (reply.PartStored stored)
-  Succeeded (ask.Create bucket key content) answered (reply.Created upload) = ReadsReply (ask.Create bucket key content) answered.body.bytes (reply.Created upload)
-  Succeeded (ask.Complete bucket key upload etags) answered reply.Completed = ReadsReply (ask.Complete bucket key upload etags) answered.body.bytes reply.Completed
-  Succeeded (ask.List bucket prefix delimited token) answered (reply.Listed page) = ReadsReply (ask.List bucket prefix delimited token) answered.body.bytes (reply.Listed page)
-  Succeeded ask.Buckets answered (reply.BucketList buckets) = ReadsReply ask.Buckets answered.body.bytes (reply.BucketList buckets)
-  Succeeded asked answered told = ⊥
+  Succeeded (ask.Get bucket key etag range) answered document (reply.Got status said length) =
+      (status ≡ answered.status) × (said ≡ answered.range) × (length ≡ answered.taken)
+  Succeeded (ask.Put bucket key content fresh) answered document reply.Stored = Unit {0}
+  Succeeded (ask.Delete bucket key) answered document reply.Gone = Unit {0}
+  Succeeded (ask.Abort bucket key upload) answered document reply.Gone = Unit {0}
+  Succeeded (ask.Part bucket key upload number) answered document (reply.PartStored etag) = answered.etag ≡ Some etag
+  Succeeded (ask.Copy bucket key from_bucket from_key etag) answered document reply.Copied =
+      ReadsReply (ask.Copy bucket key from_bucket from_key etag) document reply.Copied
+  Succeeded (ask.PartCopy bucket key upload number from_bucket from_key etag range) answered document (reply.PartStored stored) =
+      ReadsReply (ask.PartCopy bucket key upload number from_bucket from_key etag range) document (reply.PartStored stored)
+  Succeeded (ask.Create bucket key content) answered document (reply.Created upload) = ReadsReply (ask.Create bucket key content) document (reply.Created upload)
+  Succeeded (ask.Complete bucket key upload etags fresh) answered document reply.Completed =
+      ReadsReply (ask.Complete bucket key upload etags fresh) document reply.Completed
+  Succeeded (ask.List bucket prefix delimited token) answered document (reply.Listed page) =
+      ReadsReply (ask.List bucket prefix delimited token) document (reply.Listed page)
+  Succeeded ask.Buckets answered document (reply.BucketList buckets) = ReadsReply ask.Buckets document (reply.BucketList buckets)
+  Succeeded asked answered document said = ⊥
 
   -- the code and the message are those of the document, or of the status where none reads
-  abbrev pub Refuses : Ask → Answered → List ℕ → List ℕ → Type 0
-  Refuses asked answered code message =
-      (HasBody asked × ReadsError answered.body.bytes code message)
-      ⊎ ((HasBody asked → (c m : List ℕ) → ¬ (ReadsError answered.body.bytes c m)) × (code ≡ decimal answered.status) × (message ≡ status_message answered.status))
+  abbrev pub Refuses : Ask → Answered → (document code message : List ℕ) → Type 0
+  Refuses asked answered document code message =
+      (HasBody asked × ReadsError document code message)
+      ⊎ ((HasBody asked → (c m : List ℕ) → ¬ (ReadsError document c m)) × (code ≡ decimal answered.status) × (message ≡ status_message answered.status))
 
-  abbrev pub FailsLate : Ask → Answered → List ℕ → List ℕ → Type 0
-  FailsLate asked answered code message = MayFailLate asked × ReadsError answered.body.bytes code message
+  abbrev pub FailsLate : Ask → (document code message : List ℕ) → Type 0
+  FailsLate asked document code message = MayFailLate asked × ReadsError document code message
 
-  abbrev pub IsBusy : Answered → List ℕ → List ℕ → Type 0
-  IsBusy answered code message = (answered.status ≡ 503) × ReadsError answered.body.bytes code message × (is_listed busy_codes code ≡ true)
+  abbrev pub IsBusy : Answered → (document code message : List ℕ) → Type 0
+  IsBusy answered document code message = (answered.status ≡ 503) × ReadsError document code message × (is_listed busy_codes code ≡ true)
 
   -- the class of a whole answer, one row each
-  pub data IsClass (asked : Ask) (answered : Answered) : Class → Type 0 where
-    succeeded : (told : Reply) → IsTwoHundred answered.status → Succeeded asked answered told → IsClass asked answered (class.Success told)
-    failed_late : (code message : List ℕ) → IsTwoHundred answered.status → FailsLate asked answered code message → code ≢ codes "InternalError"
-        → IsClass asked answered (class.Refusal code message)
-    failed_inside : (message : List ℕ) → IsTwoHundred answered.status → FailsLate asked answered (codes "InternalError") message
-        → IsClass asked answered (class.Uncertain why.Internal)
-    unreadable : IsTwoHundred answered.status → ((told : Reply) → ¬ (Succeeded asked answered told)) → ((code message : List ℕ) → ¬ (FailsLate asked answered code message))
-        → IsClass asked answered (class.Uncertain why.Document)
-    refused : (code message : List ℕ) → 300 ≤ answered.status → answered.status < 500 → Refuses asked answered code message
-        → IsClass asked answered (class.Refusal code message)
-    busy : (code message : List ℕ) → IsBusy answered code message → IsClass asked answered (class.Refusal code message)
-    other : 500 ≤ answered.status → ((code message : List ℕ) → ¬ (IsBusy answered code message)) → IsClass asked answered (class.Uncertain (why.Status answered.status))
+  pub data IsClass (asked : Ask) (answered : Answered) (document : List ℕ) : Class → Type 0 where
+    succeeded : (said : Reply) → IsTwoHundred answered.status → Succeeded asked answered document said → IsClass asked answered document (class.Success said)
+    failed_late : (code message : List ℕ) → IsTwoHundred answered.status → FailsLate asked document code message → code ≢ codes "InternalError"
+        → IsClass asked answered document (class.Refusal code message)
+    failed_inside : (message : List ℕ) → IsTwoHundred answered.status → FailsLate asked document (codes "InternalError") message
+        → IsClass asked answered document (class.Uncertain why.Internal)
+    unreadable : IsTwoHundred answered.status → ((said : Reply) → ¬ (Succeeded asked answered document said))
+        → ((code message : List ℕ) → ¬ (FailsLate asked document code message)) → IsClass asked answered document (class.Uncertain why.Document)
+    refused : (code message : List ℕ) → 300 ≤ answered.status → answered.status < 500 → Refuses asked answered document code message
+        → IsClass asked answered document (class.Refusal code message)
+    busy : (code message : List ℕ) → IsBusy answered document code message → IsClass asked answered document (class.Refusal code message)
+    other : 500 ≤ answered.status → ((code message : List ℕ) → ¬ (IsBusy answered document code message))
+        → IsClass asked answered document (class.Uncertain (why.Status answered.status))
+
+  -- Each document is one error at most, one reply of an ask at most, and not both.
+  pub record HasOneReading : Type 0 where
+    pub one_error : (document code message c m : List ℕ) → ReadsError document code message → ReadsError document c m → (code ≡ c) × (message ≡ m)
+    pub one_reply : (asked : Ask) (document : List ℕ) (said same : Reply) → ReadsReply asked document said → ReadsReply asked document same → IsSameReply said same
+    pub not_both : (asked : Ask) (document code message : List ℕ) (said : Reply) → ReadsError document code message → ReadsReply asked document said → ⊥
+
+  -- Then an answer has one class at most.
+  abbrev pub HasOneClass : Type 0
+  HasOneClass = HasOneReading → (asked : Ask) (answered : Answered) (document : List ℕ) (one same : Class)
+      → IsClass asked answered document one → IsClass asked answered document same → IsSameClass one same

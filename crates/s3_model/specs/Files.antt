@@ -1,8 +1,8 @@
--- Files and folders, as something that tells its content has them.
-use Rattle.std.specs.Prelude.{◌++◌, ◌||◌, ◌==◌, ℕ, Bool, false, List, [], ◌∷◌, Option, Some, None, map, filter, length, drop, nat_eq, if◌then◌else◌}
+-- Files and folders, as they are where their content is seen.
+use Rattle.std.specs.Prelude.{◌++◌, ◌||◌, ◌==◌, ℕ, Bool, false, List, [], ◌∷◌, map, filter, length, drop, nat_eq, if◌then◌else◌}
 use Rattle.std.specs.List.{starts_with, list_any}
 use Rattle.std.specs.Str.{bytes_eq}
-use Rattle.std.specs.FinMap.{get, keys}
+use Rattle.std.specs.FinMap.{keys}
 use Rattle.s3_model.specs.Maps.{MapOf}
 
 -- a file's bytes and its time, in microseconds since 1970

@@ -1,4 +1,4 @@
--- What a wire tells: the talks that were made over it, and its notes.
+-- What is seen of a wire: the talks that were made over it, and its notes.
 use Rattle.std.specs.Prelude.{ℕ, List}
 
 -- how a talk ended
@@ -23,7 +23,7 @@ pub data Note : Type 0 where
   Pause : (seconds : ℕ) → Note
   Began : Note
 
--- all that a wire tells, in order
+-- all that is seen of a wire, in order
 pub record WireLog : Type 0 where
   pub talks : List Talk
   pub notes : List Note

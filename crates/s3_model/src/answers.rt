@@ -1,3 +1,5 @@
+//! What came for a request, and why nothing came.
+
 use crate::bytes::Bytes;
 use crate::list::{Entries, Texts};
 use crate::text::Text;

@@ -1,3 +1,5 @@
+//! Bytes with a room, and the parts of a transfer.
+
 ghost use Rattle.std.specs.Prelude.{◌≡◌, ◌+◌, ◌≤◌, [], ◌++◌, length, IfOk};
 
 use crate::list::OutOfMemory;

@@ -1,3 +1,5 @@
+//! Tables of names.
+
 ghost use Rattle.std.specs.Prelude.{◌^◌, ◌<◌, ◌≡◌, length, map};
 ghost use Rattle.s3_model.specs.FirstRow.{IsFirstRow};
 

@@ -1,3 +1,5 @@
+//! What may cross between threads.
+
 use crate::answers::{Answered, Reply};
 use crate::bytes::Part;
 use crate::list::{Journal, Texts};

@@ -1,3 +1,5 @@
+//! Why an input is refused.
+
 use crate::text::Text;
 
 /// Why a text is no S3 URI.

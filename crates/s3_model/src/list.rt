@@ -1,3 +1,5 @@
+//! Lists that say where memory ran out.
+
 ghost use Rattle.std.specs.Prelude.{◌≡◌, ◌+◌, ◌<◌, ◌≤◌, ◌↔◌, [], ◌∷◌, ◌++◌, length, IsTrue, OnErr, OnOk, MatchOption, slice_get, Some};
 
 use crate::outcomes::{Event, Outcome};
@@ -71,7 +73,8 @@ impl<T: Drop> List<T> {
 
     /// The item of that place, counted from 0.
     pub fn at(&self, index: usize) -> Option<&T>
-        ensures { MatchOption result (length self.now.items ≤ index) (λ item. slice_get self.now.items index ≡ Some item.now) }
+        ensures { MatchOption result (length self.now.items ≤ index)
+            (λ item. slice_get self.now.items index ≡ Some item.now) }
     {
         self.inner.get(index)
     }

@@ -1,3 +1,5 @@
+//! What tasks and jobs come to.
+
 use crate::answers::Why;
 use crate::requests::Op;
 use crate::text::Text;

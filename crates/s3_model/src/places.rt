@@ -1,3 +1,5 @@
+//! Where tasks read and write.
+
 use crate::text::Text;
 
 /// One name of a listing or of a folder. `size` is in bytes, `micros` in whole microseconds since 1970.

@@ -1,7 +1,9 @@
+//! The requests of the Amazon S3 API.
+
 use crate::list::Texts;
 use crate::text::Text;
 
-/// One request of the Amazon S3 API. Ranges have both ends inside.
+/// One request of the Amazon S3 API. Ranges have both ends inside. A `fresh` one is to be refused where the object is there.
 #[derive(Debug, Drop)]
 pub enum Ask {
     Head {
@@ -18,6 +20,7 @@ pub enum Ask {
         bucket: Text,
         key: Text,
         content: Option<Text>,
+        fresh: bool,
     },
     Copy {
         bucket: Text,
@@ -56,6 +59,7 @@ pub enum Ask {
         key: Text,
         upload: Text,
         etags: Texts,
+        fresh: bool,
     },
     Abort {
         bucket: Text,

@@ -1,3 +1,5 @@
+//! Settings, limits and keys.
+
 use crate::text::Text;
 
 /// What a service allows of uploads in parts, in bytes; `max_parts` is a count.

@@ -1,3 +1,5 @@
+//! The tasks and warnings of a plan.
+
 use crate::faults::KeySkip;
 use crate::list::{Tasks, Warnings};
 use crate::places::Place;
@@ -23,6 +25,8 @@ pub struct Task {
     pub etag: Text,
     pub micros: u64,
     pub content: Option<Text>,
+    /// It replaces nothing: a destination that is there stays.
+    pub fresh: bool,
 }
 
 /// How two times of one name are compared.
@@ -41,7 +45,7 @@ pub struct Mode {
     pub only_errors: bool,
 }
 
-/// What a user is told beside the outcome of a task.
+/// What is printed beside the outcome of a task.
 #[derive(Debug, Drop)]
 pub enum Warning {
     Skipped { place: Place, why: KeySkip },

@@ -1,3 +1,5 @@
+//! Texts, lists and tables, with ample memory.
+
 use crate::{Bytes, Cases, List, Mark, Text, Tries, UploadId, content_of};
 use std::test::Fail;
 

@@ -1,3 +1,5 @@
+//! Which attempts of a request follow each other.
+
 ghost use Rattle.std.specs.Prelude.{◌≡◌, ◌<◌, [], ◌∷◌, ◌++◌, length};
 
 use std::marker::Model;

@@ -1,5 +1,5 @@
 -- What a listing has: the names under a prefix in byte order, and the pages of it.
-use Rattle.std.specs.Prelude.{◌≡◌, ◌+◌, ◌≤◌, ◌++◌, ◌==◌, ℕ, Bool, true, false, List, [], ◌∷◌, Option, Some, None, map, filter, length, drop, take, IsNone, nat_eq, position, if◌then◌else◌}
+use Rattle.std.specs.Prelude.{◌≡◌, ◌⊎◌, ◌+◌, ◌≤◌, ◌++◌, ◌==◌, ℕ, Bool, true, false, List, [], ◌∷◌, Option, Some, None, map, filter, length, drop, take, IsNone, nat_eq, position, if◌then◌else◌}
 use Rattle.std.specs.Str.{bytes_eq}
 use Rattle.std.specs.List.{starts_with}
 use Rattle.std.specs.Ordering.{nat_cmp, is_lt}
@@ -7,7 +7,7 @@ use Rattle.std.specs.Cmp.Lexicographic.{slice_cmp}
 use Rattle.std.specs.FinMap.{get, entries, keys}
 use Rattle.s3_model.specs.declared.answers.Listed.{Listed}
 use Rattle.s3_model.specs.declared.places.Entry.{Entry}
-use Rattle.s3_model.specs.ServiceState.{State, Object, objects_in, with_token}
+use Rattle.s3_service.specs.ServiceState.{State, Object, objects_in, with_token}
 
 -- a name of a listing: a key with its object, or a text that stands for all keys that begin with it
 pub data Name : Type 0 where
@@ -59,11 +59,12 @@ abbrev pub GoesOnAfter : State → Option (List ℕ) → Option (List ℕ) → T
 GoesOnAfter t None last = last ≡ None
 GoesOnAfter t (Some token) last = (text : List ℕ) × (get t.tokens token ≡ Some text) × (last ≡ Some text)
 
--- a page says that there are more exactly where names are left, and then has a new token
+-- A page says that there are more exactly where names are left, and then has a token, which is new or stood for the same place before.
 abbrev pub Remembers : State → List Name → List Name → Bool → Option (List ℕ) → State → Type 0
 Remembers old page [] more token new = (more ≡ false) × (new ≡ old)
 Remembers old page (next ∷ rest) more token new =
-    (more ≡ true) × (before : List Name) × (last : Name) × (fresh : List ℕ) × (page ≡ before ++ last ∷ []) × (token ≡ Some fresh) × IsNone (get old.tokens fresh)
+    (more ≡ true) × (before : List Name) × (last : Name) × (fresh : List ℕ) × (page ≡ before ++ last ∷ []) × (token ≡ Some fresh)
+    × (IsNone (get old.tokens fresh) ⊎ (get old.tokens fresh ≡ Some (text_of last)))
     × (new ≡ with_token old fresh (text_of last))
 
 -- a page of a listing: the next 1 to 1,000 names, or none where none is left

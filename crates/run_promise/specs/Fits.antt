@@ -4,12 +4,14 @@ use Rattle.s3_model.specs.declared.outcomes.JobId.{JobId}
 use Rattle.s3_model.specs.declared.outcomes.Event.{Event}
 use Rattle.s3_model.specs.declared.requests.Ask.{Ask}
 use Rattle.s3_model.specs.declared.tries.Mark.{Mark}
+use Rattle.s3_model.specs.declared.answers.Reply.{Reply}
+use Rattle.s3_model.specs.Replies.{IsSameReply}
 use Rattle.s3_model.specs.declared.answers.Class.{Class}
 use Rattle.s3_model.specs.declared.answers.Class.TheVariants as class
 use Rattle.s3_model.specs.Talks.{Talk}
-use Rattle.s3_model.specs.Serves.{Answer, Replied, Refused}
-use Rattle.s3_model.specs.Dispatches.{Attempt, Dispatched}
-use Rattle.s3_model.specs.Traces.{Request, TraceEvent, Given, Serve, Came, event_of, begun_in, served_in, is_begin_of, marks_come, IsSameAttempt}
+use Rattle.s3_service.specs.Serves.{Answer, Replied, Refused}
+use Rattle.run_promise.specs.Dispatches.{Attempt, Dispatched}
+use Rattle.run_promise.specs.Traces.{Request, TraceEvent, Given, Serve, Came, event_of, begun_in, served_in, is_begin_of, marks_come, IsSameAttempt}
 
 -- the request of the kth attempt of a dispatch, counted from 0
 abbrev pub request_at : Dispatched → ℕ → Request
@@ -23,9 +25,9 @@ requests_from c k (attempt ∷ attempts) = request_at c k ∷ requests_from c (k
 abbrev pub requests_of : Dispatched → List Request
 requests_of c = requests_from c 0 c.dispatch.attempts
 
--- the answer is the one that a class names, and the bytes are those of its body
+-- the answer is the one that a class names, by the items of its lists, and the bytes are those of its body
 abbrev pub Names : Class → List ℕ → Answer → Type 0
-Names (class.Success reply) bytes answer = answer ≡ Replied reply bytes
+Names (class.Success reply) bytes answer = (same : Reply) × IsSameReply reply same × (answer ≡ Replied same bytes)
 Names (class.Refusal code message) bytes answer = answer ≡ Refused code
 Names (class.Uncertain why) bytes answer = Unit {0}
 

@@ -1,5 +1,5 @@
 -- Which jobs a run gives, and what each of them asks.
-use Rattle.std.specs.Prelude.{◌≡◌, ◌≢◌, ◌+◌, ◌-◌, ◌<◌, ◌≤◌, ◌++◌, ◌⊎◌, ◌||◌, ℕ, Bool, true, false, List, [], ◌∷◌, Option, Some, None, length, slice_get, Contains, AllPairs, IsPermutation, IsSome, nat_lt, is_some}
+use Rattle.std.specs.Prelude.{◌≡◌, ◌≢◌, ◌+◌, ◌-◌, ◌<◌, ◌≤◌, ◌++◌, ◌⊎◌, ◌||◌, ℕ, Bool, true, false, List, [], ◌∷◌, Option, Some, None, length, slice_get, Contains, AllPairs, IsPermutation, IsSome, nat_lt, is_some, filter, not}
 use Rattle.std.specs.FinMap.{get}
 use Rattle.s3_model.specs.declared.tasks.Task.{Task}
 use Rattle.s3_model.specs.declared.places.Place.{Place}
@@ -19,10 +19,11 @@ use Rattle.s3_model.specs.declared.settings.Config.{Config}
 use Rattle.s3_model.specs.declared.settings.Limits.{Limits}
 use Rattle.s3_model.specs.declared.tries.Mark.TheVariants as mark
 use Rattle.s3_model.specs.Talks.{Talk}
+use Rattle.s3_model.specs.Documents.{document_of}
 use Rattle.s3_model.specs.Maps.{MapOf}
 use Rattle.s3_model.specs.Files.{HeldFile}
 use Rattle.s3_model.specs.Parts.{HasPieces, piece_range, piece_of}
-use Rattle.s3_model.specs.Dispatches.{Dispatched, Attempt, last_of, IsSuccessLast, IsCompletedWell, IsCut, IsFailing}
+use Rattle.run_promise.specs.Dispatches.{Dispatched, Attempt, last_of, IsSuccessLast, IsCompletedWell, IsCut, IsFailing}
 
 -- ---- what a job asks
 
@@ -65,12 +66,12 @@ limit_of size piece number (ask.Get bucket key etag (Some range)) = (piece_range
 limit_of size piece number asked = most_body
 
 -- where a request of a task goes to, and for a copy where it takes from
-pub record Ends (task : Task) : Type 0 where
+pub record Target (task : Task) : Type 0 where
   pub bucket : List ℕ
   pub key : List ℕ
   pub is_dest : IsObject task.dest bucket key
 
-pub record Source (task : Task) : Type 0 where
+pub record Origin (task : Task) : Type 0 where
   pub bucket : List ℕ
   pub key : List ℕ
   pub is_source : IsSource task.source bucket key
@@ -87,53 +88,79 @@ IsPart known number = (1 ≤ number) × (number ≤ known.count)
 
 abbrev pub IsComplete : Gained → Task → Known → Op → Ask → Type 0
 IsComplete gained task known part asked =
-    (to : Ends task) × (id : List ℕ) × (etags : List (List ℕ)) × (spare : ℕ) × IsUpload gained known.number id × AreETags gained known.number part known.count etags
-    × (asked ≡ ask.Complete to.bucket to.key id (record { items = etags; spare = spare }))
+    (to : Target task) × (id : List ℕ) × (etags : List (List ℕ)) × (spare : ℕ) × IsUpload gained known.number id × AreETags gained known.number part known.count etags
+    × (asked ≡ ask.Complete to.bucket to.key id (record { items = etags; spare = spare }) task.fresh)
 
 abbrev pub IsAbort : Gained → Task → Known → Ask → Type 0
-IsAbort gained task known asked = (to : Ends task) × (id : List ℕ) × IsUpload gained known.number id × (asked ≡ ask.Abort to.bucket to.key id)
+IsAbort gained task known asked = (to : Target task) × (id : List ℕ) × IsUpload gained known.number id × (asked ≡ ask.Abort to.bucket to.key id)
 
 abbrev pub IsSourceDelete : Task → Ask → Type 0
-IsSourceDelete task asked = (from : Source task) × (task.moves ≡ true) × (asked ≡ ask.Delete from.bucket from.key)
+IsSourceDelete task asked = (from : Origin task) × (task.moves ≡ true) × (asked ≡ ask.Delete from.bucket from.key)
 
 -- The ask and the body of a task's job, by the task's kind, whether it is below the threshold, and the job's op.
 -- A job with no row here is never given.
 abbrev pub IsTaskAsk : Gained → Task → Known → Kind → Bool → Op → ℕ → Ask → List ℕ → Type 0
-IsTaskAsk gained task known kind.Upload true op.Put number asked body = (to : Ends task) × (number ≡ 0) × (asked ≡ ask.Put to.bucket to.key task.content) × (body ≡ known.bytes)
-IsTaskAsk gained task known kind.Upload false op.Create number asked body = (to : Ends task) × (number ≡ 0) × (asked ≡ ask.Create to.bucket to.key task.content) × (body ≡ [])
+IsTaskAsk gained task known kind.Upload true op.Put number asked body = (to : Target task) × (number ≡ 0) × (asked ≡ ask.Put to.bucket to.key task.content task.fresh) × (body ≡ known.bytes)
+IsTaskAsk gained task known kind.Upload false op.Create number asked body = (to : Target task) × (number ≡ 0) × (asked ≡ ask.Create to.bucket to.key task.content) × (body ≡ [])
 IsTaskAsk gained task known kind.Upload false op.Part number asked body =
-    (to : Ends task) × (id : List ℕ) × IsUpload gained known.number id × IsPart known number × (asked ≡ ask.Part to.bucket to.key id number) × (body ≡ piece_of known.bytes known.piece number)
-IsTaskAsk gained task known kind.Upload false op.Complete number asked body = IsComplete gained task known op.Part asked × (number ≡ 0) × (body ≡ [])
+    (to : Target task) × (id : List ℕ) × IsUpload gained known.number id × IsPart known number × (asked ≡ ask.Part to.bucket to.key id number) × (body ≡ piece_of known.bytes known.piece number)
+IsTaskAsk gained task known kind.Upload false op.Complete number asked body = IsComplete gained task known op.Part asked × (number ≡ 0) × (body ≡ document_of asked)
 IsTaskAsk gained task known kind.Upload false op.Abort number asked body = IsAbort gained task known asked × (number ≡ 0) × (body ≡ [])
-IsTaskAsk gained task known kind.Download true op.Get number asked body = (from : Source task) × (number ≡ 0) × (asked ≡ ask.Get from.bucket from.key task.etag None) × (body ≡ [])
+IsTaskAsk gained task known kind.Download true op.Get number asked body = (from : Origin task) × (number ≡ 0) × (asked ≡ ask.Get from.bucket from.key task.etag None) × (body ≡ [])
 IsTaskAsk gained task known kind.Download false op.Get number asked body =
-    (from : Source task) × IsPart known number × (asked ≡ ask.Get from.bucket from.key task.etag (Some (asked_range task.size known.piece number))) × (body ≡ [])
+    (from : Origin task) × IsPart known number × (asked ≡ ask.Get from.bucket from.key task.etag (Some (asked_range task.size known.piece number))) × (body ≡ [])
 IsTaskAsk gained task known kind.Download small op.Delete number asked body = IsSourceDelete task asked × (number ≡ 0) × (body ≡ [])
 IsTaskAsk gained task known kind.Copy true op.Copy number asked body =
-    (to : Ends task) × (from : Source task) × (number ≡ 0) × (asked ≡ ask.Copy to.bucket to.key from.bucket from.key task.etag) × (body ≡ [])
-IsTaskAsk gained task known kind.Copy false op.Create number asked body = (to : Ends task) × (number ≡ 0) × (asked ≡ ask.Create to.bucket to.key None) × (body ≡ [])
+    (to : Target task) × (from : Origin task) × (number ≡ 0) × (asked ≡ ask.Copy to.bucket to.key from.bucket from.key task.etag) × (body ≡ [])
+IsTaskAsk gained task known kind.Copy false op.Create number asked body = (to : Target task) × (number ≡ 0) × (asked ≡ ask.Create to.bucket to.key None) × (body ≡ [])
 IsTaskAsk gained task known kind.Copy false op.PartCopy number asked body =
-    (to : Ends task) × (from : Source task) × (id : List ℕ) × IsUpload gained known.number id × IsPart known number
+    (to : Target task) × (from : Origin task) × (id : List ℕ) × IsUpload gained known.number id × IsPart known number
     × (asked ≡ ask.PartCopy to.bucket to.key id number from.bucket from.key task.etag (asked_range task.size known.piece number)) × (body ≡ [])
-IsTaskAsk gained task known kind.Copy false op.Complete number asked body = IsComplete gained task known op.PartCopy asked × (number ≡ 0) × (body ≡ [])
+IsTaskAsk gained task known kind.Copy false op.Complete number asked body = IsComplete gained task known op.PartCopy asked × (number ≡ 0) × (body ≡ document_of asked)
 IsTaskAsk gained task known kind.Copy false op.Abort number asked body = IsAbort gained task known asked × (number ≡ 0) × (body ≡ [])
 IsTaskAsk gained task known kind.Copy small op.Delete number asked body = IsSourceDelete task asked × (number ≡ 0) × (body ≡ [])
-IsTaskAsk gained task known kind.RemoveObject small op.Delete number asked body = (to : Ends task) × (number ≡ 0) × (asked ≡ ask.Delete to.bucket to.key) × (body ≡ [])
+IsTaskAsk gained task known kind.RemoveObject small op.Delete number asked body = (to : Target task) × (number ≡ 0) × (asked ≡ ask.Delete to.bucket to.key) × (body ≡ [])
 IsTaskAsk gained task known of_kind small of_op number asked body = ⊥
+
+-- the op of a request
+abbrev pub op_of : Ask → Op
+op_of (ask.Head bucket key) = op.Head
+op_of (ask.Get bucket key etag range) = op.Get
+op_of (ask.Put bucket key content fresh) = op.Put
+op_of (ask.Copy bucket key from_bucket from_key etag) = op.Copy
+op_of (ask.Delete bucket key) = op.Delete
+op_of (ask.Create bucket key content) = op.Create
+op_of (ask.Part bucket key upload number) = op.Part
+op_of (ask.PartCopy bucket key upload number from_bucket from_key etag range) = op.PartCopy
+op_of (ask.Complete bucket key upload etags fresh) = op.Complete
+op_of (ask.Abort bucket key upload) = op.Abort
+op_of (ask.List bucket prefix delimited token) = op.List
+op_of ask.Buckets = op.Buckets
 
 -- ---- which jobs are given
 
--- what a run began with, what its outcomes show of file calls, and the place of the journal at which it was cancelled, if it was
+abbrev pub is_planning : Dispatched → Bool
+is_planning c = not (is_some c.dispatch.job.task)
+
+-- the planning jobs, in the order of their Given
+abbrev pub planning_of : List Dispatched → List Dispatched
+planning_of dispatched = filter is_planning dispatched
+
+-- what a run began with, what its outcomes show of file calls, and how many events of the journal stood before the run was cancelled, if it was
 pub record Setting : Type 0 where
   pub config : Config
   pub limits : Limits
+  -- how many lanes are used, the first ones
+  pub lanes : ℕ
   pub tasks : List Task
   -- the plan is shown and not carried out
   pub dryrun : Bool
   pub held : MapOf HeldFile
+  -- the paths of what is neither file nor folder
+  pub others : List (List ℕ)
   pub file_failed : ℕ → Bool
   pub cancelled_at : Option ℕ
-  -- whether memory was wanted for a task, by its cause, or for the planning, by the status
+  -- whether memory ran out for a task, by its cause, or for the planning, by the status
   pub wanted_memory : Option ℕ → Bool
 
 abbrev pub is_small : Setting → Task → Bool
@@ -153,9 +180,18 @@ abbrev pub is_stopped : Setting → Option ℕ → Bool
 is_stopped s None = is_some s.cancelled_at
 is_stopped s (Some task) = is_some s.cancelled_at || s.file_failed task
 
+-- a file call of the task failed
+abbrev pub file_call_failed : Setting → Option ℕ → Bool
+file_call_failed s None = false
+file_call_failed s (Some task) = s.file_failed task
+
 abbrev pub IsBefore : Option ℕ → ℕ → Type 0
 IsBefore None b = ⊥
 IsBefore (Some a) b = a < b
+
+abbrev pub IsBeforePlace : Option ℕ → Option ℕ → Type 0
+IsBeforePlace a None = ⊥
+IsBeforePlace a (Some b) = IsBefore a b
 
 -- it comes before that place, or nothing stands there
 abbrev pub IsBeforeAny : Option ℕ → Option ℕ → Type 0
@@ -188,6 +224,13 @@ module _ (Shows : Ask → ℕ → Talk → Class → List ℕ → Type 0) where
   gained_before dispatched place job answered =
       (c : Dispatched) × Contains dispatched c × (c.dispatch.job ≡ job) × IsBefore c.dispatch.came_at place × HasReply c (last_of c.dispatch.attempts) answered
 
+  -- It came and was cut. `coming` are the dispatches in the order of their coming.
+  abbrev pub IsCutIn : Setting → List Dispatched → Dispatched → Type 0
+  IsCutIn s coming c =
+      (front : List Dispatched) × (later : List Dispatched) × (coming ≡ front ++ c ∷ later)
+      × IsCut Shows s.config.attempts c later
+      (IsStopped s c.dispatch.job.task ⊎ IsFailing Shows s.config.attempts c.dispatch.job.task (IsStopped s c.dispatch.job.task) later)
+
   -- It came, was not cut, and did not do what it was to do. `coming` are the dispatches in the order of their coming.
   abbrev pub IsFailed : Setting → List Dispatched → Dispatched → Type 0
   IsFailed s coming c =
@@ -196,8 +239,9 @@ module _ (Shows : Ask → ℕ → Talk → Class → List ℕ → Type 0) where
       (IsStopped s c.dispatch.job.task ⊎ IsFailing Shows s.config.attempts c.dispatch.job.task (IsStopped s c.dispatch.job.task) later))
       × ¬ (IsCompletedWell Shows c)
 
-  -- What a task's jobs are to keep to. `dispatched` stand in the order of their Given, `coming` in that of their Came.
-  pub record IsSchedule (s : Setting) (IsPlanned : Gained → Dispatched → Type 0) (dispatched coming : List Dispatched) : Type 0 where
+  -- What the jobs of a run are to keep to. `dispatched` stand in the order of their Given, `coming` in that of their Came. `Plans` says of
+  -- the planning jobs, in order, that they are those that the command needs.
+  pub record IsSchedule (s : Setting) (Plans : List Dispatched → Type 0) (dispatched coming : List Dispatched) : Type 0 where
     pub is_coming : IsPermutation dispatched coming
     pub in_order : AllPairs (λ (a b : Dispatched). IsBeforeAny a.dispatch.came_at b.dispatch.came_at) coming
     -- each asks what its task, the pieces and the successes before it say
@@ -206,14 +250,20 @@ module _ (Shows : Ask → ℕ → Talk → Class → List ℕ → Type 0) where
         × (c.limit ≡ limit_of task.size piece c.dispatch.job.number c.ask)
         × IsTaskAsk (gained_before dispatched c.dispatch.given_at) task (record { number = n; bytes = source_bytes s.held task.source; piece = piece; count = count })
         task.kind (is_small s task) c.dispatch.job.op c.dispatch.job.number c.ask c.body
-    pub plans : (c : Dispatched) → Contains dispatched c → c.dispatch.job.task ≡ None → IsPlanned (gained_before dispatched c.dispatch.given_at) c
-    pub planned_limit : (c : Dispatched) → Contains dispatched c → c.dispatch.job.task ≡ None → c.limit ≡ most_body
+    pub plans : Plans (planning_of dispatched)
+    pub planned : (c : Dispatched) → Contains dispatched c → c.dispatch.job.task ≡ None → (c.limit ≡ most_body) × (c.body ≡ [])
+    -- they are numbered from 0 and go to the first lane
+    pub numbered : (k : ℕ) (c : Dispatched) → slice_get (planning_of dispatched) k ≡ Some c
+        → (c.dispatch.job ≡ record { task = None; op = op_of c.ask; number = k }) × (c.dispatch.lane ≡ 0)
+    -- one planning job after the other
+    pub one_by_one : AllPairs (λ (a b : Dispatched). IsBefore a.dispatch.came_at b.dispatch.given_at) (planning_of dispatched)
     -- a dry run gives no job of a task
     pub dry : (c : Dispatched) → s.dryrun ≡ true → Contains dispatched c → c.dispatch.job.task ≡ None
-    -- a job is given once, and again only where it came without success, before a failure of its task and before a cancel
+    -- A job is given once. Only one of a task, no Abort, is given again, where it came without success, before a failure of its task and before a cancel.
     pub twice : AllPairs (λ (a b : Dispatched). a.dispatch.job ≡ b.dispatch.job
-        → IsBefore a.dispatch.came_at b.dispatch.given_at × ¬ (IsSuccessLast (last_of a.dispatch.attempts)) × IsBeforeAny a.dispatch.came_at s.cancelled_at
-        × ((failed : Dispatched) → IsFailed s coming failed → failed.dispatch.job.task ≡ a.dispatch.job.task → IsBeforeAny a.dispatch.came_at failed.dispatch.came_at)) dispatched
+        → IsBefore a.dispatch.came_at b.dispatch.given_at × ¬ (IsSuccessLast (last_of a.dispatch.attempts)) × IsBeforeAny (Some b.dispatch.given_at) s.cancelled_at
+        × ((failed : Dispatched) → IsFailed s coming failed → failed.dispatch.job.task ≡ a.dispatch.job.task → IsBeforeAny a.dispatch.came_at failed.dispatch.came_at)
+        × IsSome a.dispatch.job.task × (a.dispatch.job.op ≢ op.Abort)) dispatched
     pub no_third : (a b c : Dispatched) (i j k : ℕ) → i < j → j < k → slice_get dispatched i ≡ Some a → slice_get dispatched j ≡ Some b → slice_get dispatched k ≡ Some c
         → a.dispatch.job ≡ b.dispatch.job → b.dispatch.job ≡ c.dispatch.job → ⊥
     -- after a failed Came no job of its task is given but Abort

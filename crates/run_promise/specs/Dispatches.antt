@@ -109,7 +109,7 @@ dispatches journal logs = dispatches_from logs [] 0 journal
 
 -- ---- what a dispatch asked, and how it went
 
--- a dispatch with its ask, the body of a Put or a Part, the greatest length of a 2xx body, and the size of the task's source
+-- a dispatch with its ask, its body, the greatest length of a 2xx body, and the size of the task's source
 pub record Dispatched : Type 0 where
   pub dispatch : Dispatch
   pub ask : Ask

@@ -3,6 +3,7 @@ use Rattle.std.specs.Prelude.{◌≡◌, ◌++◌, ◌⊎◌, ℕ, Bool, true, f
 use Rattle.std.specs.FinMap.{get}
 use Rattle.s3_model.specs.declared.requests.Ask.{Ask}
 use Rattle.s3_model.specs.declared.requests.Op.TheVariants as op
+use Rattle.s3_model.specs.declared.tasks.Kind.{Kind}
 use Rattle.s3_model.specs.declared.tasks.Kind.TheVariants as kind
 use Rattle.s3_model.specs.declared.requests.Ask.TheVariants as ask
 use Rattle.s3_model.specs.declared.answers.Reply.TheVariants as reply
@@ -13,22 +14,28 @@ use Rattle.s3_model.specs.declared.answers.Why.{Why}
 use Rattle.s3_model.specs.declared.outcomes.Outcome.{Outcome}
 use Rattle.s3_model.specs.declared.outcomes.Outcome.TheVariants as outcome
 use Rattle.s3_model.specs.declared.places.Place.TheVariants as place
+use Rattle.s3_model.specs.declared.outcomes.Cause.{Cause}
+use Rattle.s3_model.specs.declared.outcomes.Cause.TheVariants as cause
 use Rattle.s3_model.specs.declared.tasks.Task.{Task}
 use Rattle.s3_model.specs.Talks.{Talk, Note}
 use Rattle.s3_model.specs.Maps.{MapOf}
-use Rattle.s3_model.specs.ServiceState.{State, Object, object_at, HasBucket}
+use Rattle.s3_service.specs.ServiceState.{State, Object, object_at, HasBucket}
 use Rattle.s3_model.specs.Files.{HeldFile}
-use Rattle.s3_model.specs.Serves.{Replied, ExternalWrite, Writes, Removes}
-use Rattle.s3_model.specs.Dispatches.{Attempt, Dispatched}
-use Rattle.s3_model.specs.Traces.{Step, Request, Begin, Serve, External, IsTrace, states, IsHonest, IsWilling, events_of, state_after, event_of}
-use Rattle.s3_model.specs.Fits.{Fits}
-use Rattle.s3_model.specs.Endings.{Excused, IsEnded, IsLeftover, IsNew}
-use Rattle.s3_model.specs.Schedule.{Setting, Gained, IsSchedule}
-use Rattle.s3_model.specs.Carried.{IsCarried}
+use Rattle.s3_service.specs.Serves.{Replied, ExternalWrite, Writes, Removes}
+use Rattle.run_promise.specs.Dispatches.{Attempt, Dispatched}
+use Rattle.run_promise.specs.Traces.{Step, Request, Begin, Serve, External, IsTrace, states, IsHonest, IsWilling, events_of, state_after, event_of}
+use Rattle.run_promise.specs.Fits.{Fits}
+use Rattle.run_promise.specs.Endings.{Excused, IsEnded, IsLeftover, IsNew, IsThereIn}
+use Rattle.run_promise.specs.Schedule.{Setting, IsSchedule}
+use Rattle.run_promise.specs.Outcomes.{HasOutcome}
+use Rattle.run_promise.specs.Buffers.{KeepsBuffers}
+use Rattle.run_promise.specs.Carried.{IsCarried}
 
--- What a run shows: the plan with its outcomes, the journal, what each wire's log and notes gained, the files before and after, and what warnings except.
+-- What a run shows: its status, the plan with its outcomes, the journal, what each wire's log and notes gained, the files before and after,
+-- and what warnings except.
 pub record Shown : Type 0 where
   pub setting : Setting
+  pub status : ℕ
   pub outcomes : List Outcome
   pub journal : List Event
   pub logs : ℕ → List Talk
@@ -55,15 +62,20 @@ IsTouchedFile tasks path =
 -- ---- moments
 
 -- a part of a trace that has all of the journal: up to the end of the run, or up to a step that follows it
-abbrev pub IsWhole : List Event → List Step → List Step → Type 0
-IsWhole journal trace part = (late : List Step) × (trace ≡ part ++ late) × (filter_map event_of (events_of part) ≡ journal)
+abbrev pub HasJournal : List Event → List Step → List Step → Type 0
+HasJournal journal trace part = (late : List Step) × (trace ≡ part ++ late) × (filter_map event_of (events_of part) ≡ journal)
 
 -- ---- what is promised at each of them
 
 -- each task is as its outcome says
 abbrev pub AllEnded : Shown → State → List Step → List Step → Type 0
 AllEnded shown start trace part = (n : ℕ) (task : Task) (how : Outcome) → slice_get shown.setting.tasks n ≡ Some task → slice_get shown.outcomes n ≡ Some how
-    → IsEnded shown.excused shown.journal start trace (record { state = start; held = shown.setting.held }) (record { state = state_after start part; held = shown.held_after }) n task how
+    → IsEnded shown.excused shown.journal start trace (record { state = start; held = shown.setting.held; others = shown.setting.others }) (record { state = state_after start part; held = shown.held_after; others = shown.setting.others }) n task how
+
+-- where memory ran out before a job of a task was given, there are no outcomes, and no object is changed
+abbrev pub NoneChanged : Shown → State → List Step → List Step → Type 0
+NoneChanged shown start trace part =
+    (bucket key : List ℕ) → shown.outcomes ≡ [] → IsExternal trace bucket key ⊎ (object_at (state_after start part) bucket key ≡ object_at start bucket key)
 
 -- no other object and no other file is changed
 abbrev pub OthersStay : Shown → State → List Step → List Step → Type 0
@@ -79,7 +91,7 @@ abbrev pub MovesAfter : Shown → State → List Step → Type 0
 MovesAfter shown start trace =
     (n : ℕ) (task : Task) (front later : List Step) (step : Step) (lane : ℕ) (sent : Request) → slice_get shown.setting.tasks n ≡ Some task → task.kind ≡ kind.Copy → trace ≡ front ++ step ∷ later
     → step.event ≡ Begin lane sent → sent.job ≡ record { task = Some n; op = op.Delete; number = 0 }
-    → IsNew shown.excused shown.setting.held (states start trace) (record { state = step.state; held = shown.held_after }) task task.kind
+    → IsNew shown.excused shown.setting.held (states start trace) (record { state = step.state; held = shown.held_after; others = shown.setting.others }) task task.kind
 
 -- an upload whose Abort was answered with success is open at no later step
 abbrev pub AbortsLast : List Step → Type 0
@@ -95,30 +107,57 @@ IsAlone trace = (write : ExternalWrite) → ¬ (Contains (events_of trace) (Exte
 abbrev pub HasDestBuckets : List Task → State → Type 0
 HasDestBuckets tasks start = (bucket key : List ℕ) → IsDest tasks bucket key → HasBucket start bucket
 
--- done, or under `--dryrun` dry
-abbrev pub IsFinished : Bool → Outcome → Type 0
-IsFinished false how = how ≡ outcome.Done
-IsFinished true how = how ≡ outcome.Dry
+-- Done, or skipped where the task is not to replace and its destination was there; under `--dryrun` dry. Copied only where a moved file could not be removed.
+abbrev pub IsFinished : Bool → (WasTaken : Type 0) → Outcome → Type 0
+IsFinished true WasTaken how = how ≡ outcome.Dry
+IsFinished false WasTaken outcome.Done = ¬ WasTaken
+IsFinished false WasTaken outcome.Skipped = WasTaken
+IsFinished false WasTaken (outcome.Copied (cause.Files of_call)) = ¬ WasTaken
+IsFinished false WasTaken how = ⊥
+
+-- the kinds of task that may be told not to replace
+abbrev pub MayBeFresh : Kind → Type 0
+MayBeFresh kind.Upload = Unit {0}
+MayBeFresh kind.Download = Unit {0}
+MayBeFresh other = ⊥
+
+abbrev pub WasTaken : Shown → State → ℕ → Type 0
+WasTaken shown start n = (task : Task) × (slice_get shown.setting.tasks n ≡ Some task) × (task.fresh ≡ true) × MayBeFresh task.kind
+    × IsThereIn (record { state = start; held = shown.setting.held; others = shown.setting.others }) task.dest
+
+-- each task has its outcome; where memory ran out before a job of a task was given, there may be none
+abbrev pub HasOutcomes : Shown → List Dispatched → Type 0
+HasOutcomes shown dispatched =
+    (length shown.outcomes ≡ length shown.setting.tasks)
+    ⊎ ((shown.status ≡ 70) × (shown.outcomes ≡ []) × ((c : Dispatched) → Contains dispatched c → c.dispatch.job.task ≡ None)
+    × ((path : List ℕ) → get shown.held_after path ≡ get shown.setting.held path))
 
 -- `Shows ask limit talk class bytes`: the talk has that class for the ask, and its answer that body;
--- `request_text ask body moment`: the text of a request, signed at that moment
-module _ (Shows : Ask → ℕ → Talk → Class → List ℕ → Type 0) (request_text : Ask → List ℕ → ℕ → List ℕ) (host : List ℕ) (port : ℕ)
-    (IsPlanned : Gained → Dispatched → Type 0) where
+-- `HasStatus ask limit talk status`: its answer has that HTTP status;
+-- `request_text ask body moment`: the text of a request, signed at that moment;
+-- `Plans`: the planning jobs, in order, are those that the command needs;
+-- `CallFailed n why`: the calls on files show that one of task n failed so
+module _ (Shows : Ask → ℕ → Talk → Class → List ℕ → Type 0) (HasStatus : Ask → ℕ → Talk → ℕ → Type 0) (request_text : Ask → List ℕ → ℕ → List ℕ) (host : List ℕ) (port : ℕ)
+    (Plans : List Dispatched → Type 0) (CallFailed : ℕ → Cause → Type 0) where
   -- Over every honest service, and whatever is lost, refused or late.
   abbrev pub HoldsOver : Shown → List Dispatched → Type 0
   HoldsOver shown dispatched = (start : State) (trace part : List Step) → IsTrace shown.setting.limits [] start trace → IsHonest start trace (IsDest shown.setting.tasks)
-      → Fits Shows (events_of trace) shown.journal dispatched → IsWhole shown.journal trace part
-      → AllEnded shown start trace part × OthersStay shown start trace part × MovesAfter shown start trace × AbortsLast trace
+      → Fits Shows (events_of trace) shown.journal dispatched → HasJournal shown.journal trace part
+      → AllEnded shown start trace part × NoneChanged shown start trace part × OthersStay shown start trace part × MovesAfter shown start trace × AbortsLast trace
 
-  -- The jobs are those of the plan, the wires carried them and nothing else, each task has its outcome, and over every honest trace that fits it is true.
-  abbrev pub IsTruthful : Shown → Type 0
-  IsTruthful shown =
-      (dispatched : List Dispatched) × (coming : List Dispatched)
-      × IsSchedule Shows shown.setting IsPlanned dispatched coming
-      × IsCarried Shows request_text host port shown.setting shown.journal shown.logs shown.notes dispatched coming
-      × (length shown.outcomes ≡ length shown.setting.tasks)
-      × OtherFilesStay shown
-      × HoldsOver shown dispatched
+  -- The jobs are those of the plan, the wires carried them and nothing else, each task has its outcome with the cause that the talks show,
+  -- and over every honest trace that fits it is true.
+  pub record IsTruthful (shown : Shown) : Type 0 where
+    pub dispatched : List Dispatched
+    pub coming : List Dispatched
+    pub schedule : IsSchedule Shows shown.setting Plans dispatched coming
+    pub carried : IsCarried Shows request_text host port shown.setting shown.journal shown.logs shown.notes dispatched coming
+    pub buffers : KeepsBuffers shown.setting.config.buffers shown.journal
+    pub outcomes : HasOutcomes shown dispatched
+    pub causes : (n : ℕ) (task : Task) (how : Outcome) → slice_get shown.setting.tasks n ≡ Some task → slice_get shown.outcomes n ≡ Some how
+        → HasOutcome Shows HasStatus CallFailed shown.setting dispatched coming n task how
+    pub files : OtherFilesStay shown
+    pub holds : HoldsOver shown dispatched
 
   -- each answer says what became of its request
   abbrev pub AreCertain : List Dispatched → Type 0
@@ -126,13 +165,14 @@ module _ (Shows : Ask → ℕ → Talk → Class → List ℕ → Type 0) (reque
       → ¬ (Shows c.ask c.limit attempt.talk (class.Uncertain why) bytes)
 
   -- However the jobs of the run are read, and over every honest service that does what it may: where each answer is certain, nobody else writes, the buckets
-  -- of the destinations are there, and the run is not cancelled, each task is done, but one whose file call failed or for which memory was wanted.
+  -- of the destinations are there, and the run is not cancelled, each task is done (or skipped, see above), but one whose file call failed or for which
+  -- memory ran out.
   abbrev pub IsDoneWhereWilling : Shown → Type 0
   IsDoneWhereWilling shown = (dispatched coming : List Dispatched) (start : State) (trace : List Step)
-      → IsSchedule Shows shown.setting IsPlanned dispatched coming
+      → IsSchedule Shows shown.setting Plans dispatched coming
       → IsCarried Shows request_text host port shown.setting shown.journal shown.logs shown.notes dispatched coming
       → IsTrace shown.setting.limits [] start trace → IsHonest start trace (IsDest shown.setting.tasks) → IsWilling shown.setting.limits start trace
       → Fits Shows (events_of trace) shown.journal dispatched
       → AreCertain dispatched → IsAlone trace → HasDestBuckets shown.setting.tasks start → shown.setting.cancelled_at ≡ None
       → (n : ℕ) (how : Outcome) → slice_get shown.outcomes n ≡ Some how
-      → IsFinished shown.setting.dryrun how ⊎ (shown.setting.file_failed n ≡ true) ⊎ (shown.setting.wanted_memory (Some n) ≡ true)
+      → IsFinished shown.setting.dryrun (WasTaken shown start n) how ⊎ (shown.setting.file_failed n ≡ true) ⊎ (shown.setting.wanted_memory (Some n) ≡ true)

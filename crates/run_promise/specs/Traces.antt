@@ -1,5 +1,5 @@
 -- Traces of a service: what happened to it while a program ran, in one order.
-use Rattle.std.specs.Prelude.{◌≡◌, ◌==◌, ℕ, Bool, false, List, [], ◌∷◌, Option, Some, None, map, length, Contains, if◌then◌else◌}
+use Rattle.std.specs.Prelude.{◌≡◌, ◌==◌, ℕ, Bool, true, false, List, [], ◌∷◌, Option, Some, None, map, length, Contains, IsSome, if◌then◌else◌}
 use Rattle.s3_model.specs.declared.outcomes.JobId.{JobId}
 use Rattle.s3_model.specs.declared.outcomes.Event.{Event}
 use Rattle.s3_model.specs.declared.outcomes.Event.TheVariants as entry
@@ -9,11 +9,12 @@ use Rattle.s3_model.specs.declared.answers.Reply.{Reply}
 use Rattle.s3_model.specs.declared.answers.Reply.TheVariants as reply
 use Rattle.s3_model.specs.declared.settings.Limits.{Limits}
 use Rattle.s3_model.specs.declared.tries.Mark.{Mark}
-use Rattle.s3_model.specs.ServiceState.{State, Object, HasBucket, object_at}
-use Rattle.s3_model.specs.Serves.{Answer, Replied, Refused, Serves, Succeeds, ExternalWrite, Writes, Removes, bucket_of, after_external}
-use Rattle.s3_model.specs.Dispatches.{is_job}
+use Rattle.s3_model.specs.Files.{is_listed}
+use Rattle.s3_service.specs.ServiceState.{State, Object, HasBucket, object_at}
+use Rattle.s3_service.specs.Serves.{Answer, Replied, Refused, Serves, Succeeds, ExternalWrite, Writes, Removes, bucket_of, after_external, taken_codes}
+use Rattle.run_promise.specs.Dispatches.{is_job}
 
--- a request that was begun: the nth attempt of its job, counted from 1, with the body of a Put or a Part
+-- a request that was begun: the nth attempt of its job, counted from 1, with its body
 pub record Request : Type 0 where
   pub job : JobId
   pub number : ℕ
@@ -116,18 +117,28 @@ pub record IsHonest (start : State) (trace : List Step) (IsKept : List ℕ → L
 
 -- ---- willing traces
 
-abbrev pub IsWhole : Reply → Type 0
-IsWhole (reply.Got status range size) = status ≡ 200
-IsWhole answered = ⊥
+abbrev pub IsWholeObject : Reply → Type 0
+IsWholeObject (reply.Got status range size) = status ≡ 200
+IsWholeObject answered = ⊥
 
 abbrev pub HasRange : Ask → Type 0
 HasRange (ask.Get bucket key etag (Some range)) = Unit {0}
 HasRange asked = ⊥
 
+-- A request that is not to replace an object that is there is refused with a code that says so.
+abbrev pub IsRefusedAsTaken : Bool → State → (bucket key code : List ℕ) → Type 0
+IsRefusedAsTaken fresh t bucket key code = fresh ≡ true → IsSome (object_at t bucket key) → is_listed taken_codes code ≡ true
+
+abbrev pub SaysTaken : State → Ask → (code : List ℕ) → Type 0
+SaysTaken t (ask.Put bucket key content fresh) code = IsRefusedAsTaken fresh t bucket key code
+SaysTaken t (ask.Complete bucket key id etags fresh) code = IsRefusedAsTaken fresh t bucket key code
+SaysTaken t asked code = Unit {0}
+
 -- What may succeed does, and a Get with a range is not answered with the whole.
 abbrev pub IsWillingAt : Limits → State → TraceEvent → Type 0
-IsWillingAt limits old (Serve sent (Refused code)) = (answered : Reply) (bytes : List ℕ) (new : State) → ¬ (Succeeds limits old sent.ask sent.body answered bytes new)
-IsWillingAt limits old (Serve sent (Replied answered bytes)) = HasRange sent.ask → ¬ (IsWhole answered)
+IsWillingAt limits old (Serve sent (Refused code)) =
+    ((answered : Reply) (bytes : List ℕ) (new : State) → ¬ (Succeeds limits old sent.ask sent.body answered bytes new)) × SaysTaken old sent.ask code
+IsWillingAt limits old (Serve sent (Replied answered bytes)) = HasRange sent.ask → ¬ (IsWholeObject answered)
 IsWillingAt limits old (Given job lane) = Unit {0}
 IsWillingAt limits old (Begin lane sent) = Unit {0}
 IsWillingAt limits old (External write) = Unit {0}

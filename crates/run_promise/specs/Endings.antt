@@ -1,5 +1,5 @@
 -- What becomes of a task: what its destination is to hold, and how each outcome leaves it.
-use Rattle.std.specs.Prelude.{◌≡◌, ◌⊎◌, ℕ, Bool, true, List, Option, Some, None, Contains}
+use Rattle.std.specs.Prelude.{◌≡◌, ◌⊎◌, ℕ, Bool, true, List, Option, Some, None, Contains, IsSome}
 use Rattle.std.specs.Bool.{OnTrue}
 use Rattle.std.specs.FinMap.{get}
 use Rattle.s3_model.specs.declared.tasks.Task.{Task}
@@ -15,25 +15,29 @@ use Rattle.s3_model.specs.declared.outcomes.Event.TheVariants as entry
 use Rattle.s3_model.specs.declared.outcomes.Outcome.{Outcome}
 use Rattle.s3_model.specs.declared.outcomes.Outcome.TheVariants as outcome
 use Rattle.s3_model.specs.Maps.{MapOf}
-use Rattle.s3_model.specs.ServiceState.{State, Object, object_at, HasBytes}
-use Rattle.s3_model.specs.Files.{HeldFile}
-use Rattle.s3_model.specs.Serves.{IsThere, Replied, Writes}
-use Rattle.s3_model.specs.Traces.{Step, Request, Serve, External, states, events_of}
+use Rattle.s3_model.specs.TempNames.{is_temp_name}
+use Rattle.s3_service.specs.ServiceState.{State, Object, object_at, HasBytes}
+use Rattle.s3_model.specs.Files.{HeldFile, is_listed}
+use Rattle.s3_service.specs.Serves.{IsThere, Replied, Writes}
+use Rattle.run_promise.specs.Traces.{Step, Request, Serve, External, states, events_of}
 
 -- a state and the files at one step
 pub record Scene : Type 0 where
   pub state : State
   pub held : MapOf HeldFile
+  -- the paths of what is neither file nor folder
+  pub others : List (List ℕ)
 
--- what the warnings of a trace except: temporary files that stayed, files whose time could not be set,
--- and, where the trace wanted memory, those whose warning found none
+-- what the warnings of a run except: temporary files that stayed, files whose time could not be set,
+-- and, where memory ran out for a warning, those that it would have named
 pub record Excused : Type 0 where
   pub left : List (List ℕ)
   pub untimed : List (List ℕ)
   pub wanted_memory : Bool
 
+-- it has the name of a temporary file, and a warning names it or memory ran out for its warning
 abbrev pub IsLeft : Excused → List ℕ → Type 0
-IsLeft excused path = Contains excused.left path ⊎ (excused.wanted_memory ≡ true)
+IsLeft excused path = (is_temp_name path ≡ true) × (Contains excused.left path ⊎ (excused.wanted_memory ≡ true))
 
 -- a temporary file that stayed: nothing was there at the start
 abbrev pub IsLeftover : Excused → MapOf HeldFile → List ℕ → Type 0
@@ -75,6 +79,11 @@ abbrev pub IsAsBefore : Scene → Scene → Place → Type 0
 IsAsBefore before after (place.Object bucket key) = object_at after.state bucket key ≡ object_at before.state bucket key
 IsAsBefore before after (place.File path) = get after.held path ≡ get before.held path
 
+-- something is there
+abbrev pub IsThereIn : Scene → Place → Type 0
+IsThereIn scene (place.Object bucket key) = IsSome (object_at scene.state bucket key)
+IsThereIn scene (place.File path) = IsSome (get scene.held path) ⊎ (is_listed scene.others path ≡ true)
+
 -- ---- the source of a move
 
 abbrev pub IsDeleted : List Step → List ℕ → List ℕ → Type 0
@@ -103,16 +112,16 @@ IsSpared task journal before after (Some (place.File path)) = get after.held pat
 
 -- ---- how an outcome leaves things
 
--- by what holds where the destination is new, where it is as before, and of the source of a move
-abbrev pub Ends : Outcome → Type 0 → Type 0 → Type 0 → Type 0 → Type 0 → Type 0
-Ends outcome.Done new old gone gone_or_there spared = new × gone
-Ends (outcome.Copied cause) new old gone gone_or_there spared = new × gone_or_there
-Ends (outcome.Failed cause) new old gone gone_or_there spared = old × spared
-Ends (outcome.Unknown cause) new old gone gone_or_there spared = (old ⊎ new) × spared
-Ends outcome.Dry new old gone gone_or_there spared = old × spared
-Ends outcome.Skipped new old gone gone_or_there spared = old × spared
+-- By what holds where the destination is new, where it is as before, where it was there before, and of the source of a move.
+abbrev pub LeavesAs : Outcome → (new old was_there gone gone_or_there spared : Type 0) → Type 0
+LeavesAs outcome.Done new old was_there gone gone_or_there spared = new × gone
+LeavesAs (outcome.Copied cause) new old was_there gone gone_or_there spared = new × gone_or_there
+LeavesAs (outcome.Failed cause) new old was_there gone gone_or_there spared = old × spared
+LeavesAs (outcome.Unknown cause) new old was_there gone gone_or_there spared = (old ⊎ new) × spared
+LeavesAs outcome.Dry new old was_there gone gone_or_there spared = old × spared
+LeavesAs outcome.Skipped new old was_there gone gone_or_there spared = old × was_there × spared
 
 abbrev pub IsEnded : Excused → List Event → State → List Step → Scene → Scene → ℕ → Task → Outcome → Type 0
 IsEnded excused journal start trace before after number task how =
-    Ends how (IsNew excused before.held (states start trace) after task task.kind) (IsAsBefore before after task.dest)
+    LeavesAs how (IsNew excused before.held (states start trace) after task task.kind) (IsAsBefore before after task.dest) (IsThereIn before task.dest)
     (OnTrue task.moves (IsGone trace after task.source)) (OnTrue task.moves (IsGoneOrThere before after task.source)) (OnTrue task.moves (IsSpared number journal before after task.source))

@@ -1,0 +1,11 @@
+pub mod Buffers
+pub mod Carried
+pub mod Dispatches
+pub mod Endings
+pub mod Fits
+pub mod Outcomes
+pub mod Planning
+pub mod Schedule
+pub mod Settled
+pub mod Traces
+pub mod Truthful
