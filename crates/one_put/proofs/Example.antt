@@ -4,6 +4,8 @@ use Rattle.std.specs.Cmp.Lexicographic.{nat_list_cmp_total}
 use Rattle.std.specs.Prelude.{is_some}
 use Rattle.std.proofs.lemmas.List.{append-nil}
 use Rattle.std.specs.FinMap.{get, insert, empty, get-empty}
+use Rattle.s3_model.specs.declared.requests.Ask.{Ask}
+use Rattle.s3_model.specs.declared.requests.Ask.TheVariants as ask
 use Rattle.s3_model.specs.declared.answers.Class.{Class}
 use Rattle.s3_model.specs.declared.answers.Class.TheVariants as class
 use Rattle.s3_model.specs.declared.answers.Why.{Why}
@@ -19,18 +21,18 @@ use Rattle.s3_model.specs.declared.outcomes.Outcome.TheVariants as outcome
 use Rattle.s3_model.specs.Maps.{MapOf}
 use Rattle.s3_model.specs.Files.{HeldFile}
 use Rattle.s3_model.specs.Talks.{Moment, Began}
-use Rattle.s3_model.specs.ServiceState.{State, Object, HasBucket, object_at, objects_in, with_object}
-use Rattle.s3_model.specs.Serves.{Replied, Refused}
-use Rattle.s3_model.specs.Dispatches.{Attempt, Dispatch, Dispatched}
-use Rattle.s3_model.specs.Fits.{Fits, Names}
-use Rattle.s3_model.specs.Traces.{Step, events_of}
-use Rattle.s3_model.specs.Schedule.{bytes_of}
-use Rattle.s3_model.specs.Carried.{SaysAll}
-use Rattle.s3_model.specs.Truthful.{Shown, IsDest, IsTruthful, HoldsOver}
-use Rattle.s3_model.specs.Settled.{IsSettingOf, cause_of, is_memory, is_dry}
+use Rattle.s3_service.specs.ServiceState.{State, Object, HasBucket, object_at, objects_in, with_object}
+use Rattle.s3_service.specs.Serves.{Replied, Refused, MayRefuse}
+use Rattle.run_promise.specs.Dispatches.{Attempt, Dispatch, Dispatched}
+use Rattle.run_promise.specs.Fits.{Fits, Names}
+use Rattle.run_promise.specs.Traces.{Step, events_of}
+use Rattle.run_promise.specs.Schedule.{bytes_of}
+use Rattle.run_promise.specs.Carried.{SaysAll}
+use Rattle.run_promise.specs.Truthful.{Shown, IsDest, IsTruthful, HoldsOver}
+use Rattle.run_promise.specs.Settled.{IsSettingOf, cause_of, is_memory, is_dry}
 use Rattle.world_laws.proofs.Maps.{none_is_some, text_exact, text_decided, get-insert_same, get-insert_other}
-use Rattle.one_put.specs.OnePut.{IsOnePut, IsOnePutRun, IsTalked, stored, IsPlannedNothing, tells_file_failed}
-use Rattle.one_put.specs.Example.{body_alone, with_bucket, upload, setting, talk_of, run_with, HasStored, UploadsHappen, IsStored, HasNoStatus, IsRefused, LiesAreRefused}
+use Rattle.one_put.specs.OnePut.{IsOnePut, IsOnePutRun, IsTalked, stored, PlansNothing, tells_file_failed}
+use Rattle.one_put.specs.Example.{body_alone, with_bucket, upload, setting, talk_of, run_with, HasStored, UploadsHappen, IsStored, HasNoStatus, NoneFailed, IsRefused, LiesAreRefused}
 use Rattle.one_put.proofs.Single.{none_idle, only, first_only, put_dispatch, put_with, single}
 use Rattle.one_put.proofs.Jobs.{put_schedule}
 use Rattle.one_put.proofs.Rules.{talked_carried}
@@ -59,7 +61,19 @@ module _ (bucket key path bytes : List ℕ) where
   attempt_with marked = record { mark = marked; talk = talk_of bytes }
 
   plan : IsOnePut (setting bucket key path bytes) (upload bucket key path bytes) bucket key path
-  plan = record { alone = refl; carried_out = refl; uploads = refl; keeps_source = refl; source = refl; dest = refl; is_small = omega arith; once = refl }
+  plan = record {
+    alone = refl;
+    carried_out = refl;
+    uploads = refl;
+    keeps_source = refl;
+    source = refl;
+    dest = refl;
+    is_small = omega arith;
+    replaces = refl;
+    once = refl;
+    has_lane = omega arith;
+    has_buffer = omega arith;
+  }
 
   abbrev done : Shown
   done = run_with bucket key path bytes mark.Success outcome.Done
@@ -83,8 +97,8 @@ module _ (bucket key path bytes : List ℕ) where
     judged = stored reply.Stored [] (refl, refl);
   }
 
-  abbrev is_run : IsOnePutRun IsStored body_alone [] 80 done (upload bucket key path bytes) bucket key path (talk_of bytes ∷ []) (Moment 5 ∷ Began ∷ []) outcome.Done
-  is_run = record { plan = plan; outcomes = refl; files = λ any. refl; first_talks = λ lane. refl; first_notes = λ lane. refl; went = inr talked }
+  abbrev is_run : IsOnePutRun IsStored body_alone [] 80 NoneFailed done (upload bucket key path bytes) bucket key path (talk_of bytes ∷ []) (Moment 5 ∷ Began ∷ []) outcome.Done
+  is_run = record { plan = plan; outcomes = refl; files = λ any. refl; first_talks = λ lane. refl; first_notes = λ lane. refl; went = inr (inr talked) }
 
   abbrev object : Object
   object = record { bytes = bytes; etag = []; micros = 0 }
@@ -107,14 +121,15 @@ module _ (bucket key path bytes : List ℕ) where
       object_bucket : (b k c l : List ℕ) → place.Object b k ≡ place.Object c l → b ≡ c
       object_bucket b k c l e = cc
 
-  settled : IsSettingOf IsStored HasNoStatus IsPlannedNothing done 0 [] ⊥ ⊥
+  settled : IsSettingOf IsStored HasNoStatus PlansNothing done [] ⊥ ⊥
   settled = record {
     memory = no_memory;
+    lanes = omega arith;
     planning_memory = λ e. absurd (true_is_false e);
     warning_memory = λ e. absurd (true_is_false e);
     left = refl;
     untimed = refl;
-    files = files_by_outcomes IsStored HasNoStatus IsPlannedNothing done (inr (mark.Success ∷ [], refl)) by_outcome;
+    files = files_by_outcomes IsStored HasNoStatus PlansNothing done (inr (mark.Success ∷ [], refl)) by_outcome;
     cancelled = λ e. absurd (true_is_false e);
     cancels = λ n why e. absurd (no_cause n (cause.Cancelled why) e);
     dry = λ n how at_n. ap (λ (any : Outcome). is_dry any) (sym (first_only outcome.Done n how at_n).1);
@@ -136,14 +151,14 @@ module _ (bucket key path bytes : List ℕ) where
   has_stored = record {
     is_run = is_run;
     dispatched = the_put ∷ [];
-    scheduled = put_schedule IsStored IsPlannedNothing done.setting (upload bucket key path bytes) bucket key path plan (attempt_with mark.Success ∷ []);
-    carried = talked_carried IsStored body_alone [] 80 done (upload bucket key path bytes) bucket key path (talk_of bytes ∷ []) (Moment 5 ∷ Began ∷ []) outcome.Done is_run talked;
+    scheduled = put_schedule IsStored PlansNothing refl done.setting (upload bucket key path bytes) bucket key path plan (attempt_with mark.Success ∷ []);
+    carried = talked_carried IsStored body_alone [] 80 NoneFailed done (upload bucket key path bytes) bucket key path (talk_of bytes ∷ []) (Moment 5 ∷ Began ∷ []) outcome.Done is_run talked;
     trace = one_trace IsStored (attempt_with mark.Success) the_put.ask the_put.body the_put.limit the_put.size (Replied reply.Stored []) (with_bucket bucket) new;
     runs = is_trace IsStored (attempt_with mark.Success) the_put.ask the_put.body the_put.limit the_put.size (Replied reply.Stored []) (with_bucket bucket) new done.setting.limits
-        (has_bucket bucket, (object, sym body_is, refl));
+        (has_bucket bucket, (λ is_fresh. absurd (true_is_false is_fresh)), (object, sym body_is, refl));
     honest = is_honest IsStored (attempt_with mark.Success) the_put.ask the_put.body the_put.limit the_put.size (Replied reply.Stored []) (with_bucket bucket) new (nothing_there bucket) (IsDest done.setting.tasks);
     fits = fits_one IsStored (attempt_with mark.Success) the_put.ask the_put.body the_put.limit the_put.size (Replied reply.Stored []) (with_bucket bucket) new
-        (λ told body shows. subst (λ (c : Class). Names c body (Replied reply.Stored [])) (sym shows.0) (ap (Replied reply.Stored) (sym shows.1)));
+        (λ said body shows. subst (λ (c : Class). Names c body (Replied reply.Stored [])) (sym shows.0) (reply.Stored, refl, ap (Replied reply.Stored) (sym shows.1)));
     whole = ([], refl, refl);
     willing = (tt, (tt, ((λ ranged. absurd ranged), (tt, tt))));
     certain = λ c place attempt why told known slot shows. stored_is_certain why (shows.0);
@@ -156,6 +171,12 @@ pub uploads_happen : UploadsHappen
 uploads_happen bucket key path bytes = has_stored bucket key path bytes
 
 -- ---- a lie
+
+-- the empty code says nothing of an object
+may_refuse : (t : State) (asked : Ask) → MayRefuse t asked []
+may_refuse t (ask.Put b k content fresh) = λ is_fresh says. absurd (true_is_false says)
+may_refuse t (ask.Complete b k id etags fresh) = λ is_fresh says. absurd (true_is_false says)
+may_refuse t other = tt
 
 module _ (bucket key path bytes : List ℕ) where
   abbrev lie : Shown
@@ -177,19 +198,19 @@ module _ (bucket key path bytes : List ℕ) where
         (fits_one IsRefused refused_attempt c.ask c.body c.limit c.size (Refused []) (with_bucket bucket) (with_bucket bucket)
         (λ told body shows. subst (λ (t : Class). Names t body (Refused [])) (sym shows.0) refl))
 
-    refutes : HoldsOver IsRefused body_alone [] 80 IsPlannedNothing lie (c ∷ []) → ⊥
+    refutes : HoldsOver IsRefused HasNoStatus body_alone [] 80 PlansNothing NoneFailed lie (c ∷ []) → ⊥
     refutes holds =
         let at_end = holds (with_bucket bucket) trace trace
-        (is_trace IsRefused refused_attempt c.ask c.body c.limit c.size (Refused []) (with_bucket bucket) (with_bucket bucket) lie.setting.limits refl)
+        (is_trace IsRefused refused_attempt c.ask c.body c.limit c.size (Refused []) (with_bucket bucket) (with_bucket bucket) lie.setting.limits (refl, may_refuse (with_bucket bucket) c.ask))
         (is_honest IsRefused refused_attempt c.ask c.body c.limit c.size (Refused []) (with_bucket bucket) (with_bucket bucket) (nothing_there bucket) (IsDest lie.setting.tasks))
         fits ([], refl, refl) in
         let ended = at_end.0 0 (upload bucket key path bytes) outcome.Done refl refl in
         none_is_some ended.0.2.0 (sym (nothing_there bucket bucket key) ∙ ended.0.2.1)
 
-  pub lie_is_refused : IsTruthful IsRefused body_alone [] 80 IsPlannedNothing lie → ⊥
+  pub lie_is_refused : IsTruthful IsRefused HasNoStatus body_alone [] 80 PlansNothing NoneFailed lie → ⊥
   lie_is_refused truthful =
-      let is = single truthful.0 (put_dispatch (refused_attempt ∷ [])) truthful.3.shown in
-      refutes is.0 is.2 (subst (λ (all : List Dispatched). HoldsOver IsRefused body_alone [] 80 IsPlannedNothing lie all) is.1 truthful.6)
+      let is = single truthful.dispatched (put_dispatch (refused_attempt ∷ [])) truthful.carried.shown in
+      refutes is.0 is.2 (subst (λ (all : List Dispatched). HoldsOver IsRefused HasNoStatus body_alone [] 80 PlansNothing NoneFailed lie all) is.1 truthful.holds)
 
 pub lies_are_refused : LiesAreRefused
 lies_are_refused bucket key path bytes = lie_is_refused bucket key path bytes

@@ -18,8 +18,8 @@ use Rattle.s3_model.specs.declared.settings.Config.{Config}
 use Rattle.s3_model.specs.declared.settings.Limits.{Limits}
 use Rattle.s3_model.specs.Talks.{Talk}
 use Rattle.s3_model.specs.Parts.{HasPieces}
-use Rattle.s3_model.specs.Dispatches.{Attempt, Dispatched}
-use Rattle.s3_model.specs.Schedule.{Setting, Gained, IsObject, Known, IsTaskAsk, limit_of, IsSchedule, IsBefore, job_of, source_bytes, gained_before, is_small}
+use Rattle.run_promise.specs.Dispatches.{Attempt, Dispatched}
+use Rattle.run_promise.specs.Schedule.{Setting, Gained, IsObject, Known, IsTaskAsk, limit_of, IsSchedule, IsBefore, job_of, source_bytes, gained_before, is_small}
 use Rattle.one_put.specs.OnePut.{IsOnePut, put_job, put_of}
 use Rattle.world_laws.proofs.Maps.{none_is_some, some_is}
 use Rattle.one_put.proofs.Single.{each, in_none, put_with}
@@ -61,8 +61,8 @@ put_asks gained task known of_kind small bucket key uploads is_small dest =
     subst (λ (k : Kind). IsTaskAsk gained task known k small op.Put 0 (put_of bucket key task) known.bytes) (sym uploads)
     (subst (λ (b : Bool). IsTaskAsk gained task known kind.Upload b op.Put 0 (put_of bucket key task) known.bytes) (sym is_small) here)
 
-put_same : (content : Option (List ℕ)) (b k bucket key : List ℕ) → bucket ≡ b → key ≡ k → ask.Put b k content ≡ ask.Put bucket key content
-put_same content b k bucket key e f = cc
+put_same : (content : Option (List ℕ)) (fresh : Bool) (b k bucket key : List ℕ) → bucket ≡ b → key ≡ k → ask.Put b k content fresh ≡ ask.Put bucket key content fresh
+put_same content fresh b k bucket key e f = cc
 
 dest_same : (of_place : Place) (b k bucket key : List ℕ) → of_place ≡ place.Object bucket key → IsObject of_place b k → (bucket ≡ b) × (key ≡ k)
 dest_same of_place b k bucket key e h = subst (λ (p : Place). IsObject p b k) e h
@@ -76,9 +76,9 @@ put_asked gained task known of_kind small of_op number asked body bucket key upl
     (subst (λ (b : Bool). IsTaskAsk gained task known kind.Upload b of_op number asked body) is_small
     (subst (λ (k : Kind). IsTaskAsk gained task known k small of_op number asked body) uploads h)) in
     let same = dest_same task.dest here.0.bucket here.0.key bucket key dest here.0.is_dest in
-    (here.2 ∙ put_same task.content here.0.bucket here.0.key bucket key same.0 same.1, here.3)
+    (here.2 ∙ put_same task.content task.fresh here.0.bucket here.0.key bucket key same.0 same.1, here.3)
 
-module _ (Shows : Ask → ℕ → Talk → Class → List ℕ → Type 0) (IsPlanned : Gained → Dispatched → Type 0) where
+module _ (Shows : Ask → ℕ → Talk → Class → List ℕ → Type 0) (Plans : List Dispatched → Type 0) (nothing : Plans []) where
   -- what a job is to ask
   abbrev Asks : Setting → List Dispatched → Dispatched → ℕ → Type 0
   Asks s dispatched c n =
@@ -109,15 +109,17 @@ module _ (Shows : Ask → ℕ → Talk → Class → List ℕ → Type 0) (IsPla
     of_a_task : (c : Dispatched) → Contains (the_put ∷ []) c → c.dispatch.job.task ≡ None → ⊥
     of_a_task = each (λ (d : Dispatched). d.dispatch.job.task ≡ None → ⊥) the_put (λ e. none_is_some 0 (sym e))
 
-    pub put_schedule : IsSchedule Shows s IsPlanned (the_put ∷ []) (the_put ∷ [])
+    pub put_schedule : IsSchedule Shows s Plans (the_put ∷ []) (the_put ∷ [])
     put_schedule = record {
       is_coming = IsPermutation-refl (the_put ∷ []);
       in_order = λ i j d before inside. absurd (omega arith);
       asks = λ c n known of_task.
           each (λ (d : Dispatched). d.dispatch.job.task ≡ Some n → Asks s (the_put ∷ []) d n) the_put
           (λ e. subst (λ (k : ℕ). Asks s (the_put ∷ []) the_put k) (some_is 0 n e) asks_first) c known of_task;
-      plans = λ c known of_none. absurd (of_a_task c known of_none);
-      planned_limit = λ c known of_none. absurd (of_a_task c known of_none);
+      plans = nothing;
+      planned = λ c known of_none. absurd (of_a_task c known of_none);
+      numbered = λ k c at. absurd (none_is_some c at);
+      one_by_one = λ i j d before inside. absurd (omega arith);
       dry = λ c is_dry known. absurd (true_is_false (sym plan.carried_out ∙ is_dry));
       twice = λ i j d before inside. absurd (omega arith);
       no_third = λ a b c i j k before later at_i at_j at_k. absurd (let inside = slice_get_within (the_put ∷ []) k c at_k in omega arith);
@@ -129,13 +131,15 @@ module _ (Shows : Ask → ℕ → Talk → Class → List ℕ → Type 0) (IsPla
       moves_last = λ c n t known of_task at moves is_delete. absurd (put_delete (each (λ (d : Dispatched). d.dispatch.job.op ≡ op.Delete → op.Put ≡ op.Delete) the_put (λ e. e) c known is_delete));
     }
 
-  pub no_schedule : (s : Setting) → IsSchedule Shows s IsPlanned [] []
+  pub no_schedule : (s : Setting) → IsSchedule Shows s Plans [] []
   no_schedule s = record {
     is_coming = IsPermutation-refl [];
     in_order = λ i j d before inside. absurd (omega arith);
     asks = λ c n known of_task. absurd (in_none c known);
-    plans = λ c known of_none. absurd (in_none c known);
-    planned_limit = λ c known of_none. absurd (in_none c known);
+    plans = nothing;
+    planned = λ c known of_none. absurd (in_none c known);
+    numbered = λ k c at. absurd (none_is_some c at);
+    one_by_one = λ i j d before inside. absurd (omega arith);
     dry = λ c is_dry known. absurd (in_none c known);
     twice = λ i j d before inside. absurd (omega arith);
     no_third = λ a b c i j k before later at_i at_j at_k. absurd (none_is_some a at_i);

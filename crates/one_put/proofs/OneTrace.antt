@@ -9,11 +9,11 @@ use Rattle.s3_model.specs.declared.outcomes.JobId.{JobId}
 use Rattle.s3_model.specs.declared.outcomes.Event.{Event}
 use Rattle.s3_model.specs.declared.outcomes.Event.TheVariants as entry
 use Rattle.s3_model.specs.Talks.{Talk}
-use Rattle.s3_model.specs.ServiceState.{State, Object, object_at}
-use Rattle.s3_model.specs.Serves.{Answer, ExternalWrite, Writes, Removes, Serves}
-use Rattle.s3_model.specs.Dispatches.{Attempt, Dispatched}
-use Rattle.s3_model.specs.Traces.{Request, Step, TraceEvent, Given, Begin, Serve, External, Came, IsTrace, IsHonest, states, begun_in, events_of}
-use Rattle.s3_model.specs.Fits.{Fits, Names, requests_of, request_at}
+use Rattle.s3_service.specs.ServiceState.{State, Object, object_at}
+use Rattle.s3_service.specs.Serves.{Answer, ExternalWrite, Writes, Removes, Serves}
+use Rattle.run_promise.specs.Dispatches.{Attempt, Dispatched}
+use Rattle.run_promise.specs.Traces.{Request, Step, TraceEvent, Given, Begin, Serve, External, Came, IsTrace, IsHonest, states, begun_in, events_of}
+use Rattle.run_promise.specs.Fits.{Fits, Names, requests_of, request_at}
 use Rattle.world_laws.proofs.Maps.{none_is_some, some_is}
 use Rattle.world_laws.proofs.Members.{Has, has, contains_of, has_middle}
 use Rattle.one_put.specs.OnePut.{put_job}

@@ -1,24 +1,37 @@
 -- A run of one small upload keeps to the rules on jobs and on wires.
-use Rattle.std.proofs.Common.{◌≡◌, ◌∙◌, ◌⊎◌, ◌==◌, ◌+◌, ℕ, zero, suc, true, false, List, [], ◌∷◌, Option, Some, refl, sym, ap, subst, inl, inr, slice_get, arith}
+use Rattle.std.proofs.Common.{◌≡◌, ◌∙◌, ◌⊎◌, ◌==◌, ◌+◌, ◌≤◌, ℕ, zero, suc, true, false, List, [], ◌∷◌, Option, Some, refl, sym, ap, subst, inl, inr, slice_get, arith}
 use Rattle.s3_model.specs.declared.requests.Ask.{Ask}
+use Rattle.s3_model.specs.declared.answers.Reply.{Reply}
+use Rattle.s3_model.specs.declared.answers.Why.{Why}
+use Rattle.s3_model.specs.declared.answers.Why.TheVariants as reason
 use Rattle.s3_model.specs.declared.answers.Class.{Class}
 use Rattle.s3_model.specs.declared.answers.Class.TheVariants as class
 use Rattle.s3_model.specs.declared.places.Place.{Place}
 use Rattle.s3_model.specs.declared.tries.Mark.{Mark}
 use Rattle.s3_model.specs.declared.tries.Mark.TheVariants as mark
 use Rattle.s3_model.specs.declared.tasks.Task.{Task}
+use Rattle.s3_model.specs.declared.outcomes.Cause.{Cause}
 use Rattle.s3_model.specs.declared.outcomes.Event.{Event}
 use Rattle.s3_model.specs.declared.outcomes.Outcome.{Outcome}
 use Rattle.s3_model.specs.Talks.{Talk, Note, Began}
 use Rattle.s3_model.specs.Files.{HeldFile}
-use Rattle.s3_model.specs.Dispatches.{Attempt, Dispatched, paired}
-use Rattle.s3_model.specs.Schedule.{bytes_of, source_bytes}
-use Rattle.s3_model.specs.Carried.{IsCarried, IsPrefixOf, AreNoted, SaysAll, mark_of, numbered_from}
-use Rattle.s3_model.specs.Truthful.{Shown}
+use Rattle.run_promise.specs.Dispatches.{Attempt, Dispatched, paired}
+use Rattle.run_promise.specs.Schedule.{bytes_of, source_bytes}
+use Rattle.run_promise.specs.Carried.{IsCarried, IsPrefixOf, AreNoted, SaysAll, mark_of, numbered_from}
+use Rattle.run_promise.specs.Truthful.{Shown}
 use Rattle.one_put.specs.OnePut.{AreIdle, IsOnePutRun, IsSilent, IsTalked, IsJudged, stored, refused, open_ended, unread, in_first, put_of, most_body}
 use Rattle.world_laws.proofs.Maps.{none_is_some}
 use Rattle.one_put.proofs.Single.{first_only, in_none, none_idle, put_with}
 use Rattle.one_put.proofs.Wires.{idle_noted, put_carried}
+
+success_certain : (said : Reply) (why : Why) → class.Success said ≡ class.Uncertain why → ⊥
+success_certain said why e = cc
+
+refusal_certain : (code message : List ℕ) (why : Why) → class.Refusal code message ≡ class.Uncertain why → ⊥
+refusal_certain code message why e = cc
+
+same_reason : (a b : Why) → class.Uncertain a ≡ class.Uncertain b → a ≡ b
+same_reason a b e = cc
 
 in_first_none : {A : Type 0} (lane : ℕ) → in_first {A = A} [] lane ≡ []
 in_first_none zero = refl
@@ -31,16 +44,16 @@ none_here : (notes : List Note) → notes ≡ [] → AreIdle notes
 none_here notes e = subst (λ (all : List Note). AreIdle all) (sym e) none_idle
 
 module _ (Shows : Ask → ℕ → Talk → Class → List ℕ → Type 0) (request_text : Ask → List ℕ → ℕ → List ℕ) (host : List ℕ) (port : ℕ) where
-  -- a mark is the talk's class, or memory was wanted
+  -- a mark is the talk's class, or memory ran out
   judged_mark : (asked : Ask) (talk : Talk) (IsWanting : Type 0) (of_mark : Mark) (how : Outcome) → IsJudged Shows asked talk IsWanting of_mark how
-      → ((told : Class) × (bytes : List ℕ) × Shows asked most_body talk told bytes × (of_mark ≡ mark_of told)) ⊎ ((of_mark ≡ mark.Uncertain) × IsWanting)
-  judged_mark asked talk IsWanting of_mark how (stored told body shows) = inl (class.Success told, body, shows, refl)
-  judged_mark asked talk IsWanting of_mark how (refused code message body cause shows) = inl (class.Refusal code message, body, shows, refl)
-  judged_mark asked talk IsWanting of_mark how (open_ended why body cause shows) = inl (class.Uncertain why, body, shows, refl)
-  judged_mark asked talk IsWanting of_mark how (unread cause wanting) = inr (refl, wanting)
+      → ((told : Class) × (bytes : List ℕ) × Shows asked most_body talk told bytes × (of_mark ≡ mark_of told) × (told ≡ class.Uncertain reason.Memory → IsWanting)) ⊎ ((of_mark ≡ mark.Uncertain) × IsWanting)
+  judged_mark asked talk IsWanting of_mark how (stored told body shows) = inl (class.Success told, body, shows, refl, λ e. absurd (success_certain told reason.Memory e))
+  judged_mark asked talk IsWanting of_mark how (refused code message body shows) = inl (class.Refusal code message, body, shows, refl, λ e. absurd (refusal_certain code message reason.Memory e))
+  judged_mark asked talk IsWanting of_mark how (open_ended why body no_memory shows) = inl (class.Uncertain why, body, shows, refl, λ e. absurd (no_memory (same_reason why reason.Memory e)))
+  judged_mark asked talk IsWanting of_mark how (unread wanting) = inr (refl, wanting)
 
-  module _ (shown : Shown) (task : Task) (bucket key path : List ℕ) (talks : List Talk) (notes : List Note) (how : Outcome)
-      (run : IsOnePutRun Shows request_text host port shown task bucket key path talks notes how) where
+  module _ (CallFailed : ℕ → Cause → Type 0) (shown : Shown) (task : Task) (bucket key path : List ℕ) (talks : List Talk) (notes : List Note) (how : Outcome)
+      (run : IsOnePutRun Shows request_text host port CallFailed shown task bucket key path talks notes how) where
     abbrev Carries : List Event → List Dispatched → Type 0
     Carries journal dispatched = IsCarried Shows request_text host port shown.setting journal shown.logs shown.notes dispatched dispatched
 
@@ -53,6 +66,13 @@ module _ (Shows : Ask → ℕ → Talk → Class → List ℕ → Type 0) (reque
 
     no_other_notes : (lane : ℕ) → AreIdle (shown.notes (suc lane))
     no_other_notes lane = none_here (shown.notes (suc lane)) (run.first_notes (suc lane) ∙ in_first_other notes lane)
+
+    pub no_notes_beyond : (lane : ℕ) → shown.notes (suc lane) ≡ []
+    no_notes_beyond lane = run.first_notes (suc lane) ∙ in_first_other notes lane
+
+    pub unused_notes : (lane : ℕ) → shown.setting.lanes ≤ lane → shown.notes lane ≡ []
+    unused_notes zero beyond = absurd (let has = run.plan.has_lane in omega arith)
+    unused_notes (suc lane) beyond = no_notes_beyond lane
 
     first_idle : AreIdle notes → AreIdle (shown.notes 0)
     first_idle idle = subst (λ (all : List Note). AreIdle all) (sym (run.first_notes 0)) idle
@@ -79,6 +99,8 @@ module _ (Shows : Ask → ℕ → Talk → Class → List ℕ → Type 0) (reque
           no_others = no_other_talks;
           noted = idle_noted Shows request_text host port shown.setting (shown.notes 0) (first_idle silent.idle);
           none_began = no_other_notes;
+          no_other_notes = no_notes_beyond;
+          has_lane = run.plan.has_lane;
           marked = λ k a at_k. absurd (none_is_some a at_k);
           silent = λ e. silent.wanting;
         }))
@@ -95,7 +117,7 @@ module _ (Shows : Ask → ℕ → Talk → Class → List ℕ → Type 0) (reque
       pub first_talk : shown.logs 0 ≡ talked.talk ∷ []
       first_talk = run.first_talks 0 ∙ talked.one_talk
 
-      noted : AreNoted Shows request_text host port false (numbered_from (one (the_attempt ∷ [])) 0 (the_attempt ∷ [])) (shown.notes 0)
+      noted : AreNoted Shows request_text host port 0 (numbered_from (one (the_attempt ∷ [])) 0 (the_attempt ∷ [])) (shown.notes 0)
       noted = (
         talked.front,
         talked.seconds,
@@ -115,13 +137,13 @@ module _ (Shows : Ask → ℕ → Talk → Class → List ℕ → Type 0) (reque
       )
 
       marked : (k : ℕ) (a : Attempt) → slice_get (the_attempt ∷ []) k ≡ Some a
-          → ((told : Class) × (bytes : List ℕ) × Shows (put_of bucket key task) most_body a.talk told bytes × (a.mark ≡ mark_of told))
+          → ((told : Class) × (bytes : List ℕ) × Shows (put_of bucket key task) most_body a.talk told bytes × (a.mark ≡ mark_of told) × (told ≡ class.Uncertain reason.Memory → shown.setting.wanted_memory (Some 0) ≡ true))
           ⊎ ((k + 1 ≡ 1) × (a.mark ≡ mark.Uncertain) × (shown.setting.wanted_memory (Some 0) ≡ true))
       marked k a at_k =
           let is = first_only the_attempt k a at_k in
           let of_first = judged_mark (put_of bucket key task) talked.talk (shown.setting.wanted_memory (Some 0) ≡ true) talked.mark how talked.judged in
           let at_first : k + 1 ≡ 1 = let e = is.0 in omega arith in
-          subst (λ (b : Attempt). ((told : Class) × (bytes : List ℕ) × Shows (put_of bucket key task) most_body b.talk told bytes × (b.mark ≡ mark_of told))
+          subst (λ (b : Attempt). ((told : Class) × (bytes : List ℕ) × Shows (put_of bucket key task) most_body b.talk told bytes × (b.mark ≡ mark_of told) × (told ≡ class.Uncertain reason.Memory → shown.setting.wanted_memory (Some 0) ≡ true))
           ⊎ ((k + 1 ≡ 1) × (b.mark ≡ mark.Uncertain) × (shown.setting.wanted_memory (Some 0) ≡ true))) is.1
           (elim of_first [ inl shows ↦ inl shows | inr wanting ↦ inr (at_first, wanting.0, wanting.1) ])
 
@@ -138,6 +160,8 @@ module _ (Shows : Ask → ℕ → Talk → Class → List ℕ → Type 0) (reque
             no_others = no_other_talks;
             noted = noted;
             none_began = no_other_notes;
+            no_other_notes = no_notes_beyond;
+            has_lane = run.plan.has_lane;
             marked = marked;
             silent = λ e. absurd (cons_nil the_attempt [] e);
           }))

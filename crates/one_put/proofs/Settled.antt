@@ -5,14 +5,16 @@ use Rattle.s3_model.specs.declared.answers.Class.{Class}
 use Rattle.s3_model.specs.declared.tasks.Task.{Task}
 use Rattle.s3_model.specs.declared.tries.Mark.{Mark}
 use Rattle.s3_model.specs.declared.outcomes.Cause.TheVariants as cause
+use Rattle.s3_model.specs.declared.outcomes.Cause.{Cause}
 use Rattle.s3_model.specs.declared.outcomes.Event.{Event}
 use Rattle.s3_model.specs.declared.outcomes.Outcome.{Outcome}
 use Rattle.s3_model.specs.declared.outcomes.Outcome.TheVariants as outcome
 use Rattle.s3_model.specs.Talks.{Talk, Note}
-use Rattle.s3_model.specs.Dispatches.{Dispatch, Dispatched, dispatches, paired}
-use Rattle.s3_model.specs.Schedule.{Gained, IsSchedule}
-use Rattle.s3_model.specs.Truthful.{Shown}
-use Rattle.s3_model.specs.Settled.{ReadsSource, NoneSaysChanged, HasFileFailed}
+use Rattle.run_promise.specs.Dispatches.{Dispatch, Dispatched, dispatches, paired}
+use Rattle.run_promise.specs.Schedule.{IsSchedule}
+use Rattle.run_promise.specs.Truthful.{Shown}
+use Rattle.run_promise.specs.Outcomes.{ReadsSource}
+use Rattle.run_promise.specs.Settled.{NoneSaysChanged, HasFileFailed}
 use Rattle.one_put.specs.OnePut.{IsOnePutRun, tells_file_failed}
 use Rattle.one_put.proofs.Single.{in_none, only, put_dispatch, single}
 use Rattle.one_put.proofs.Wires.{given_journal}
@@ -39,9 +41,9 @@ reads_none journal logs (inr put) dispatched are c known reads =
     let is = only found.0 c (subst (λ (all : List Dispatched). Contains all c) found.1 known) in
     subst (λ (d : Dispatch). ReadsSource d.job.op) found.2 (subst (λ (d : Dispatched). ReadsSource d.dispatch.job.op) (sym is) reads)
 
-module _ (Shows : Ask → ℕ → Talk → Class → List ℕ → Type 0) (HasStatus : Ask → ℕ → Talk → ℕ → Type 0) (IsPlanned : Gained → Dispatched → Type 0) where
-  told : (dispatched : List Dispatched) (n : ℕ) → NoneSaysChanged Shows HasStatus IsPlanned dispatched n → (how : Option Outcome)
-      → (tells_file_failed how ≡ true → HasFileFailed Shows HasStatus IsPlanned dispatched n how) × (HasFileFailed Shows HasStatus IsPlanned dispatched n how → tells_file_failed how ≡ true)
+module _ (Shows : Ask → ℕ → Talk → Class → List ℕ → Type 0) (HasStatus : Ask → ℕ → Talk → ℕ → Type 0) (Plans : List Dispatched → Type 0) where
+  told : (dispatched : List Dispatched) (n : ℕ) → NoneSaysChanged Shows HasStatus Plans dispatched n → (how : Option Outcome)
+      → (tells_file_failed how ≡ true → HasFileFailed Shows HasStatus Plans dispatched n how) × (HasFileFailed Shows HasStatus Plans dispatched n how → tells_file_failed how ≡ true)
   told dispatched n none (Some (outcome.Failed (cause.Files call))) = ((λ e. tt), (λ h. refl))
   told dispatched n none (Some (outcome.Failed (cause.Blocked length))) = ((λ e. tt), (λ h. refl))
   told dispatched n none (Some (outcome.Failed cause.Memory)) = ((λ e. tt), (λ h. refl))
@@ -50,17 +52,17 @@ module _ (Shows : Ask → ℕ → Talk → Class → List ℕ → Type 0) (HasSt
 
   -- the outcomes alone say whose file calls failed, however the run is read
   pub files_by_outcomes : (shown : Shown) → IsPutAlone shown.journal → ((n : ℕ) → shown.setting.file_failed n ≡ tells_file_failed (slice_get shown.outcomes n))
-      → (dispatched coming : List Dispatched) → IsSchedule Shows shown.setting IsPlanned dispatched coming → map (λ (c : Dispatched). c.dispatch) dispatched ≡ dispatches shown.journal shown.logs
-      → (n : ℕ) → (shown.setting.file_failed n ≡ true → HasFileFailed Shows HasStatus IsPlanned dispatched n (slice_get shown.outcomes n))
-      × (HasFileFailed Shows HasStatus IsPlanned dispatched n (slice_get shown.outcomes n) → shown.setting.file_failed n ≡ true)
+      → (dispatched coming : List Dispatched) → IsSchedule Shows shown.setting Plans dispatched coming → map (λ (c : Dispatched). c.dispatch) dispatched ≡ dispatches shown.journal shown.logs
+      → (n : ℕ) → (shown.setting.file_failed n ≡ true → HasFileFailed Shows HasStatus Plans dispatched n (slice_get shown.outcomes n))
+      × (HasFileFailed Shows HasStatus Plans dispatched n (slice_get shown.outcomes n) → shown.setting.file_failed n ≡ true)
   files_by_outcomes shown alone by_outcome dispatched coming scheduled are n =
-      let none : NoneSaysChanged Shows HasStatus IsPlanned dispatched n = λ c place attempt known of_task reads slot says. reads_none shown.journal shown.logs alone dispatched are c known reads in
+      let none : NoneSaysChanged Shows HasStatus Plans dispatched n = λ c place attempt known of_task slot says. reads_none shown.journal shown.logs alone dispatched are c known says.0 in
       let both = told dispatched n none (slice_get shown.outcomes n) in
       ((λ e. both.0 (sym (by_outcome n) ∙ e)), (λ h. by_outcome n ∙ both.1 h))
 
-  module _ (request_text : Ask → List ℕ → ℕ → List ℕ) (host : List ℕ) (port : ℕ) (shown : Shown) (task : Task) (bucket key path : List ℕ) (talks : List Talk) (notes : List Note) (how : Outcome) where
-    pub put_alone : IsOnePutRun Shows request_text host port shown task bucket key path talks notes how → IsPutAlone shown.journal
+  module _ (request_text : Ask → List ℕ → ℕ → List ℕ) (host : List ℕ) (port : ℕ) (CallFailed : ℕ → Cause → Type 0) (shown : Shown) (task : Task) (bucket key path : List ℕ) (talks : List Talk) (notes : List Note) (how : Outcome) where
+    pub put_alone : IsOnePutRun Shows request_text host port CallFailed shown task bucket key path talks notes how → IsPutAlone shown.journal
     put_alone run = elim run.went [
-      | inl failed ↦ elim failed.1 [ inl unsent ↦ inl unsent.no_job | inr silent ↦ inr ([], silent.came) ]
-      | inr talked ↦ inr (talked.mark ∷ [], talked.came)
+      | inl unsent ↦ inl unsent.1.no_job
+      | inr sent ↦ elim sent [ inl silent ↦ inr ([], silent.1.came) | inr talked ↦ inr (talked.mark ∷ [], talked.came) ]
     ]

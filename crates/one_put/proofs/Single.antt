@@ -2,8 +2,8 @@
 use Rattle.std.proofs.Common.{◌≡◌, ℕ, zero, suc, false, List, [], ◌∷◌, Some, refl, subst, inl, inr, map, Contains, slice_get}
 use Rattle.s3_model.specs.declared.tasks.Task.{Task}
 use Rattle.s3_model.specs.Talks.{Note, Moment, Began}
-use Rattle.s3_model.specs.Dispatches.{Attempt, Dispatch, Dispatched}
-use Rattle.s3_model.specs.Schedule.{Setting, source_bytes}
+use Rattle.run_promise.specs.Dispatches.{Attempt, Dispatch, Dispatched}
+use Rattle.run_promise.specs.Schedule.{Setting, source_bytes}
 use Rattle.world_laws.proofs.Maps.{none_is_some, some_is}
 use Rattle.world_laws.proofs.Members.{Has, has, contains_of}
 use Rattle.one_put.specs.OnePut.{AreIdle, put_job, put_of, most_body}

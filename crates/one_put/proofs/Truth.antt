@@ -15,17 +15,17 @@ use Rattle.s3_model.specs.declared.outcomes.Outcome.{Outcome}
 use Rattle.s3_model.specs.declared.outcomes.Outcome.TheVariants as outcome
 use Rattle.s3_model.specs.Talks.{Talk}
 use Rattle.s3_model.specs.Files.{HeldFile}
-use Rattle.s3_model.specs.ServiceState.{State, object_at, HasBytes}
-use Rattle.s3_model.specs.Serves.{Replied, MayChange}
-use Rattle.s3_model.specs.Dispatches.{Dispatched}
-use Rattle.s3_model.specs.Schedule.{bytes_of, source_bytes}
-use Rattle.s3_model.specs.Traces.{Step, TraceEvent, Serve, IsTrace, IsHonest, states, state_after, events_of}
-use Rattle.s3_model.specs.Fits.{Fits}
-use Rattle.s3_model.specs.Endings.{Scene, IsNew, HasContent, Holds, IsAsBefore, IsSpared, IsEnded}
-use Rattle.s3_model.specs.Truthful.{Shown, IsDest, IsWhole, AllEnded, OthersStay, MovesAfter, AbortsLast}
+use Rattle.s3_service.specs.ServiceState.{State, object_at, HasBytes}
+use Rattle.s3_service.specs.Serves.{Replied, MayChange}
+use Rattle.run_promise.specs.Dispatches.{Dispatched}
+use Rattle.run_promise.specs.Schedule.{bytes_of, source_bytes}
+use Rattle.run_promise.specs.Traces.{Step, TraceEvent, Serve, IsTrace, IsHonest, states, state_after, events_of}
+use Rattle.run_promise.specs.Fits.{Fits}
+use Rattle.run_promise.specs.Endings.{Scene, IsNew, HasContent, Holds, IsAsBefore, IsSpared, IsEnded}
+use Rattle.run_promise.specs.Truthful.{Shown, IsDest, HasJournal, AllEnded, NoneChanged, OthersStay, MovesAfter, AbortsLast}
 use Rattle.world_laws.specs.Premises.{IsFitting, IsPlace, HasCome, HasSucceeded, AllRefused}
 use Rattle.world_laws.specs.Destinations.{AllThatChange}
-use Rattle.world_laws.specs.SmallTransfers.{Puts}
+use Rattle.world_laws.specs.SmallTransfers.{AsksPut}
 use Rattle.world_laws.proofs.Members.{Has, contains_of}
 use Rattle.world_laws.proofs.Traces.{event_within}
 use Rattle.world_laws.proofs.Frame.{others_stay}
@@ -35,8 +35,8 @@ use Rattle.world_laws.proofs.SmallTransfers.{old_after_refusals, upload_is_whole
 use Rattle.one_put.specs.OnePut.{IsOnePut, put_of}
 use Rattle.one_put.proofs.Single.{first_only, in_one}
 
-put_is_no_abort : (b k : List ℕ) (content : Option (List ℕ)) (bucket key id : List ℕ) → ask.Put b k content ≡ ask.Abort bucket key id → ⊥
-put_is_no_abort b k content bucket key id e = cc
+put_is_no_abort : (b k : List ℕ) (content : Option (List ℕ)) (fresh : Bool) (bucket key id : List ℕ) → ask.Put b k content fresh ≡ ask.Abort bucket key id → ⊥
+put_is_no_abort b k content fresh bucket key id e = cc
 
 upload_is_no_copy : kind.Upload ≡ kind.Copy → ⊥
 upload_is_no_copy e = cc
@@ -71,12 +71,12 @@ module _ (Shows : Ask → ℕ → Talk → Class → List ℕ → Type 0) (shown
 
   module _ (dispatched : List Dispatched) (puts : ArePuts dispatched) (start : State) (trace part : List Step)
       (runs : IsTrace shown.setting.limits [] start trace) (honest : IsHonest start trace (IsDest shown.setting.tasks)) (fits : Fits Shows (events_of trace) shown.journal dispatched)
-      (whole : IsWhole shown.journal trace part) where
+      (whole : HasJournal shown.journal trace part) where
     abbrev before : Scene
-    before = record { state = start; held = shown.setting.held }
+    before = record { state = start; held = shown.setting.held; others = shown.setting.others }
 
     abbrev after : Scene
-    after = record { state = state_after start part; held = shown.held_after }
+    after = record { state = state_after start part; held = shown.held_after; others = shown.setting.others }
 
     abbrev pub Ended : ℕ → Task → Outcome → Type 0
     Ended n t of_how = IsEnded shown.excused shown.journal start trace before after n t of_how
@@ -96,7 +96,7 @@ module _ (Shows : Ask → ℕ → Talk → Class → List ℕ → Type 0) (shown
         let happened = contains_of (events_of trace) (Serve sent (Replied reply.Gone bytes)) (subst (λ (t : List Step). Has (events_of t) (Serve sent (Replied reply.Gone bytes))) (sym split)
         (subst (λ (event : TraceEvent). Has (events_of (front ++ step ∷ (mid ++ late))) event) serves (event_within front step (mid ++ late)))) in
         let served = served_is_dispatched Shows shown.setting.limits start trace dispatched shown.journal runs fits sent (Replied reply.Gone bytes) happened in
-        absurd (put_is_no_abort bucket key task.content b k id (sym (puts served.0 served.1).0 ∙ sym served.2.0 ∙ is_abort))
+        absurd (put_is_no_abort bucket key task.content task.fresh b k id (sym (puts served.0 served.1).0 ∙ sym served.2.0 ∙ is_abort))
 
     all_ended : Ended 0 task how → AllEnded shown start trace part
     all_ended ended n t of_how at_task at_outcome =
@@ -104,16 +104,22 @@ module _ (Shows : Ask → ℕ → Talk → Class → List ℕ → Type 0) (shown
         let is_how = only_outcome n of_how at_outcome in
         subst (λ (k : ℕ). Ended k t of_how) (sym is_task.0) (subst (λ (any : Task). Ended 0 any of_how) is_task.1 (subst (λ (any : Outcome). Ended 0 task any) is_how.1 ended))
 
-    pub all_true : Ended 0 task how → AllEnded shown start trace part × OthersStay shown start trace part × MovesAfter shown start trace × AbortsLast trace
-    all_true ended = (all_ended ended, others, moves_after, aborts_last)
+    some_outcome : shown.outcomes ≡ [] → ⊥
+    some_outcome none = cons_nil _ _ (sym outcomes ∙ none)
+      where
+        cons_nil : (x : Outcome) (xs : List Outcome) → x ∷ xs ≡ [] → ⊥
+        cons_nil x xs e = cc
+
+    pub all_true : Ended 0 task how → AllEnded shown start trace part × NoneChanged shown start trace part × OthersStay shown start trace part × MovesAfter shown start trace × AbortsLast trace
+    all_true ended = (all_ended ended, (λ b k none. absurd (some_outcome none)), others, moves_after, aborts_last)
 
     -- ---- the destination
 
     fitting : IsFitting Shows shown.setting.limits start trace shown.journal dispatched (IsPlace bucket key)
     fitting = record { runs = runs; honest = kept_at start trace (IsDest shown.setting.tasks) honest bucket key is_dest; fits = fits }
 
-    all_put : AllThatChange bucket key (Puts bucket key body) dispatched
-    all_put c known may = let is = puts c known in (task.content, is.0, is.1)
+    all_put : AllThatChange bucket key (AsksPut bucket key body) dispatched
+    all_put c known may = let is = puts c known in (task.content, task.fresh, is.0, is.1)
 
     as_before : object_at (state_after start part) bucket key ≡ object_at start bucket key → IsAsBefore before after task.dest
     as_before same = subst (λ (p : Place). IsAsBefore before after p) (sym plan.dest) same

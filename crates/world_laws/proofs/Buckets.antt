@@ -9,9 +9,9 @@ use Rattle.s3_model.specs.declared.answers.Reply.{Reply}
 use Rattle.s3_model.specs.declared.answers.Reply.TheVariants as reply
 use Rattle.s3_model.specs.declared.settings.Limits.{Limits}
 use Rattle.s3_model.specs.Maps.{MapOf}
-use Rattle.s3_model.specs.ServiceState.{State, Object, HasBucket, objects_in}
-use Rattle.s3_model.specs.Listing.{Name, Remembers}
-use Rattle.s3_model.specs.Serves.{Succeeds, Gains, ExternalWrite, Writes, Removes, after_external}
+use Rattle.s3_service.specs.ServiceState.{State, Object, HasBucket, objects_in}
+use Rattle.s3_service.specs.Listing.{Name, Remembers}
+use Rattle.s3_service.specs.Serves.{Succeeds, Gains, ExternalWrite, Writes, Removes, after_external}
 use Rattle.world_laws.proofs.Maps.{text_exact, text_decided, get-insert_same, get-insert_other}
 use Rattle.world_laws.proofs.Traces.{IsStable}
 
@@ -39,15 +39,15 @@ module _ (bucket : List ℕ) where
       → Succeeds limits old asked body answered bytes new → HasBucket old bucket → HasBucket new bucket
   served limits old (ask.Head b k) body (reply.Found size etag micros) bytes new h there = same_buckets old new (ap (λ (t : State). t.objects) h.4) there
   served limits old (ask.Get b k etag range) body (reply.Got status told size) bytes new h there = same_buckets old new (ap (λ (t : State). t.objects) h.3) there
-  served limits old (ask.Put b k content) body reply.Stored bytes new h there = gained old b k body new h.1 there
+  served limits old (ask.Put b k content fresh) body reply.Stored bytes new h there = gained old b k body new h.2 there
   served limits old (ask.Copy b k from_bucket from_key etag) body reply.Copied bytes new h there = gained old b k h.0.bytes new h.3 there
   served limits old (ask.Delete b k) body reply.Gone bytes new h there = one_anew old new b (remove (objects_in old b) k) (ap (λ (t : State). t.objects) h.1) there
   served limits old (ask.Create b k content) body (reply.Created id) bytes new h there = same_buckets old new (ap (λ (t : State). t.objects) h.5) there
   served limits old (ask.Part b k id number) body (reply.PartStored etag) bytes new h there = same_buckets old new (ap (λ (t : State). t.objects) h.2) there
   served limits old (ask.PartCopy b k id number from_bucket from_key etag range) body (reply.PartStored stored) bytes new h there = same_buckets old new (ap (λ (t : State). t.objects) h.5) there
-  served limits old (ask.Complete b k id etags) body reply.Completed bytes new (inl h) there =
-      same_buckets h.2 new (ap (λ (t : State). t.objects) h.6) (gained old b k h.1 h.2 h.5 there)
-  served limits old (ask.Complete b k id etags) body reply.Completed bytes new (inr h) there = same_buckets old new (ap (λ (t : State). t.objects) h.1) there
+  served limits old (ask.Complete b k id etags fresh) body reply.Completed bytes new (inl h) there =
+      same_buckets h.2 new (ap (λ (t : State). t.objects) h.7) (gained old b k h.1 h.2 h.6 there)
+  served limits old (ask.Complete b k id etags fresh) body reply.Completed bytes new (inr h) there = same_buckets old new (ap (λ (t : State). t.objects) h.1) there
   served limits old (ask.Abort b k id) body reply.Gone bytes new h there = same_buckets old new (ap (λ (t : State). t.objects) h.2) there
   served limits old (ask.List b prefix delimited token) body (reply.Listed page) bytes new h there = listed old h.1.1 h.1.2 page.more page.token new h.1.8 there
   served limits old ask.Buckets body (reply.BucketList buckets) bytes new h there = same_buckets old new (ap (λ (t : State). t.objects) h.1) there

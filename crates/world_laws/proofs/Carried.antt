@@ -7,12 +7,12 @@ use Rattle.s3_model.specs.declared.outcomes.Event.{Event}
 use Rattle.s3_model.specs.declared.outcomes.Event.TheVariants as entry
 use Rattle.s3_model.specs.declared.tries.Mark.{Mark}
 use Rattle.s3_model.specs.Talks.{Talk, Note}
-use Rattle.s3_model.specs.Dispatches.{Dispatched}
+use Rattle.run_promise.specs.Dispatches.{Dispatched}
 use Rattle.s3_model.specs.Validity.{IsValidConfig, IsValidLimits}
-use Rattle.s3_model.specs.Schedule.{Setting, Gained, IsSchedule}
-use Rattle.s3_model.specs.Carried.{IsCarried}
+use Rattle.run_promise.specs.Schedule.{Setting, IsSchedule, planning_of}
+use Rattle.run_promise.specs.Carried.{IsCarried}
 use Rattle.world_laws.specs.Premises.{AreGiven, HasCome}
-use Rattle.world_laws.specs.Tasks.{AreApart, IsPlanning, IsScheduled}
+use Rattle.world_laws.specs.Tasks.{AreApart, AreQuestions, IsScheduled}
 use Rattle.world_laws.proofs.Given.{stands, given_is_dispatched}
 
 some_is : (m n : ℕ) → Some m ≡ Some n → m ≡ n
@@ -39,15 +39,17 @@ module _ (Shows : Ask → ℕ → Talk → Class → List ℕ → Type 0) (reque
   }
 
   -- with the clauses on given jobs they are what the laws on tasks take
-  pub is_scheduled : (IsPlanned : Gained → Dispatched → Type 0) → IsSchedule Shows setting IsPlanned dispatched coming → ((gained : Gained) (c : Dispatched) → IsPlanned gained c → IsPlanning c.ask)
+  pub is_scheduled : (Plans : List Dispatched → Type 0) → IsSchedule Shows setting Plans dispatched coming → AreQuestions (planning_of dispatched)
       → AreApart setting.tasks → IsValidConfig setting.config → IsValidLimits setting.limits → IsScheduled Shows setting journal dispatched coming
-  is_scheduled IsPlanned schedule planned apart config limits = record {
+  is_scheduled Plans schedule questions apart config limits = record {
     schedule = record {
       is_coming = schedule.is_coming;
       in_order = schedule.in_order;
       asks = schedule.asks;
-      plans = λ c known none. planned _ c (schedule.plans c known none);
-      planned_limit = schedule.planned_limit;
+      plans = questions;
+      planned = schedule.planned;
+      numbered = schedule.numbered;
+      one_by_one = schedule.one_by_one;
       dry = schedule.dry;
       twice = schedule.twice;
       no_third = schedule.no_third;

@@ -8,12 +8,12 @@ use Rattle.s3_model.specs.declared.answers.Class.TheVariants as class
 use Rattle.s3_model.specs.declared.outcomes.Event.{Event}
 use Rattle.s3_model.specs.declared.settings.Limits.{Limits}
 use Rattle.s3_model.specs.Talks.{Talk}
-use Rattle.s3_model.specs.ServiceState.{State, Object, object_at}
-use Rattle.s3_model.specs.Serves.{Replied, Refused, MayChange, ExternalWrite, after_external}
-use Rattle.s3_model.specs.Dispatches.{Dispatched}
-use Rattle.s3_model.specs.Traces.{Request, Step, Serve, External, IsTrace, state_after, events_of, event_of}
-use Rattle.s3_model.specs.Fits.{Fits, request_at}
-use Rattle.s3_model.specs.Truthful.{IsExternal}
+use Rattle.s3_service.specs.ServiceState.{State, Object, object_at}
+use Rattle.s3_service.specs.Serves.{Replied, Refused, MayChange, ExternalWrite, after_external}
+use Rattle.run_promise.specs.Dispatches.{Dispatched}
+use Rattle.run_promise.specs.Traces.{Request, Step, Serve, External, IsTrace, state_after, events_of, event_of}
+use Rattle.run_promise.specs.Fits.{Fits, request_at}
+use Rattle.run_promise.specs.Truthful.{IsExternal}
 use Rattle.world_laws.specs.Premises.{HasCome, HasSucceeded, AllRefused}
 use Rattle.world_laws.proofs.Members.{Has}
 use Rattle.world_laws.proofs.Traces.{step_of, state_after_step}
@@ -110,6 +110,6 @@ module _ (Shows : Ask → ℕ → Talk → Class → List ℕ → Type 0) (limit
         → HasCome (filter_map event_of (events_of part)) c → HasSucceeded Shows c → IsNew (object_at (state_after start part) bucket key)
     success_makes_new part late is c known may come succeeded =
         let served = success_is_served Shows limits start trace dispatched journal runs fits part late is c known come succeeded in
-        let at = step_of part (Serve (request_at c succeeded.place) (Replied succeeded.reply succeeded.bytes)) served in
+        let at = step_of part (Serve (request_at c succeeded.place) (Replied served.0 succeeded.bytes)) served.2 in
         subst (λ (t : List Step). IsNew (object_at (state_after start t) bucket key)) (sym at.is)
-        (success_lands at.front at.step at.back late (request_at c succeeded.place) succeeded.reply succeeded.bytes (is ∙ ap (λ (t : List Step). t ++ late) at.is) at.is_event may)
+        (success_lands at.front at.step at.back late (request_at c succeeded.place) served.0 succeeded.bytes (is ∙ ap (λ (t : List Step). t ++ late) at.is) at.is_event may)

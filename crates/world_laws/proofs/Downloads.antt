@@ -8,14 +8,15 @@ use Rattle.s3_model.specs.declared.answers.Reply.TheVariants as reply
 use Rattle.s3_model.specs.declared.answers.Class.{Class}
 use Rattle.s3_model.specs.declared.outcomes.Event.{Event}
 use Rattle.s3_model.specs.declared.settings.Limits.{Limits}
+use Rattle.s3_model.specs.Replies.{IsSameReply}
 use Rattle.s3_model.specs.Talks.{Talk}
-use Rattle.s3_model.specs.ServiceState.{State, Object}
-use Rattle.s3_model.specs.Serves.{Replied, Succeeds, IsThere, bytes_within}
-use Rattle.s3_model.specs.Dispatches.{Dispatched}
-use Rattle.s3_model.specs.Traces.{Step, TraceEvent, Serve, Steps, state_after, states, events_of, event_of}
-use Rattle.s3_model.specs.Fits.{request_at}
+use Rattle.s3_service.specs.ServiceState.{State, Object}
+use Rattle.s3_service.specs.Serves.{Replied, Succeeds, IsThere, bytes_within}
+use Rattle.run_promise.specs.Dispatches.{Dispatched}
+use Rattle.run_promise.specs.Traces.{Step, TraceEvent, Serve, Steps, state_after, states, events_of, event_of}
+use Rattle.run_promise.specs.Fits.{request_at}
 use Rattle.s3_model.specs.Parts.{piece_count}
-use Rattle.s3_model.specs.Schedule.{asked_range}
+use Rattle.run_promise.specs.Schedule.{asked_range}
 use Rattle.world_laws.specs.Premises.{IsFitting, HasCome}
 use Rattle.world_laws.specs.SmallTransfers.{HadContent}
 use Rattle.world_laws.specs.Multipart.{joined}
@@ -32,6 +33,14 @@ use Rattle.world_laws.proofs.Pieces.{some_pieces, joined_same, ranges_make_whole
 abbrev Tells : Option (ℕ × ℕ) → Reply → List ℕ → List ℕ → Type 0
 Tells None answered bytes content = bytes ≡ content
 Tells (Some asked) answered bytes content = IsPartial answered → bytes ≡ bytes_within asked content
+
+same_partial : (a b : Reply) → IsSameReply a b → IsPartial a → IsPartial b
+same_partial (reply.Got status range length) b same partial = subst IsPartial same partial
+same_partial a b same partial = absurd partial
+
+tells_same : (range : Option (ℕ × ℕ)) (answered same : Reply) (bytes content : List ℕ) → IsSameReply answered same → Tells range same bytes content → Tells range answered bytes content
+tells_same None answered same bytes content is tells = tells
+tells_same (Some asked) answered same bytes content is tells = λ partial. tells (same_partial answered same is partial)
 
 -- what an object has at some moment
 had : (moments : List State) (t : State) (bucket key etag : List ℕ) (object : Object) → Contains moments t → IsThere t bucket key etag object → HadContent moments bucket key etag object.bytes
@@ -59,15 +68,15 @@ module _ (Shows : Ask → ℕ → Talk → Class → List ℕ → Type 0) where
   got limits start trace journal dispatched bucket key etag range bytes p is =
       let come : HasCome (filter_map event_of (events_of trace)) is.get = (is.come.0, is.come.1, is.come.2, ap (λ (j : List Event). slice_get j is.come.0) p.fits.moves ∙ is.come.3) in
       let served = fitting.success_is_served Shows limits start trace dispatched journal p.runs p.fits trace [] (sym (append-nil trace)) is.get is.known come is.succeeded in
-      let at = step_of trace (Serve (request_at is.get is.succeeded.place) (Replied is.succeeded.reply is.succeeded.bytes)) served in
+      let at = step_of trace (Serve (request_at is.get is.succeeded.place) (Replied served.0 is.succeeded.bytes)) served.2 in
       let steps = subst (λ (event : TraceEvent). Steps limits (begun_through [] at.front) (state_after start at.front) event at.step.state) at.is_event
       (fitting.steps_at Shows limits start trace dispatched journal p.runs p.fits at.front at.step at.back at.is) in
-      let tells = get_tells limits (state_after start at.front) bucket key etag range is.get.body is.succeeded.reply is.succeeded.bytes at.step.state
-      (subst (λ (asked : Ask). Succeeds limits (state_after start at.front) asked is.get.body is.succeeded.reply is.succeeded.bytes at.step.state) is.is_get steps.1) in
+      let tells = get_tells limits (state_after start at.front) bucket key etag range is.get.body served.0 is.succeeded.bytes at.step.state
+      (subst (λ (asked : Ask). Succeeds limits (state_after start at.front) asked is.get.body served.0 is.succeeded.bytes at.step.state) is.is_get steps.1) in
       let among = subst (λ (t : List Step). Has (states start t) (state_after start at.front)) (sym at.is) (has_state_after at.front (at.step ∷ at.back) start) in (
         tells.0.bytes,
         had (states start trace) (state_after start at.front) bucket key etag tells.0 (contains_of (states start trace) (state_after start at.front) among) tells.1,
-        subst (λ (b : List ℕ). Tells range is.succeeded.reply b tells.0.bytes) is.is_body tells.2,
+        subst (λ (b : List ℕ). Tells range is.succeeded.reply b tells.0.bytes) is.is_body (tells_same range is.succeeded.reply served.0 is.succeeded.bytes tells.0.bytes served.1 tells.2),
       )
 
   pub whole_tells : GetTells Shows

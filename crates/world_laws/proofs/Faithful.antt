@@ -7,10 +7,10 @@ use Rattle.std.specs.Cmp.Lexicographic.{slice_cmp, nat_list_cmp_total}
 use Rattle.std.specs.FinMap.{get, insert, empty, get-empty}
 use Rattle.s3_model.specs.declared.settings.Limits.{Limits}
 use Rattle.s3_model.specs.Maps.{MapOf}
-use Rattle.s3_model.specs.ServiceState.{State, Object, object_at, HasBucket, with_object, without_object}
-use Rattle.s3_model.specs.Serves.{ExternalWrite, Writes, Removes}
-use Rattle.s3_model.specs.Traces.{Given, Begin, Serve, External, Came, states, events_of}
-use Rattle.s3_model.specs.Truthful.{IsExternal, IsWhole}
+use Rattle.s3_service.specs.ServiceState.{State, Object, object_at, HasBucket, with_object, without_object}
+use Rattle.s3_service.specs.Serves.{ExternalWrite, Writes, Removes}
+use Rattle.run_promise.specs.Traces.{Given, Begin, Serve, External, Came, states, events_of}
+use Rattle.run_promise.specs.Truthful.{IsExternal, HasJournal}
 use Rattle.world_laws.specs.Premises.{IsFitting}
 use Rattle.world_laws.specs.Rounds.{Told, Round, dispatched_from, journal_of, steps_from, AreServed}
 use Rattle.world_laws.proofs.Maps.{text_exact, text_decided, found_after_insert, found_in_empty, not_both, get-insert_same, get-insert_other}
@@ -153,7 +153,7 @@ module _ (limits : Limits) (start : State) (rounds : List Round) (served : AreSe
     fits = rounds_fit rounds start apart;
   }
 
-  pub rounds_whole : IsWhole (journal_of rounds) (steps_from 0 start rounds) (steps_from 0 start rounds)
+  pub rounds_whole : HasJournal (journal_of rounds) (steps_from 0 start rounds) (steps_from 0 start rounds)
   rounds_whole = ([], sym (append-nil (steps_from 0 start rounds)), (rounds_fit rounds start apart).moves)
 
   pub rounds_unwritten : (bucket key : List ℕ) → IsExternal (steps_from 0 start rounds) bucket key → ⊥

@@ -10,13 +10,14 @@ use Rattle.s3_model.specs.declared.outcomes.Event.{Event}
 use Rattle.s3_model.specs.declared.outcomes.Event.TheVariants as entry
 use Rattle.s3_model.specs.declared.settings.Limits.{Limits}
 use Rattle.s3_model.specs.declared.tries.Mark.{Mark}
+use Rattle.s3_model.specs.Replies.{IsSameReply}
 use Rattle.s3_model.specs.Talks.{Talk}
-use Rattle.s3_model.specs.ServiceState.{State, HasBucket}
-use Rattle.s3_model.specs.Serves.{Answer, Replied, Refused, Succeeds, ExternalWrite, bucket_of, after_external}
-use Rattle.s3_model.specs.Dispatches.{Attempt, Dispatched}
-use Rattle.s3_model.specs.Traces.{Request, Step, TraceEvent, Given, Begin, Serve, External, Came, IsTrace, Steps, state_after, states, events_of, event_of, begun_in}
-use Rattle.s3_model.specs.Fits.{Fits, IsCertain, Names, request_at, requests_from, requests_of}
-use Rattle.s3_model.specs.Truthful.{IsWhole}
+use Rattle.s3_service.specs.ServiceState.{State, HasBucket}
+use Rattle.s3_service.specs.Serves.{Answer, Replied, Refused, Succeeds, ExternalWrite, bucket_of, after_external}
+use Rattle.run_promise.specs.Dispatches.{Attempt, Dispatched}
+use Rattle.run_promise.specs.Traces.{Request, Step, TraceEvent, Given, Begin, Serve, External, Came, IsTrace, Steps, state_after, states, events_of, event_of, begun_in}
+use Rattle.run_promise.specs.Fits.{Fits, IsCertain, Names, request_at, requests_from, requests_of}
+use Rattle.run_promise.specs.Truthful.{HasJournal}
 use Rattle.world_laws.specs.Premises.{HasCome, HasSucceeded}
 use Rattle.world_laws.proofs.Members.{Has, has, contains_of, has-append_left, has-filter_map, kept, gathered, split_at}
 use Rattle.world_laws.proofs.Traces.{begun_through, begun_from, state_after_step, step_within, event_within, has_state_after, beginning_of}
@@ -35,7 +36,7 @@ requested c k (attempt ∷ attempts) sent (inr h) = requested c (k + 1) attempts
 same_lane : (lane : ℕ) (sent : Request) → begun_in lane (Begin lane sent) ≡ Some sent
 same_lane lane sent = let same : (lane == lane) ≡ true = grind arith in ap (λ b. cond b (Some sent) None) same
 
-came_event : (event : TraceEvent) (job : JobId) (lane : ℕ) (tries : List Mark) → event_of event ≡ Some (entry.Came job lane tries) → event ≡ Came job lane tries
+pub came_event : (event : TraceEvent) (job : JobId) (lane : ℕ) (tries : List Mark) → event_of event ≡ Some (entry.Came job lane tries) → event ≡ Came job lane tries
 came_event (Came j l t) job lane tries e = cc
 came_event (Given j l) job lane tries e = cc
 came_event (Begin l sent) job lane tries e = cc
@@ -131,7 +132,7 @@ module _ (Shows : Ask → ℕ → Talk → Class → List ℕ → Type 0) (limit
         by_event (Begin lane sent) is_event steps served written = subst Holds (sym steps) holds
         by_event (Came job lane tries) is_event steps served written = subst Holds (sym steps) holds
         by_event (External write) is_event steps served written = subst Holds (sym steps.1) (written write is_event steps.0)
-        by_event (Serve sent (Refused code)) is_event steps served written = subst Holds (sym steps.1) holds
+        by_event (Serve sent (Refused code)) is_event steps served written = subst Holds (sym steps.1.0) holds
         by_event (Serve sent (Replied answered bytes)) is_event steps served written = served sent answered bytes is_event
 
     -- what each success and each external write keeps holds from a step on at each later one
@@ -167,13 +168,13 @@ module _ (Shows : Ask → ℕ → Talk → Class → List ℕ → Type 0) (limit
         subst (λ (all : List TraceEvent). Has all (Serve (request_at c place) served.0)) (sym at.is) (has-append_left at.front (at.item ∷ at.back) (Serve (request_at c place) served.0) (has at.front (Serve (request_at c place) served.0) served.1)) in
         (served.0, so_far, served.2)
 
-    -- and so is a success
+    -- and so is a success, with a reply of the same items
     pub success_is_served : (part late : List Step) → trace ≡ part ++ late → (c : Dispatched) → Contains dispatched c → HasCome (filter_map event_of (events_of part)) c
-        → (succeeded : HasSucceeded Shows c) → Has (events_of part) (Serve (request_at c succeeded.place) (Replied succeeded.reply succeeded.bytes))
+        → (succeeded : HasSucceeded Shows c) → (same : Reply) × IsSameReply succeeded.reply same × Has (events_of part) (Serve (request_at c succeeded.place) (Replied same succeeded.bytes))
     success_is_served part late is c known come succeeded =
         let served = certain_is_served part late is c known come succeeded.place succeeded.attempt (class.Success succeeded.reply) succeeded.bytes succeeded.is_attempt succeeded.shows tt in
-        subst (λ (answer : Answer). Has (events_of part) (Serve (request_at c succeeded.place) answer)) served.2 served.1
+        (served.2.0, served.2.1, subst (λ (answer : Answer). Has (events_of part) (Serve (request_at c succeeded.place) answer)) served.2.2 served.1)
 
 -- what has come by the end has come by every whole part
-pub come_by : (journal : List Event) (trace part : List Step) → IsWhole journal trace part → (c : Dispatched) → HasCome journal c → HasCome (filter_map event_of (events_of part)) c
+pub come_by : (journal : List Event) (trace part : List Step) → HasJournal journal trace part → (c : Dispatched) → HasCome journal c → HasCome (filter_map event_of (events_of part)) c
 come_by journal trace part whole c come = (come.0, come.1, come.2, ap (λ (j : List Event). slice_get j come.0) whole.2 ∙ come.3)

@@ -5,12 +5,12 @@ use Rattle.s3_model.specs.declared.answers.Class.{Class}
 use Rattle.s3_model.specs.declared.outcomes.Event.{Event}
 use Rattle.s3_model.specs.declared.settings.Limits.{Limits}
 use Rattle.s3_model.specs.Talks.{Talk}
-use Rattle.s3_model.specs.ServiceState.{State, object_at}
-use Rattle.s3_model.specs.Serves.{MayChange, ExternalWrite, Writes, Removes}
-use Rattle.s3_model.specs.Dispatches.{Dispatched}
-use Rattle.s3_model.specs.Traces.{Step, TraceEvent, Given, Begin, Serve, External, Came, IsTrace, state_after, events_of}
-use Rattle.s3_model.specs.Fits.{Fits}
-use Rattle.s3_model.specs.Truthful.{IsExternal}
+use Rattle.s3_service.specs.ServiceState.{State, object_at}
+use Rattle.s3_service.specs.Serves.{MayChange, ExternalWrite, Writes, Removes}
+use Rattle.run_promise.specs.Dispatches.{Dispatched}
+use Rattle.run_promise.specs.Traces.{Step, TraceEvent, Given, Begin, Serve, External, Came, IsTrace, state_after, events_of}
+use Rattle.run_promise.specs.Fits.{Fits}
+use Rattle.run_promise.specs.Truthful.{IsExternal}
 use Rattle.world_laws.specs.Frame.{IsAskedOf}
 use Rattle.world_laws.proofs.Members.{Has, has, contains_of}
 use Rattle.world_laws.proofs.Requests.{IsWriteOf, may_change_decided, write_decided, success_elsewhere, external_elsewhere}

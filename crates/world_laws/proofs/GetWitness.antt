@@ -5,14 +5,17 @@ use Rattle.s3_model.specs.declared.requests.Ask.TheVariants as ask
 use Rattle.s3_model.specs.declared.requests.Op.TheVariants as op
 use Rattle.s3_model.specs.declared.settings.Limits.{Limits}
 use Rattle.s3_model.specs.Parts.{piece_count}
-use Rattle.s3_model.specs.ServiceState.{State, with_object}
-use Rattle.s3_model.specs.Serves.{IsThere, IsWithin, bytes_within}
-use Rattle.s3_model.specs.Traces.{states}
-use Rattle.s3_model.specs.Schedule.{job_of, asked_range}
+use Rattle.s3_service.specs.ServiceState.{State, with_object}
+use Rattle.s3_service.specs.Serves.{IsThere, LiesWithin, bytes_within}
+use Rattle.run_promise.specs.Traces.{states}
+use Rattle.run_promise.specs.Schedule.{job_of, asked_range}
 use Rattle.world_laws.specs.SmallTransfers.{HadContent}
 use Rattle.world_laws.specs.Downloads.{IsGot, IsPartial}
 use Rattle.world_laws.specs.Rounds.{Told, Round, dispatch_at, dispatched_from, journal_of, steps_from, AreServed}
-use Rattle.world_laws.specs.Witnesses.{IsGetMet, GetIsMet, AreRangesMet, RangesAreMet}
+use Rattle.world_laws.specs.Premises.{IsFitting}
+use Rattle.run_promise.specs.Truthful.{IsDest}
+use Rattle.world_laws.proofs.ScheduleWitness.{setting_of, the_limits}
+use Rattle.world_laws.specs.Witnesses.{FoundIsMet, IsFoundMet, removal, IsGetMet, GetIsMet, AreRangesMet, RangesAreMet}
 use Rattle.world_laws.proofs.Members.{has}
 use Rattle.world_laws.proofs.Objects.{object_at-with_object}
 use Rattle.world_laws.proofs.Rounds.{AreApart, rounds_come}
@@ -75,7 +78,7 @@ module _ (limits : Limits) (bucket key etag : List ℕ) where
       after = start;
     }
 
-    inside : IsWithin range etag
+    inside : LiesWithin range etag
     inside = (omega arith, omega arith)
 
     range_served : AreServed limits start (get_range ∷ [])
@@ -114,6 +117,47 @@ module _ (limits : Limits) (bucket key etag : List ℕ) where
           let first : 1 ≡ k = omega arith in
           subst GotPart first (got_range, refl);
     }
+
+-- ---- a Head
+
+module _ (bucket key etag : List ℕ) where
+  abbrev holding : State
+  holding = with_object (bare (bucket ∷ [])) bucket key (object_of etag)
+
+  abbrev head : Round
+  head = round (record { task = None; op = op.Head; number = 0 }) (ask.Head bucket key) [] etag holding
+
+  there : IsThere holding bucket key etag (object_of etag)
+  there = record { held = object_at-with_object (bare (bucket ∷ [])) bucket key (object_of etag); etag = refl }
+
+  holding_is_faithful : IsFaithful holding
+  holding_is_faithful = faithful_with (bare (bucket ∷ [])) bucket key etag (bare_is_faithful (bucket ∷ []))
+
+  fits_head : IsFitting Told the_limits holding (steps_from 0 holding (head ∷ [])) (journal_of (head ∷ [])) (dispatched_from 0 (head ∷ [])) (IsDest (removal bucket key ∷ []))
+  fits_head = rounds_fitting the_limits holding (head ∷ []) ((object_of etag, there, refl, refl, refl), tt) ((λ other h. absurd h), tt) holding_is_faithful (holding_is_faithful, tt) (IsDest (removal bucket key ∷ []))
+
+  found_met : IsFoundMet bucket key etag
+  found_met = record {
+    setting = setting_of (removal bucket key);
+    start = holding;
+    trace = steps_from 0 holding (head ∷ []);
+    journal = journal_of (head ∷ []);
+    dispatched = dispatched_from 0 (head ∷ []);
+    size = length etag;
+    traced = record { runs = fits_head.runs; honest = fits_head.honest; fits = fits_head.fits };
+    found = record {
+      head = dispatch_at 0 head;
+      known = (0, omega arith, refl);
+      asks = refl;
+      come = rounds_come (head ∷ []) holding ((λ other h. absurd h), tt) (dispatch_at 0 head) (inl refl);
+      succeeded = succeeds 0 head refl;
+      micros = 0;
+      told = refl;
+    };
+  }
+
+pub found_is_met : FoundIsMet
+found_is_met bucket key etag = found_met bucket key etag
 
 pub get_is_met : GetIsMet
 get_is_met limits bucket key etag = get_met limits bucket key etag

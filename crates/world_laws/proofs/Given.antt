@@ -6,7 +6,7 @@ use Rattle.s3_model.specs.declared.outcomes.Event.{Event}
 use Rattle.s3_model.specs.declared.outcomes.Event.TheVariants as entry
 use Rattle.s3_model.specs.declared.tries.Mark.{Mark}
 use Rattle.s3_model.specs.Talks.{Talk}
-use Rattle.s3_model.specs.Dispatches.{Dispatch, Dispatched, is_job, next_came, place_of, dispatches_from, dispatches}
+use Rattle.run_promise.specs.Dispatches.{Dispatch, Dispatched, is_job, next_came, place_of, dispatches_from, dispatches}
 use Rattle.world_laws.proofs.Members.{Has, has, contains_of, has-map, mapped, reversed, in_reverse, place_middle}
 
 -- ---- where a job comes next

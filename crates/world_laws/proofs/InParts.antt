@@ -9,10 +9,10 @@ use Rattle.s3_model.specs.declared.answers.Class.{Class}
 use Rattle.s3_model.specs.declared.outcomes.Event.{Event}
 use Rattle.s3_model.specs.declared.settings.Limits.{Limits}
 use Rattle.s3_model.specs.Talks.{Talk}
-use Rattle.s3_model.specs.ServiceState.{State, Object, Aborted, object_at}
-use Rattle.s3_model.specs.Serves.{Succeeds, bytes_within, IsThere}
-use Rattle.s3_model.specs.Dispatches.{Dispatched}
-use Rattle.s3_model.specs.Traces.{Step, TraceEvent, IsTrace, Steps, begun_after, state_after, states}
+use Rattle.s3_service.specs.ServiceState.{State, Object, Aborted, object_at}
+use Rattle.s3_service.specs.Serves.{Succeeds, bytes_within, IsThere}
+use Rattle.run_promise.specs.Dispatches.{Dispatched}
+use Rattle.run_promise.specs.Traces.{Step, TraceEvent, IsTrace, Steps, begun_after, state_after, states}
 use Rattle.world_laws.specs.Premises.{IsFitting, IsPlace}
 use Rattle.world_laws.specs.Destinations.{IsNewOnceCome}
 use Rattle.world_laws.specs.SmallTransfers.{HadContent, IsStored}

@@ -1,8 +1,8 @@
 -- Places that nobody else writes, and contents that an ETag stands for.
 use Rattle.std.proofs.Common.{◌≡◌, ◌∙◌, ℕ, List, sym, subst, inl, inr}
-use Rattle.s3_model.specs.ServiceState.{State}
-use Rattle.s3_model.specs.Traces.{Step, IsHonest, states}
-use Rattle.s3_model.specs.Truthful.{IsExternal}
+use Rattle.s3_service.specs.ServiceState.{State}
+use Rattle.run_promise.specs.Traces.{Step, IsHonest, states}
+use Rattle.run_promise.specs.Truthful.{IsExternal}
 use Rattle.world_laws.specs.Premises.{IsPlace}
 use Rattle.world_laws.specs.SmallTransfers.{HadContent}
 

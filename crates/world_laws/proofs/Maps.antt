@@ -49,7 +49,7 @@ module _ {K : Type 0} {R : K → K → Ordering} (total : IsTotalOrder R) (exact
       differ : (b : Bool) → b ≡ true → b ≡ false → ⊥
       differ b t f = cc
 
-  other_key : (x y : K) → (x ≡ y → ⊥) → eq_by_cmp R x y ≡ false
+  pub other_key : (x y : K) → (x ≡ y → ⊥) → eq_by_cmp R x y ≡ false
   other_key x y apart = elim (either_way (eq_by_cmp R x y)) [ inl e ↦ absurd (apart (exact x y (equal_from_test _ e))) | inr e ↦ e ]
 
   pub get-insert_same : {V : Type 0} (m : FinMap R V) (k : K) (v : V) → get (insert m k v) k ≡ Some v

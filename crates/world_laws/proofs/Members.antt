@@ -100,6 +100,26 @@ kept {X} test (z ∷ zs) x h = elim (from (test z) h) [ inl e ↦ inl e | inr re
     from true g = g
     from false g = inr g
 
+-- and it passes the test
+pub passes : {X : Type 0} (test : X → Bool) (xs : List X) (x : X) → Has (filter test xs) x → test x ≡ true
+passes test [] x h = absurd h
+passes {X} test (z ∷ zs) x h = which (test z) refl h (passes test zs x)
+  where
+    which : (b : Bool) → test z ≡ b → Has (cond b (z ∷ filter test zs) (filter test zs)) x → (Has (filter test zs) x → test x ≡ true) → test x ≡ true
+    which true so (inl e) later = sym (ap test e) ∙ so
+    which true so (inr rest) later = later rest
+    which false so rest later = later rest
+
+-- what passes the test is kept
+pub has-filter : {X : Type 0} (test : X → Bool) (xs : List X) (x : X) → test x ≡ true → Has xs x → Has (filter test xs) x
+has-filter test [] x so h = absurd h
+has-filter test (z ∷ zs) x so (inl e) = subst (λ (b : Bool). Has (cond b (z ∷ filter test zs) (filter test zs)) x) (sym (ap test e ∙ so)) (inl e)
+has-filter {X} test (z ∷ zs) x so (inr h) = later (test z) (has-filter test zs x so h)
+  where
+    later : (b : Bool) → Has (filter test zs) x → Has (cond b (z ∷ filter test zs) (filter test zs)) x
+    later true rest = inr rest
+    later false rest = rest
+
 pub gathered : {X Y : Type 0} (f : X → List Y) (xs : List X) (y : Y) → Has (flat_map f xs) y → (x : X) × Has xs x × Has (f x) y
 gathered f [] y h = absurd h
 gathered f (z ∷ zs) y h = elim (has-append_cases (f z) (flat_map f zs) y h) [

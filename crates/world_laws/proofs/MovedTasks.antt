@@ -14,15 +14,16 @@ use Rattle.s3_model.specs.declared.tasks.Kind.{Kind}
 use Rattle.s3_model.specs.declared.tasks.Kind.TheVariants as kind
 use Rattle.s3_model.specs.declared.tasks.Task.{Task}
 use Rattle.s3_model.specs.Talks.{Talk}
-use Rattle.s3_model.specs.ServiceState.{State}
-use Rattle.s3_model.specs.Serves.{MayChange}
-use Rattle.s3_model.specs.Dispatches.{Dispatched}
-use Rattle.s3_model.specs.Traces.{Step, states, state_after, events_of}
-use Rattle.s3_model.specs.Schedule.{Setting, Gained, IsObject, IsSource, IsTaskAsk, IsDecidedBy, is_small, job_of, source_bytes, gained_before}
-use Rattle.s3_model.specs.Endings.{IsNew, IsGone}
+use Rattle.s3_service.specs.ServiceState.{State}
+use Rattle.s3_service.specs.Serves.{MayChange}
+use Rattle.run_promise.specs.Dispatches.{Dispatched}
+use Rattle.run_promise.specs.Traces.{Step, states, state_after, events_of}
+use Rattle.run_promise.specs.Schedule.{Setting, Gained, IsObject, IsSource, IsTaskAsk, IsDecidedBy, is_small, job_of, source_bytes, gained_before}
+use Rattle.run_promise.specs.Endings.{IsNew, IsGone}
 use Rattle.world_laws.specs.Destinations.{AllThatChange}
-use Rattle.world_laws.specs.SmallTransfers.{Deletes}
-use Rattle.world_laws.specs.Tasks.{deciding, IsScheduled, MovedTaskIsNew, MovedSourceIsGone, OtherObjectsStay}
+use Rattle.world_laws.specs.SmallTransfers.{AsksDelete}
+use Rattle.world_laws.specs.Tasks.{IsScheduled, MovedTaskIsNew, MovedSourceIsGone, OtherObjectsStay}
+use Rattle.run_promise.specs.Outcomes.{deciding}
 use Rattle.world_laws.proofs.Members.{found_or_not, has_at, contains_of}
 use Rattle.world_laws.proofs.Traces.{state_after_step}
 use Rattle.world_laws.proofs.Frame.{others_stay}
@@ -61,7 +62,7 @@ module _ (Shows : Ask → ℕ → Talk → Class → List ℕ → Type 0) where
       let in_events : events_of trace ≡ events_of front ++ step.event ∷ events_of later = ap events_of is ∙ map-append (λ (x : Step). x.event) front (step ∷ later) in
       let come = came_before Shows s.limits start trace dispatched journal p.runs p.fits r.given c of.0 (r.come c gained.1.1) gained.1.3 (events_of front) (step.event ∷ events_of later) in_events of.3 in
       let split : trace ≡ (front ++ step ∷ []) ++ later = is ∙ sym (append_assoc front (step ∷ []) later) in
-      subst (λ (t : State). IsNew excused s.held (states start trace) (record { state = t; held = held }) task task.kind) (state_after_step front step start)
+      subst (λ (t : State). IsNew excused s.held (states start trace) (record { state = t; held = held; others = s.others }) task task.kind) (state_after_step front step start)
       (laws.new_once_come Shows s journal dispatched coming r n task bucket key object.is_task object.is_dest excused held start trace (front ++ step ∷ []) later p split object.has_source c gained.1.1 is_deciding
       (moves.come_later front (step ∷ []) c come) (tasks.replied Shows c gained.0 gained.1.4).0)
 
@@ -69,7 +70,7 @@ module _ (Shows : Ask → ℕ → Talk → Class → List ℕ → Type 0) where
   pub what_changes : (s : Setting) (journal : List Event) (dispatched coming : List Dispatched) → IsScheduled Shows s journal dispatched coming → (bucket key : List ℕ) (c : Dispatched) → Contains dispatched c → MayChange c.ask bucket key
       → (m : ℕ) × (task : Task) × (slice_get s.tasks m ≡ Some task) × (IsObject task.dest bucket key ⊎ rows.DeletesSource task c.ask bucket key)
   what_changes s journal dispatched coming r bucket key c known may = elim (found_or_not c.dispatch.job.task) [
-    | inl none ↦ absurd (tasks.planning_changes_nothing c.ask bucket key (r.schedule.plans c known none) may)
+    | inl none ↦ absurd (tasks.planning_changes_nothing c.ask bucket key (tasks.asks_only Shows s journal dispatched coming r c known none) may)
     | inr some ↦
         let found = tasks.row_of Shows s journal dispatched coming r c some.0 known some.1 in (
           some.0,
@@ -97,13 +98,13 @@ module _ (Shows : Ask → ℕ → Talk → Class → List ℕ → Type 0) where
 
   pub moved_source_is_gone : MovedSourceIsGone Shows
   moved_source_is_gone s held start trace part journal dispatched coming r p whole n task bucket key is_task moved is_source c known is_job other succeeded =
-      subst (λ (o : Option Place). IsGone trace (record { state = state_after start part; held = held }) o) (sym is_source)
+      subst (λ (o : Option Place). IsGone trace (record { state = state_after start part; held = held; others = s.others }) o) (sym is_source)
       (moves.source_is_gone Shows s.limits start trace part journal dispatched bucket key p.runs p.fits deletes_alone whole c known may (r.come c known) succeeded)
     where
       here : IsSource task.source bucket key
       here = subst (λ (o : Option Place). IsSource o bucket key) (sym is_source) (refl, refl)
 
-      deletes_alone : AllThatChange bucket key (Deletes bucket key) dispatched
+      deletes_alone : AllThatChange bucket key (AsksDelete bucket key) dispatched
       deletes_alone d among changes =
           let what = what_changes s journal dispatched coming r bucket key d among changes in
           elim what.3 [

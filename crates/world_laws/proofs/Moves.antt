@@ -10,17 +10,18 @@ use Rattle.s3_model.specs.declared.answers.Class.{Class}
 use Rattle.s3_model.specs.declared.outcomes.Event.{Event}
 use Rattle.s3_model.specs.declared.outcomes.Event.TheVariants as entry
 use Rattle.s3_model.specs.declared.settings.Limits.{Limits}
+use Rattle.s3_model.specs.Replies.{IsSameReply}
 use Rattle.s3_model.specs.Talks.{Talk}
-use Rattle.s3_model.specs.ServiceState.{State, Object, object_at}
-use Rattle.s3_model.specs.Serves.{Replied, Succeeds, ExternalWrite, Writes, Removes, after_external}
-use Rattle.s3_model.specs.Dispatches.{Dispatched}
-use Rattle.s3_model.specs.Traces.{Request, Step, TraceEvent, Given, Begin, Serve, External, Came, Steps, state_after, states, events_of, event_of}
-use Rattle.s3_model.specs.Fits.{request_at}
-use Rattle.s3_model.specs.Endings.{IsDeleted}
+use Rattle.s3_service.specs.ServiceState.{State, Object, object_at}
+use Rattle.s3_service.specs.Serves.{Replied, Succeeds, ExternalWrite, Writes, Removes, after_external}
+use Rattle.run_promise.specs.Dispatches.{Dispatched}
+use Rattle.run_promise.specs.Traces.{Request, Step, TraceEvent, Given, Begin, Serve, External, Came, Steps, state_after, states, events_of, event_of}
+use Rattle.run_promise.specs.Fits.{request_at}
+use Rattle.run_promise.specs.Endings.{IsDeleted}
 use Rattle.world_laws.specs.Premises.{HasCome}
 use Rattle.world_laws.specs.Destinations.{IsNewOnceCome}
 use Rattle.world_laws.specs.Multipart.{AreCopiedParts, IsCopiedInParts}
-use Rattle.world_laws.specs.SmallTransfers.{Copies, AreAll, IsCopied}
+use Rattle.world_laws.specs.SmallTransfers.{AsksCopy, AreAll, IsCopied}
 use Rattle.world_laws.specs.Moves.{IsNewOnceBegun, IsWritten, CopyComesFirst, CopiedPartsComeFirst, SourceIsGone}
 use Rattle.world_laws.proofs.Members.{Has, has, contains_of, place_in_front}
 use Rattle.world_laws.proofs.Objects.{object_at-without_object, place_decided}
@@ -61,7 +62,7 @@ module _ (Shows : Ask → ℕ → Talk → Class → List ℕ → Type 0) where
 
   pub copy_comes_first : CopyComesFirst Shows
   copy_comes_first bucket key from_bucket from_key etag =
-      once_begun bucket key (AreAll bucket key (Copies bucket key from_bucket from_key etag)) (IsCopied bucket key from_bucket from_key etag) (small.copy_once_come Shows bucket key from_bucket from_key etag)
+      once_begun bucket key (AreAll bucket key (AsksCopy bucket key from_bucket from_key etag)) (IsCopied bucket key from_bucket from_key etag) (small.copy_once_come Shows bucket key from_bucket from_key etag)
 
   pub copied_parts_come_first : CopiedPartsComeFirst Shows
   copied_parts_come_first bucket key from_bucket from_key etag ranges count =
@@ -115,21 +116,23 @@ module _ (Shows : Ask → ℕ → Talk → Class → List ℕ → Type 0) where
       sent : Request
       sent = request_at c succeeded.place
 
-      served : Has (events_of trace) (Serve sent (Replied succeeded.reply succeeded.bytes))
-      served = subst (λ (t : List Step). Has (events_of t) (Serve sent (Replied succeeded.reply succeeded.bytes))) (sym whole.1)
-          (event_of_whole part whole.0 (Serve sent (Replied succeeded.reply succeeded.bytes))
-          (fitting.success_is_served Shows limits start trace dispatched journal runs fits part whole.0 whole.1 c known (come_by journal trace part whole c come) succeeded))
+      answer : (same : Reply) × IsSameReply succeeded.reply same × Has (events_of part) (Serve sent (Replied same succeeded.bytes))
+      answer = fitting.success_is_served Shows limits start trace dispatched journal runs fits part whole.0 whole.1 c known (come_by journal trace part whole c come) succeeded
+
+      served : Has (events_of trace) (Serve sent (Replied answer.0 succeeded.bytes))
+      served = subst (λ (t : List Step). Has (events_of t) (Serve sent (Replied answer.0 succeeded.bytes))) (sym whole.1)
+          (event_of_whole part whole.0 (Serve sent (Replied answer.0 succeeded.bytes)) answer.2)
 
       is_delete : c.ask ≡ ask.Delete bucket key
       is_delete = ours c known may
 
       deleted : IsDeleted trace bucket key
       deleted =
-          let at = step_of trace (Serve sent (Replied succeeded.reply succeeded.bytes)) served in
+          let at = step_of trace (Serve sent (Replied answer.0 succeeded.bytes)) served in
           let steps = subst (λ (event : TraceEvent). Steps limits (begun_through [] at.front) (state_after start at.front) event at.step.state) at.is_event
           (fitting.steps_at Shows limits start trace dispatched journal runs fits at.front at.step at.back at.is) in
-          let is_gone : succeeded.reply ≡ reply.Gone = delete_is_gone limits (state_after start at.front) bucket key c.body succeeded.reply succeeded.bytes at.step.state
-          (subst (λ (asked : Ask). Succeeds limits (state_after start at.front) asked c.body succeeded.reply succeeded.bytes at.step.state) is_delete steps.1) in (
+          let is_gone : answer.0 ≡ reply.Gone = delete_is_gone limits (state_after start at.front) bucket key c.body answer.0 succeeded.bytes at.step.state
+          (subst (λ (asked : Ask). Succeeds limits (state_after start at.front) asked c.body answer.0 succeeded.bytes at.step.state) is_delete steps.1) in (
             sent,
             succeeded.bytes,
             is_delete,

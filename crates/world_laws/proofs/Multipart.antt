@@ -1,5 +1,5 @@
 -- An object that is written by uploads in parts alone: it is as before, or all of the parts in order, whatever is lost, late or served twice.
-use Rattle.std.proofs.Common.{append_assoc, ◌≡◌, ◌∙◌, ◌⊎◌, ◌+◌, ◌++◌, ◌≤◌, ℕ, suc, List, [], ◌∷◌, Option, Some, None, refl, sym, ap, subst, inl, inr, Contains, filter_map, slice_get, length}
+use Rattle.std.proofs.Common.{append_assoc, ◌≡◌, ◌∙◌, ◌⊎◌, ◌+◌, ◌++◌, ◌≤◌, ℕ, suc, Bool, List, [], ◌∷◌, Option, Some, None, refl, sym, ap, subst, inl, inr, Contains, filter_map, slice_get, length}
 use Rattle.std.specs.Prelude.{flat_map}
 use Rattle.std.specs.Ordering.{nat_cmp}
 use Rattle.std.specs.Cmp.{nat_cmp_total}
@@ -13,13 +13,14 @@ use Rattle.s3_model.specs.declared.answers.Reply.TheVariants as reply
 use Rattle.s3_model.specs.declared.answers.Class.{Class}
 use Rattle.s3_model.specs.declared.outcomes.Event.{Event}
 use Rattle.s3_model.specs.declared.settings.Limits.{Limits}
+use Rattle.s3_model.specs.Replies.{IsSameReply}
 use Rattle.s3_model.specs.Lists.{Reserved}
 use Rattle.s3_model.specs.Talks.{Talk}
-use Rattle.s3_model.specs.ServiceState.{State, Object, Upload, StoredPart, Ended, CompletedBy, Aborted, object_at}
-use Rattle.s3_model.specs.Serves.{Replied, Succeeds, Assembles, Completes, Gains, IsOpen, MayChange, ExternalWrite, after_external}
-use Rattle.s3_model.specs.Dispatches.{Dispatched}
-use Rattle.s3_model.specs.Traces.{Step, TraceEvent, Serve, External, Steps, state_after, states, events_of, event_of}
-use Rattle.s3_model.specs.Fits.{request_at}
+use Rattle.s3_service.specs.ServiceState.{State, Object, Upload, StoredPart, Ended, CompletedBy, Aborted, object_at}
+use Rattle.s3_service.specs.Serves.{Replied, Succeeds, Assembles, Completes, Gains, IsOpen, MayChange, ExternalWrite, after_external}
+use Rattle.run_promise.specs.Dispatches.{Dispatched}
+use Rattle.run_promise.specs.Traces.{Step, TraceEvent, Serve, External, Steps, state_after, states, events_of, event_of}
+use Rattle.run_promise.specs.Fits.{request_at}
 use Rattle.world_laws.specs.Premises.{IsFitting, IsPlace, HasCome}
 use Rattle.world_laws.specs.Destinations.{AllThatChange}
 use Rattle.world_laws.specs.Multipart.{IsCreated, CompletesHere}
@@ -94,7 +95,7 @@ module _ (Shows : Ask → ℕ → Talk → Class → List ℕ → Type 0) (limit
   all_come : (c : Dispatched) → HasCome journal c → HasCome (filter_map event_of (events_of trace)) c
   all_come c come = (come.0, come.1, come.2, ap (λ (j : List Event). slice_get j come.0) p.fits.moves ∙ come.3)
 
-  opened : (old : State) (id body bytes : List ℕ) (content : Option (List ℕ)) (new : State) → Succeeds limits old (ask.Create bucket key content) body (reply.Created id) bytes new
+  pub opened : (old : State) (id body bytes : List ℕ) (content : Option (List ℕ)) (new : State) → Succeeds limits old (ask.Create bucket key content) body (reply.Created id) bytes new
       → IsFree old id × ((upload : Upload) × IsOpen new id bucket key upload × (get new.ended id ≡ None))
   opened old id body bytes content new h = (
     record { not_open = nothing_is (get old.uploads id) h.1; not_ended = nothing_is (get old.ended id) h.2 },
@@ -109,11 +110,12 @@ module _ (Shows : Ask → ℕ → Talk → Class → List ℕ → Type 0) (limit
   created_at id created =
       let sent = request_at created.create created.succeeded.place in
       let served = fitting.success_is_served Shows limits start trace dispatched journal p.runs p.fits trace [] (sym (append-nil trace)) created.create created.known (all_come created.create created.has_come) created.succeeded in
-      let at = step_of trace (Serve sent (Replied created.succeeded.reply created.succeeded.bytes)) served in
+      let is_named : served.0 ≡ reply.Created id = sym (subst (λ (r : Reply). IsSameReply r served.0) created.names served.1) in
+      let at = step_of trace (Serve sent (Replied served.0 created.succeeded.bytes)) served.2 in
       let steps = subst (λ (event : TraceEvent). Steps limits (begun_through [] at.front) (state_after start at.front) event at.step.state) at.is_event
       (fitting.steps_at Shows limits start trace dispatched journal p.runs p.fits at.front at.step at.back at.is) in
-      let succeeds = subst (λ (r : Reply). Succeeds limits (state_after start at.front) (ask.Create bucket key created.content) created.create.body r created.succeeded.bytes at.step.state) created.names
-      (subst (λ (asked : Ask). Succeeds limits (state_after start at.front) asked created.create.body created.succeeded.reply created.succeeded.bytes at.step.state) created.is_create steps.1) in
+      let succeeds = subst (λ (r : Reply). Succeeds limits (state_after start at.front) (ask.Create bucket key created.content) created.create.body r created.succeeded.bytes at.step.state) is_named
+      (subst (λ (asked : Ask). Succeeds limits (state_after start at.front) asked created.create.body served.0 created.succeeded.bytes at.step.state) created.is_create steps.1) in
       let is = opened (state_after start at.front) id created.create.body created.succeeded.bytes created.content at.step.state succeeds in
       record { front = at.front; step = at.step; back = at.back; is = at.is; free = is.0; upload = is.1.0; is_open = is.1.1; not_ended = is.1.2 }
 
@@ -149,7 +151,7 @@ module _ (Shows : Ask → ℕ → Talk → Class → List ℕ → Type 0) (limit
           | inr before ↦ all id upload fresh (record { held = before; bucket = is_open.bucket; key = is_open.key })
           | inl now ↦ λ n part at. absurd (found_in_empty nat_cmp n part (ap (λ parts. get parts n) (sym is_fresh.parts) ∙ ap (λ (u : Upload). get u.parts n) now.1 ∙ at))
         ]
-    pieces_kept c old new answered known among (up.stored b k other number was part stores was_open is_uploads same_ended) all id upload fresh is_open =
+    pieces_kept c old new answered known among (up.stored b k other number was part stores was_open is_uploads same_ended says) all id upload fresh is_open =
         elim (found_after_insert nat_list_cmp_total text_exact old.uploads other (record was { parts = insert was.parts number part }) id upload (ap (λ uploads. get uploads id) (sym is_uploads) ∙ is_open.held)) [
           | inr before ↦ all id upload fresh (record { held = before; bucket = is_open.bucket; key = is_open.key })
           | inl now ↦
@@ -208,13 +210,13 @@ module _ (Shows : Ask → ℕ → Talk → Class → List ℕ → Type 0) (limit
     outcome c old new answered bytes served may =
         let says = completes c served.known may in
         let at = created_at says.id says.created in
-        decide says.id says.etags says.counted at answered (subst (λ (asked : Ask). Succeeds limits old asked c.body answered bytes new) says.is_complete served.succeeds)
+        decide says.id says.etags says.fresh says.counted at answered (subst (λ (asked : Ask). Succeeds limits old asked c.body answered bytes new) says.is_complete served.succeeds)
       where
-        decide : (id : List ℕ) (etags : Reserved (List ℕ)) → length etags.items ≡ count → IsCreatedAt id → (told : Reply) → Succeeds limits old (ask.Complete bucket key id etags) c.body told bytes new → Outcome c old new
-        decide id etags counted at reply.Completed (inr h) = inr (id, etags.items, at, h.0, h.1)
-        decide id etags counted at reply.Completed (inl h) =
-            inl (first_completes old new id etags h.0 h.1 h.2 served.among (created_is_fresh id at) counted h.3 h.4 h.5 (ap (λ (t : State). object_at t bucket key) h.6))
-        decide id etags counted at told h = absurd h
+        decide : (id : List ℕ) (etags : Reserved (List ℕ)) (fresh : Bool) → length etags.items ≡ count → IsCreatedAt id → (told : Reply) → Succeeds limits old (ask.Complete bucket key id etags fresh) c.body told bytes new → Outcome c old new
+        decide id etags fresh counted at reply.Completed (inr h) = inr (id, etags.items, at, h.0, h.1)
+        decide id etags fresh counted at reply.Completed (inl h) =
+            inl (first_completes old new id etags h.0 h.1 h.2 served.among (created_is_fresh id at) counted h.3 h.5 h.6 (ap (λ (t : State). object_at t bucket key) h.7))
+        decide id etags fresh counted at told h = absurd h
 
     -- ---- an upload from its creation on
 
@@ -248,7 +250,7 @@ module _ (Shows : Ask → ℕ → Talk → Class → List ℕ → Type 0) (limit
         → EndsUpload c.ask bucket key id how → get old.uploads id ≡ Some upload → HasEnded new id how → IsOnItsWay id new
     closes c old new answered bytes id upload Aborted served ends held ended = inr (inl ended)
     closes c old new answered bytes id upload (CompletedBy etags) served ends held ended =
-        let may : MayChange c.ask bucket key = subst (λ (asked : Ask). MayChange asked bucket key) (sym ends.1) (refl, refl) in
+        let may : MayChange c.ask bucket key = subst (λ (asked : Ask). MayChange asked bucket key) (sym ends.2) (refl, refl) in
         elim (outcome c old new answered bytes served may) [
           | inl made ↦ inr (inr (record { etags = etags; has_ended = ended; is_new = made }))
           | inr again ↦ absurd (not_both (get old.uploads id) upload (ap (λ (t : State). get t.uploads id) (sym again.4) ∙ ended.not_open) held)
@@ -271,7 +273,7 @@ module _ (Shows : Ask → ℕ → Talk → Class → List ℕ → Type 0) (limit
           };
           not_ended = ap (λ all. get all id) same_ended ∙ way.not_ended;
         })
-    still_open c old new answered bytes id served (up.stored b k other number was part stores was_open is_uploads same_ended) way =
+    still_open c old new answered bytes id served (up.stored b k other number was part stores was_open is_uploads same_ended says) way =
         let changed : Upload = record was { parts = insert was.parts number part } in
         elim (text_decided id other) [
           | inl same ↦

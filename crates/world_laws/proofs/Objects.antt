@@ -3,7 +3,7 @@ use Rattle.std.proofs.Common.{◌≡◌, ◌∙◌, ◌⊎◌, ℕ, List, Some, 
 use Rattle.std.specs.Cmp.Lexicographic.{nat_list_cmp_total}
 use Rattle.std.specs.FinMap.{get, insert, remove, empty}
 use Rattle.s3_model.specs.Maps.{MapOf}
-use Rattle.s3_model.specs.ServiceState.{Object, State, objects_in, object_at, with_object, without_object}
+use Rattle.s3_service.specs.ServiceState.{Object, State, objects_in, object_at, with_object, without_object}
 use Rattle.world_laws.proofs.Maps.{text_exact, text_decided, get-insert_same, get-insert_other, get-remove_same, get-remove_other}
 
 -- a place is this one or another
@@ -14,10 +14,10 @@ place_decided b k bucket key = elim (text_decided b bucket) [
 ]
 
 -- a bucket's objects after they were given anew
-objects_in_same : (t : State) (bucket : List ℕ) (inner : MapOf Object) → objects_in (record t { objects = insert t.objects bucket inner }) bucket ≡ inner
+pub objects_in_same : (t : State) (bucket : List ℕ) (inner : MapOf Object) → objects_in (record t { objects = insert t.objects bucket inner }) bucket ≡ inner
 objects_in_same t bucket inner = ap (λ found. unwrap_or found empty) (get-insert_same nat_list_cmp_total text_exact t.objects bucket inner)
 
-objects_in_other : (t : State) (bucket : List ℕ) (inner : MapOf Object) (b : List ℕ) → (b ≡ bucket → ⊥) → objects_in (record t { objects = insert t.objects bucket inner }) b ≡ objects_in t b
+pub objects_in_other : (t : State) (bucket : List ℕ) (inner : MapOf Object) (b : List ℕ) → (b ≡ bucket → ⊥) → objects_in (record t { objects = insert t.objects bucket inner }) b ≡ objects_in t b
 objects_in_other t bucket inner b apart = ap (λ found. unwrap_or found empty) (get-insert_other nat_list_cmp_total text_exact t.objects bucket inner b apart)
 
 pub object_at-with_object : (t : State) (bucket key : List ℕ) (object : Object) → object_at (with_object t bucket key object) bucket key ≡ Some object

@@ -13,11 +13,11 @@ use Rattle.s3_model.specs.declared.outcomes.Event.TheVariants as entry
 use Rattle.s3_model.specs.declared.settings.Limits.{Limits}
 use Rattle.s3_model.specs.declared.tries.Mark.{Mark}
 use Rattle.s3_model.specs.Talks.{Talk}
-use Rattle.s3_model.specs.ServiceState.{State}
-use Rattle.s3_model.specs.Dispatches.{Dispatched, is_job}
-use Rattle.s3_model.specs.Traces.{Request, Step, TraceEvent, Given, Begin, Serve, External, Came, IsTrace, events_of, event_of, is_begin_of, marks_come}
-use Rattle.s3_model.specs.Fits.{Fits}
-use Rattle.s3_model.specs.Schedule.{IsBefore}
+use Rattle.s3_service.specs.ServiceState.{State}
+use Rattle.run_promise.specs.Dispatches.{Dispatched, is_job}
+use Rattle.run_promise.specs.Traces.{Request, Step, TraceEvent, Given, Begin, Serve, External, Came, IsTrace, events_of, event_of, is_begin_of, marks_come}
+use Rattle.run_promise.specs.Fits.{Fits}
+use Rattle.run_promise.specs.Schedule.{IsBefore}
 use Rattle.world_laws.specs.Premises.{AreGiven, HasCome}
 use Rattle.world_laws.proofs.Members.{Has, has_at, has-append_left, has-append_right, has-append_cases, has_filtered, split_of, place_middle, place_in_front, place_within_front}
 use Rattle.world_laws.proofs.Jobs.{either_way, job_itself, job_same, job_decided}

@@ -11,11 +11,11 @@ use Rattle.s3_model.specs.declared.outcomes.JobId.{JobId}
 use Rattle.s3_model.specs.declared.outcomes.Event.{Event}
 use Rattle.s3_model.specs.declared.settings.Limits.{Limits}
 use Rattle.s3_model.specs.Lists.{Reserved}
-use Rattle.s3_model.specs.ServiceState.{State, Upload, StoredPart, CompletedBy, Aborted, objects_in, HasBucket, with_object, without_object, with_upload, with_part, with_ended}
-use Rattle.s3_model.specs.Serves.{Serves, MayChange, IsOpen, IsThere, IsWithin, Succeeds, bytes_within}
-use Rattle.s3_model.specs.Dispatches.{Dispatched, op_number}
-use Rattle.s3_model.specs.Schedule.{job_of, IsBefore}
-use Rattle.s3_model.specs.Fits.{request_at}
+use Rattle.s3_service.specs.ServiceState.{State, Upload, StoredPart, CompletedBy, Aborted, objects_in, HasBucket, with_object, without_object, with_upload, with_part, with_ended}
+use Rattle.s3_service.specs.Serves.{Serves, MayChange, IsOpen, IsThere, LiesWithin, Succeeds, bytes_within}
+use Rattle.run_promise.specs.Dispatches.{Dispatched, op_number}
+use Rattle.run_promise.specs.Schedule.{job_of, IsBefore}
+use Rattle.run_promise.specs.Fits.{request_at}
 use Rattle.world_laws.specs.Multipart.{AreParts, AreCopiedParts, CompletesHere, IsCreated}
 use Rattle.world_laws.specs.Uploads.{NamesUpload}
 use Rattle.world_laws.specs.Rounds.{Told, Round, answer_by, dispatch_at, dispatched_from, journal_of, steps_from, AreServed}
@@ -24,7 +24,7 @@ use Rattle.world_laws.proofs.Maps.{is_nothing, not_both, text_exact, get-insert_
 use Rattle.world_laws.proofs.Members.{Has, has}
 use Rattle.world_laws.proofs.Rounds.{AreApart, round_of, rounds_trace, rounds_fit, rounds_come}
 use Rattle.world_laws.proofs.Faithful.{IsFaithful, AreFaithful, object_of, bare, bare_is_faithful, bare_has, bare_uploads, bare_ended, faithful_with, faithful_without, has_bucket_after, has_bucket_still}
-use Rattle.world_laws.proofs.Witnesses.{round, succeeds, met, by_op, two_buckets, with_source, source_is_there, bucket_is_there, source_is_faithful}
+use Rattle.world_laws.proofs.Witnesses.{false_true, round, succeeds, met, by_op, two_buckets, with_source, source_is_there, bucket_is_there, source_is_faithful}
 
 -- two jobs of one task with other ops, or other numbers, are apart
 apart_by_op : (a b : JobId) → (op_number a.op < op_number b.op) → a ≡ b → ⊥
@@ -39,10 +39,10 @@ create_part e = cc
 create_copy : {b k id x y f g u : List ℕ} {content : _} {n : ℕ} {r : ℕ × ℕ} → ask.Create x y content ≡ ask.PartCopy b k id n f g u r → ⊥
 create_copy e = cc
 
-complete_part : {b k id x y i : List ℕ} {etags : _} {n : ℕ} → ask.Complete x y i etags ≡ ask.Part b k id n → ⊥
+complete_part : {b k id x y i : List ℕ} {etags : _} {fresh : _} {n : ℕ} → ask.Complete x y i etags fresh ≡ ask.Part b k id n → ⊥
 complete_part e = cc
 
-complete_copy : {b k id x y i f g u : List ℕ} {etags : _} {n : ℕ} {r : ℕ × ℕ} → ask.Complete x y i etags ≡ ask.PartCopy b k id n f g u r → ⊥
+complete_copy : {b k id x y i f g u : List ℕ} {etags : _} {fresh : _} {n : ℕ} {r : ℕ × ℕ} → ask.Complete x y i etags fresh ≡ ask.PartCopy b k id n f g u r → ⊥
 complete_copy e = cc
 
 delete_part : {b k id x y : List ℕ} {n : ℕ} → ask.Delete x y ≡ ask.Part b k id n → ⊥
@@ -135,7 +135,7 @@ module _ (limits : Limits) (bucket key : List ℕ) (start : State) (ready : IsRe
   part_round n after = round (job_of 0 op.Part n) (part_ask n) (part_body n) [] after
 
   abbrev complete : Round
-  complete = round (job_of 0 op.Complete 0) (ask.Complete bucket key [] etags) [] [] completed
+  complete = round (job_of 0 op.Complete 0) (ask.Complete bucket key [] etags false) [] [] completed
 
   abbrev upload : List Round
   upload = create ∷ part_round 1 after_one ∷ part_round 2 after_two ∷ complete ∷ more completed
@@ -158,9 +158,9 @@ module _ (limits : Limits) (bucket key : List ℕ) (start : State) (ready : IsRe
   served_create : Succeeds limits start (ask.Create bucket key None) [] (reply.Created []) [] created
   served_create = (ready.is_there, is_nothing (get start.uploads []) ready.not_open, is_nothing (get start.ended []) ready.not_ended, begun, record { bucket = refl; key = refl; parts = refl }, refl)
 
-  served_complete : limits.min_part ≤ length (pieces 1) → Succeeds limits after_two (ask.Complete bucket key [] etags) [] reply.Completed [] completed
+  served_complete : limits.min_part ≤ length (pieces 1) → Succeeds limits after_two (ask.Complete bucket key [] etags false) [] reply.Completed [] completed
   served_complete long =
-      inl (two_parts, whole, stored, open_two, (pieces 1 ∷ pieces 2 ∷ [], (one_is_there, (two_is_there, refl)), (long, tt), omega arith, refl), (object_of whole, refl, refl), refl)
+      inl (two_parts, whole, stored, open_two, λ never. absurd (false_true never), (pieces 1 ∷ pieces 2 ∷ [], (one_is_there, (two_is_there, refl)), (long, tt), omega arith, refl), (object_of whole, refl, refl), refl)
 
   all_faithful : AreFaithful upload
   all_faithful = (ready.first, (ready.first, (ready.first, (faithful_with after_two bucket key whole ready.first, later.faithful completed (faithful_with after_two bucket key whole ready.first)))))
@@ -212,7 +212,7 @@ module _ (limits : Limits) (bucket key : List ℕ) (start : State) (ready : IsRe
       which (inr (inr (inr (inr h)))) = let found = round_of (more completed) 8 c h in f c (sym (ap (λ (x : Dispatched). x.ask) found.3) ∙ later.is_ask completed found.0 found.2)
 
   completes_here : CompletesHere Told bucket key 2 (journal_of upload) (dispatched_from 0 upload) (dispatch_at 6 complete)
-  completes_here = record { id = []; etags = etags; is_complete = refl; counted = refl; created = is_created }
+  completes_here = record { id = []; etags = etags; fresh = false; is_complete = refl; counted = refl; created = is_created }
 
   upload_served : Serves limits created (part_ask 1) (part_body 1) (answer_by false (part_ask 1) [] 0) after_one → Serves limits after_one (part_ask 2) (part_body 2) (answer_by false (part_ask 2) [] 0) after_two
       → limits.min_part ≤ length (pieces 1) → AreServed limits completed (more completed) → AreServed limits start upload
@@ -274,7 +274,7 @@ parts_are_met limits bucket key pieces long = parts_met limits bucket key pieces
 
 -- ---- parts that are copied
 
-module _ (limits : Limits) (bucket key from_bucket from_key etag : List ℕ) (ranges : ℕ → ℕ × ℕ) (inside_one : IsWithin (ranges 1) etag) (inside_two : IsWithin (ranges 2) etag)
+module _ (limits : Limits) (bucket key from_bucket from_key etag : List ℕ) (ranges : ℕ → ℕ × ℕ) (inside_one : LiesWithin (ranges 1) etag) (inside_two : LiesWithin (ranges 2) etag)
     (long : limits.min_part ≤ length (bytes_within (ranges 1) etag)) (more : State → List Round) (later : AreLater bucket key more)
     (rest_served : (t : State) → HasBucket t from_bucket → AreServed limits t (more t)) where
   abbrev source_there : State
@@ -395,8 +395,8 @@ module _ (bucket key from_bucket from_key : List ℕ) (apart : (from_bucket ≡ 
       which_ask t r (inl e) = sym (ap (λ (x : Round). x.ask) e)
       which_ask t r (inr h) = absurd h
 
-module _ (limits : Limits) (bucket key from_bucket from_key etag : List ℕ) (ranges : ℕ → ℕ × ℕ) (apart : (from_bucket ≡ bucket) × (from_key ≡ key) → ⊥) (inside_one : IsWithin (ranges 1) etag)
-    (inside_two : IsWithin (ranges 2) etag) (long : limits.min_part ≤ length (bytes_within (ranges 1) etag)) where
+module _ (limits : Limits) (bucket key from_bucket from_key etag : List ℕ) (ranges : ℕ → ℕ × ℕ) (apart : (from_bucket ≡ bucket) × (from_key ≡ key) → ⊥) (inside_one : LiesWithin (ranges 1) etag)
+    (inside_two : LiesWithin (ranges 2) etag) (long : limits.min_part ≤ length (bytes_within (ranges 1) etag)) where
   abbrev moved_rounds : List Round
   moved_rounds =
       copied_rounds limits bucket key from_bucket from_key etag ranges inside_one inside_two long (source_deleted bucket key from_bucket from_key apart) (delete_later bucket key from_bucket from_key apart)
@@ -466,7 +466,7 @@ module _ (limits : Limits) (bucket key id : List ℕ) where
   served_aborts = (new_upload, record { held = is_held; bucket = refl; key = refl }, refl)
 
   abbrev puts : Round
-  puts = round (job_of 0 op.Put 0) (ask.Put bucket key None) [] [] (with_object opened bucket key (object_of []))
+  puts = round (job_of 0 op.Put 0) (ask.Put bucket key None false) [] [] (with_object opened bucket key (object_of []))
 
   put_create : job_of 0 op.Create 0 ≡ job_of 0 op.Put 0 → ⊥
   put_create e = apart_by_op (job_of 0 op.Put 0) (job_of 0 op.Create 0) (omega arith) (sym e)
@@ -490,7 +490,7 @@ module _ (limits : Limits) (bucket key id : List ℕ) where
     rest = steps_from 2 opened (puts ∷ []);
     journal = journal_of (creates ∷ puts ∷ []);
     dispatched = dispatched_from 0 (creates ∷ puts ∷ []);
-    runs = rounds_trace limits (creates ∷ puts ∷ []) 0 [] empty_service (served_creates, ((bare_has bucket [], (object_of [], refl, refl)), tt));
+    runs = rounds_trace limits (creates ∷ puts ∷ []) 0 [] empty_service (served_creates, ((bare_has bucket [], λ never. absurd (false_true never), (object_of [], refl, refl)), tt));
     fits = rounds_fit (creates ∷ puts ∷ []) empty_service two_apart;
     unnamed = λ c known names. unnamed c (has (dispatched_from 0 (creates ∷ puts ∷ [])) c known) names;
     begun = λ free. not_both (get opened.uploads id) new_upload free.not_open is_held;

@@ -45,3 +45,15 @@ pub in_parts : (config : Config) (limits : Limits) (size piece count : ℕ) → 
     → (1 ≤ piece) × (count ≡ piece_count size piece) × (config.threshold ≤ size)
 in_parts config limits size piece count valid large (inl a) = let above = ltb-false size config.threshold large in let below = a.0 in absurd (omega arith)
 in_parts config limits size piece count valid large (inr b) = (subst (λ n. 1 ≤ n) (sym b.1.2) (some_length limits b.1.0 valid), b.1.3, b.0)
+
+least_length : (limits : Limits) (found : ℕ) → IsValidLimits limits → limits.min_part ≤ within_limits limits found
+least_length limits found valid = which (nat_lt limits.max_part found)
+  where
+    which : (test : Bool) → limits.min_part ≤ (if test then limits.max_part else max limits.min_part found)
+    which true = valid.parts
+    which false = omega arith
+
+-- and a whole one is no shorter than the least that the service takes
+pub least_piece : (config : Config) (limits : Limits) (size piece count : ℕ) → IsValidLimits limits → nat_lt size config.threshold ≡ false → IsTransfer config limits size piece count → limits.min_part ≤ piece
+least_piece config limits size piece count valid large (inl a) = let above = ltb-false size config.threshold large in let below = a.0 in absurd (omega arith)
+least_piece config limits size piece count valid large (inr b) = subst (λ n. limits.min_part ≤ n) (sym b.1.2) (least_length limits b.1.0 valid)

@@ -1,12 +1,12 @@
 -- The pieces of a text, joined in order, are the text, and each is the range that a copy asks for.
 use Rattle.std.proofs.Common.{◌≡◌, ◌∙◌, ◌+◌, ◌-◌, ◌*◌, ◌<◌, ◌≤◌, ◌++◌, ℕ, zero, suc, min, List, refl, sym, ap, length, take, drop, arith}
-use Rattle.std.proofs.lemmas.List.{take_min, length-drop}
+use Rattle.std.proofs.lemmas.List.{take_min, length-drop, length-take}
 use Rattle.std.proofs.Math.Seq.{take-add, take_all, drop-drop}
 use Rattle.std.proofs.lemmas.Nat.{le-div}
 use Rattle.std.proofs.Math.Nat.{div-mul-le_self, mul-le-mul_right}
 use Rattle.s3_model.specs.Parts.{piece_count, piece_of}
-use Rattle.s3_model.specs.Schedule.{asked_range}
-use Rattle.s3_model.specs.Serves.{bytes_within}
+use Rattle.run_promise.specs.Schedule.{asked_range}
+use Rattle.s3_service.specs.Serves.{LiesWithin, bytes_within}
 use Rattle.world_laws.specs.Multipart.{joined}
 
 -- ---- numbers
@@ -14,7 +14,7 @@ use Rattle.world_laws.specs.Multipart.{joined}
 covered : (size piece : ℕ) → 1 ≤ piece → size ≤ piece_count size piece * piece
 covered size piece some = omega arith
 
-begins_inside : (size piece number : ℕ) → 1 ≤ piece → 1 ≤ size → 1 ≤ number → number ≤ piece_count size piece → (number - 1) * piece < size
+pub begins_inside : (size piece number : ℕ) → 1 ≤ piece → 1 ≤ size → 1 ≤ number → number ≤ piece_count size piece → (number - 1) * piece < size
 begins_inside size piece number some sized low high =
     let whole : piece_count size piece * piece ≤ size + piece - 1 = div-mul-le_self (size + piece - 1) piece in
     let up_to : number * piece ≤ piece_count size piece * piece = mul-le-mul_right piece high in
@@ -71,3 +71,21 @@ ranges_make_whole bytes piece some sized =
 -- what is not empty has a piece
 pub some_pieces : (size piece : ℕ) → 1 ≤ size → 1 ≤ piece → 1 ≤ piece_count size piece
 some_pieces size piece sized some = le-div 1 (size + piece - 1) piece some (omega arith)
+
+-- a piece before the last is a whole one
+pub whole_piece : (bytes : List ℕ) (piece number : ℕ) → 1 ≤ piece → 1 ≤ length bytes → 1 ≤ number → number < piece_count (length bytes) piece → length (piece_of bytes piece number) ≡ piece
+whole_piece bytes piece number some sized low before =
+    let next = begins_inside (length bytes) piece (number + 1) some sized (omega arith) (omega arith) in
+    let back : (number + 1 - 1) * piece ≡ (number - 1) * piece + piece = one_more number low in
+    let left = length-drop ((number - 1) * piece) bytes in
+    length-take piece (drop ((number - 1) * piece) bytes) ∙ omega arith
+  where
+    one_more : (n : ℕ) → 1 ≤ n → (n + 1 - 1) * piece ≡ (n - 1) * piece + piece
+    one_more zero l = absurd (omega arith)
+    one_more (suc n) l = let up_to : suc n + 1 - 1 ≡ n + 1 = omega arith in let back : suc n - 1 ≡ n = omega arith in rw up_to (rw back (omega arith))
+
+-- a piece's range lies within the whole
+pub range_within : (bytes : List ℕ) (piece number : ℕ) → 1 ≤ piece → 1 ≤ length bytes → 1 ≤ number → number ≤ piece_count (length bytes) piece → LiesWithin (asked_range (length bytes) piece number) bytes
+range_within bytes piece number some sized low high =
+    let inside = begins_inside (length bytes) piece number some sized low high in
+    (omega arith, omega arith)

@@ -5,9 +5,9 @@ use Rattle.s3_model.specs.declared.requests.Ask.TheVariants as ask
 use Rattle.s3_model.specs.declared.answers.Reply.{Reply}
 use Rattle.s3_model.specs.declared.answers.Reply.TheVariants as reply
 use Rattle.s3_model.specs.declared.settings.Limits.{Limits}
-use Rattle.s3_model.specs.ServiceState.{State, object_at, with_object, without_object}
-use Rattle.s3_model.specs.Listing.{Name, Remembers}
-use Rattle.s3_model.specs.Serves.{Succeeds, MayChange, Gains, ExternalWrite, Writes, Removes, after_external}
+use Rattle.s3_service.specs.ServiceState.{State, object_at, with_object, without_object}
+use Rattle.s3_service.specs.Listing.{Name, Remembers}
+use Rattle.s3_service.specs.Serves.{Succeeds, MayChange, Gains, ExternalWrite, Writes, Removes, after_external}
 use Rattle.world_laws.proofs.Objects.{object_at-with_object_other, object_at-without_object_other, place_decided}
 
 -- an external write is of this place
@@ -17,10 +17,10 @@ IsWriteOf (Removes b k) bucket key = (b ≡ bucket) × (k ≡ key)
 
 module _ (bucket key : List ℕ) where
   pub may_change_decided : (asked : Ask) → MayChange asked bucket key ⊎ (MayChange asked bucket key → ⊥)
-  may_change_decided (ask.Put b k content) = place_decided b k bucket key
+  may_change_decided (ask.Put b k content fresh) = place_decided b k bucket key
   may_change_decided (ask.Copy b k from_bucket from_key etag) = place_decided b k bucket key
   may_change_decided (ask.Delete b k) = place_decided b k bucket key
-  may_change_decided (ask.Complete b k id etags) = place_decided b k bucket key
+  may_change_decided (ask.Complete b k id etags fresh) = place_decided b k bucket key
   may_change_decided asked = inr (λ may. may)
 
   pub write_decided : (write : ExternalWrite) → IsWriteOf write bucket key ⊎ (IsWriteOf write bucket key → ⊥)
@@ -46,15 +46,15 @@ module _ (bucket key : List ℕ) where
       → Succeeds limits old asked body answered bytes new → (MayChange asked bucket key → ⊥) → object_at new bucket key ≡ object_at old bucket key
   success_elsewhere limits old (ask.Head b k) body (reply.Found size etag micros) bytes new h apart = unchanged old new h.4
   success_elsewhere limits old (ask.Get b k etag range) body (reply.Got status told size) bytes new h apart = unchanged old new h.3
-  success_elsewhere limits old (ask.Put b k content) body reply.Stored bytes new h apart = gained_elsewhere old b k body new h.1 apart
+  success_elsewhere limits old (ask.Put b k content fresh) body reply.Stored bytes new h apart = gained_elsewhere old b k body new h.2 apart
   success_elsewhere limits old (ask.Copy b k from_bucket from_key etag) body reply.Copied bytes new h apart = gained_elsewhere old b k h.0.bytes new h.3 apart
   success_elsewhere limits old (ask.Delete b k) body reply.Gone bytes new h apart = unchanged (without_object old b k) new h.1 ∙ object_at-without_object_other old b k bucket key apart
   success_elsewhere limits old (ask.Create b k content) body (reply.Created id) bytes new h apart = ap (λ (t : State). object_at t bucket key) h.5
   success_elsewhere limits old (ask.Part b k id number) body (reply.PartStored etag) bytes new h apart = ap (λ (t : State). object_at t bucket key) h.2
   success_elsewhere limits old (ask.PartCopy b k id number from_bucket from_key etag range) body (reply.PartStored stored) bytes new h apart = ap (λ (t : State). object_at t bucket key) h.5
-  success_elsewhere limits old (ask.Complete b k id etags) body reply.Completed bytes new (inl h) apart =
-      ap (λ (t : State). object_at t bucket key) h.6 ∙ gained_elsewhere old b k h.1 h.2 h.5 apart
-  success_elsewhere limits old (ask.Complete b k id etags) body reply.Completed bytes new (inr h) apart = unchanged old new h.1
+  success_elsewhere limits old (ask.Complete b k id etags fresh) body reply.Completed bytes new (inl h) apart =
+      ap (λ (t : State). object_at t bucket key) h.7 ∙ gained_elsewhere old b k h.1 h.2 h.6 apart
+  success_elsewhere limits old (ask.Complete b k id etags fresh) body reply.Completed bytes new (inr h) apart = unchanged old new h.1
   success_elsewhere limits old (ask.Abort b k id) body reply.Gone bytes new h apart = ap (λ (t : State). object_at t bucket key) h.2
   success_elsewhere limits old (ask.List b prefix delimited token) body (reply.Listed page) bytes new h apart = listing_leaves old h.1.1 h.1.2 page.more page.token new h.1.8
   success_elsewhere limits old ask.Buckets body (reply.BucketList buckets) bytes new h apart = unchanged old new h.1

@@ -7,19 +7,22 @@ use Rattle.std.proofs.lemmas.List.Kept.{AllPairs-cons}
 use Rattle.std.proofs.lemmas.List.Sums.{sum_by-cons}
 use Rattle.std.proofs.lemmas.Option.{slice_get_within}
 use Rattle.s3_model.specs.declared.requests.Ask.{Ask}
+use Rattle.s3_model.specs.declared.answers.Reply.{Reply}
+use Rattle.s3_model.specs.declared.answers.Reply.TheVariants as reply
+use Rattle.s3_model.specs.Replies.{IsSameReply}
 use Rattle.s3_model.specs.declared.answers.Class.{Class}
 use Rattle.s3_model.specs.declared.outcomes.JobId.{JobId}
 use Rattle.s3_model.specs.declared.outcomes.Event.{Event}
 use Rattle.s3_model.specs.declared.outcomes.Event.TheVariants as entry
 use Rattle.s3_model.specs.declared.settings.Limits.{Limits}
 use Rattle.s3_model.specs.declared.tries.Mark.{Mark}
-use Rattle.s3_model.specs.ServiceState.{State}
-use Rattle.s3_model.specs.Serves.{Answer}
-use Rattle.s3_model.specs.Dispatches.{Attempt, Dispatched, is_job}
-use Rattle.s3_model.specs.Traces.{Request, TraceEvent, Given, Begin, Serve, Came, IsTrace, IsSameAttempt, events_of, event_of, begun_in, served_in, is_begin_of, marks_come}
-use Rattle.s3_model.specs.Fits.{Fits, Names, request_at, requests_of}
+use Rattle.s3_service.specs.ServiceState.{State}
+use Rattle.s3_service.specs.Serves.{Answer}
+use Rattle.run_promise.specs.Dispatches.{Attempt, Dispatched, is_job}
+use Rattle.run_promise.specs.Traces.{Request, TraceEvent, Given, Begin, Serve, Came, IsTrace, IsSameAttempt, events_of, event_of, begun_in, served_in, is_begin_of, marks_come}
+use Rattle.run_promise.specs.Fits.{Fits, Names, request_at, requests_of}
 use Rattle.world_laws.specs.Premises.{AreGiven, HasCome}
-use Rattle.world_laws.specs.Rounds.{Told, Round, answer_by, mark_by, ending_by, attempt_of, dispatch_at, dispatched_from, journal_of, steps_from, AreServed}
+use Rattle.world_laws.specs.Rounds.{reply_to, Told, Round, answer_by, mark_by, ending_by, attempt_of, dispatch_at, dispatched_from, journal_of, steps_from, AreServed}
 use Rattle.world_laws.proofs.Members.{Has, has, contains_of, has_middle, head_is, tail_is, place_middle}
 use Rattle.world_laws.proofs.Jobs.{job_itself}
 
@@ -188,11 +191,17 @@ served_is (r ∷ rounds) place old sent answer (inr (inr (inr (inr h)))) =
     let rest = served_is rounds (place + 2) r.after sent answer h in
     record { round = rest.round; among = inr rest.among; at = rest.at; known = inr rest.known; is_sent = rest.is_sent; is_answer = rest.is_answer }
 
+-- a reply is the same as itself
+pub same_reply : (a : Reply) → IsSameReply a a
+same_reply (reply.Listed page) = (refl, refl, refl, refl)
+same_reply (reply.BucketList buckets) = refl
+same_reply a = refl
+
 -- the talk of a round names its answer
 names_answer : (refused : Bool) (asked : Ask) (got : List ℕ) (size : ℕ) (shown : Class) (bytes : List ℕ) (answer : Answer)
     → Told asked 0 (record { host = []; port = size; sent = []; got = got; ending = ending_by refused }) shown bytes → answer ≡ answer_by refused asked got size → Names shown bytes answer
 names_answer true asked got size shown bytes answer told is = rw told.0 is
-names_answer false asked got size shown bytes answer told is = rw (told.0, told.1) is
+names_answer false asked got size shown bytes answer told is = rw (told.0, told.1) (reply_to asked got size, same_reply (reply_to asked got size), is)
 
 -- ---- each is served once
 
@@ -237,7 +246,7 @@ came_is (r ∷ rounds) place old job lane tries (inr (inr (inl e))) = absurd (se
 came_is (r ∷ rounds) place old job lane tries (inr (inr (inr (inl e)))) = (r, inl refl, came_job e)
 came_is (r ∷ rounds) place old job lane tries (inr (inr (inr (inr h)))) = let rest = came_is rounds (place + 2) r.after job lane tries h in (rest.0, inr rest.1, rest.2)
 
-first_attempt : (r : Round) (k : ℕ) (attempt : Attempt) → slice_get (attempt_of r ∷ []) k ≡ Some attempt → k ≡ 0
+pub first_attempt : (r : Round) (k : ℕ) (attempt : Attempt) → slice_get (attempt_of r ∷ []) k ≡ Some attempt → k ≡ 0
 first_attempt r k attempt e = let inside = slice_get_within (attempt_of r ∷ []) k attempt e in omega arith
 
 -- a request of a dispatch that was served, by its round
@@ -299,13 +308,15 @@ pub record StandsAt (journal : List Event) (c : Dispatched) : Type 0 where
   pub tries : List Mark
   pub comes : c.dispatch.came_at ≡ Some (c.dispatch.given_at + 1)
   pub came : slice_get journal (c.dispatch.given_at + 1) ≡ Some (entry.Came c.dispatch.job c.dispatch.lane tries)
+  pub counted : length tries ≡ length c.dispatch.attempts
 
-stands_at : (rounds : List Round) (place : ℕ) (front : List Event) (c : Dispatched) → length front ≡ place → Has (dispatched_from place rounds) c → StandsAt (front ++ journal_of rounds) c
+pub stands_at : (rounds : List Round) (place : ℕ) (front : List Event) (c : Dispatched) → length front ≡ place → Has (dispatched_from place rounds) c → StandsAt (front ++ journal_of rounds) c
 stands_at [] place front c long h = absurd h
 stands_at (r ∷ rounds) place front c long (inl here) = subst (StandsAt (front ++ journal_of (r ∷ rounds))) here (record {
   given = ap (slice_get (front ++ journal_of (r ∷ rounds))) (sym long) ∙ place_middle front (entry.Given r.job 0) (entry.Came r.job 0 (mark_by r.refused ∷ []) ∷ journal_of rounds);
   tries = mark_by r.refused ∷ [];
   comes = refl;
+  counted = refl;
   came = ap (slice_get (front ++ journal_of (r ∷ rounds))) (sym one_on) ∙ ap (λ (j : List Event). slice_get j (length (front ++ entry.Given r.job 0 ∷ []))) (sym (append_assoc front (entry.Given r.job 0 ∷ []) (entry.Came r.job 0 (mark_by r.refused ∷ []) ∷ journal_of rounds)))
       ∙ place_middle (front ++ entry.Given r.job 0 ∷ []) (entry.Came r.job 0 (mark_by r.refused ∷ [])) (journal_of rounds);
 })

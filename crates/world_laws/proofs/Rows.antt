@@ -2,6 +2,7 @@
 use Rattle.std.proofs.Common.{◌≡◌, ◌∙◌, ◌⊎◌, ℕ, Bool, true, false, List, Option, Some, None, refl, sym, ap, subst, inl, inr, length}
 use Rattle.s3_model.specs.declared.requests.Ask.{Ask}
 use Rattle.s3_model.specs.declared.requests.Ask.TheVariants as ask
+use Rattle.s3_model.specs.declared.answers.Class.{Class}
 use Rattle.s3_model.specs.declared.requests.Op.{Op}
 use Rattle.s3_model.specs.declared.requests.Op.TheVariants as op
 use Rattle.s3_model.specs.declared.places.Place.{Place}
@@ -10,11 +11,13 @@ use Rattle.s3_model.specs.declared.tasks.Kind.{Kind}
 use Rattle.s3_model.specs.declared.tasks.Kind.TheVariants as kind
 use Rattle.s3_model.specs.declared.tasks.Task.{Task}
 use Rattle.s3_model.specs.Lists.{Reserved}
-use Rattle.s3_model.specs.Dispatches.{op_number}
+use Rattle.run_promise.specs.Dispatches.{Dispatched, FitsAsk, op_number}
 use Rattle.s3_model.specs.Parts.{piece_of}
-use Rattle.s3_model.specs.Serves.{MayChange}
-use Rattle.s3_model.specs.Schedule.{Gained, IsObject, IsSource, IsUpload, Known, Ends, Source, IsTaskAsk, asked_range}
-use Rattle.world_laws.specs.Tasks.{deciding}
+use Rattle.s3_service.specs.ServiceState.{State}
+use Rattle.s3_service.specs.Serves.{MayChange, MayRefuse, IsTakenOnlyWhereThere}
+use Rattle.world_laws.specs.Tasks.{IsConditional}
+use Rattle.run_promise.specs.Schedule.{Gained, IsObject, IsSource, IsUpload, Known, Target, Origin, IsTaskAsk, asked_range}
+use Rattle.run_promise.specs.Outcomes.{deciding, IsDecidedByRequest}
 use Rattle.world_laws.proofs.Jobs.{op_same}
 
 -- a place is an object in one way
@@ -47,13 +50,14 @@ pub record CompletesAt (gained : Gained) (known : Known) (asked : Ask) (bucket k
   pub etags : Reserved (List ℕ)
   pub counted : length etags.items ≡ known.count
   pub created : IsUpload gained known.number id
-  pub is_complete : asked ≡ ask.Complete bucket key id etags
+  pub fresh : Bool
+  pub is_complete : asked ≡ ask.Complete bucket key id etags fresh
 
 -- the request changes its task's destination, as its kind does
 abbrev pub ChangesAs : Gained → Task → Known → Kind → Bool → Ask → List ℕ → List ℕ → List ℕ → Type 0
-ChangesAs gained task known kind.Upload true asked body bucket key = (content : Option (List ℕ)) × (asked ≡ ask.Put bucket key content) × (body ≡ known.bytes)
+ChangesAs gained task known kind.Upload true asked body bucket key = (content : Option (List ℕ)) × (fresh : Bool) × (asked ≡ ask.Put bucket key content fresh) × (body ≡ known.bytes)
 ChangesAs gained task known kind.Upload false asked body bucket key = CompletesAt gained known asked bucket key
-ChangesAs gained task known kind.Copy true asked body bucket key = (from : Source task) × (asked ≡ ask.Copy bucket key from.bucket from.key task.etag)
+ChangesAs gained task known kind.Copy true asked body bucket key = (from : Origin task) × (asked ≡ ask.Copy bucket key from.bucket from.key task.etag)
 ChangesAs gained task known kind.Copy false asked body bucket key = CompletesAt gained known asked bucket key
 ChangesAs gained task known kind.RemoveObject small asked body bucket key = asked ≡ ask.Delete bucket key
 ChangesAs gained task known of_kind small asked body bucket key = ⊥
@@ -75,11 +79,11 @@ module _ (gained : Gained) (task : Task) (known : Known) (bucket key : List ℕ)
   abbrev pub IsChange : Kind → Bool → Op → ℕ → Ask → List ℕ → Type 0
   IsChange of_kind small of_op number asked body = IsDeciding of_kind small of_op number asked body ⊎ DeletesSource task asked bucket key
 
-  put_is : (to : Ends task) (content : Option (List ℕ)) (asked : Ask) → asked ≡ ask.Put to.bucket to.key content → MayChange asked bucket key → (to.bucket ≡ bucket) × (to.key ≡ key)
-  put_is to content asked is may = subst (λ (a : Ask). MayChange a bucket key) is may
+  put_is : (to : Target task) (content : Option (List ℕ)) (fresh : Bool) (asked : Ask) → asked ≡ ask.Put to.bucket to.key content fresh → MayChange asked bucket key → (to.bucket ≡ bucket) × (to.key ≡ key)
+  put_is to content fresh asked is may = subst (λ (a : Ask). MayChange a bucket key) is may
 
-  completes_at : (to : Ends task) (id : List ℕ) (etags : List (List ℕ)) (spare : ℕ) (asked : Ask) → IsUpload gained known.number id → length etags ≡ known.count
-      → asked ≡ ask.Complete to.bucket to.key id (record { items = etags; spare = spare }) → MayChange asked bucket key → IsObject task.dest bucket key × CompletesAt gained known asked bucket key
+  completes_at : (to : Target task) (id : List ℕ) (etags : List (List ℕ)) (spare : ℕ) (asked : Ask) → IsUpload gained known.number id → length etags ≡ known.count
+      → asked ≡ ask.Complete to.bucket to.key id (record { items = etags; spare = spare }) task.fresh → MayChange asked bucket key → IsObject task.dest bucket key × CompletesAt gained known asked bucket key
   completes_at to id etags spare asked created counted is may =
       let same : (to.bucket ≡ bucket) × (to.key ≡ key) = subst (λ (a : Ask). MayChange a bucket key) is may in (
         moved_place task.dest to.bucket to.key bucket key to.is_dest same.0 same.1,
@@ -88,11 +92,13 @@ module _ (gained : Gained) (task : Task) (known : Known) (bucket key : List ℕ)
           etags = record { items = etags; spare = spare };
           counted = counted;
           created = created;
-          is_complete = is ∙ ap (λ (b : List ℕ). ask.Complete b to.key id (record { items = etags; spare = spare })) same.0 ∙ ap (λ (k : List ℕ). ask.Complete bucket k id (record { items = etags; spare = spare })) same.1;
+          fresh = task.fresh;
+          is_complete = is ∙ ap (λ (b : List ℕ). ask.Complete b to.key id (record { items = etags; spare = spare }) task.fresh) same.0
+              ∙ ap (λ (k : List ℕ). ask.Complete bucket k id (record { items = etags; spare = spare }) task.fresh) same.1;
         },
       )
 
-  deletes_source : (from : Source task) (asked : Ask) → task.moves ≡ true → asked ≡ ask.Delete from.bucket from.key → MayChange asked bucket key → DeletesSource task asked bucket key
+  deletes_source : (from : Origin task) (asked : Ask) → task.moves ≡ true → asked ≡ ask.Delete from.bucket from.key → MayChange asked bucket key → DeletesSource task asked bucket key
   deletes_source from asked moves is may =
       let same : (from.bucket ≡ bucket) × (from.key ≡ key) = subst (λ (a : Ask). MayChange a bucket key) is may in
       record {
@@ -111,7 +117,7 @@ module _ (gained : Gained) (task : Task) (known : Known) (bucket key : List ℕ)
       let same : (row.0.bucket ≡ bucket) × (row.0.key ≡ key) = subst (λ (a : Ask). MayChange a bucket key) row.2 may in
       inl (record {
         is_dest = moved_place task.dest row.0.bucket row.0.key bucket key row.0.is_dest same.0 same.1;
-        changes = (task.content, row.2 ∙ ap (λ (b : List ℕ). ask.Put b row.0.key task.content) same.0 ∙ ap (λ (k : List ℕ). ask.Put bucket k task.content) same.1, row.3);
+        changes = (task.content, task.fresh, row.2 ∙ ap (λ (b : List ℕ). ask.Put b row.0.key task.content task.fresh) same.0 ∙ ap (λ (k : List ℕ). ask.Put bucket k task.content task.fresh) same.1, row.3);
         is_op = refl;
         is_first = row.1;
       })
@@ -159,21 +165,21 @@ module _ (gained : Gained) (task : Task) (known : Known) (bucket key : List ℕ)
 
 -- ---- which request an op makes
 
-abbrev ask_number : Ask → ℕ
+abbrev pub ask_number : Ask → ℕ
 ask_number (ask.Head bucket key) = 0
 ask_number (ask.Get bucket key etag range) = 1
-ask_number (ask.Put bucket key content) = 2
+ask_number (ask.Put bucket key content fresh) = 2
 ask_number (ask.Copy bucket key from_bucket from_key etag) = 3
 ask_number (ask.Delete bucket key) = 4
 ask_number (ask.Create bucket key content) = 5
 ask_number (ask.Part bucket key upload number) = 6
 ask_number (ask.PartCopy bucket key upload number from_bucket from_key etag range) = 7
-ask_number (ask.Complete bucket key upload etags) = 8
+ask_number (ask.Complete bucket key upload etags fresh) = 8
 ask_number (ask.Abort bucket key upload) = 9
 ask_number (ask.List bucket prefix delimited token) = 10
 ask_number ask.Buckets = 11
 
-row_op : (gained : Gained) (task : Task) (known : Known) (of_kind : Kind) (small : Bool) (of_op : Op) (number : ℕ) (asked : Ask) (body : List ℕ) → IsTaskAsk gained task known of_kind small of_op number asked body
+pub row_op : (gained : Gained) (task : Task) (known : Known) (of_kind : Kind) (small : Bool) (of_op : Op) (number : ℕ) (asked : Ask) (body : List ℕ) → IsTaskAsk gained task known of_kind small of_op number asked body
     → ask_number asked ≡ op_number of_op
 row_op gained task known kind.Upload true op.Put number asked body row = ap ask_number row.2
 row_op gained task known kind.Upload false op.Create number asked body row = ap ask_number row.2
@@ -230,7 +236,7 @@ module _ (gained : Gained) (task : Task) (known : Known) (bucket key id : List �
     pub record IsRangeOf (of_kind : Kind) : Type 0 where
       pub is_dest : IsObject task.dest bucket key
       pub is_copy : of_kind ≡ kind.Copy
-      pub from : Source task
+      pub from : Origin task
       pub bucket_is : b ≡ from.bucket
       pub key_is : k ≡ from.key
       pub etag_is : under ≡ task.etag
@@ -266,7 +272,7 @@ module _ (gained : Gained) (task : Task) (known : Known) (bucket key id : List �
 module _ (gained : Gained) (task : Task) (known : Known) where
   -- a Create goes to its task's destination
   pub record CreatesAt (asked : Ask) : Type 0 where
-    pub to : Ends task
+    pub to : Target task
     pub content : Option (List ℕ)
     pub creates : asked ≡ ask.Create to.bucket to.key content
 
@@ -283,11 +289,11 @@ module _ (gained : Gained) (task : Task) (known : Known) where
   row_create kind.RemoveFile false number asked body row = absurd row
 
   -- the request that decides a task may change its destination
-  changes_dest : (to : Ends task) (asked other : Ask) → asked ≡ other → MayChange other to.bucket to.key → (at : Ends task) × MayChange asked at.bucket at.key
+  changes_dest : (to : Target task) (asked other : Ask) → asked ≡ other → MayChange other to.bucket to.key → (at : Target task) × MayChange asked at.bucket at.key
   changes_dest to asked other is may = (to, subst (λ (a : Ask). MayChange a to.bucket to.key) (sym is) may)
 
   pub row_decides : (of_kind : Kind) (small : Bool) (number : ℕ) (asked : Ask) (body : List ℕ) → IsTaskAsk gained task known of_kind small (deciding of_kind small) number asked body
-      → ((at : Ends task) × MayChange asked at.bucket at.key) ⊎ (of_kind ≡ kind.Download)
+      → ((at : Target task) × MayChange asked at.bucket at.key) ⊎ (of_kind ≡ kind.Download)
   row_decides kind.Upload true number asked body row = inl (changes_dest row.0 asked _ row.2 (refl, refl))
   row_decides kind.Upload false number asked body row = inl (changes_dest row.0.0 asked _ row.0.6 (refl, refl))
   row_decides kind.Copy true number asked body row = inl (changes_dest row.0 asked _ row.3 (refl, refl))
@@ -297,10 +303,36 @@ module _ (gained : Gained) (task : Task) (known : Known) where
   row_decides kind.Download small number asked body row = inr refl
   row_decides kind.RemoveFile small number asked body row = absurd row
 
+  -- the request that decides a task and can be told not to replace is told so where the task is not to replace
+  pub row_fresh : (of_kind : Kind) (small : Bool) (number : ℕ) (asked : Ask) (body : List ℕ) → IsTaskAsk gained task known of_kind small (deciding of_kind small) number asked body → IsConditional of_kind small
+      → (to : Target task) × ((t : State) (code : List ℕ) → MayRefuse t asked code → IsTakenOnlyWhereThere task.fresh t to.bucket to.key code)
+  row_fresh kind.Upload true number asked body row may = (row.0, λ t code refused. subst (λ (a : Ask). MayRefuse t a code) row.2 refused)
+  row_fresh kind.Upload false number asked body row may = (row.0.0, λ t code refused. subst (λ (a : Ask). MayRefuse t a code) row.0.6 refused)
+  row_fresh kind.Copy false number asked body row may = (row.0.0, λ t code refused. subst (λ (a : Ask). MayRefuse t a code) row.0.6 refused)
+  row_fresh kind.Copy true number asked body row may = absurd may
+  row_fresh kind.Download true number asked body row may = absurd may
+  row_fresh kind.Download false number asked body row may = absurd may
+  row_fresh kind.RemoveObject true number asked body row may = absurd may
+  row_fresh kind.RemoveObject false number asked body row may = absurd may
+  row_fresh kind.RemoveFile true number asked body row may = absurd may
+  row_fresh kind.RemoveFile false number asked body row may = absurd may
+
+  -- every success fits the request that decides a task
+  pub row_fits : (of_kind : Kind) (small : Bool) (number : ℕ) (asked : Ask) (body : List ℕ) → IsTaskAsk gained task known of_kind small (deciding of_kind small) number asked body → IsDecidedByRequest of_kind
+      → (c : Dispatched) (shown : Class) → FitsAsk c asked shown
+  row_fits kind.Upload true number asked body row by c shown = subst (λ (a : Ask). FitsAsk c a shown) (sym row.2) tt
+  row_fits kind.Upload false number asked body row by c shown = subst (λ (a : Ask). FitsAsk c a shown) (sym row.0.6) tt
+  row_fits kind.Copy true number asked body row by c shown = subst (λ (a : Ask). FitsAsk c a shown) (sym row.3) tt
+  row_fits kind.Copy false number asked body row by c shown = subst (λ (a : Ask). FitsAsk c a shown) (sym row.0.6) tt
+  row_fits kind.RemoveObject true number asked body row by c shown = subst (λ (a : Ask). FitsAsk c a shown) (sym row.2) tt
+  row_fits kind.RemoveObject false number asked body row by c shown = subst (λ (a : Ask). FitsAsk c a shown) (sym row.2) tt
+  row_fits kind.Download small number asked body row by c shown = absurd by
+  row_fits kind.RemoveFile small number asked body row by c shown = absurd by
+
   -- a Delete of a task that removes nothing is that of its moved source
   pub record IsOfSource (asked : Ask) : Type 0 where
     pub moves : task.moves ≡ true
-    pub from : Source task
+    pub from : Origin task
     pub deletes : asked ≡ ask.Delete from.bucket from.key
 
   pub row_source : (of_kind : Kind) (small : Bool) (number : ℕ) (asked : Ask) (body : List ℕ) → IsTaskAsk gained task known of_kind small op.Delete number asked body → (of_kind ≡ kind.RemoveObject → ⊥) → IsOfSource asked

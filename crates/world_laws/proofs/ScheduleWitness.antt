@@ -14,20 +14,23 @@ use Rattle.s3_model.specs.declared.outcomes.JobId.{JobId}
 use Rattle.s3_model.specs.declared.places.Place.TheVariants as place
 use Rattle.s3_model.specs.declared.settings.Config.{Config}
 use Rattle.s3_model.specs.declared.settings.Limits.{Limits}
-use Rattle.s3_model.specs.declared.tasks.Kind.TheVariants as kind
 use Rattle.s3_model.specs.declared.tasks.Task.{Task}
 use Rattle.s3_model.specs.Parts.{HasPieces}
-use Rattle.s3_model.specs.Dispatches.{Dispatched, FitsAsk, IsCompletedWell, op_number}
-use Rattle.s3_model.specs.Fits.{request_at}
-use Rattle.s3_model.specs.Truthful.{IsDest}
+use Rattle.run_promise.specs.Dispatches.{Dispatched, FitsAsk, IsCompletedWell, op_number}
+use Rattle.run_promise.specs.Fits.{request_at}
+use Rattle.run_promise.specs.Outcomes.{deciding}
+use Rattle.run_promise.specs.Traces.{states}
+use Rattle.s3_service.specs.ServiceState.{State}
+use Rattle.run_promise.specs.Truthful.{IsDest}
 use Rattle.s3_model.specs.Validity.{IsValidConfig, IsValidLimits}
-use Rattle.s3_model.specs.Schedule.{Setting, limit_of, Ends, Source, IsSchedule, IsTaskAsk, IsBefore, IsBeforeAny, IsDecided, IsObject, IsSource, IsFailed, gained_before, is_small, job_of, source_bytes}
+use Rattle.run_promise.specs.Schedule.{Setting, limit_of, Target, Origin, IsSchedule, IsTaskAsk, IsBefore, IsBeforeAny, IsDecided, IsObject, IsSource, IsFailed, gained_before, is_planning, planning_of, is_small, job_of, source_bytes}
 use Rattle.world_laws.specs.Premises.{IsFitting, AllRefused}
-use Rattle.world_laws.specs.Rounds.{Told, Round, mark_by, dispatch_at, dispatched_from, journal_of, steps_from}
-use Rattle.world_laws.specs.Tasks.{IsPlanning, IsScheduled}
-use Rattle.world_laws.specs.Witnesses.{IsTaskMet, IsRefusedTaskMet, TaskIsMet, RefusedTaskIsMet}
-use Rattle.world_laws.proofs.Members.{Has, has, has_at, has_middle, contains_of}
-use Rattle.world_laws.proofs.Faithful.{bare_is_faithful, faithful_without, rounds_fitting}
+use Rattle.world_laws.specs.Rounds.{AreServed, Told, Round, mark_by, dispatch_at, dispatched_from, journal_of, steps_from}
+use Rattle.world_laws.specs.Tasks.{AreApart, AreQuestions, HasSource, IsScheduled}
+use Rattle.world_laws.specs.Witnesses.{moved_copy, removal, IsTaskMet, IsRefusedTaskMet, TaskIsMet, RefusedTaskIsMet}
+use Rattle.world_laws.proofs.Tasks.{planned_none}
+use Rattle.world_laws.proofs.Members.{Has, has, kept, passes, has_at, has_middle, contains_of}
+use Rattle.world_laws.proofs.Faithful.{IsFaithful, bare_is_faithful, faithful_without, rounds_fitting}
 use Rattle.world_laws.proofs.Witnesses.{succeeds, with_source, source_is_faithful, copied, copy, source_gone, move, move_served, move_apart, copied_is_faithful, one_bucket, refused_delete, is_refused, alone}
 use Rattle.world_laws.proofs.Rounds.{AreApart as AreOtherJobs, round_of, rounds_numbered, rounds_given, rounds_come}
 
@@ -43,11 +46,11 @@ pub record CameWell (r : Round) : Type 0 where
   pub not_refused : r.refused ≡ false
   pub fits_ask : (place : ℕ) (shown : Class) → FitsAsk (dispatch_at place r) r.ask shown
 
-abbrev AllPlain : List Round → Type 0
+abbrev pub AllPlain : List Round → Type 0
 AllPlain rounds = (r : Round) → Has rounds r → IsPlainRound r
 
 -- they come in order
-abbrev ComesBefore : Dispatched → Dispatched → Type 0
+abbrev pub ComesBefore : Dispatched → Dispatched → Type 0
 ComesBefore a b = IsBeforeAny a.dispatch.came_at b.dispatch.came_at
 
 later_places : (rounds : List Round) (place : ℕ) (c : Dispatched) → Has (dispatched_from place rounds) c → (at : ℕ) × (c.dispatch.came_at ≡ Some at) × (place < at)
@@ -55,7 +58,7 @@ later_places [] place c h = absurd h
 later_places (r ∷ rounds) place c (inl e) = (place + 1, sym (ap (λ (d : Dispatched). d.dispatch.came_at) e), omega arith)
 later_places (r ∷ rounds) place c (inr h) = let rest = later_places rounds (place + 2) c h in let beyond = rest.2 in (rest.0, rest.1, omega arith)
 
-in_order : (rounds : List Round) (place : ℕ) → AllPairs ComesBefore (dispatched_from place rounds)
+pub in_order : (rounds : List Round) (place : ℕ) → AllPairs ComesBefore (dispatched_from place rounds)
 in_order [] place = λ i j d before inside. absurd (omega arith)
 in_order (r ∷ rounds) place =
     AllPairs-cons ComesBefore (dispatch_at place r) (dispatched_from (place + 2) rounds)
@@ -66,10 +69,19 @@ in_order (r ∷ rounds) place =
     subst (λ (o : Option ℕ). IsBeforeAny (Some (place + 1)) o) (sym found.1) (omega arith))
     (in_order rounds (place + 2))
 
+-- what has no item is empty
+nothing_in : (xs : List Dispatched) → ((c : Dispatched) → Has xs c → ⊥) → xs ≡ []
+nothing_in [] never = refl
+nothing_in (c ∷ xs) never = absurd (never c (inl refl))
+
+-- no job of planning
+no_questions : AreQuestions []
+no_questions c known = absurd (has [] c known)
+
 -- ---- a schedule
 
 module _ (s : Setting) (rounds : List Round) (apart : AreOtherJobs rounds) (plain : AllPlain rounds) where
-  abbrev all : List Dispatched
+  abbrev pub all : List Dispatched
   all = dispatched_from 0 rounds
 
   -- each is a plain round
@@ -80,7 +92,7 @@ module _ (s : Setting) (rounds : List Round) (apart : AreOtherJobs rounds) (plai
   op_of_round c known of_op never is = let found = plain_of c known in never found.0 found.2 (ap (λ (d : Dispatched). d.dispatch.job.op) found.3 ∙ is)
 
   -- one place stands for one job
-  same_place : (i j : ℕ) (a b : Dispatched) → i < j → slice_get all i ≡ Some a → slice_get all j ≡ Some b → a.dispatch.job ≡ b.dispatch.job → ⊥
+  pub same_place : (i j : ℕ) (a b : Dispatched) → i < j → slice_get all i ≡ Some a → slice_get all j ≡ Some b → a.dispatch.job ≡ b.dispatch.job → ⊥
   same_place i j a b before at_i at_j same =
       let pair = rounds_numbered rounds 0 apart i j a before (slice_get_within all j b at_j) in
       let first = get_or_from_slice_get all i a a at_i in
@@ -95,23 +107,25 @@ module _ (s : Setting) (rounds : List Round) (apart : AreOtherJobs rounds) (plai
       absurd (omega arith)
 
   -- no job is given after a dispatch that failed
-  abbrev NoneAfterFailed : Type 0
+  abbrev pub NoneAfterFailed : Type 0
   NoneAfterFailed = (failed c : Dispatched) → IsFailed Told s all failed → Contains all c → IsBefore failed.dispatch.came_at c.dispatch.given_at → ⊥
 
-  rounds_schedule : s.dryrun ≡ false → NoneAfterFailed → ((c : Dispatched) (n : ℕ) → Contains all c → c.dispatch.job.task ≡ Some n
+  pub rounds_schedule : (Plans : List Dispatched → Type 0) → Plans [] → s.dryrun ≡ false → NoneAfterFailed → ((c : Dispatched) (n : ℕ) → Contains all c → c.dispatch.job.task ≡ Some n
       → (task : Task) × (piece : ℕ) × (count : ℕ) × (slice_get s.tasks n ≡ Some task) × HasPieces s.config s.limits task.kind task.size piece count × (c.size ≡ task.size)
       × (c.limit ≡ limit_of task.size piece c.dispatch.job.number c.ask) × IsTaskAsk (gained_before Told all c.dispatch.given_at) task (record { number = n; bytes = source_bytes s.held task.source; piece = piece; count = count })
       task.kind (is_small s task) c.dispatch.job.op c.dispatch.job.number c.ask c.body)
       → ((c : Dispatched) (n : ℕ) (task : Task) → Contains all c → c.dispatch.job.task ≡ Some n → slice_get s.tasks n ≡ Some task → task.moves ≡ true → c.dispatch.job.op ≡ op.Delete
       → IsDecided s task n (gained_before Told all c.dispatch.given_at))
-      → IsSchedule Told s (λ gained c. IsPlanning c.ask) all all
-  rounds_schedule carried_out none_after asks moves_last = record {
+      → IsSchedule Told s Plans all all
+  rounds_schedule Plans no_plans carried_out none_after asks moves_last = record {
     is_coming = IsPermutation-refl all;
     in_order = in_order rounds 0;
     asks = asks;
-    planned_limit = λ c known none. let found = plain_of c known in absurd (none_task c found.0 found.1 found.2 found.3 none);
     dry = λ c dried known. absurd (other_test (sym carried_out ∙ dried));
-    plans = λ c known none. let found = plain_of c known in absurd (none_task c found.0 found.1 found.2 found.3 none);
+    plans = subst Plans (sym (nothing_in (planning_of all) no_planning)) no_plans;
+    planned = λ c known none. let found = plain_of c known in absurd (none_task c found.0 found.1 found.2 found.3 none);
+    numbered = λ k c at. absurd (no_planning c (has_at (planning_of all) k c at));
+    one_by_one = λ i j d before inside. absurd (no_planning (get_or (planning_of all) j d) (has (planning_of all) (get_or (planning_of all) j d) (Contains-get_or (planning_of all) j d inside)));
     twice = λ i j d before inside same. absurd (never_twice i j d before inside same);
     no_third = λ a b c i j k before after at_i at_j at_k first second. same_place i j a b before at_i at_j first;
     stops = λ failed c is_failed of_task no_abort known same before. absurd (none_after failed c is_failed known before);
@@ -130,6 +144,9 @@ module _ (s : Setting) (rounds : List Round) (apart : AreOtherJobs rounds) (plai
       none_task : (c : Dispatched) (r : Round) (at : ℕ) → IsPlainRound r → dispatch_at at r ≡ c → c.dispatch.job.task ≡ None → ⊥
       none_task c r at p is none = none_some p.task (sym none ∙ sym (ap (λ (d : Dispatched). d.dispatch.job.task) is) ∙ p.of_task)
 
+      no_planning : (c : Dispatched) → Has (planning_of all) c → ⊥
+      no_planning c h = let found = plain_of c (contains_of all c (kept is_planning all c h)) in none_task c found.0 found.1 found.2 found.3 (planned_none c.dispatch.job.task (passes is_planning all c h))
+
       never_twice : (i j : ℕ) (d : Dispatched) → i < j → j < length all → (get_or all i d).dispatch.job ≡ (get_or all j d).dispatch.job → ⊥
       never_twice i j d before inside same =
           same_place i j (get_or all i d) (get_or all j d) before (slice_get-get_or all i d (omega arith)) (slice_get-get_or all j d inside) same
@@ -143,31 +160,33 @@ module _ (s : Setting) (rounds : List Round) (well : (r : Round) → Has rounds 
       subst (IsCompletedWell Told) found.3
       (ap mark_by came.not_refused, λ shown bytes told. came.fits_ask found.1 shown)
 
-  not_failed : (c : Dispatched) → IsFailed Told s (dispatched_from 0 rounds) c → ⊥
+  pub not_failed : (c : Dispatched) → IsFailed Told s (dispatched_from 0 rounds) c → ⊥
   not_failed c failed =
       failed.4 (completed_well c (contains_of (dispatched_from 0 rounds) c (subst (λ (xs : List Dispatched). Has xs c) (sym failed.2) (has_middle failed.0 c failed.1))))
 
 -- ---- a run of one task
 
-abbrev the_limits : Limits
+abbrev pub the_limits : Limits
 the_limits = record { min_part = 1; max_part = 64; max_parts = 4; max_object = 64 }
 
-abbrev the_config : Config
+abbrev pub the_config : Config
 the_config = record { threshold = 8; chunk = 8; lanes = 1; queue = 1; buffers = 1; attempts = 1 }
 
-abbrev setting_of : Task → Setting
+abbrev pub setting_of : Task → Setting
 setting_of task = record {
   config = the_config;
   limits = the_limits;
+  lanes = 1;
   tasks = task ∷ [];
   dryrun = false;
   held = empty;
+  others = [];
   file_failed = λ n. false;
   cancelled_at = None;
   wanted_memory = λ t. false;
 }
 
-config_is_valid : IsValidConfig the_config
+pub config_is_valid : IsValidConfig the_config
 config_is_valid = record {
   threshold = record { least = omega arith; most = omega arith };
   chunk = record { least = omega arith; most = omega arith };
@@ -177,7 +196,7 @@ config_is_valid = record {
   attempts = record { least = omega arith; most = omega arith };
 }
 
-limits_are_valid : IsValidLimits the_limits
+pub limits_are_valid : IsValidLimits the_limits
 limits_are_valid = record {
   min_part = omega arith;
   parts = omega arith;
@@ -187,20 +206,26 @@ limits_are_valid = record {
   reached = omega arith;
 }
 
-same_task : (a b : Task) → Some a ≡ Some b → a ≡ b
+pub same_task : (a b : Task) → Some a ≡ Some b → a ≡ b
 same_task a b e = cc
 
 -- the only task is the first
-one_task : (task : Task) (m : ℕ) (a : Task) → slice_get (task ∷ []) m ≡ Some a → (m ≡ 0) × (a ≡ task)
+pub one_task : (task : Task) (m : ℕ) (a : Task) → slice_get (task ∷ []) m ≡ Some a → (m ≡ 0) × (a ≡ task)
 one_task task zero a e = (refl, sym (same_task task a e))
 one_task task (suc m) a e = absurd (nothing a e)
   where
     nothing : (t : Task) → ◌≡◌ {A = Option Task} None (Some t) → ⊥
     nothing t e = cc
 
+-- what is asked of a dispatch of task n, in a run of one task
+abbrev pub AsksOf : Task → List Dispatched → Dispatched → ℕ → Type 0
+AsksOf the_task dispatched c n = (task : Task) × (piece : ℕ) × (count : ℕ) × (slice_get (the_task ∷ []) n ≡ Some task) × HasPieces the_config the_limits task.kind task.size piece count × (c.size ≡ task.size)
+    × (c.limit ≡ limit_of task.size piece c.dispatch.job.number c.ask) × IsTaskAsk (gained_before Told dispatched c.dispatch.given_at) task (record { number = n; bytes = source_bytes (setting_of the_task).held task.source; piece = piece; count = count })
+    task.kind (is_small (setting_of the_task) task) c.dispatch.job.op c.dispatch.job.number c.ask c.body
+
 -- ---- a small copy that is moved
 
-some_is : (m n : ℕ) → Some m ≡ Some n → m ≡ n
+pub some_is : (m n : ℕ) → Some m ≡ Some n → m ≡ n
 some_is m n e = cc
 
 copy_delete : op.Copy ≡ op.Delete → ⊥
@@ -219,57 +244,45 @@ delete_abort : op.Delete ≡ op.Abort → ⊥
 delete_abort e = let level : ◌≡◌ {A = ℕ} 4 9 = ap op_number e in absurd (omega arith)
 
 module _ (bucket key from_bucket from_key etag : List ℕ) (apart : (from_bucket ≡ bucket) × (from_key ≡ key) → ⊥) where
-  abbrev the_task : Task
-  the_task = record {
-    kind = kind.Copy;
-    moves = true;
-    source = Some (place.Object from_bucket from_key);
-    dest = place.Object bucket key;
-    size = 0;
-    etag = etag;
-    micros = 0;
-    content = None;
-  }
+  abbrev pub the_task : Task
+  the_task = moved_copy bucket key from_bucket from_key etag
 
-  abbrev the_setting : Setting
+  abbrev pub the_setting : Setting
   the_setting = setting_of the_task
 
-  abbrev copy_round : Round
+  abbrev pub copy_round : Round
   copy_round = copy the_limits bucket key from_bucket from_key etag
 
-  abbrev delete_round : Round
+  abbrev pub delete_round : Round
   delete_round = source_gone the_limits bucket key from_bucket from_key etag apart
 
-  abbrev rounds : List Round
+  abbrev pub rounds : List Round
   rounds = move the_limits bucket key from_bucket from_key etag apart
 
-  abbrev dispatched : List Dispatched
+  abbrev pub dispatched : List Dispatched
   dispatched = dispatched_from 0 rounds
 
-  other_jobs : AreOtherJobs rounds
+  pub other_jobs : AreOtherJobs rounds
   other_jobs = move_apart the_limits bucket key from_bucket from_key etag apart
 
-  all_plain : AllPlain rounds
+  pub all_plain : AllPlain rounds
   all_plain r (inl e) = subst IsPlainRound e (record { task = 0; of_task = refl; no_create = copy_create; no_abort = copy_abort })
   all_plain r (inr (inl e)) = subst IsPlainRound e (record { task = 0; of_task = refl; no_create = delete_create; no_abort = delete_abort })
   all_plain r (inr (inr h)) = absurd h
 
-  all_well : (r : Round) → Has rounds r → CameWell r
+  pub all_well : (r : Round) → Has rounds r → CameWell r
   all_well r (inl e) = subst CameWell e (record { not_refused = refl; fits_ask = λ place shown. tt })
   all_well r (inr (inl e)) = subst CameWell e (record { not_refused = refl; fits_ask = λ place shown. tt })
   all_well r (inr (inr h)) = absurd h
 
-  to : Ends the_task
+  to : Target the_task
   to = record { bucket = bucket; key = key; is_dest = (refl, refl) }
 
-  from : Source the_task
+  from : Origin the_task
   from = record { bucket = from_bucket; key = from_key; is_source = (refl, refl) }
 
-  -- what is asked of a dispatch of task n
   abbrev Asks : Dispatched → ℕ → Type 0
-  Asks c n = (task : Task) × (piece : ℕ) × (count : ℕ) × (slice_get the_setting.tasks n ≡ Some task) × HasPieces the_setting.config the_setting.limits task.kind task.size piece count × (c.size ≡ task.size)
-      × (c.limit ≡ limit_of task.size piece c.dispatch.job.number c.ask) × IsTaskAsk (gained_before Told dispatched c.dispatch.given_at) task (record { number = n; bytes = source_bytes the_setting.held task.source; piece = piece; count = count })
-      task.kind (is_small the_setting task) c.dispatch.job.op c.dispatch.job.number c.ask c.body
+  Asks = AsksOf the_task dispatched
 
   copy_asks : Asks (dispatch_at 0 copy_round) 0
   unfolding to from
@@ -305,23 +318,29 @@ module _ (bucket key from_bucket from_key etag : List ℕ) (apart : (from_bucket
           (subst (λ (t : Task). IsDecided the_setting t 0 (gained_before Told dispatched 2)) task_is (λ piece count pieces. copy_is_gained)))
       which (inr (inr h)) = absurd h
 
-  scheduled : IsScheduled Told the_setting (journal_of rounds) dispatched dispatched
+  pub tasks_apart : AreApart (the_task ∷ [])
+  tasks_apart = record {
+    destinations = λ m n a b b1 k1 at_m at_n here there. (one_task the_task m a at_m).0 ∙ sym (one_task the_task n b at_n).0;
+    sources = λ m n a b b1 k1 at_m at_n moved is_source is_dest.
+        let source : IsSource (Some (place.Object from_bucket from_key)) b1 k1 = subst (λ (t : Task). IsSource t.source b1 k1) (one_task the_task m a at_m).1 is_source in
+        let dest : IsObject (place.Object bucket key) b1 k1 = subst (λ (t : Task). IsObject t.dest b1 k1) (one_task the_task n b at_n).1 is_dest in
+        apart (source.0 ∙ sym dest.0, source.1 ∙ sym dest.1);
+  }
+
+  pub schedule_of : (Plans : List Dispatched → Type 0) → Plans [] → IsSchedule Told the_setting Plans dispatched dispatched
+  schedule_of Plans no_plans = rounds_schedule the_setting rounds other_jobs all_plain Plans no_plans refl (λ failed c is_failed known before. not_failed the_setting rounds all_well failed is_failed) asks moves_last
+
+  pub scheduled : IsScheduled Told the_setting (journal_of rounds) dispatched dispatched
   scheduled = record {
-    schedule = rounds_schedule the_setting rounds other_jobs all_plain refl (λ failed c is_failed known before. not_failed the_setting rounds all_well failed is_failed) asks moves_last;
+    schedule = schedule_of AreQuestions no_questions;
     given = rounds_given rounds (with_source the_limits bucket key from_bucket from_key etag) other_jobs;
     come = λ c known. rounds_come rounds (with_source the_limits bucket key from_bucket from_key etag) other_jobs c (has dispatched c known);
-    apart = record {
-      destinations = λ m n a b b1 k1 at_m at_n here there. (one_task the_task m a at_m).0 ∙ sym (one_task the_task n b at_n).0;
-      sources = λ m n a b b1 k1 at_m at_n moved is_source is_dest.
-          let source : IsSource (Some (place.Object from_bucket from_key)) b1 k1 = subst (λ (t : Task). IsSource t.source b1 k1) (one_task the_task m a at_m).1 is_source in
-          let dest : IsObject (place.Object bucket key) b1 k1 = subst (λ (t : Task). IsObject t.dest b1 k1) (one_task the_task n b at_n).1 is_dest in
-          apart (source.0 ∙ sym dest.0, source.1 ∙ sym dest.1);
-    };
+    apart = tasks_apart;
     config = config_is_valid;
     limits = limits_are_valid;
   }
 
-  fitting : IsFitting Told the_limits (with_source the_limits bucket key from_bucket from_key etag) (steps_from 0 (with_source the_limits bucket key from_bucket from_key etag) rounds) (journal_of rounds) dispatched (IsDest the_setting.tasks)
+  pub fitting : IsFitting Told the_limits (with_source the_limits bucket key from_bucket from_key etag) (steps_from 0 (with_source the_limits bucket key from_bucket from_key etag) rounds) (journal_of rounds) dispatched (IsDest the_setting.tasks)
   fitting =
       rounds_fitting the_limits (with_source the_limits bucket key from_bucket from_key etag) rounds (move_served the_limits bucket key from_bucket from_key etag apart) other_jobs (source_is_faithful the_limits bucket key from_bucket from_key etag) (
         copied_is_faithful the_limits bucket key from_bucket from_key etag apart,
@@ -360,103 +379,107 @@ module _ (bucket key from_bucket from_key etag : List ℕ) (apart : (from_bucket
 pub task_is_met : TaskIsMet
 task_is_met bucket key from_bucket from_key etag apart = task_met bucket key from_bucket from_key etag apart
 
--- ---- a removal that is refused
+-- ---- one request, which is refused
 
-module _ (bucket key : List ℕ) where
-  abbrev removal : Task
-  removal = record {
-    kind = kind.RemoveObject;
-    moves = false;
-    source = None;
-    dest = place.Object bucket key;
-    size = 0;
-    etag = [];
-    micros = 0;
-    content = None;
-  }
+module _ (task : Task) (stays : task.moves ≡ false) (r : Round) (plain : IsPlainRound r) (start : State) (faithful : IsFaithful start) (served : AreServed the_limits start (r ∷ [])) (after : r.after ≡ start)
+    (asked : AsksOf task (dispatch_at 0 r ∷ []) (dispatch_at 0 r) 0) (first : r.job.task ≡ Some 0) where
+  abbrev pub request : Dispatched
+  request = dispatch_at 0 r
 
-  abbrev the_round : Round
-  the_round = refused_delete the_limits bucket key
+  pub one_plain : AllPlain (r ∷ [])
+  one_plain other (inl e) = subst IsPlainRound e plain
+  one_plain other (inr h) = absurd h
 
-  abbrev request : Dispatched
-  request = dispatch_at 0 the_round
-
-  is_plain : AllPlain (the_round ∷ [])
-  is_plain r (inl e) = subst IsPlainRound e (record { task = 0; of_task = refl; no_create = delete_create; no_abort = delete_abort })
-  is_plain r (inr h) = absurd h
-
-  is_only : (c : Dispatched) → Contains (request ∷ []) c → request ≡ c
+  pub is_only : (c : Dispatched) → Contains (request ∷ []) c → request ≡ c
   is_only c known = which (has (request ∷ []) c known)
     where
       which : Has (request ∷ []) c → request ≡ c
       which (inl e) = e
       which (inr h) = absurd h
 
-  ends : Ends removal
-  ends = record { bucket = bucket; key = key; is_dest = (refl, refl) }
-
-  abbrev Removes : Dispatched → ℕ → Type 0
-  Removes c n = (task : Task) × (piece : ℕ) × (count : ℕ) × (slice_get (removal ∷ []) n ≡ Some task) × HasPieces the_config the_limits task.kind task.size piece count × (c.size ≡ task.size)
-      × (c.limit ≡ limit_of task.size piece c.dispatch.job.number c.ask) × IsTaskAsk (gained_before Told (request ∷ []) c.dispatch.given_at) task (record { number = n; bytes = source_bytes (setting_of removal).held task.source; piece = piece; count = count })
-      task.kind (is_small (setting_of removal) task) c.dispatch.job.op c.dispatch.job.number c.ask c.body
-
-  removes : Removes request 0
-  unfolding ends
-  removes = (removal, 0, 1, refl, (refl, refl), refl, refl, (ends, refl, refl, refl))
-
-  removes_all : (c : Dispatched) (n : ℕ) → Contains (request ∷ []) c → c.dispatch.job.task ≡ Some n → Removes c n
-  removes_all c n known of_task =
+  asks_all : (c : Dispatched) (n : ℕ) → Contains (request ∷ []) c → c.dispatch.job.task ≡ Some n → AsksOf task (request ∷ []) c n
+  asks_all c n known of_task =
       let only = is_only c known in
-      let zero_is : 0 ≡ n = some_is 0 n (ap (λ (d : Dispatched). d.dispatch.job.task) only ∙ of_task) in
-      subst (Removes c) zero_is (subst (λ (d : Dispatched). Removes d 0) only removes)
+      let zero_is : 0 ≡ n = some_is 0 n (sym first ∙ ap (λ (d : Dispatched). d.dispatch.job.task) only ∙ of_task) in
+      subst (AsksOf task (request ∷ []) c) zero_is (subst (λ (d : Dispatched). AsksOf task (request ∷ []) d 0) only asked)
 
-  never_moves : (task : Task) (n : ℕ) → slice_get (removal ∷ []) n ≡ Some task → task.moves ≡ true → ⊥
-  never_moves task n at moved = other (ap (λ (t : Task). t.moves) (sym (one_task removal n task at).1) ∙ moved)
+  never_moves : (other : Task) (n : ℕ) → slice_get (task ∷ []) n ≡ Some other → other.moves ≡ true → ⊥
+  never_moves other n at moved = clash (sym stays ∙ ap (λ (t : Task). t.moves) (sym (one_task task n other at).1) ∙ moved)
     where
-      other : false ≡ true → ⊥
-      other e = cc
+      clash : false ≡ true → ⊥
+      clash e = cc
 
-  none_after : (failed c : Dispatched) → IsFailed Told (setting_of removal) (request ∷ []) failed → Contains (request ∷ []) c → IsBefore failed.dispatch.came_at c.dispatch.given_at → ⊥
+  pub failed_is : (c : Dispatched) → IsFailed Told (setting_of task) (request ∷ []) c → request ≡ c
+  failed_is c failed = is_only c (contains_of (request ∷ []) c (subst (λ (xs : List Dispatched). Has xs c) (sym failed.2) (has_middle failed.0 c failed.1)))
+
+  none_after : (failed c : Dispatched) → IsFailed Told (setting_of task) (request ∷ []) failed → Contains (request ∷ []) c → IsBefore failed.dispatch.came_at c.dispatch.given_at → ⊥
   none_after failed c is_failed known before =
-      let failed_is = is_only failed (contains_of (request ∷ []) failed (subst (λ (xs : List Dispatched). Has xs failed) (sym is_failed.2) (has_middle is_failed.0 failed is_failed.1))) in
       let only = is_only c known in
-      let late : 1 < 0 = subst (λ (d : Dispatched). IsBefore (Some 1) d.dispatch.given_at) (sym only) (subst (λ (d : Dispatched). IsBefore d.dispatch.came_at c.dispatch.given_at) (sym failed_is) before) in
+      let late : 1 < 0 = subst (λ (d : Dispatched). IsBefore (Some 1) d.dispatch.given_at) (sym only) (subst (λ (d : Dispatched). IsBefore d.dispatch.came_at c.dispatch.given_at) (sym (failed_is failed is_failed)) before) in
       absurd (omega arith)
 
-  removal_scheduled : IsScheduled Told (setting_of removal) (journal_of (the_round ∷ [])) (request ∷ []) (request ∷ [])
-  removal_scheduled = record {
-    schedule = rounds_schedule (setting_of removal) (the_round ∷ []) (alone the_round) is_plain refl none_after removes_all (λ c n task known of_task at moved is_op. absurd (never_moves task n at moved));
-    given = rounds_given (the_round ∷ []) (one_bucket the_limits bucket key) (alone the_round);
-    come = λ c known. rounds_come (the_round ∷ []) (one_bucket the_limits bucket key) (alone the_round) c (has (request ∷ []) c known);
-    apart = record {
-      destinations = λ m n a b b1 k1 at_m at_n here there. (one_task removal m a at_m).0 ∙ sym (one_task removal n b at_n).0;
-      sources = λ m n a b b1 k1 at_m at_n moved is_source is_dest. never_moves a m at_m moved;
-    };
+  pub one_schedule : (Plans : List Dispatched → Type 0) → Plans [] → IsSchedule Told (setting_of task) Plans (request ∷ []) (request ∷ [])
+  one_schedule Plans no_plans =
+      rounds_schedule (setting_of task) (r ∷ []) (alone r) one_plain Plans no_plans refl none_after asks_all (λ c n other known of_task at moved is_op. absurd (never_moves other n at moved))
+
+  pub one_apart : AreApart (task ∷ [])
+  one_apart = record {
+    destinations = λ m n a b b1 k1 at_m at_n here there. (one_task task m a at_m).0 ∙ sym (one_task task n b at_n).0;
+    sources = λ m n a b b1 k1 at_m at_n moved is_source is_dest. never_moves a m at_m moved;
+  }
+
+  one_scheduled : IsScheduled Told (setting_of task) (journal_of (r ∷ [])) (request ∷ []) (request ∷ [])
+  one_scheduled = record {
+    schedule = one_schedule AreQuestions no_questions;
+    given = rounds_given (r ∷ []) start (alone r);
+    come = λ c known. rounds_come (r ∷ []) start (alone r) c (has (request ∷ []) c known);
+    apart = one_apart;
     config = config_is_valid;
     limits = limits_are_valid;
   }
 
-  removal_fitting : IsFitting Told the_limits (one_bucket the_limits bucket key) (steps_from 0 (one_bucket the_limits bucket key) (the_round ∷ [])) (journal_of (the_round ∷ [])) (request ∷ []) (IsDest (removal ∷ []))
-  removal_fitting =
-      rounds_fitting the_limits (one_bucket the_limits bucket key) (the_round ∷ []) (refl, tt) (alone the_round) (bare_is_faithful (bucket ∷ [])) (bare_is_faithful (bucket ∷ []), tt) (IsDest (removal ∷ []))
+  pub one_fitting : IsFitting Told the_limits start (steps_from 0 start (r ∷ [])) (journal_of (r ∷ [])) (request ∷ []) (IsDest (task ∷ []))
+  one_fitting = rounds_fitting the_limits start (r ∷ []) served (alone r) faithful (subst IsFaithful (sym after) faithful, tt) (IsDest (task ∷ []))
 
-  refused_met : IsRefusedTaskMet bucket key
-  refused_met = record {
-    setting = setting_of removal;
-    start = one_bucket the_limits bucket key;
-    trace = steps_from 0 (one_bucket the_limits bucket key) (the_round ∷ []);
-    journal = journal_of (the_round ∷ []);
+  pub one_refused_met : (bucket key : List ℕ) → task.dest ≡ place.Object bucket key → HasSource (setting_of task).held (states start (steps_from 0 start (r ∷ []))) task task.kind (is_small (setting_of task) task)
+      → r.job ≡ job_of 0 (deciding task.kind (is_small (setting_of task) task)) 0 → AllRefused Told request → IsRefusedTaskMet bucket key
+  one_refused_met bucket key is_dest sourced decides refused = record {
+    setting = setting_of task;
+    start = start;
+    trace = steps_from 0 start (r ∷ []);
+    journal = journal_of (r ∷ []);
     dispatched = request ∷ [];
-    scheduled = removal_scheduled;
-    traced = record { runs = removal_fitting.runs; honest = removal_fitting.honest; fits = removal_fitting.fits };
-    whole = ([], sym (append-nil (steps_from 0 (one_bucket the_limits bucket key) (the_round ∷ []))), removal_fitting.fits.moves);
-    task = removal;
-    object = record { is_task = refl; is_dest = refl; has_source = refl };
+    scheduled = one_scheduled;
+    traced = record { runs = one_fitting.runs; honest = one_fitting.honest; fits = one_fitting.fits };
+    whole = ([], sym (append-nil (steps_from 0 start (r ∷ []))), one_fitting.fits.moves);
+    task = task;
+    object = record { is_task = refl; is_dest = is_dest; has_source = sourced };
     request = request;
     known = (0, omega arith, refl);
-    decides = refl;
-    refused = λ c known of_job. subst (AllRefused Told) (is_only c known) (is_refused the_limits bucket key);
+    decides = decides;
+    refused = λ c known of_job. subst (AllRefused Told) (is_only c known) refused;
   }
+
+-- ---- a removal that is refused
+
+module _ (bucket key : List ℕ) where
+  ends : Target (removal bucket key)
+  ends = record { bucket = bucket; key = key; is_dest = (refl, refl) }
+
+  abbrev pub the_round : Round
+  the_round = refused_delete the_limits bucket key
+
+  pub removes : AsksOf (removal bucket key) (dispatch_at 0 the_round ∷ []) (dispatch_at 0 the_round) 0
+  unfolding ends
+  removes = (removal bucket key, 0, 1, refl, (refl, refl), refl, refl, (ends, refl, refl, refl))
+
+  pub removal_is_plain : IsPlainRound the_round
+  removal_is_plain = record { task = 0; of_task = refl; no_create = delete_create; no_abort = delete_abort }
+
+  refused_met : IsRefusedTaskMet bucket key
+  refused_met =
+      one_refused_met (removal bucket key) refl the_round removal_is_plain (one_bucket the_limits bucket key) (bare_is_faithful (bucket ∷ [])) ((refl, tt), tt) refl removes refl
+      bucket key refl refl refl (is_refused the_limits bucket key)
 
 pub refused_task_is_met : RefusedTaskIsMet
 refused_task_is_met bucket key = refused_met bucket key

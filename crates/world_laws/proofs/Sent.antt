@@ -5,11 +5,11 @@ use Rattle.s3_model.specs.declared.answers.Class.{Class}
 use Rattle.s3_model.specs.declared.outcomes.Event.{Event}
 use Rattle.s3_model.specs.declared.settings.Limits.{Limits}
 use Rattle.s3_model.specs.Talks.{Talk}
-use Rattle.s3_model.specs.ServiceState.{State}
-use Rattle.s3_model.specs.Serves.{Answer}
-use Rattle.s3_model.specs.Dispatches.{Dispatched}
-use Rattle.s3_model.specs.Traces.{Request, Step, Begin, Serve, IsTrace, events_of}
-use Rattle.s3_model.specs.Fits.{Fits}
+use Rattle.s3_service.specs.ServiceState.{State}
+use Rattle.s3_service.specs.Serves.{Answer}
+use Rattle.run_promise.specs.Dispatches.{Dispatched}
+use Rattle.run_promise.specs.Traces.{Request, Step, Begin, Serve, IsTrace, events_of}
+use Rattle.run_promise.specs.Fits.{Fits}
 use Rattle.world_laws.proofs.Members.{has, contains_of}
 use Rattle.world_laws.proofs.Fitting as fitting
 

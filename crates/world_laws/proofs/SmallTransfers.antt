@@ -1,5 +1,5 @@
 -- Destinations that a run makes new by one request: a small upload, a small copy, a removal.
-use Rattle.std.proofs.Common.{◌≡◌, ℕ, List, Option, Some, None, refl, subst}
+use Rattle.std.proofs.Common.{◌≡◌, ℕ, Bool, List, Option, Some, None, refl, subst}
 use Rattle.s3_model.specs.declared.requests.Ask.{Ask}
 use Rattle.s3_model.specs.declared.requests.Ask.TheVariants as ask
 use Rattle.s3_model.specs.declared.answers.Reply.{Reply}
@@ -8,13 +8,13 @@ use Rattle.s3_model.specs.declared.answers.Class.{Class}
 use Rattle.s3_model.specs.declared.outcomes.Event.{Event}
 use Rattle.s3_model.specs.declared.settings.Limits.{Limits}
 use Rattle.s3_model.specs.Talks.{Talk}
-use Rattle.s3_model.specs.ServiceState.{State, Object, object_at, HasBytes}
-use Rattle.s3_model.specs.Serves.{Succeeds, IsThere}
-use Rattle.s3_model.specs.Dispatches.{Dispatched}
-use Rattle.s3_model.specs.Traces.{Step, states}
+use Rattle.s3_service.specs.ServiceState.{State, Object, object_at, HasBytes}
+use Rattle.s3_service.specs.Serves.{Succeeds, IsThere}
+use Rattle.run_promise.specs.Dispatches.{Dispatched}
+use Rattle.run_promise.specs.Traces.{Step, states}
 use Rattle.world_laws.specs.Premises.{IsPlace}
 use Rattle.world_laws.specs.Destinations.{AllThatChange, IsNewOnceCome, IsNewAfterSuccess, IsOldOrNew, IsOldAfterRefusals}
-use Rattle.world_laws.specs.SmallTransfers.{Puts, Copies, Deletes, AreAll, HadContent, IsStored, IsCopied, IsRemoved, UploadStores, UploadIsWhole, CopyStores, CopyIsWhole, DeleteRemoves, DeleteIsWhole}
+use Rattle.world_laws.specs.SmallTransfers.{AsksPut, AsksCopy, AsksDelete, AreAll, HadContent, IsStored, IsCopied, IsRemoved, UploadStores, UploadIsWhole, CopyStores, CopyIsWhole, DeleteRemoves, DeleteIsWhole}
 use Rattle.world_laws.proofs.Members.{contains_of}
 use Rattle.world_laws.proofs.Objects.{object_at-with_object, object_at-without_object}
 use Rattle.world_laws.proofs.Fitting.{IsServed, come_by}
@@ -24,10 +24,10 @@ use Rattle.world_laws.proofs.Destinations as dest
 -- ---- one request
 
 -- a Put that succeeds stores its body
-pub put_stores : (limits : Limits) (old : State) (bucket key : List ℕ) (content : Option (List ℕ)) (body : List ℕ) (answered : Reply) (bytes : List ℕ) (new : State)
-    → Succeeds limits old (ask.Put bucket key content) body answered bytes new → HasBytes new bucket key body
-put_stores limits old bucket key content body reply.Stored bytes new h = (h.1.0, rw h.1.2 (object_at-with_object old bucket key h.1.0), h.1.1)
-put_stores limits old bucket key content body answered bytes new h = absurd h
+pub put_stores : (limits : Limits) (old : State) (bucket key : List ℕ) (content : Option (List ℕ)) (fresh : Bool) (body : List ℕ) (answered : Reply) (bytes : List ℕ) (new : State)
+    → Succeeds limits old (ask.Put bucket key content fresh) body answered bytes new → HasBytes new bucket key body
+put_stores limits old bucket key content fresh body reply.Stored bytes new h = (h.2.0, rw h.2.2 (object_at-with_object old bucket key h.2.0), h.2.1)
+put_stores limits old bucket key content fresh body answered bytes new h = absurd h
 
 -- a Copy stores what its source has under the ETag
 pub copy_stores : (limits : Limits) (old : State) (bucket key from_bucket from_key etag : List ℕ) (body : List ℕ) (answered : Reply) (bytes : List ℕ) (new : State)
@@ -77,19 +77,19 @@ module _ (Shows : Ask → ℕ → Talk → Class → List ℕ → Type 0) where
   IsBody body moments found = (object : Object) × (found ≡ Some object) × (object.bytes ≡ body)
 
   pub stores : (bucket key body : List ℕ) (limits : Limits) (start : State) (trace : List Step) (dispatched : List Dispatched) (c : Dispatched) (old : State) (answered : Reply) (bytes : List ℕ) (new : State)
-      → IsServed Shows limits start trace dispatched c old answered bytes new → Puts bucket key body c → IsBody body (states start trace) (object_at new bucket key)
+      → IsServed Shows limits start trace dispatched c old answered bytes new → AsksPut bucket key body c → IsBody body (states start trace) (object_at new bucket key)
   stores bucket key body limits start trace dispatched c old answered bytes new served puts =
-      let succeeds = subst (λ (asked : Ask). Succeeds limits old asked c.body answered bytes new) puts.1 served.succeeds in
-      subst (λ (b : List ℕ). HasBytes new bucket key b) puts.2 (put_stores limits old bucket key puts.0 c.body answered bytes new succeeds)
+      let succeeds = subst (λ (asked : Ask). Succeeds limits old asked c.body answered bytes new) puts.2 served.succeeds in
+      subst (λ (b : List ℕ). HasBytes new bucket key b) puts.3 (put_stores limits old bucket key puts.0 puts.1 c.body answered bytes new succeeds)
 
-  pub upload_once_come : (bucket key body : List ℕ) → IsNewOnceCome Shows bucket key (AreAll bucket key (Puts bucket key body)) (IsStored bucket key body)
-  upload_once_come bucket key body = new_once_come bucket key (Puts bucket key body) (IsBody body) (stores bucket key body)
+  pub upload_once_come : (bucket key body : List ℕ) → IsNewOnceCome Shows bucket key (AreAll bucket key (AsksPut bucket key body)) (IsStored bucket key body)
+  upload_once_come bucket key body = new_once_come bucket key (AsksPut bucket key body) (IsBody body) (stores bucket key body)
 
   pub upload_stores : UploadStores Shows
-  upload_stores bucket key body = after_success bucket key (AreAll bucket key (Puts bucket key body)) (IsStored bucket key body) (upload_once_come bucket key body)
+  upload_stores bucket key body = after_success bucket key (AreAll bucket key (AsksPut bucket key body)) (IsStored bucket key body) (upload_once_come bucket key body)
 
   pub upload_is_whole : UploadIsWhole Shows
-  upload_is_whole bucket key body = old_or_new bucket key (Puts bucket key body) (IsBody body) (stores bucket key body)
+  upload_is_whole bucket key body = old_or_new bucket key (AsksPut bucket key body) (IsBody body) (stores bucket key body)
 
   -- ---- copies
 
@@ -98,24 +98,24 @@ module _ (Shows : Ask → ℕ → Talk → Class → List ℕ → Type 0) where
     IsContent moments found = (bytes : List ℕ) × HadContent moments from_bucket from_key etag bytes × ((object : Object) × (found ≡ Some object) × (object.bytes ≡ bytes))
 
     pub copies : (limits : Limits) (start : State) (trace : List Step) (dispatched : List Dispatched) (c : Dispatched) (old : State) (answered : Reply) (bytes : List ℕ) (new : State)
-        → IsServed Shows limits start trace dispatched c old answered bytes new → Copies bucket key from_bucket from_key etag c → IsContent (states start trace) (object_at new bucket key)
+        → IsServed Shows limits start trace dispatched c old answered bytes new → AsksCopy bucket key from_bucket from_key etag c → IsContent (states start trace) (object_at new bucket key)
     copies limits start trace dispatched c old answered bytes new served is_copy =
         let succeeds = subst (λ (asked : Ask). Succeeds limits old asked c.body answered bytes new) is_copy served.succeeds in
         let stored = copy_stores limits old bucket key from_bucket from_key etag c.body answered bytes new succeeds in
         (stored.0.bytes, (old, stored.0, contains_of (states start trace) old served.among, stored.1, refl), stored.2)
 
   pub copy_once_come : (bucket key from_bucket from_key etag : List ℕ)
-      → IsNewOnceCome Shows bucket key (AreAll bucket key (Copies bucket key from_bucket from_key etag)) (IsCopied bucket key from_bucket from_key etag)
+      → IsNewOnceCome Shows bucket key (AreAll bucket key (AsksCopy bucket key from_bucket from_key etag)) (IsCopied bucket key from_bucket from_key etag)
   copy_once_come bucket key from_bucket from_key etag =
-      new_once_come bucket key (Copies bucket key from_bucket from_key etag) (IsContent bucket key from_bucket from_key etag) (copies bucket key from_bucket from_key etag)
+      new_once_come bucket key (AsksCopy bucket key from_bucket from_key etag) (IsContent bucket key from_bucket from_key etag) (copies bucket key from_bucket from_key etag)
 
   pub copy_stores_content : CopyStores Shows
   copy_stores_content bucket key from_bucket from_key etag =
-      after_success bucket key (AreAll bucket key (Copies bucket key from_bucket from_key etag)) (IsCopied bucket key from_bucket from_key etag) (copy_once_come bucket key from_bucket from_key etag)
+      after_success bucket key (AreAll bucket key (AsksCopy bucket key from_bucket from_key etag)) (IsCopied bucket key from_bucket from_key etag) (copy_once_come bucket key from_bucket from_key etag)
 
   pub copy_is_whole : CopyIsWhole Shows
   copy_is_whole bucket key from_bucket from_key etag =
-      old_or_new bucket key (Copies bucket key from_bucket from_key etag) (IsContent bucket key from_bucket from_key etag) (copies bucket key from_bucket from_key etag)
+      old_or_new bucket key (AsksCopy bucket key from_bucket from_key etag) (IsContent bucket key from_bucket from_key etag) (copies bucket key from_bucket from_key etag)
 
   -- ---- removals
 
@@ -123,15 +123,15 @@ module _ (Shows : Ask → ℕ → Talk → Class → List ℕ → Type 0) where
   IsAbsent moments found = found ≡ None
 
   pub removes : (bucket key : List ℕ) (limits : Limits) (start : State) (trace : List Step) (dispatched : List Dispatched) (c : Dispatched) (old : State) (answered : Reply) (bytes : List ℕ) (new : State)
-      → IsServed Shows limits start trace dispatched c old answered bytes new → Deletes bucket key c → IsAbsent (states start trace) (object_at new bucket key)
+      → IsServed Shows limits start trace dispatched c old answered bytes new → AsksDelete bucket key c → IsAbsent (states start trace) (object_at new bucket key)
   removes bucket key limits start trace dispatched c old answered bytes new served is_delete =
       delete_removes limits old bucket key c.body answered bytes new (subst (λ (asked : Ask). Succeeds limits old asked c.body answered bytes new) is_delete served.succeeds)
 
-  pub delete_once_come : (bucket key : List ℕ) → IsNewOnceCome Shows bucket key (AreAll bucket key (Deletes bucket key)) (IsRemoved bucket key)
-  delete_once_come bucket key = new_once_come bucket key (Deletes bucket key) IsAbsent (removes bucket key)
+  pub delete_once_come : (bucket key : List ℕ) → IsNewOnceCome Shows bucket key (AreAll bucket key (AsksDelete bucket key)) (IsRemoved bucket key)
+  delete_once_come bucket key = new_once_come bucket key (AsksDelete bucket key) IsAbsent (removes bucket key)
 
   pub delete_removes_object : DeleteRemoves Shows
-  delete_removes_object bucket key = after_success bucket key (AreAll bucket key (Deletes bucket key)) (IsRemoved bucket key) (delete_once_come bucket key)
+  delete_removes_object bucket key = after_success bucket key (AreAll bucket key (AsksDelete bucket key)) (IsRemoved bucket key) (delete_once_come bucket key)
 
   pub delete_is_whole : DeleteIsWhole Shows
-  delete_is_whole bucket key = old_or_new bucket key (Deletes bucket key) IsAbsent (removes bucket key)
+  delete_is_whole bucket key = old_or_new bucket key (AsksDelete bucket key) IsAbsent (removes bucket key)

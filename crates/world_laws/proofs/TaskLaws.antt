@@ -15,18 +15,19 @@ use Rattle.s3_model.specs.Maps.{MapOf}
 use Rattle.s3_model.specs.Talks.{Talk}
 use Rattle.s3_model.specs.Files.{HeldFile}
 use Rattle.s3_model.specs.Parts.{HasPieces, IsTransfer, piece_of, piece_count}
-use Rattle.s3_model.specs.Serves.{MayChange, bytes_within}
-use Rattle.s3_model.specs.ServiceState.{State, object_at, HasBytes}
-use Rattle.s3_model.specs.Dispatches.{Dispatched}
-use Rattle.s3_model.specs.Traces.{Step, states, state_after, events_of, event_of}
-use Rattle.s3_model.specs.Schedule.{Setting, IsTaskAsk, is_small, job_of, source_bytes, bytes_of, gained_before, asked_range}
-use Rattle.s3_model.specs.Endings.{Excused, Scene, HasContent, Holds, IsAbsent, IsNew}
-use Rattle.s3_model.specs.Truthful.{IsDest}
+use Rattle.s3_service.specs.Serves.{MayChange, bytes_within}
+use Rattle.s3_service.specs.ServiceState.{State, object_at, HasBytes}
+use Rattle.run_promise.specs.Dispatches.{Dispatched}
+use Rattle.run_promise.specs.Traces.{Step, states, state_after, events_of, event_of}
+use Rattle.run_promise.specs.Schedule.{Setting, IsTaskAsk, is_small, job_of, source_bytes, bytes_of, gained_before, asked_range}
+use Rattle.run_promise.specs.Endings.{Excused, Scene, HasContent, Holds, IsAbsent, IsNew}
+use Rattle.run_promise.specs.Truthful.{IsDest}
 use Rattle.world_laws.specs.Premises.{IsFitting, IsPlace, HasCome, HasSucceeded, AllRefused}
 use Rattle.world_laws.specs.Destinations.{AllThatChange, IsNewOnceCome, IsOldOrNew}
-use Rattle.world_laws.specs.SmallTransfers.{Puts, Copies, Deletes, HadContent, IsStored, IsCopied, IsRemoved}
+use Rattle.world_laws.specs.SmallTransfers.{AsksPut, AsksCopy, AsksDelete, HadContent, IsStored, IsCopied, IsRemoved}
 use Rattle.world_laws.specs.Multipart.{AreParts, AreCopiedParts, IsCopiedInParts, joined}
-use Rattle.world_laws.specs.Tasks.{deciding, HasSource, IsScheduled, IsTraceOf, TaskIsNew, TaskIsOld, TaskIsWhole}
+use Rattle.world_laws.specs.Tasks.{HasSource, IsScheduled, IsTraceOf, TaskIsNew, TaskIsOld, TaskIsWhole}
+use Rattle.run_promise.specs.Outcomes.{deciding}
 use Rattle.world_laws.proofs.Members.{has_at, contains_of}
 use Rattle.world_laws.proofs.Frame.{asked_decided}
 use Rattle.world_laws.proofs.Kept.{kept_at}
@@ -44,7 +45,7 @@ module _ (Shows : Ask → ℕ → Talk → Class → List ℕ → Type 0) (s : S
 
   module _ (excused : Excused) (held : MapOf HeldFile) (moments : List State) where
     abbrev scene : State → Scene
-    scene t = record { state = t; held = held }
+    scene t = record { state = t; held = held; others = s.others }
 
     holds : (t : State) (bytes : List ℕ) → HasBytes t bucket key bytes → Holds excused (scene t) task.dest task.micros bytes
     holds t bytes has = subst (λ (p : Place). Holds excused (scene t) p task.micros bytes) (sym is_dest) has
@@ -107,7 +108,7 @@ module _ (Shows : Ask → ℕ → Talk → Class → List ℕ → Type 0) (s : S
 
       law_by : (of_kind : Kind) (size_is_small : Bool) → task.kind ≡ of_kind → is_small s task ≡ size_is_small → HasSource s.held moments task of_kind size_is_small → HasLaw
       law_by kind.Upload true is_kind is_size has = record {
-        AreOurs = λ j d. AllThatChange bucket key (Puts bucket key source) d;
+        AreOurs = λ j d. AllThatChange bucket key (AsksPut bucket key source) d;
         IsMade = IsStored bucket key source;
         once_come = small.upload_once_come Shows bucket key source;
         whole = small.upload_is_whole Shows bucket key source;
@@ -123,7 +124,7 @@ module _ (Shows : Ask → ℕ → Talk → Class → List ℕ → Type 0) (s : S
         is_new = λ t made. as_kind kind.Upload is_kind t (uploaded has.0 has.1 has.2 has.3 t (subst (λ (b : List ℕ). HasBytes t bucket key b) (joined_is_source has.0 has.1 has.2 has.3 has.4 is_kind is_size) made));
       }
       law_by kind.Copy true is_kind is_size has = record {
-        AreOurs = λ j d. AllThatChange bucket key (Copies bucket key has.0 has.1 task.etag) d;
+        AreOurs = λ j d. AllThatChange bucket key (AsksCopy bucket key has.0 has.1 task.etag) d;
         IsMade = IsCopied bucket key has.0 has.1 task.etag;
         once_come = small.copy_once_come Shows bucket key has.0 has.1 task.etag;
         whole = small.copy_is_whole Shows bucket key has.0 has.1 task.etag;
@@ -139,7 +140,7 @@ module _ (Shows : Ask → ℕ → Talk → Class → List ℕ → Type 0) (s : S
         is_new = λ t made. as_kind kind.Copy is_kind t (copied has.0 has.1 has.2 t made.0 made.1 (subst (λ (b : List ℕ). HasBytes t bucket key b) (joined_is_content made.0 (has.3 made.0 made.1) is_kind is_size) made.2));
       }
       law_by kind.RemoveObject size_is_small is_kind is_size has = record {
-        AreOurs = λ j d. AllThatChange bucket key (Deletes bucket key) d;
+        AreOurs = λ j d. AllThatChange bucket key (AsksDelete bucket key) d;
         IsMade = IsRemoved bucket key;
         once_come = small.delete_once_come Shows bucket key;
         whole = small.delete_is_whole Shows bucket key;
@@ -154,7 +155,7 @@ module _ (Shows : Ask → ℕ → Talk → Class → List ℕ → Type 0) (s : S
 
   -- ---- the trace
 
-  fitting : (start : State) (trace : List Step) → IsTraceOf Shows s start trace journal dispatched → IsFitting Shows s.limits start trace journal dispatched (IsPlace bucket key)
+  pub fitting : (start : State) (trace : List Step) → IsTraceOf Shows s start trace journal dispatched → IsFitting Shows s.limits start trace journal dispatched (IsPlace bucket key)
   fitting start trace p = record {
     runs = p.runs;
     honest = kept_at start trace (IsDest s.tasks) p.honest bucket key (task, contains_of s.tasks task (has_at s.tasks n task is_task), is_dest);
@@ -182,7 +183,7 @@ module _ (Shows : Ask → ℕ → Talk → Class → List ℕ → Type 0) (s : S
   -- once the deciding request has come with success
   pub new_once_come : (excused : Excused) (held : MapOf HeldFile) (start : State) (trace part late : List Step) → IsTraceOf Shows s start trace journal dispatched → trace ≡ part ++ late
       → HasSource s.held (states start trace) task task.kind (is_small s task) → (c : Dispatched) → Contains dispatched c → c.dispatch.job ≡ job_of n (deciding task.kind (is_small s task)) 0
-      → HasCome (filter_map event_of (events_of part)) c → HasSucceeded Shows c → IsNew excused s.held (states start trace) (record { state = state_after start part; held = held }) task task.kind
+      → HasCome (filter_map event_of (events_of part)) c → HasSucceeded Shows c → IsNew excused s.held (states start trace) (record { state = state_after start part; held = held; others = s.others }) task task.kind
   new_once_come excused held start trace part late p is has c known is_job come succeeded =
       let may = decides (states start trace) has c known is_job in
       let own = (tasks.changes Shows s journal dispatched coming r n task bucket key is_task is_dest c known may).row in
@@ -191,7 +192,7 @@ module _ (Shows : Ask → ℕ → Talk → Class → List ℕ → Type 0) (s : S
 
   pub whole_always : (excused : Excused) (held : MapOf HeldFile) (start : State) (trace part late : List Step) → IsTraceOf Shows s start trace journal dispatched → trace ≡ part ++ late
       → HasSource s.held (states start trace) task task.kind (is_small s task)
-      → (object_at (state_after start part) bucket key ≡ object_at start bucket key) ⊎ IsNew excused s.held (states start trace) (record { state = state_after start part; held = held }) task task.kind
+      → (object_at (state_after start part) bucket key ≡ object_at start bucket key) ⊎ IsNew excused s.held (states start trace) (record { state = state_after start part; held = held; others = s.others }) task task.kind
   whole_always excused held start trace part late p is has = elim (asked_decided dispatched bucket key) [
     | inr unasked ↦ inl (small.old_after_refusals Shows s.limits start trace part late journal dispatched bucket key (fitting start trace p) (λ c known may. absurd (unasked (c, known, may))) is)
     | inl asked ↦

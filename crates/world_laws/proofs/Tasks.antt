@@ -1,5 +1,6 @@
 -- What a run that keeps to the clauses on given and carried jobs leaves of each task whose destination is an object.
 use Rattle.std.proofs.Common.{◌≡◌, ◌∙◌, ℕ, suc, Bool, true, false, List, [], ◌∷◌, Option, Some, None, refl, sym, ap, subst, inl, inr, Contains, slice_get}
+use Rattle.std.specs.Prelude.{is_some, not}
 use Rattle.s3_model.specs.declared.requests.Ask.{Ask}
 use Rattle.s3_model.specs.declared.requests.Ask.TheVariants as ask
 use Rattle.s3_model.specs.declared.requests.Op.{Op}
@@ -16,15 +17,16 @@ use Rattle.s3_model.specs.declared.tasks.Kind.TheVariants as kind
 use Rattle.s3_model.specs.declared.tasks.Task.{Task}
 use Rattle.s3_model.specs.Talks.{Talk}
 use Rattle.s3_model.specs.Parts.{HasPieces, piece_of}
-use Rattle.s3_model.specs.Serves.{MayChange}
-use Rattle.s3_model.specs.Dispatches.{Attempt, Dispatched, last_of}
-use Rattle.s3_model.specs.Schedule.{Setting, IsObject, IsSource, asked_range, IsTaskAsk, IsUpload, Known, is_small, job_of, source_bytes, HasReply, gained_before}
+use Rattle.s3_service.specs.Serves.{MayChange}
+use Rattle.run_promise.specs.Dispatches.{Attempt, Dispatched, last_of}
+use Rattle.run_promise.specs.Schedule.{Setting, IsObject, IsSource, asked_range, IsTaskAsk, IsUpload, Known, is_small, job_of, source_bytes, HasReply, gained_before, is_planning, planning_of}
 use Rattle.world_laws.specs.Premises.{HasSucceeded}
 use Rattle.world_laws.specs.Destinations.{AllThatChange}
-use Rattle.world_laws.specs.SmallTransfers.{Puts, Copies, Deletes}
+use Rattle.world_laws.specs.SmallTransfers.{AsksPut, AsksCopy, AsksDelete}
 use Rattle.world_laws.specs.Multipart.{IsCreated, CompletesHere, AreParts, AreCopiedParts}
-use Rattle.world_laws.specs.Tasks.{IsPlanning, deciding, IsScheduled}
-use Rattle.world_laws.proofs.Members.{found_or_not}
+use Rattle.world_laws.specs.Tasks.{IsPlanning, IsScheduled}
+use Rattle.run_promise.specs.Outcomes.{deciding}
+use Rattle.world_laws.proofs.Members.{has, contains_of, has-filter, found_or_not}
 use Rattle.world_laws.proofs.Jobs.{job_is}
 use Rattle.world_laws.proofs.PieceCounts.{pieces_are_one}
 use Rattle.world_laws.proofs.Rows as rows
@@ -39,14 +41,22 @@ planning_changes_nothing (ask.List b prefix delimited token) bucket key plans ma
 planning_changes_nothing ask.Buckets bucket key plans may = may
 planning_changes_nothing asked bucket key plans may = absurd plans
 
-planning_is_no_part : (asked : Ask) (bucket key id : List ℕ) (n : ℕ) → IsPlanning asked → asked ≡ ask.Part bucket key id n → ⊥
+pub planning_is_no_part : (asked : Ask) (bucket key id : List ℕ) (n : ℕ) → IsPlanning asked → asked ≡ ask.Part bucket key id n → ⊥
 planning_is_no_part asked bucket key id n plans is = subst IsPlanning is plans
 
-planning_is_no_copy : (asked : Ask) (bucket key id : List ℕ) (n : ℕ) (b k under : List ℕ) (range : ℕ × ℕ) → IsPlanning asked → asked ≡ ask.PartCopy bucket key id n b k under range → ⊥
+pub planning_is_no_copy : (asked : Ask) (bucket key id : List ℕ) (n : ℕ) (b k under : List ℕ) (range : ℕ × ℕ) → IsPlanning asked → asked ≡ ask.PartCopy bucket key id n b k under range → ⊥
 planning_is_no_copy asked bucket key id n b k under range plans is = subst IsPlanning is plans
 
+-- a planning job is of no task
+pub planned_none : (t : Option ℕ) → not (is_some t) ≡ true → t ≡ None
+planned_none None e = refl
+planned_none (Some m) e = absurd (other e)
+  where
+    other : false ≡ true → ⊥
+    other f = cc
+
 -- the last of some stands at a place
-last_place : (attempts : List Attempt) (last : Attempt) → last_of attempts ≡ Some last → (k : ℕ) × (slice_get attempts k ≡ Some last)
+pub last_place : (attempts : List Attempt) (last : Attempt) → last_of attempts ≡ Some last → (k : ℕ) × (slice_get attempts k ≡ Some last)
 last_place [] last e = absurd (nothing last e)
   where
     nothing : (a : Attempt) → ◌≡◌ {A = Option Attempt} None (Some a) → ⊥
@@ -76,6 +86,10 @@ module _ (Shows : Ask → ℕ → Talk → Class → List ℕ → Type 0) where
 
     pub row_of : (c : Dispatched) (m : ℕ) → Contains dispatched c → c.dispatch.job.task ≡ Some m → (task : Task) × (slice_get s.tasks m ≡ Some task) × IsRow m task c
     row_of c m known is = let says = r.schedule.asks c m known is in (says.0, says.3, record { piece = says.1; count = says.2; pieces = says.4; row = says.7 })
+
+    -- a planning job changes nothing
+    pub asks_only : (c : Dispatched) → Contains dispatched c → c.dispatch.job.task ≡ None → IsPlanning c.ask
+    asks_only c known none = r.schedule.plans c (contains_of (planning_of dispatched) c (has-filter is_planning dispatched c (ap (λ (t : Option ℕ). not (is_some t)) none) (has dispatched c known)))
 
     module _ (n : ℕ) (task : Task) (bucket key : List ℕ) (is_task : slice_get s.tasks n ≡ Some task) (is_dest : task.dest ≡ place.Object bucket key) where
       pub here : IsObject task.dest bucket key
@@ -124,7 +138,7 @@ module _ (Shows : Ask → ℕ → Talk → Class → List ℕ → Type 0) where
       -- what may change the destination is the request that decides this task
       pub changes : (c : Dispatched) → Contains dispatched c → MayChange c.ask bucket key → IsChangeOf c
       changes c known may = elim (found_or_not c.dispatch.job.task) [
-        | inl none ↦ absurd (planning_changes_nothing c.ask bucket key (r.schedule.plans c known none) may)
+        | inl none ↦ absurd (planning_changes_nothing c.ask bucket key (asks_only c known none) may)
         | inr some ↦ let found = row_of c some.0 known some.1 in change_of c some.0 found.0 some.1 found.1 found.2 may
       ]
 
@@ -170,18 +184,18 @@ module _ (Shows : Ask → ℕ → Talk → Class → List ℕ → Type 0) where
                   (subst (λ (k : Kind). ChangesAs (gained_before Shows dispatched c.dispatch.given_at) task (known_by own.piece own.count) k (is_small s task) c.ask c.body bucket key) is_kind change.changes),
             )
 
-        pub puts_alone : task.kind ≡ kind.Upload → is_small s task ≡ true → AllThatChange bucket key (Puts bucket key (source_bytes s.held task.source)) dispatched
+        pub puts_alone : task.kind ≡ kind.Upload → is_small s task ≡ true → AllThatChange bucket key (AsksPut bucket key (source_bytes s.held task.source)) dispatched
         puts_alone is_kind is_size c known may = (changes_as kind.Upload true is_kind is_size c known may).1
 
         pub copies_alone : (from_bucket from_key : List ℕ) → task.kind ≡ kind.Copy → is_small s task ≡ true → task.source ≡ Some (place.Object from_bucket from_key)
-            → AllThatChange bucket key (Copies bucket key from_bucket from_key task.etag) dispatched
+            → AllThatChange bucket key (AsksCopy bucket key from_bucket from_key task.etag) dispatched
         copies_alone from_bucket from_key is_kind is_size is_source c known may =
             let change = changes_as kind.Copy true is_kind is_size c known may in
             let from = change.1.0 in
             let at = subst (λ (o : Option Place). IsSource o from.bucket from.key) is_source from.is_source in
             change.1.1 ∙ ap (λ (b : List ℕ). ask.Copy bucket key b from.key task.etag) (sym at.0) ∙ ap (λ (k : List ℕ). ask.Copy bucket key from_bucket k task.etag) (sym at.1)
 
-        pub deletes_alone : (small : Bool) → task.kind ≡ kind.RemoveObject → is_small s task ≡ small → AllThatChange bucket key (Deletes bucket key) dispatched
+        pub deletes_alone : (small : Bool) → task.kind ≡ kind.RemoveObject → is_small s task ≡ small → AllThatChange bucket key (AsksDelete bucket key) dispatched
         deletes_alone small is_kind is_size c known may = (changes_as kind.RemoveObject small is_kind is_size c known may).1
 
         completes : (c : Dispatched) (o : IsRow n task c) → CompletesAt (gained_before Shows dispatched c.dispatch.given_at) (known_by o.piece o.count) c.ask bucket key
@@ -189,6 +203,7 @@ module _ (Shows : Ask → ℕ → Talk → Class → List ℕ → Type 0) where
         completes c o says = record {
           id = says.id;
           etags = says.etags;
+          fresh = says.fresh;
           is_complete = says.is_complete;
           counted = says.counted ∙ (level c o).1;
           created = created c.dispatch.given_at says.id says.created;
@@ -198,11 +213,11 @@ module _ (Shows : Ask → ℕ → Talk → Class → List ℕ → Type 0) where
         parts_alone is_kind is_size = record {
           completes = λ c known may. let change = changes_as kind.Upload false is_kind is_size c known may in completes c change.0 change.1;
           parts = λ c id number known is. elim (found_or_not c.dispatch.job.task) [
-            | inl none ↦ absurd (planning_is_no_part c.ask bucket key id number (r.schedule.plans c known none) is)
+            | inl none ↦ absurd (planning_is_no_part c.ask bucket key id number (asks_only c known none) is)
             | inr some ↦ let found = row_of c some.0 known some.1 in part_of c id number some.0 found.0 found.1 found.2 is
           ];
           no_copies = λ c id number b k under range known is. elim (found_or_not c.dispatch.job.task) [
-            | inl none ↦ planning_is_no_copy c.ask bucket key id number b k under range (r.schedule.plans c known none) is
+            | inl none ↦ planning_is_no_copy c.ask bucket key id number b k under range (asks_only c known none) is
             | inr some ↦ let found = row_of c some.0 known some.1 in not_upload (sym is_kind ∙ copy_of c id number b k under range some.0 found.0 found.1 found.2 is)
           ];
         }
@@ -234,11 +249,11 @@ module _ (Shows : Ask → ℕ → Talk → Class → List ℕ → Type 0) where
         copied_parts_alone from_bucket from_key is_kind is_size is_source = record {
           completes = λ c known may. let change = changes_as kind.Copy false is_kind is_size c known may in completes c change.0 change.1;
           no_parts = λ c id number known is. elim (found_or_not c.dispatch.job.task) [
-            | inl none ↦ planning_is_no_part c.ask bucket key id number (r.schedule.plans c known none) is
+            | inl none ↦ planning_is_no_part c.ask bucket key id number (asks_only c known none) is
             | inr some ↦ let found = row_of c some.0 known some.1 in not_copy (sym is_kind ∙ part_of c id number some.0 found.0 found.1 found.2 is)
           ];
           copies = λ c id number b k under range known is. elim (found_or_not c.dispatch.job.task) [
-            | inl none ↦ absurd (planning_is_no_copy c.ask bucket key id number b k under range (r.schedule.plans c known none) is)
+            | inl none ↦ absurd (planning_is_no_copy c.ask bucket key id number b k under range (asks_only c known none) is)
             | inr some ↦ let found = row_of c some.0 known some.1 in copy_of c id number b k under range some.0 found.0 found.1 found.2 is
           ];
         }

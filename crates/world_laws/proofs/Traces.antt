@@ -4,9 +4,9 @@ use Rattle.std.proofs.lemmas.List.{map-append}
 use Rattle.s3_model.specs.declared.requests.Ask.{Ask}
 use Rattle.s3_model.specs.declared.answers.Reply.{Reply}
 use Rattle.s3_model.specs.declared.settings.Limits.{Limits}
-use Rattle.s3_model.specs.ServiceState.{State}
-use Rattle.s3_model.specs.Serves.{Replied, Refused, Succeeds, ExternalWrite, after_external}
-use Rattle.s3_model.specs.Traces.{Request, Step, TraceEvent, Given, Begin, Serve, External, Came, IsTrace, Steps, begun_after, state_after, states, events_of}
+use Rattle.s3_service.specs.ServiceState.{State}
+use Rattle.s3_service.specs.Serves.{Replied, Refused, Succeeds, ExternalWrite, after_external}
+use Rattle.run_promise.specs.Traces.{Request, Step, TraceEvent, Given, Begin, Serve, External, Came, IsTrace, Steps, begun_after, state_after, states, events_of}
 use Rattle.world_laws.proofs.Members.{Has, has-append_left, has_middle, mapped, split_of}
 
 -- all that was begun by the end of a trace
@@ -106,7 +106,7 @@ stable_step limits Holds stable begun old (Given job lane) new steps holds = sub
 stable_step limits Holds stable begun old (Begin lane sent) new steps holds = subst Holds (sym steps) holds
 stable_step limits Holds stable begun old (Came job lane tries) new steps holds = subst Holds (sym steps) holds
 stable_step limits Holds stable begun old (External write) new steps holds = subst Holds (sym steps.1) (stable.written write old holds)
-stable_step limits Holds stable begun old (Serve sent (Refused code)) new steps holds = subst Holds (sym steps.1) holds
+stable_step limits Holds stable begun old (Serve sent (Refused code)) new steps holds = subst Holds (sym steps.1.0) holds
 stable_step limits Holds stable begun old (Serve sent (Replied answered bytes)) new steps holds = stable.served old sent.ask sent.body answered bytes new steps.1 holds
 
 -- holds along every trace, whatever was dispatched

@@ -10,9 +10,9 @@ use Rattle.s3_model.specs.declared.answers.Reply.TheVariants as reply
 use Rattle.s3_model.specs.declared.answers.Class.{Class}
 use Rattle.s3_model.specs.declared.settings.Limits.{Limits}
 use Rattle.s3_model.specs.Talks.{Talk}
-use Rattle.s3_model.specs.ServiceState.{State, Ended, CompletedBy, Aborted}
-use Rattle.s3_model.specs.Serves.{Replied, Succeeds}
-use Rattle.s3_model.specs.Traces.{Request, Step, TraceEvent, Serve, IsTrace, Steps, begun_after, state_after}
+use Rattle.s3_service.specs.ServiceState.{State, Ended, CompletedBy, Aborted}
+use Rattle.s3_service.specs.Serves.{Replied, Succeeds}
+use Rattle.run_promise.specs.Traces.{Request, Step, TraceEvent, Serve, IsTrace, Steps, begun_after, state_after}
 use Rattle.world_laws.specs.Uploads.{IsFree, NamesUpload, IsSameUpload, OtherUploadsStay, IdsAreCreatedOnce}
 use Rattle.world_laws.proofs.Maps.{text_exact, not_both, nothing_is, get-insert_same, get-insert_other, get-remove_other}
 use Rattle.world_laws.proofs.Members.{ordered}
@@ -28,7 +28,7 @@ stored_names asked body old bucket key id number bytes (inl part) = subst (λ (a
 stored_names asked body old bucket key id number bytes (inr copy) = subst (λ (a : Ask). NamesUpload a id) (sym copy.5) refl
 
 ended_names : (asked : Ask) (bucket key id : List ℕ) (how : Ended) → EndsUpload asked bucket key id how → NamesUpload asked id
-ended_names asked bucket key id (CompletedBy etags) ends = subst (λ (a : Ask). NamesUpload a id) (sym ends.1) refl
+ended_names asked bucket key id (CompletedBy etags) ends = subst (λ (a : Ask). NamesUpload a id) (sym ends.2) refl
 ended_names asked bucket key id Aborted ends = subst (λ (a : Ask). NamesUpload a id) (sym ends) refl
 
 -- a request leaves an upload that was begun and that it does not name
@@ -38,7 +38,7 @@ unnamed_stays asked body answered old new id (up.created bucket key content othe
   ap (λ uploads. get uploads id) is_uploads ∙ get-insert_other nat_list_cmp_total text_exact old.uploads other upload id (λ same. begun (subst (IsFree old) (sym same) was_free)),
   ap (λ all. get all id) same_ended,
 )
-unnamed_stays asked body answered old new id (up.stored bucket key other number upload part stores is_open is_uploads same_ended) unnamed begun = (
+unnamed_stays asked body answered old new id (up.stored bucket key other number upload part stores is_open is_uploads same_ended says) unnamed begun = (
   ap (λ uploads. get uploads id) is_uploads ∙ get-insert_other nat_list_cmp_total text_exact old.uploads other (record upload { parts = insert upload.parts number part }) id
       (λ same. unnamed (subst (NamesUpload asked) (sym same) (stored_names asked body old bucket key other number part.bytes stores))),
   ap (λ all. get all id) same_ended,

@@ -1,5 +1,5 @@
 -- What one request leaves of the uploads: one of four changes, or none.
-use Rattle.std.proofs.Common.{◌≡◌, ◌∙◌, ◌⊎◌, ℕ, List, [], ◌∷◌, Option, Some, None, refl, sym, ap, inl, inr}
+use Rattle.std.proofs.Common.{◌≡◌, ◌∙◌, ◌⊎◌, ℕ, Bool, List, [], ◌∷◌, Option, Some, None, refl, sym, ap, inl, inr}
 use Rattle.std.specs.Cmp.Lexicographic.{nat_list_cmp_total}
 use Rattle.std.specs.FinMap.{get, insert, remove}
 use Rattle.s3_model.specs.declared.requests.Ask.{Ask}
@@ -8,9 +8,9 @@ use Rattle.s3_model.specs.declared.answers.Reply.{Reply}
 use Rattle.s3_model.specs.declared.answers.Reply.TheVariants as reply
 use Rattle.s3_model.specs.declared.settings.Limits.{Limits}
 use Rattle.s3_model.specs.Maps.{MapOf}
-use Rattle.s3_model.specs.ServiceState.{State, Object, Upload, StoredPart, Ended, CompletedBy, Aborted}
-use Rattle.s3_model.specs.Listing.{Name, Remembers}
-use Rattle.s3_model.specs.Serves.{Succeeds, IsOpen, IsFresh, IsThere, bytes_within, ExternalWrite, Writes, Removes, after_external}
+use Rattle.s3_service.specs.ServiceState.{State, Object, Upload, StoredPart, Ended, CompletedBy, Aborted}
+use Rattle.s3_service.specs.Listing.{Name, Remembers}
+use Rattle.s3_service.specs.Serves.{Succeeds, IsOpen, IsUnused, IsThere, bytes_within, ExternalWrite, Writes, Removes, after_external}
 use Rattle.world_laws.specs.Uploads.{IsFree}
 use Rattle.world_laws.proofs.Maps.{text_exact, not_both, nothing_is, get-insert_same, get-insert_other, get-remove_same, get-remove_other}
 
@@ -23,15 +23,15 @@ StoresPart asked body old bucket key id number bytes =
 
 -- the request ends the upload in that way
 abbrev pub EndsUpload : Ask → List ℕ → List ℕ → List ℕ → Ended → Type 0
-EndsUpload asked bucket key id (CompletedBy etags) = (spare : ℕ) × (asked ≡ ask.Complete bucket key id (record { items = etags; spare = spare }))
+EndsUpload asked bucket key id (CompletedBy etags) = (spare : ℕ) × (fresh : Bool) × (asked ≡ ask.Complete bucket key id (record { items = etags; spare = spare }) fresh)
 EndsUpload asked bucket key id Aborted = asked ≡ ask.Abort bucket key id
 
 pub data Change (asked : Ask) (body : List ℕ) (answered : Reply) (old new : State) : Type 0 where
   none : new.uploads ≡ old.uploads → new.ended ≡ old.ended → Change asked body answered old new
-  created : (bucket key : List ℕ) (content : Option (List ℕ)) (id : List ℕ) (upload : Upload) → asked ≡ ask.Create bucket key content → answered ≡ reply.Created id → IsFree old id → IsFresh bucket key upload
+  created : (bucket key : List ℕ) (content : Option (List ℕ)) (id : List ℕ) (upload : Upload) → asked ≡ ask.Create bucket key content → answered ≡ reply.Created id → IsFree old id → IsUnused bucket key upload
       → new.uploads ≡ insert old.uploads id upload → new.ended ≡ old.ended → Change asked body answered old new
   stored : (bucket key id : List ℕ) (number : ℕ) (upload : Upload) (part : StoredPart) → StoresPart asked body old bucket key id number part.bytes → IsOpen old id bucket key upload
-      → new.uploads ≡ insert old.uploads id (record upload { parts = insert upload.parts number part }) → new.ended ≡ old.ended → Change asked body answered old new
+      → new.uploads ≡ insert old.uploads id (record upload { parts = insert upload.parts number part }) → new.ended ≡ old.ended → answered ≡ reply.PartStored part.etag → Change asked body answered old new
   closed : (bucket key id : List ℕ) (upload : Upload) (how : Ended) → EndsUpload asked bucket key id how → IsOpen old id bucket key upload
       → new.uploads ≡ remove old.uploads id → new.ended ≡ insert old.ended id how → Change asked body answered old new
 
@@ -46,21 +46,21 @@ pub success_changes : (limits : Limits) (old : State) (asked : Ask) (body : List
     → Succeeds limits old asked body answered bytes new → Change asked body answered old new
 success_changes limits old (ask.Head b k) body (reply.Found size etag micros) bytes new h = same_state _ _ _ old new h.4
 success_changes limits old (ask.Get b k etag range) body (reply.Got status told size) bytes new h = same_state _ _ _ old new h.3
-success_changes limits old (ask.Put b k content) body reply.Stored bytes new h = none (ap (λ (t : State). t.uploads) h.1.2) (ap (λ (t : State). t.ended) h.1.2)
+success_changes limits old (ask.Put b k content fresh) body reply.Stored bytes new h = none (ap (λ (t : State). t.uploads) h.2.2) (ap (λ (t : State). t.ended) h.2.2)
 success_changes limits old (ask.Copy b k from_bucket from_key etag) body reply.Copied bytes new h = none (ap (λ (t : State). t.uploads) h.3.2) (ap (λ (t : State). t.ended) h.3.2)
 success_changes limits old (ask.Delete b k) body reply.Gone bytes new h = none (ap (λ (t : State). t.uploads) h.1) (ap (λ (t : State). t.ended) h.1)
 success_changes limits old (ask.Create b k content) body (reply.Created id) bytes new h =
     created b k content id h.3 refl refl (record { not_open = nothing_is (get old.uploads id) h.1; not_ended = nothing_is (get old.ended id) h.2 }) h.4 (ap (λ (t : State). t.uploads) h.5) (ap (λ (t : State). t.ended) h.5)
 success_changes limits old (ask.Part b k id number) body (reply.PartStored etag) bytes new h =
-    stored b k id number h.0 (record { bytes = body; etag = etag }) (inl (refl, refl)) h.1 (ap (λ (t : State). t.uploads) h.2) (ap (λ (t : State). t.ended) h.2)
+    stored b k id number h.0 (record { bytes = body; etag = etag }) (inl (refl, refl)) h.1 (ap (λ (t : State). t.uploads) h.2) (ap (λ (t : State). t.ended) h.2) refl
 success_changes limits old (ask.PartCopy b k id number from_bucket from_key under range) body (reply.PartStored etag) bytes new h =
     stored b k id number h.0 (record { bytes = bytes_within range h.1.bytes; etag = etag }) (inr (from_bucket, from_key, under, range, h.1, refl, h.3, refl)) h.2
-    (ap (λ (t : State). t.uploads) h.5) (ap (λ (t : State). t.ended) h.5)
-success_changes limits old (ask.Complete b k id etags) body reply.Completed bytes new (inl h) =
-    closed b k id h.0 (CompletedBy etags.items) (etags.spare, refl) h.3
-    (ap (λ (t : State). t.uploads) h.6 ∙ ap (λ (t : State). remove t.uploads id) h.5.2)
-    (ap (λ (t : State). t.ended) h.6 ∙ ap (λ (t : State). insert t.ended id (CompletedBy etags.items)) h.5.2)
-success_changes limits old (ask.Complete b k id etags) body reply.Completed bytes new (inr h) = same_state _ _ _ old new h.1
+    (ap (λ (t : State). t.uploads) h.5) (ap (λ (t : State). t.ended) h.5) refl
+success_changes limits old (ask.Complete b k id etags fresh) body reply.Completed bytes new (inl h) =
+    closed b k id h.0 (CompletedBy etags.items) (etags.spare, fresh, refl) h.3
+    (ap (λ (t : State). t.uploads) h.7 ∙ ap (λ (t : State). remove t.uploads id) h.6.2)
+    (ap (λ (t : State). t.ended) h.7 ∙ ap (λ (t : State). insert t.ended id (CompletedBy etags.items)) h.6.2)
+success_changes limits old (ask.Complete b k id etags fresh) body reply.Completed bytes new (inr h) = same_state _ _ _ old new h.1
 success_changes limits old (ask.Abort b k id) body reply.Gone bytes new h = closed b k id h.0 Aborted refl h.1 (ap (λ (t : State). t.uploads) h.2) (ap (λ (t : State). t.ended) h.2)
 success_changes limits old (ask.List b prefix delimited token) body (reply.Listed page) bytes new h = listed _ _ _ old h.1.1 h.1.2 page.more page.token new h.1.8
 success_changes limits old ask.Buckets body (reply.BucketList buckets) bytes new h = same_state _ _ _ old new h.1
@@ -90,7 +90,7 @@ free_before asked body answered old new id (created bucket key content other upl
   not_open = (absent_before old.uploads other upload id (ap (λ uploads. get uploads id) (sym is_uploads) ∙ free.not_open)).1;
   not_ended = ap (λ ended. get ended id) (sym same_ended) ∙ free.not_ended;
 }
-free_before asked body answered old new id (stored bucket key other number upload part stores is_open is_uploads same_ended) free = record {
+free_before asked body answered old new id (stored bucket key other number upload part stores is_open is_uploads same_ended says) free = record {
   not_open = (absent_before old.uploads other _ id (ap (λ uploads. get uploads id) (sym is_uploads) ∙ free.not_open)).1;
   not_ended = ap (λ ended. get ended id) (sym same_ended) ∙ free.not_ended;
 }
@@ -123,7 +123,7 @@ ended_stays asked body answered old new id how (created bucket key content other
       (λ same. not_both (get old.ended other) how was_free.not_ended (ap (get old.ended) (sym same) ∙ ended.is_ended)) ∙ ended.not_open;
   is_ended = ap (λ all. get all id) same_ended ∙ ended.is_ended;
 }
-ended_stays asked body answered old new id how (stored bucket key other number upload part stores is_open is_uploads same_ended) ended = record {
+ended_stays asked body answered old new id how (stored bucket key other number upload part stores is_open is_uploads same_ended says) ended = record {
   not_open = ap (λ uploads. get uploads id) is_uploads ∙ get-insert_other nat_list_cmp_total text_exact old.uploads other _ id
       (λ same. not_both (get old.uploads id) upload ended.not_open (ap (get old.uploads) same ∙ is_open.held)) ∙ ended.not_open;
   is_ended = ap (λ all. get all id) same_ended ∙ ended.is_ended;

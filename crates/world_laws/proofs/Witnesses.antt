@@ -7,14 +7,14 @@ use Rattle.s3_model.specs.declared.requests.Op.TheVariants as op
 use Rattle.s3_model.specs.declared.outcomes.JobId.{JobId}
 use Rattle.s3_model.specs.declared.outcomes.Event.{Event}
 use Rattle.s3_model.specs.declared.settings.Limits.{Limits}
-use Rattle.s3_model.specs.ServiceState.{State, objects_in, HasBucket, with_object, without_object}
-use Rattle.s3_model.specs.Serves.{MayChange, IsThere}
-use Rattle.s3_model.specs.Dispatches.{Attempt, Dispatched, op_number}
-use Rattle.s3_model.specs.Schedule.{job_of, IsBefore}
-use Rattle.s3_model.specs.Fits.{request_at}
+use Rattle.s3_service.specs.ServiceState.{State, objects_in, HasBucket, with_object, without_object}
+use Rattle.s3_service.specs.Serves.{MayChange, IsThere}
+use Rattle.run_promise.specs.Dispatches.{Attempt, Dispatched, op_number}
+use Rattle.run_promise.specs.Schedule.{job_of, IsBefore}
+use Rattle.run_promise.specs.Fits.{request_at}
 use Rattle.world_laws.specs.Premises.{HasSucceeded, AllRefused}
 use Rattle.world_laws.specs.Destinations.{AllThatChange}
-use Rattle.world_laws.specs.SmallTransfers.{Puts, Copies, Deletes}
+use Rattle.world_laws.specs.SmallTransfers.{AsksPut, AsksCopy, AsksDelete}
 use Rattle.world_laws.specs.Rounds.{Told, Round, reply_to, body_by, class_by, ending_by, attempt_of, dispatch_at, dispatched_from, journal_of, steps_from, AreServed}
 use Rattle.world_laws.specs.Witnesses.{IsMet, UploadIsMet, CopyIsMet, DeleteIsMet, RefusalIsMet, IsRefusalMet, IsMoveMet, FrameIsMet, MoveIsMet}
 use Rattle.world_laws.proofs.Members.{Has, has, contains_of}
@@ -54,6 +54,9 @@ met limits bucket key AreOurs start rounds served apart first all ours place r n
   succeeded = succeeds place r not_refused;
 }
 
+pub false_true : false ≡ true → ⊥
+false_true e = cc
+
 -- one round is apart
 pub alone : (r : Round) → AreApart (r ∷ [])
 alone r = (λ other h. absurd h, tt)
@@ -70,13 +73,13 @@ of_one bucket key IsSuch one such c known may = which (has (one ∷ []) c known)
 
 module _ (limits : Limits) (bucket key body : List ℕ) where
   abbrev put : Round
-  put = round (job_of 0 op.Put 0) (ask.Put bucket key None) body [] (with_object (bare (bucket ∷ [])) bucket key (object_of body))
+  put = round (job_of 0 op.Put 0) (ask.Put bucket key None false) body [] (with_object (bare (bucket ∷ [])) bucket key (object_of body))
 
-  put_is_met : IsMet limits bucket key (λ journal dispatched. AllThatChange bucket key (Puts bucket key body) dispatched)
+  put_is_met : IsMet limits bucket key (λ journal dispatched. AllThatChange bucket key (AsksPut bucket key body) dispatched)
   put_is_met =
-      met limits bucket key (λ journal dispatched. AllThatChange bucket key (Puts bucket key body) dispatched) (bare (bucket ∷ [])) (put ∷ []) ((bare_has bucket [], (object_of body, refl, refl)), tt) (alone put)
+      met limits bucket key (λ journal dispatched. AllThatChange bucket key (AsksPut bucket key body) dispatched) (bare (bucket ∷ [])) (put ∷ []) ((bare_has bucket [], λ never. absurd (false_true never), (object_of body, refl, refl)), tt) (alone put)
       (bare_is_faithful (bucket ∷ [])) (faithful_with (bare (bucket ∷ [])) bucket key body (bare_is_faithful (bucket ∷ [])), tt)
-      (of_one bucket key (Puts bucket key body) (dispatch_at 0 put) (None, refl, refl)) 0 put refl (inl refl) (refl, refl)
+      (of_one bucket key (AsksPut bucket key body) (dispatch_at 0 put) (None, false, refl, refl)) 0 put refl (inl refl) (refl, refl)
 
 pub upload_is_met : UploadIsMet
 upload_is_met limits bucket key body = put_is_met limits bucket key body
@@ -104,11 +107,11 @@ module _ (limits : Limits) (bucket key from_bucket from_key etag : List ℕ) whe
   abbrev pub copy : Round
   copy = round (job_of 0 op.Copy 0) (ask.Copy bucket key from_bucket from_key etag) [] [] copied
 
-  copy_is_met : IsMet limits bucket key (λ journal dispatched. AllThatChange bucket key (Copies bucket key from_bucket from_key etag) dispatched)
+  copy_is_met : IsMet limits bucket key (λ journal dispatched. AllThatChange bucket key (AsksCopy bucket key from_bucket from_key etag) dispatched)
   copy_is_met =
-      met limits bucket key (λ journal dispatched. AllThatChange bucket key (Copies bucket key from_bucket from_key etag) dispatched) with_source (copy ∷ [])
+      met limits bucket key (λ journal dispatched. AllThatChange bucket key (AsksCopy bucket key from_bucket from_key etag) dispatched) with_source (copy ∷ [])
       ((object_of etag, source_is_there, bucket_is_there, (object_of etag, refl, refl)), tt) (alone copy)
-      source_is_faithful (faithful_with with_source bucket key etag source_is_faithful, tt) (of_one bucket key (Copies bucket key from_bucket from_key etag) (dispatch_at 0 copy) refl) 0 copy refl (inl refl) (refl, refl)
+      source_is_faithful (faithful_with with_source bucket key etag source_is_faithful, tt) (of_one bucket key (AsksCopy bucket key from_bucket from_key etag) (dispatch_at 0 copy) refl) 0 copy refl (inl refl) (refl, refl)
 
 pub copies_is_met : CopyIsMet
 copies_is_met limits bucket key from_bucket from_key etag = copy_is_met limits bucket key from_bucket from_key etag
@@ -120,10 +123,10 @@ module _ (limits : Limits) (bucket key : List ℕ) where
   abbrev delete : Round
   delete = round (job_of 0 op.Delete 0) (ask.Delete bucket key) [] [] (without_object one_bucket bucket key)
 
-  deletes : IsMet limits bucket key (λ journal dispatched. AllThatChange bucket key (Deletes bucket key) dispatched)
+  deletes : IsMet limits bucket key (λ journal dispatched. AllThatChange bucket key (AsksDelete bucket key) dispatched)
   deletes =
-      met limits bucket key (λ journal dispatched. AllThatChange bucket key (Deletes bucket key) dispatched) one_bucket (delete ∷ []) ((bare_has bucket [], refl), tt) (alone delete) (bare_is_faithful (bucket ∷ []))
-      (faithful_without one_bucket bucket key (bare_is_faithful (bucket ∷ [])), tt) (of_one bucket key (Deletes bucket key) (dispatch_at 0 delete) refl) 0 delete refl (inl refl) (refl, refl)
+      met limits bucket key (λ journal dispatched. AllThatChange bucket key (AsksDelete bucket key) dispatched) one_bucket (delete ∷ []) ((bare_has bucket [], refl), tt) (alone delete) (bare_is_faithful (bucket ∷ []))
+      (faithful_without one_bucket bucket key (bare_is_faithful (bucket ∷ [])), tt) (of_one bucket key (AsksDelete bucket key) (dispatch_at 0 delete) refl) 0 delete refl (inl refl) (refl, refl)
 
   -- ---- a refusal
 
@@ -149,7 +152,7 @@ module _ (limits : Limits) (bucket key : List ℕ) where
     trace = steps_from 0 one_bucket (refused_delete ∷ []);
     journal = journal_of (refused_delete ∷ []);
     dispatched = dispatched_from 0 (refused_delete ∷ []);
-    fitting = rounds_fitting limits one_bucket (refused_delete ∷ []) (refl, tt) (alone refused_delete) (bare_is_faithful (bucket ∷ [])) (bare_is_faithful (bucket ∷ []), tt) (λ b k. (b ≡ bucket) × (k ≡ key));
+    fitting = rounds_fitting limits one_bucket (refused_delete ∷ []) ((refl, tt), tt) (alone refused_delete) (bare_is_faithful (bucket ∷ [])) (bare_is_faithful (bucket ∷ []), tt) (λ b k. (b ≡ bucket) × (k ≡ key));
     refused = of_one bucket key (AllRefused Told) (dispatch_at 0 refused_delete) is_refused;
     asked = (dispatch_at 0 refused_delete, (0, omega arith, refl), (refl, refl));
   }
@@ -168,17 +171,17 @@ frame_is_met limits bucket key other apart = record {
   trace = steps_from 0 (bare (bucket ∷ [])) (put limits bucket other [] ∷ []);
   journal = journal_of (put limits bucket other [] ∷ []);
   dispatched = dispatched_from 0 (put limits bucket other [] ∷ []);
-  fitting = rounds_fitting limits (bare (bucket ∷ [])) (put limits bucket other [] ∷ []) ((bare_has bucket [], (object_of [], refl, refl)), tt) (alone (put limits bucket other [])) (bare_is_faithful (bucket ∷ []))
+  fitting = rounds_fitting limits (bare (bucket ∷ [])) (put limits bucket other [] ∷ []) ((bare_has bucket [], λ never. absurd (false_true never), (object_of [], refl, refl)), tt) (alone (put limits bucket other [])) (bare_is_faithful (bucket ∷ []))
       (faithful_with (bare (bucket ∷ [])) bucket other [] (bare_is_faithful (bucket ∷ [])), tt) (λ b k. (b ≡ bucket) × (k ≡ key));
   request = dispatch_at 0 (put limits bucket other []);
   known = (0, omega arith, refl);
   unasked = λ asked. elsewhere asked.0 (has (dispatched_from 0 (put limits bucket other [] ∷ [])) asked.0 asked.1) asked.2;
-  unwritten = rounds_unwritten limits (bare (bucket ∷ [])) (put limits bucket other [] ∷ []) ((bare_has bucket [], (object_of [], refl, refl)), tt) (alone (put limits bucket other [])) (bare_is_faithful (bucket ∷ []))
+  unwritten = rounds_unwritten limits (bare (bucket ∷ [])) (put limits bucket other [] ∷ []) ((bare_has bucket [], λ never. absurd (false_true never), (object_of [], refl, refl)), tt) (alone (put limits bucket other [])) (bare_is_faithful (bucket ∷ []))
       (faithful_with (bare (bucket ∷ [])) bucket other [] (bare_is_faithful (bucket ∷ [])), tt) bucket key;
 }
   where
     elsewhere : (c : Dispatched) → Has (dispatched_from 0 (put limits bucket other [] ∷ [])) c → MayChange c.ask bucket key → ⊥
-    elsewhere c (inl e) may = let changes : MayChange (ask.Put bucket other None) bucket key = subst (λ (d : Dispatched). MayChange d.ask bucket key) (sym e) may in apart changes.1
+    elsewhere c (inl e) may = let changes : MayChange (ask.Put bucket other None false) bucket key = subst (λ (d : Dispatched). MayChange d.ask bucket key) (sym e) may in apart changes.1
     elsewhere c (inr h) may = h
 
 -- ---- a move
@@ -198,10 +201,10 @@ module _ (limits : Limits) (bucket key from_bucket from_key etag : List ℕ) (ap
   move = copy limits bucket key from_bucket from_key etag ∷ source_gone ∷ []
 
   -- only the copy changes the destination
-  copy_alone : AllThatChange bucket key (Copies bucket key from_bucket from_key etag) (dispatched_from 0 move)
+  copy_alone : AllThatChange bucket key (AsksCopy bucket key from_bucket from_key etag) (dispatched_from 0 move)
   copy_alone c known may = which (has (dispatched_from 0 move) c known)
     where
-      which : Has (dispatched_from 0 move) c → Copies bucket key from_bucket from_key etag c
+      which : Has (dispatched_from 0 move) c → AsksCopy bucket key from_bucket from_key etag c
       which (inl e) = sym (ap (λ (d : Dispatched). d.ask) e)
       which (inr (inl e)) = absurd (apart (subst (λ (d : Dispatched). MayChange d.ask bucket key) (sym e) may))
       which (inr (inr h)) = absurd h
@@ -230,10 +233,10 @@ module _ (limits : Limits) (bucket key from_bucket from_key etag : List ℕ) (ap
   pub copied_is_faithful : IsFaithful (copied limits bucket key from_bucket from_key etag)
   copied_is_faithful = faithful_with (with_source limits bucket key from_bucket from_key etag) bucket key etag (source_is_faithful limits bucket key from_bucket from_key etag)
 
-  moves : IsMoveMet limits bucket key from_bucket from_key (λ journal dispatched. AllThatChange bucket key (Copies bucket key from_bucket from_key etag) dispatched)
+  moves : IsMoveMet limits bucket key from_bucket from_key (λ journal dispatched. AllThatChange bucket key (AsksCopy bucket key from_bucket from_key etag) dispatched)
   unfolding met
   moves = record {
-    copy = met limits bucket key (λ journal dispatched. AllThatChange bucket key (Copies bucket key from_bucket from_key etag) dispatched) (with_source limits bucket key from_bucket from_key etag) move move_served move_apart
+    copy = met limits bucket key (λ journal dispatched. AllThatChange bucket key (AsksCopy bucket key from_bucket from_key etag) dispatched) (with_source limits bucket key from_bucket from_key etag) move move_served move_apart
         (source_is_faithful limits bucket key from_bucket from_key etag) (copied_is_faithful, (faithful_without (copied limits bucket key from_bucket from_key etag) from_bucket from_key copied_is_faithful, tt)) copy_alone
         0 (copy limits bucket key from_bucket from_key etag) refl (inl refl) (refl, refl);
     job = job_of 0 op.Delete 0;

@@ -5,11 +5,11 @@ use Rattle.s3_model.specs.declared.answers.Class.{Class}
 use Rattle.s3_model.specs.declared.outcomes.Event.{Event}
 use Rattle.s3_model.specs.declared.settings.Limits.{Limits}
 use Rattle.s3_model.specs.Talks.{Talk}
-use Rattle.s3_model.specs.ServiceState.{State, object_at}
-use Rattle.s3_model.specs.Serves.{MayChange}
-use Rattle.s3_model.specs.Dispatches.{Dispatched}
-use Rattle.s3_model.specs.Traces.{Step, state_after, states, events_of, event_of}
-use Rattle.s3_model.specs.Truthful.{IsWhole}
+use Rattle.s3_service.specs.ServiceState.{State, object_at}
+use Rattle.s3_service.specs.Serves.{MayChange}
+use Rattle.run_promise.specs.Dispatches.{Dispatched}
+use Rattle.run_promise.specs.Traces.{Step, state_after, states, events_of, event_of}
+use Rattle.run_promise.specs.Truthful.{HasJournal}
 use Rattle.world_laws.specs.Premises.{IsFitting, IsPlace, HasCome, HasSucceeded, AllRefused}
 
 -- each dispatched request that may change the object is such a one
@@ -29,7 +29,7 @@ module _ (Shows : Ask → ℕ → Talk → Class → List ℕ → Type 0) where
   -- So after a success it is new at the end, and at every later moment.
   abbrev pub IsNewAfterSuccess : List ℕ → List ℕ → (List Event → List Dispatched → Type 0) → (List State → State → Type 0) → Type 0
   IsNewAfterSuccess bucket key AreOurs IsNew = (limits : Limits) (start : State) (trace part : List Step) (journal : List Event) (dispatched : List Dispatched)
-      → IsFitting Shows limits start trace journal dispatched (IsPlace bucket key) → AreOurs journal dispatched → IsWhole journal trace part
+      → IsFitting Shows limits start trace journal dispatched (IsPlace bucket key) → AreOurs journal dispatched → HasJournal journal trace part
       → (c : Dispatched) → Contains dispatched c → MayChange c.ask bucket key → HasCome journal c → HasSucceeded Shows c
       → IsNew (states start trace) (state_after start part)
 

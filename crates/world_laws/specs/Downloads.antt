@@ -8,11 +8,11 @@ use Rattle.s3_model.specs.declared.answers.Class.{Class}
 use Rattle.s3_model.specs.declared.outcomes.Event.{Event}
 use Rattle.s3_model.specs.declared.settings.Limits.{Limits}
 use Rattle.s3_model.specs.Talks.{Talk}
-use Rattle.s3_model.specs.ServiceState.{State}
-use Rattle.s3_model.specs.Dispatches.{Dispatched}
-use Rattle.s3_model.specs.Traces.{Step, states}
+use Rattle.s3_service.specs.ServiceState.{State}
+use Rattle.run_promise.specs.Dispatches.{Dispatched}
+use Rattle.run_promise.specs.Traces.{Step, states}
 use Rattle.s3_model.specs.Parts.{piece_count}
-use Rattle.s3_model.specs.Schedule.{asked_range}
+use Rattle.run_promise.specs.Schedule.{asked_range}
 use Rattle.world_laws.specs.Premises.{IsFitting, HasCome, HasSucceeded}
 use Rattle.world_laws.specs.SmallTransfers.{HadContent}
 use Rattle.world_laws.specs.Multipart.{joined}

@@ -5,12 +5,12 @@ use Rattle.s3_model.specs.declared.answers.Class.{Class}
 use Rattle.s3_model.specs.declared.outcomes.Event.{Event}
 use Rattle.s3_model.specs.declared.settings.Limits.{Limits}
 use Rattle.s3_model.specs.Talks.{Talk}
-use Rattle.s3_model.specs.ServiceState.{State, object_at}
-use Rattle.s3_model.specs.Serves.{MayChange}
-use Rattle.s3_model.specs.Dispatches.{Dispatched}
-use Rattle.s3_model.specs.Traces.{Step, IsTrace, state_after, events_of}
-use Rattle.s3_model.specs.Fits.{Fits}
-use Rattle.s3_model.specs.Truthful.{IsExternal}
+use Rattle.s3_service.specs.ServiceState.{State, object_at}
+use Rattle.s3_service.specs.Serves.{MayChange}
+use Rattle.run_promise.specs.Dispatches.{Dispatched}
+use Rattle.run_promise.specs.Traces.{Step, IsTrace, state_after, events_of}
+use Rattle.run_promise.specs.Fits.{Fits}
+use Rattle.run_promise.specs.Truthful.{IsExternal}
 
 -- some dispatched request may change the object
 abbrev pub IsAskedOf : List Dispatched → List ℕ → List ℕ → Type 0

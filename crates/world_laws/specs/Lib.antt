@@ -1,11 +1,14 @@
+pub mod Completeness
 pub mod Destinations
 pub mod Downloads
 pub mod Frame
 pub mod Moves
 pub mod Multipart
 pub mod Premises
+pub mod Promises
 pub mod Rounds
 pub mod SmallTransfers
+pub mod Sources
 pub mod Tasks
 pub mod Uploads
 pub mod Witnesses

@@ -6,17 +6,17 @@ use Rattle.s3_model.specs.declared.outcomes.JobId.{JobId}
 use Rattle.s3_model.specs.declared.outcomes.Event.{Event}
 use Rattle.s3_model.specs.declared.settings.Limits.{Limits}
 use Rattle.s3_model.specs.Talks.{Talk}
-use Rattle.s3_model.specs.ServiceState.{State, Object, object_at}
-use Rattle.s3_model.specs.Serves.{MayChange, Writes}
-use Rattle.s3_model.specs.Dispatches.{Dispatched}
-use Rattle.s3_model.specs.Traces.{Request, Step, Begin, External, IsTrace, state_after, states, events_of}
-use Rattle.s3_model.specs.Fits.{Fits}
-use Rattle.s3_model.specs.Schedule.{IsBefore}
-use Rattle.s3_model.specs.Endings.{IsDeleted}
-use Rattle.s3_model.specs.Truthful.{IsWhole}
+use Rattle.s3_service.specs.ServiceState.{State, Object, object_at}
+use Rattle.s3_service.specs.Serves.{MayChange, Writes}
+use Rattle.run_promise.specs.Dispatches.{Dispatched}
+use Rattle.run_promise.specs.Traces.{Request, Step, Begin, External, IsTrace, state_after, states, events_of}
+use Rattle.run_promise.specs.Fits.{Fits}
+use Rattle.run_promise.specs.Schedule.{IsBefore}
+use Rattle.run_promise.specs.Endings.{IsDeleted}
+use Rattle.run_promise.specs.Truthful.{HasJournal}
 use Rattle.world_laws.specs.Premises.{IsFitting, IsPlace, AreGiven, HasCome, HasSucceeded}
 use Rattle.world_laws.specs.Destinations.{AllThatChange}
-use Rattle.world_laws.specs.SmallTransfers.{Copies, Deletes, AreAll, IsCopied}
+use Rattle.world_laws.specs.SmallTransfers.{AsksCopy, AsksDelete, AreAll, IsCopied}
 use Rattle.world_laws.specs.Multipart.{AreCopiedParts, IsCopiedInParts}
 
 -- the job is given only after that dispatch has come
@@ -40,7 +40,7 @@ module _ (Shows : Ask → ℕ → Talk → Class → List ℕ → Type 0) where
 
   abbrev pub CopyComesFirst : Type 0
   CopyComesFirst = (bucket key from_bucket from_key etag : List ℕ)
-      → IsNewOnceBegun bucket key (AreAll bucket key (Copies bucket key from_bucket from_key etag)) (IsCopied bucket key from_bucket from_key etag)
+      → IsNewOnceBegun bucket key (AreAll bucket key (AsksCopy bucket key from_bucket from_key etag)) (IsCopied bucket key from_bucket from_key etag)
 
   abbrev pub CopiedPartsComeFirst : Type 0
   CopiedPartsComeFirst = (bucket key from_bucket from_key etag : List ℕ) (ranges : ℕ → ℕ × ℕ) (count : ℕ)
@@ -49,6 +49,6 @@ module _ (Shows : Ask → ℕ → Talk → Class → List ℕ → Type 0) where
   -- After its Delete came with success the source is absent, at the end and at every later moment, or somebody else wrote it.
   abbrev pub SourceIsGone : Type 0
   SourceIsGone = (limits : Limits) (start : State) (trace part : List Step) (journal : List Event) (dispatched : List Dispatched) (bucket key : List ℕ)
-      → IsTrace limits [] start trace → Fits Shows (events_of trace) journal dispatched → AllThatChange bucket key (Deletes bucket key) dispatched
-      → IsWhole journal trace part → (c : Dispatched) → Contains dispatched c → MayChange c.ask bucket key → HasCome journal c → HasSucceeded Shows c
+      → IsTrace limits [] start trace → Fits Shows (events_of trace) journal dispatched → AllThatChange bucket key (AsksDelete bucket key) dispatched
+      → HasJournal journal trace part → (c : Dispatched) → Contains dispatched c → MayChange c.ask bucket key → HasCome journal c → HasSucceeded Shows c
       → IsDeleted trace bucket key × ((object_at (state_after start part) bucket key ≡ None) ⊎ IsWritten trace bucket key)

@@ -1,5 +1,5 @@
 -- Destinations that a run makes new by an upload in parts: parts with their bytes, or copied from a source.
-use Rattle.std.specs.Prelude.{◌≡◌, ◌+◌, ◌++◌, ℕ, zero, suc, List, [], Option, Contains, length}
+use Rattle.std.specs.Prelude.{◌≡◌, ◌+◌, ◌++◌, ℕ, Bool, zero, suc, List, [], Option, Contains, length}
 use Rattle.s3_model.specs.declared.requests.Ask.{Ask}
 use Rattle.s3_model.specs.declared.requests.Ask.TheVariants as ask
 use Rattle.s3_model.specs.declared.answers.Reply.TheVariants as reply
@@ -8,11 +8,11 @@ use Rattle.s3_model.specs.declared.outcomes.Event.{Event}
 use Rattle.s3_model.specs.declared.settings.Limits.{Limits}
 use Rattle.s3_model.specs.Lists.{Reserved}
 use Rattle.s3_model.specs.Talks.{Talk}
-use Rattle.s3_model.specs.ServiceState.{State, HasBytes}
-use Rattle.s3_model.specs.Serves.{bytes_within}
-use Rattle.s3_model.specs.Dispatches.{Dispatched}
-use Rattle.s3_model.specs.Traces.{Step, IsTrace}
-use Rattle.s3_model.specs.Truthful.{AbortsLast}
+use Rattle.s3_service.specs.ServiceState.{State, HasBytes}
+use Rattle.s3_service.specs.Serves.{bytes_within}
+use Rattle.run_promise.specs.Dispatches.{Dispatched}
+use Rattle.run_promise.specs.Traces.{Step, IsTrace}
+use Rattle.run_promise.specs.Truthful.{AbortsLast}
 use Rattle.world_laws.specs.Premises.{HasCome, HasSucceeded}
 use Rattle.world_laws.specs.Destinations.{AllThatChange, IsNewAfterSuccess, IsOldOrNew}
 use Rattle.world_laws.specs.SmallTransfers.{HadContent, IsStored}
@@ -43,7 +43,8 @@ module _ (Shows : Ask → ℕ → Talk → Class → List ℕ → Type 0) where
   pub record CompletesHere (bucket key : List ℕ) (count : ℕ) (journal : List Event) (dispatched : List Dispatched) (c : Dispatched) : Type 0 where
     pub id : List ℕ
     pub etags : Reserved (List ℕ)
-    pub is_complete : c.ask ≡ ask.Complete bucket key id etags
+    pub fresh : Bool
+    pub is_complete : c.ask ≡ ask.Complete bucket key id etags fresh
     pub counted : length etags.items ≡ count
     pub created : IsCreated bucket key journal dispatched id
 

@@ -10,10 +10,10 @@ use Rattle.s3_model.specs.declared.outcomes.Event.TheVariants as entry
 use Rattle.s3_model.specs.declared.settings.Limits.{Limits}
 use Rattle.s3_model.specs.declared.tries.Mark.{Mark}
 use Rattle.s3_model.specs.Talks.{Talk}
-use Rattle.s3_model.specs.ServiceState.{State}
-use Rattle.s3_model.specs.Dispatches.{Attempt, Dispatched}
-use Rattle.s3_model.specs.Traces.{Step, IsTrace, IsHonest, events_of}
-use Rattle.s3_model.specs.Fits.{Fits}
+use Rattle.s3_service.specs.ServiceState.{State}
+use Rattle.run_promise.specs.Dispatches.{Attempt, Dispatched}
+use Rattle.run_promise.specs.Traces.{Step, IsTrace, IsHonest, events_of}
+use Rattle.run_promise.specs.Fits.{Fits}
 
 -- the dispatch came, at its place in the journal
 abbrev pub HasCome : List Event → Dispatched → Type 0

@@ -5,6 +5,7 @@ use Rattle.s3_model.specs.declared.requests.Ask.TheVariants as ask
 use Rattle.s3_model.specs.declared.answers.Reply.{Reply}
 use Rattle.s3_model.specs.declared.answers.Reply.TheVariants as reply
 use Rattle.s3_model.specs.declared.answers.Class.{Class}
+use Rattle.s3_model.specs.declared.outcomes.Cause.{Cause}
 use Rattle.s3_model.specs.declared.answers.Class.TheVariants as class
 use Rattle.s3_model.specs.declared.answers.Why.TheVariants as why
 use Rattle.s3_model.specs.declared.outcomes.JobId.{JobId}
@@ -14,12 +15,12 @@ use Rattle.s3_model.specs.declared.settings.Limits.{Limits}
 use Rattle.s3_model.specs.declared.tries.Mark.{Mark}
 use Rattle.s3_model.specs.declared.tries.Mark.TheVariants as mark
 use Rattle.s3_model.specs.Talks.{Talk, Ending, Failed, Closed, Finished}
-use Rattle.s3_model.specs.ServiceState.{State}
-use Rattle.s3_model.specs.Serves.{Answer, Replied, Refused, Serves}
-use Rattle.s3_model.specs.Dispatches.{Attempt, Dispatched}
-use Rattle.s3_model.specs.Traces.{Step, Given, Begin, Serve, Came}
-use Rattle.s3_model.specs.Fits.{request_at}
-use Rattle.s3_model.specs.Schedule.{most_body}
+use Rattle.s3_service.specs.ServiceState.{State}
+use Rattle.s3_service.specs.Serves.{Answer, Replied, Refused, Serves}
+use Rattle.run_promise.specs.Dispatches.{Attempt, Dispatched}
+use Rattle.run_promise.specs.Traces.{Step, Given, Begin, Serve, Came}
+use Rattle.run_promise.specs.Fits.{request_at}
+use Rattle.run_promise.specs.Schedule.{most_body}
 
 -- ---- a reading of talks
 
@@ -27,12 +28,13 @@ use Rattle.s3_model.specs.Schedule.{most_body}
 abbrev pub reply_to : Ask → List ℕ → ℕ → Reply
 reply_to (ask.Get bucket key etag None) got size = reply.Got 200 None (length got)
 reply_to (ask.Get bucket key etag (Some range)) got size = reply.Got 206 (Some (range.0, range.1, size)) (length got)
+reply_to (ask.Head bucket key) got size = reply.Found (length got) got 0
 reply_to (ask.Copy bucket key from_bucket from_key etag) got size = reply.Copied
 reply_to (ask.Delete bucket key) got size = reply.Gone
 reply_to (ask.Create bucket key content) got size = reply.Created got
 reply_to (ask.Part bucket key upload number) got size = reply.PartStored got
 reply_to (ask.PartCopy bucket key upload number from_bucket from_key etag range) got size = reply.PartStored got
-reply_to (ask.Complete bucket key upload etags) got size = reply.Completed
+reply_to (ask.Complete bucket key upload etags fresh) got size = reply.Completed
 reply_to (ask.Abort bucket key upload) got size = reply.Gone
 reply_to asked got size = reply.Stored
 
@@ -49,6 +51,22 @@ class_by Failed asked got size = class.Uncertain why.WireFailed
 
 abbrev pub Told : Ask → ℕ → Talk → Class → List ℕ → Type 0
 Told asked limit talk shown bytes = (shown ≡ class_by talk.ending asked talk.got talk.port) × (bytes ≡ body_by asked talk.got)
+
+abbrev pub status_by : Ending → ℕ
+status_by Finished = 200
+status_by Closed = 403
+status_by Failed = 0
+
+abbrev pub ToldStatus : Ask → ℕ → Talk → ℕ → Type 0
+ToldStatus asked limit talk status = status ≡ status_by talk.ending
+
+-- a command that plans without a request
+abbrev pub AreNone : List Dispatched → Type 0
+AreNone jobs = jobs ≡ []
+
+-- every text is empty
+abbrev pub no_text : Ask → List ℕ → ℕ → List ℕ
+no_text asked body moment = []
 
 -- ---- rounds
 
@@ -107,3 +125,7 @@ steps_from place old (r ∷ rounds) =
 abbrev pub AreServed : Limits → State → List Round → Type 0
 AreServed limits old [] = Unit {0}
 AreServed limits old (r ∷ rounds) = Serves limits old r.ask r.body (answer_by r.refused r.ask r.got r.size) r.after × AreServed limits r.after rounds
+
+-- no call on files failed
+abbrev pub NeverFailed : ℕ → Cause → Type 0
+NeverFailed n why = ⊥

@@ -1,27 +1,27 @@
 -- Destinations that a run makes new by one request: a small upload, a small copy, a removal.
-use Rattle.std.specs.Prelude.{◌≡◌, ℕ, List, Option, None, Contains}
+use Rattle.std.specs.Prelude.{◌≡◌, ℕ, Bool, List, Option, None, Contains}
 use Rattle.s3_model.specs.declared.requests.Ask.{Ask}
 use Rattle.s3_model.specs.declared.requests.Ask.TheVariants as ask
 use Rattle.s3_model.specs.declared.answers.Class.{Class}
 use Rattle.s3_model.specs.declared.outcomes.Event.{Event}
 use Rattle.s3_model.specs.Talks.{Talk}
-use Rattle.s3_model.specs.ServiceState.{State, Object, object_at, HasBytes}
-use Rattle.s3_model.specs.Serves.{IsThere}
-use Rattle.s3_model.specs.Dispatches.{Dispatched}
+use Rattle.s3_service.specs.ServiceState.{State, Object, object_at, HasBytes}
+use Rattle.s3_service.specs.Serves.{IsThere}
+use Rattle.run_promise.specs.Dispatches.{Dispatched}
 use Rattle.world_laws.specs.Destinations.{AllThatChange, IsNewAfterSuccess, IsOldOrNew}
 
 -- ---- which requests
 
 -- the request puts this body there
-abbrev pub Puts : List ℕ → List ℕ → List ℕ → Dispatched → Type 0
-Puts bucket key body c = (content : Option (List ℕ)) × (c.ask ≡ ask.Put bucket key content) × (c.body ≡ body)
+abbrev pub AsksPut : List ℕ → List ℕ → List ℕ → Dispatched → Type 0
+AsksPut bucket key body c = (content : Option (List ℕ)) × (fresh : Bool) × (c.ask ≡ ask.Put bucket key content fresh) × (c.body ≡ body)
 
 -- it copies a source there, under an ETag
-abbrev pub Copies : List ℕ → List ℕ → List ℕ → List ℕ → List ℕ → Dispatched → Type 0
-Copies bucket key from_bucket from_key etag c = c.ask ≡ ask.Copy bucket key from_bucket from_key etag
+abbrev pub AsksCopy : List ℕ → List ℕ → List ℕ → List ℕ → List ℕ → Dispatched → Type 0
+AsksCopy bucket key from_bucket from_key etag c = c.ask ≡ ask.Copy bucket key from_bucket from_key etag
 
-abbrev pub Deletes : List ℕ → List ℕ → Dispatched → Type 0
-Deletes bucket key c = c.ask ≡ ask.Delete bucket key
+abbrev pub AsksDelete : List ℕ → List ℕ → Dispatched → Type 0
+AsksDelete bucket key c = c.ask ≡ ask.Delete bucket key
 
 -- each request that may change the object is such a one
 abbrev pub AreAll : List ℕ → List ℕ → (Dispatched → Type 0) → List Event → List Dispatched → Type 0
@@ -48,21 +48,21 @@ IsRemoved bucket key moments t = object_at t bucket key ≡ None
 -- `Shows ask limit talk class bytes`: the talk has that class for the ask, and its answer that body
 module _ (Shows : Ask → ℕ → Talk → Class → List ℕ → Type 0) where
   abbrev pub UploadStores : Type 0
-  UploadStores = (bucket key body : List ℕ) → IsNewAfterSuccess Shows bucket key (AreAll bucket key (Puts bucket key body)) (IsStored bucket key body)
+  UploadStores = (bucket key body : List ℕ) → IsNewAfterSuccess Shows bucket key (AreAll bucket key (AsksPut bucket key body)) (IsStored bucket key body)
 
   abbrev pub UploadIsWhole : Type 0
-  UploadIsWhole = (bucket key body : List ℕ) → IsOldOrNew Shows bucket key (AreAll bucket key (Puts bucket key body)) (IsStored bucket key body)
+  UploadIsWhole = (bucket key body : List ℕ) → IsOldOrNew Shows bucket key (AreAll bucket key (AsksPut bucket key body)) (IsStored bucket key body)
 
   abbrev pub CopyStores : Type 0
   CopyStores = (bucket key from_bucket from_key etag : List ℕ)
-      → IsNewAfterSuccess Shows bucket key (AreAll bucket key (Copies bucket key from_bucket from_key etag)) (IsCopied bucket key from_bucket from_key etag)
+      → IsNewAfterSuccess Shows bucket key (AreAll bucket key (AsksCopy bucket key from_bucket from_key etag)) (IsCopied bucket key from_bucket from_key etag)
 
   abbrev pub CopyIsWhole : Type 0
   CopyIsWhole = (bucket key from_bucket from_key etag : List ℕ)
-      → IsOldOrNew Shows bucket key (AreAll bucket key (Copies bucket key from_bucket from_key etag)) (IsCopied bucket key from_bucket from_key etag)
+      → IsOldOrNew Shows bucket key (AreAll bucket key (AsksCopy bucket key from_bucket from_key etag)) (IsCopied bucket key from_bucket from_key etag)
 
   abbrev pub DeleteRemoves : Type 0
-  DeleteRemoves = (bucket key : List ℕ) → IsNewAfterSuccess Shows bucket key (AreAll bucket key (Deletes bucket key)) (IsRemoved bucket key)
+  DeleteRemoves = (bucket key : List ℕ) → IsNewAfterSuccess Shows bucket key (AreAll bucket key (AsksDelete bucket key)) (IsRemoved bucket key)
 
   abbrev pub DeleteIsWhole : Type 0
-  DeleteIsWhole = (bucket key : List ℕ) → IsOldOrNew Shows bucket key (AreAll bucket key (Deletes bucket key)) (IsRemoved bucket key)
+  DeleteIsWhole = (bucket key : List ℕ) → IsOldOrNew Shows bucket key (AreAll bucket key (AsksDelete bucket key)) (IsRemoved bucket key)

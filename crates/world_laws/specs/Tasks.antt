@@ -4,9 +4,9 @@ use Rattle.std.specs.Bool.{OnTrue}
 use Rattle.std.specs.FinMap.{get}
 use Rattle.s3_model.specs.declared.requests.Ask.{Ask}
 use Rattle.s3_model.specs.declared.requests.Ask.TheVariants as ask
-use Rattle.s3_model.specs.declared.requests.Op.{Op}
 use Rattle.s3_model.specs.declared.requests.Op.TheVariants as op
 use Rattle.s3_model.specs.declared.answers.Class.{Class}
+use Rattle.s3_model.specs.declared.answers.Class.TheVariants as class
 use Rattle.s3_model.specs.declared.outcomes.Event.{Event}
 use Rattle.s3_model.specs.declared.outcomes.Outcome.{Outcome}
 use Rattle.s3_model.specs.declared.outcomes.Outcome.TheVariants as outcome
@@ -18,14 +18,16 @@ use Rattle.s3_model.specs.declared.tasks.Task.{Task}
 use Rattle.s3_model.specs.Maps.{MapOf}
 use Rattle.s3_model.specs.Talks.{Talk}
 use Rattle.s3_model.specs.Validity.{IsValidConfig, IsValidLimits}
-use Rattle.s3_model.specs.Files.{HeldFile}
-use Rattle.s3_model.specs.ServiceState.{State, object_at}
-use Rattle.s3_model.specs.Dispatches.{Dispatched}
-use Rattle.s3_model.specs.Traces.{Request, Step, Begin, IsTrace, IsHonest, state_after, states, events_of}
-use Rattle.s3_model.specs.Fits.{Fits}
-use Rattle.s3_model.specs.Schedule.{Setting, IsObject, IsSource, IsSchedule, is_small, job_of}
-use Rattle.s3_model.specs.Endings.{Excused, IsNew, IsGone, IsGoneOrThere, IsSpared, IsEnded}
-use Rattle.s3_model.specs.Truthful.{IsDest, IsMovedSource, IsExternal, IsWhole}
+use Rattle.s3_model.specs.Files.{HeldFile, is_listed}
+use Rattle.s3_service.specs.ServiceState.{State, object_at}
+use Rattle.s3_service.specs.Serves.{taken_codes}
+use Rattle.run_promise.specs.Dispatches.{Attempt, Dispatched}
+use Rattle.run_promise.specs.Traces.{Request, Step, Begin, IsTrace, IsHonest, state_after, states, events_of}
+use Rattle.run_promise.specs.Fits.{Fits}
+use Rattle.run_promise.specs.Schedule.{Setting, IsObject, IsSource, IsSchedule, is_small, job_of}
+use Rattle.run_promise.specs.Outcomes.{deciding}
+use Rattle.run_promise.specs.Endings.{Excused, IsNew, IsGone, IsGoneOrThere, IsSpared, IsEnded}
+use Rattle.run_promise.specs.Truthful.{IsDest, IsMovedSource, IsExternal, HasJournal}
 use Rattle.world_laws.specs.Premises.{AreGiven, HasCome, HasSucceeded, AllRefused}
 use Rattle.world_laws.specs.SmallTransfers.{HadContent}
 
@@ -41,13 +43,9 @@ IsPlanning (ask.List bucket prefix delimited token) = Unit {0}
 IsPlanning ask.Buckets = Unit {0}
 IsPlanning asked = ⊥
 
--- the request that decides a task whose destination is an object
-abbrev pub deciding : Kind → Bool → Op
-deciding kind.Upload true = op.Put
-deciding kind.Upload false = op.Complete
-deciding kind.Copy true = op.Copy
-deciding kind.Copy false = op.Complete
-deciding of_kind small = op.Delete
+-- each of these jobs asks such
+abbrev pub AreQuestions : List Dispatched → Type 0
+AreQuestions jobs = (c : Dispatched) → Contains jobs c → IsPlanning c.ask
 
 -- an uploaded file is there, with the size that was planned
 abbrev pub HasSourceFile : MapOf HeldFile → Task → Type 0
@@ -73,22 +71,35 @@ pub record IsObjectTask (s : Setting) (moments : List State) (n : ℕ) (task : T
   pub has_source : HasSource s.held moments task task.kind (is_small s task)
 
 abbrev pub IsTaskNew : Setting → Excused → MapOf HeldFile → List State → Task → State → Type 0
-IsTaskNew s excused held moments task t = IsNew excused s.held moments (record { state = t; held = held }) task task.kind
+IsTaskNew s excused held moments task t = IsNew excused s.held moments (record { state = t; held = held; others = s.others }) task task.kind
+
+-- the outcomes after which the destination may be new
+abbrev pub MayBeNew : Outcome → Type 0
+MayBeNew outcome.Done = Unit {0}
+MayBeNew (outcome.Copied cause) = Unit {0}
+MayBeNew (outcome.Unknown cause) = Unit {0}
+MayBeNew how = ⊥
+
+-- the tasks whose deciding request can be conditional, and so told not to replace: it is a Put or a Complete
+abbrev pub IsConditional : Kind → Bool → Type 0
+IsConditional kind.Upload small = Unit {0}
+IsConditional kind.Copy false = Unit {0}
+IsConditional of_kind small = ⊥
 
 -- what an outcome shows of a task: of its deciding request, and of the source of a move
-abbrev pub IsShown : Outcome → Type 0 → Type 0 → Type 0 → Type 0 → Type 0 → Type 0
-IsShown outcome.Done decided refused taken left spared = decided × taken
-IsShown (outcome.Copied cause) decided refused taken left spared = decided × left
-IsShown (outcome.Failed cause) decided refused taken left spared = refused × spared
-IsShown (outcome.Unknown cause) decided refused taken left spared = spared
-IsShown outcome.Dry decided refused taken left spared = refused × spared
-IsShown outcome.Skipped decided refused taken left spared = refused × spared
+abbrev pub IsShown : Outcome → (decided refused taken gone left spared : Type 0) → Type 0
+IsShown outcome.Done decided refused taken gone left spared = decided × gone
+IsShown (outcome.Copied cause) decided refused taken gone left spared = decided × left
+IsShown (outcome.Failed cause) decided refused taken gone left spared = refused × spared
+IsShown (outcome.Unknown cause) decided refused taken gone left spared = spared
+IsShown outcome.Dry decided refused taken gone left spared = refused × spared
+IsShown outcome.Skipped decided refused taken gone left spared = refused × taken × spared
 
 -- `Shows ask limit talk class bytes`: the talk has that class for the ask, and its answer that body
 module _ (Shows : Ask → ℕ → Talk → Class → List ℕ → Type 0) where
   -- the clauses on given jobs, and what the clauses on carried jobs add to them
   pub record IsScheduled (s : Setting) (journal : List Event) (dispatched coming : List Dispatched) : Type 0 where
-    pub schedule : IsSchedule Shows s (λ gained c. IsPlanning c.ask) dispatched coming
+    pub schedule : IsSchedule Shows s AreQuestions dispatched coming
     pub given : AreGiven journal dispatched
     pub come : (c : Dispatched) → Contains dispatched c → HasCome journal c
     pub apart : AreApart s.tasks
@@ -106,7 +117,7 @@ module _ (Shows : Ask → ℕ → Talk → Class → List ℕ → Type 0) where
   -- Where the deciding request came with success, the destination is new at the end and at every later moment.
   abbrev pub TaskIsNew : Type 0
   TaskIsNew = (s : Setting) (excused : Excused) (held : MapOf HeldFile) (start : State) (trace part : List Step) (journal : List Event) (dispatched coming : List Dispatched)
-      → IsScheduled s journal dispatched coming → IsTraceOf s start trace journal dispatched → IsWhole journal trace part
+      → IsScheduled s journal dispatched coming → IsTraceOf s start trace journal dispatched → HasJournal journal trace part
       → (n : ℕ) (task : Task) (bucket key : List ℕ) → IsObjectTask s (states start trace) n task bucket key
       → (c : Dispatched) → Contains dispatched c → c.dispatch.job ≡ job_of n (deciding task.kind (is_small s task)) 0 → HasSucceeded Shows c
       → IsTaskNew s excused held (states start trace) task (state_after start part)
@@ -137,10 +148,10 @@ module _ (Shows : Ask → ℕ → Talk → Class → List ℕ → Type 0) where
   -- After the Delete of a moved source came with success the source is gone, at the end and at every later moment.
   abbrev pub MovedSourceIsGone : Type 0
   MovedSourceIsGone = (s : Setting) (held : MapOf HeldFile) (start : State) (trace part : List Step) (journal : List Event) (dispatched coming : List Dispatched)
-      → IsScheduled s journal dispatched coming → IsTraceOf s start trace journal dispatched → IsWhole journal trace part
+      → IsScheduled s journal dispatched coming → IsTraceOf s start trace journal dispatched → HasJournal journal trace part
       → (n : ℕ) (task : Task) (bucket key : List ℕ) → slice_get s.tasks n ≡ Some task → task.moves ≡ true → task.source ≡ Some (place.Object bucket key)
       → (c : Dispatched) → Contains dispatched c → c.dispatch.job ≡ job_of n op.Delete 0 → task.kind ≢ kind.RemoveObject → HasSucceeded Shows c
-      → IsGone trace (record { state = state_after start part; held = held }) task.source
+      → IsGone trace (record { state = state_after start part; held = held; others = s.others }) task.source
 
   -- Nothing else is changed: every object is a destination, a moved source, written by somebody else, or as before.
   abbrev pub OtherObjectsStay : Type 0
@@ -161,18 +172,35 @@ module _ (Shows : Ask → ℕ → Talk → Class → List ℕ → Type 0) where
   abbrev pub IsRefusedIn : Setting → List Dispatched → ℕ → Task → Type 0
   IsRefusedIn s dispatched n task = (c : Dispatched) → Contains dispatched c → c.dispatch.job ≡ job_of n (deciding task.kind (is_small s task)) 0 → AllRefused Shows c
 
-  -- the source of a move: its Delete came with success, or the file is no more
-  abbrev pub IsTaken : List Dispatched → MapOf HeldFile → ℕ → Option Place → Type 0
-  IsTaken dispatched held n None = Unit {0}
-  IsTaken dispatched held n (Some (place.Object bucket key)) = (c : Dispatched) × Contains dispatched c × (c.dispatch.job ≡ job_of n op.Delete 0) × HasSucceeded Shows c
-  IsTaken dispatched held n (Some (place.File path)) = get held path ≡ None
+  -- it was not to replace, and an attempt of it was refused since the object was there
+  pub record IsTakenIn (s : Setting) (dispatched : List Dispatched) (n : ℕ) (task : Task) : Type 0 where
+    pub fresh : task.fresh ≡ true
+    pub may_be : IsConditional task.kind (is_small s task)
+    pub request : Dispatched
+    pub known : Contains dispatched request
+    pub decides : request.dispatch.job ≡ job_of n (deciding task.kind (is_small s task)) 0
+    pub place : ℕ
+    pub attempt : Attempt
+    pub is_attempt : slice_get request.dispatch.attempts place ≡ Some attempt
+    pub code : List ℕ
+    pub message : List ℕ
+    pub bytes : List ℕ
+    pub refused : Shows request.ask request.limit attempt.talk (class.Refusal code message) bytes
+    pub says_taken : is_listed taken_codes code ≡ true
 
-  -- A task ended as its outcome says, over every honest trace.
+  -- the source of a move: its Delete came with success, or the file is no more
+  abbrev pub IsSourceGone : List Dispatched → MapOf HeldFile → ℕ → Option Place → Type 0
+  IsSourceGone dispatched held n None = Unit {0}
+  IsSourceGone dispatched held n (Some (place.Object bucket key)) = (c : Dispatched) × Contains dispatched c × (c.dispatch.job ≡ job_of n op.Delete 0) × HasSucceeded Shows c
+  IsSourceGone dispatched held n (Some (place.File path)) = get held path ≡ None
+
+  -- A task ended as its outcome says, over every honest trace. Its source is to be as planned only where its destination may be new.
   abbrev pub TaskEnds : Type 0
   TaskEnds = (s : Setting) (excused : Excused) (held : MapOf HeldFile) (start : State) (trace part : List Step) (journal : List Event) (dispatched coming : List Dispatched)
-      → IsScheduled s journal dispatched coming → IsTraceOf s start trace journal dispatched → IsWhole journal trace part
-      → (n : ℕ) (task : Task) (bucket key : List ℕ) → IsObjectTask s (states start trace) n task bucket key → (how : Outcome)
-      → IsShown how (IsDecidedIn s dispatched n task) (IsRefusedIn s dispatched n task) (OnTrue task.moves (IsTaken dispatched held n task.source))
-      (OnTrue task.moves (IsGoneOrThere (record { state = start; held = s.held }) (record { state = state_after start part; held = held }) task.source))
-      (OnTrue task.moves (IsSpared n journal (record { state = start; held = s.held }) (record { state = state_after start part; held = held }) task.source))
-      → IsEnded excused journal start trace (record { state = start; held = s.held }) (record { state = state_after start part; held = held }) n task how
+      → IsScheduled s journal dispatched coming → IsTraceOf s start trace journal dispatched → HasJournal journal trace part
+      → (n : ℕ) (task : Task) (bucket key : List ℕ) → slice_get s.tasks n ≡ Some task → task.dest ≡ place.Object bucket key → (how : Outcome)
+      → (MayBeNew how → HasSource s.held (states start trace) task task.kind (is_small s task))
+      → IsShown how (IsDecidedIn s dispatched n task) (IsRefusedIn s dispatched n task) (IsTakenIn s dispatched n task) (OnTrue task.moves (IsSourceGone dispatched held n task.source))
+      (OnTrue task.moves (IsGoneOrThere (record { state = start; held = s.held; others = s.others }) (record { state = state_after start part; held = held; others = s.others }) task.source))
+      (OnTrue task.moves (IsSpared n journal (record { state = start; held = s.held; others = s.others }) (record { state = state_after start part; held = held; others = s.others }) task.source))
+      → IsEnded excused journal start trace (record { state = start; held = s.held; others = s.others }) (record { state = state_after start part; held = held; others = s.others }) n task how

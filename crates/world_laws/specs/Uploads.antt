@@ -8,11 +8,11 @@ use Rattle.s3_model.specs.declared.answers.Class.{Class}
 use Rattle.s3_model.specs.declared.outcomes.Event.{Event}
 use Rattle.s3_model.specs.declared.settings.Limits.{Limits}
 use Rattle.s3_model.specs.Talks.{Talk}
-use Rattle.s3_model.specs.ServiceState.{State}
-use Rattle.s3_model.specs.Serves.{Replied}
-use Rattle.s3_model.specs.Dispatches.{Dispatched}
-use Rattle.s3_model.specs.Traces.{Request, Step, Serve, IsTrace, state_after, events_of}
-use Rattle.s3_model.specs.Fits.{Fits}
+use Rattle.s3_service.specs.ServiceState.{State}
+use Rattle.s3_service.specs.Serves.{Replied}
+use Rattle.run_promise.specs.Dispatches.{Dispatched}
+use Rattle.run_promise.specs.Traces.{Request, Step, Serve, IsTrace, state_after, events_of}
+use Rattle.run_promise.specs.Fits.{Fits}
 
 -- the id is neither open nor ended
 pub record IsFree (t : State) (id : List ℕ) : Type 0 where
@@ -23,7 +23,7 @@ pub record IsFree (t : State) (id : List ℕ) : Type 0 where
 abbrev pub NamesUpload : Ask → List ℕ → Type 0
 NamesUpload (ask.Part bucket key upload number) id = upload ≡ id
 NamesUpload (ask.PartCopy bucket key upload number from_bucket from_key etag range) id = upload ≡ id
-NamesUpload (ask.Complete bucket key upload etags) id = upload ≡ id
+NamesUpload (ask.Complete bucket key upload etags fresh) id = upload ≡ id
 NamesUpload (ask.Abort bucket key upload) id = upload ≡ id
 NamesUpload asked id = ⊥
 

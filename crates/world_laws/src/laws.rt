@@ -1,22 +1,40 @@
+//! The laws of runs, each a function that does nothing.
+
 ghost use Rattle.s3_model.specs.declared.answers.Class.{Class};
+ghost use Rattle.s3_model.specs.declared.outcomes.Cause.{Cause};
 ghost use Rattle.s3_model.specs.declared.requests.Ask.{Ask};
 ghost use Rattle.s3_model.specs.Talks.{Talk};
+ghost use Rattle.run_promise.specs.Dispatches.{Dispatched};
 ghost use Rattle.std.specs.Prelude.{List, ℕ};
+ghost use Rattle.world_laws.specs.Completeness.{OrderlyIsDone, WillingIsDone};
 ghost use Rattle.world_laws.specs.Destinations.{IsOldAfterRefusals};
 ghost use Rattle.world_laws.specs.Downloads.{GetTells, RangesTell};
 ghost use Rattle.world_laws.specs.Frame.{OthersStay};
 ghost use Rattle.world_laws.specs.Moves.{CopiedPartsComeFirst, CopyComesFirst, SourceIsGone};
 ghost use Rattle.world_laws.specs.Multipart.{AbortsAreFinal, CopiedPartsAreStored, CopiedPartsAreWhole, PartsAreStored, PartsAreWhole};
-ghost use Rattle.world_laws.specs.Rounds.{Told};
+ghost use Rattle.world_laws.specs.Promises.{CarriedIsGiven, PromiseHolds};
+ghost use Rattle.world_laws.specs.Rounds.{AreNone, NeverFailed, Told, ToldStatus};
 ghost use Rattle.world_laws.specs.SmallTransfers.{CopyIsWhole, CopyStores, DeleteIsWhole, DeleteRemoves, UploadIsWhole, UploadStores};
+ghost use Rattle.world_laws.specs.Sources.{FoundHasSize, FoundIsSource};
 ghost use Rattle.world_laws.specs.Tasks.{MovedSourceIsGone, MovedTaskIsNew, OtherObjectsStay, TaskEnds, TaskIsNew, TaskIsOld, TaskIsWhole};
 ghost use Rattle.world_laws.specs.Uploads.{IdsAreCreatedOnce, OtherUploadsStay};
-ghost use Rattle.world_laws.specs.Witnesses.{AbortIsMet, CopiedMoveIsMet, CopiedPartsAreMet, CopyIsMet, DeleteIsMet, FrameIsMet, GetIsMet, MoveIsMet, OtherUploadIsMet, PartsAreMet, RangesAreMet, RefusalIsMet, RefusedTaskIsMet, TaskIsMet, UploadIsMet};
+ghost use Rattle.world_laws.specs.Witnesses.{AbortIsMet, CompleteIsMet, CopiedMoveIsMet, CopiedPartsAreMet, CopyIsMet, DeleteIsMet, DoneIsMet, FailedIsMet, FoundIsMet, FrameIsMet, GetIsMet, MoveIsMet, OtherUploadIsMet, PartsAreMet, RangesAreMet, RefusalIsMet, RefusedTaskIsMet, SkippedIsMet, TaskIsMet, UploadIsMet};
 
 /// How talks are read: `shows ask limit talk class bytes` says that the talk has that class for the ask, and its
 /// answer that body.
 pub trait Reading {
     ghost shows: { Ask → ℕ → Talk → Class → List ℕ → Type 0 };
+}
+
+/// What a command's jobs are judged by beside the classes of their talks: `has_status ask limit talk status` says that
+/// the talk's answer has that HTTP status, `plans jobs` that these planning jobs, in order, are those that the command
+/// needs, and `call_failed n why` that the calls on files show that one of task n failed so.
+pub trait Command: Reading {
+    ghost has_status: { Ask → ℕ → Talk → ℕ → Type 0 };
+
+    ghost plans: { List Dispatched → Type 0 };
+
+    ghost call_failed: { ℕ → Cause → Type 0 };
 }
 
 /// An object that no request of a run may change, and that nobody else writes, is as it was after each beginning of
@@ -106,6 +124,14 @@ pub fn download<R: Reading>()
     ensures met_in_ranges { RangesAreMet }
 {}
 
+/// What a Head told of an object is so at every moment of the run, whoever rewrites the object: whatever it had under
+/// that ETag has that size. So a copy that is planned from it has its source.
+pub fn found_source<R: Reading>()
+    ensures size { FoundHasSize R.shows }
+    ensures source { FoundIsSource R.shows }
+    ensures met { FoundIsMet }
+{}
+
 /// What the clauses on given and on carried jobs make of the objects, over every honest trace that fits. A task whose
 /// destination is an object ends as its outcome says, where that outcome is what its deciding request and the source of
 /// its move show. Its destination is new once the request that decides it came with success, as before where each attempt
@@ -124,6 +150,31 @@ pub fn task<R: Reading>()
     ensures met_refused { RefusedTaskIsMet }
 {}
 
+/// What is carried was given and came as the journal says, and nothing else was given or came.
+pub fn carried_jobs<R: Reading>()
+    ensures given { CarriedIsGiven R.shows }
+{}
+
+/// What a run over objects promises follows once its jobs keep to their schedule and are carried, and each task has the
+/// outcome that its talks show: over every honest service that fits, each task ended as its outcome says, nothing is
+/// changed where there is no outcome, all else stays, a moved source goes only once its destination is new, and no
+/// upload is open after its Abort was answered with success.
+pub fn truthful<C: Command>()
+    ensures holds { PromiseHolds C.shows C.has_status C.plans C.call_failed }
+    ensures met_done { DoneIsMet }
+    ensures met_failed { FailedIsMet }
+    ensures met_skipped { SkippedIsMet }
+{}
+
+/// Over a service that does what it may such a run is done: where each answer is certain, nobody else writes, the
+/// buckets of the destinations, the sources of copies and the uploaded files are there, and the run is not cancelled,
+/// each task is done or skipped, in parts as well as whole, but one whose file call failed or for which memory ran out.
+pub fn complete<C: Command>()
+    ensures done { WillingIsDone C.shows C.has_status C.plans C.call_failed }
+    ensures however_read { OrderlyIsDone C.shows C.has_status C.plans C.call_failed }
+    ensures met { CompleteIsMet }
+{}
+
 #[cfg(test)]
 mod tests {
     use super::*;
@@ -133,6 +184,14 @@ mod tests {
 
     impl Reading for Plain {
         ghost shows = { Told };
+    }
+
+    impl Command for Plain {
+        ghost has_status = { ToldStatus };
+
+        ghost plans = { AreNone };
+
+        ghost call_failed = { NeverFailed };
     }
 
     #[test]
@@ -148,6 +207,10 @@ mod tests {
         moved_copy::<Plain>();
         other_uploads::<Plain>();
         download::<Plain>();
+        found_source::<Plain>();
         task::<Plain>();
+        carried_jobs::<Plain>();
+        truthful::<Plain>();
+        complete::<Plain>();
     }
 }

@@ -4,6 +4,7 @@
 mod laws;
 
 pub use laws::{
-    Reading, abort, download, moved_copy, multipart_copy, multipart_upload, other_uploads,
-    others_stay, refusal, removal, small_copy, small_upload, task,
+    Command, Reading, abort, carried_jobs, complete, download, found_source, moved_copy,
+    multipart_copy, multipart_upload, other_uploads, others_stay, refusal, removal, small_copy,
+    small_upload, task, truthful,
 };
