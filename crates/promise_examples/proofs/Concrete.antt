@@ -1,0 +1,143 @@
+-- A statement on each member, place or cut of a list that is written out, from one component for each.
+use Rattle.std.proofs.Common.{◌≡◌, ◌∙◌, ◌⊎◌, ◌<◌, ◌++◌, ℕ, zero, suc, Bool, true, false, cond, List, [], ◌∷◌, Option, Some, None, refl, ap, subst, inl, inr, All, AllPairs, Contains, get_or, slice_get, filter, arith}
+use Rattle.std.proofs.lemmas.List.Elements.{Contains-append_cases, Contains-append_right}
+use Rattle.std.proofs.lemmas.List.Kept.{AllPairs-cons}
+
+-- ---- members
+
+abbrev pub Has : {X : Type 0} → List X → X → Type 0
+Has [] x = ⊥
+Has (y ∷ ys) x = (y ≡ x) ⊎ Has ys x
+
+only_one : {X : Type 0} (y x : X) (k : ℕ) → k < 1 → get_or (y ∷ []) k x ≡ x → y ≡ x
+only_one y x zero h e = e
+only_one y x (suc k) h e = absurd (omega arith)
+
+pub has : {X : Type 0} (xs : List X) (x : X) → Contains xs x → Has xs x
+has [] x h = let below : h.0 < 0 = h.1 in absurd (omega arith)
+has (y ∷ ys) x h = elim (Contains-append_cases (y ∷ []) ys x h) [ inl one ↦ inl (only_one y x one.0 one.1 one.2) | inr rest ↦ inr (has ys x rest) ]
+
+pub contains_of : {X : Type 0} (xs : List X) (x : X) → Has xs x → Contains xs x
+contains_of [] x h = absurd h
+contains_of (y ∷ ys) x (inl e) = (0, omega arith, e)
+contains_of (y ∷ ys) x (inr h) = Contains-append_right (y ∷ []) ys x (contains_of ys x h)
+
+pub none_is_some : {X : Type 0} (x : X) → ◌≡◌ {A = Option X} None (Some x) → ⊥
+none_is_some x e = cc
+
+pub some_is : {X : Type 0} (a b : X) → Some a ≡ Some b → a ≡ b
+some_is a b e = cc
+
+has_at : {X : Type 0} (xs : List X) (k : ℕ) (x : X) → slice_get xs k ≡ Some x → Has xs x
+has_at [] k x e = absurd (none_is_some x e)
+has_at (y ∷ ys) zero x e = inl (some_is y x e)
+has_at (y ∷ ys) (suc k) x e = inr (has_at ys k x e)
+
+pub has_middle : {X : Type 0} (front : List X) (x : X) (back : List X) → Has (front ++ x ∷ back) x
+has_middle [] x back = inl refl
+has_middle (y ∷ front) x back = inr (has_middle front x back)
+
+-- the member at a place
+pub at : {X : Type 0} (xs : List X) (k : ℕ) (x : X) → slice_get xs k ≡ Some x → Contains xs x
+at xs k x e = contains_of xs x (has_at xs k x e)
+
+abbrev pub Each : {X : Type 0} → (X → Type 0) → List X → Type 0
+Each P [] = Unit {0}
+Each P (x ∷ xs) = P x × Each P xs
+
+pub each_has : {X : Type 0} (P : X → Type 0) (xs : List X) → Each P xs → (x : X) → Has xs x → P x
+each_has P [] all x h = absurd h
+each_has P (y ∷ ys) all x (inl e) = subst P e all.0
+each_has P (y ∷ ys) all x (inr h) = each_has P ys all.1 x h
+
+pub each : {X : Type 0} (P : X → Type 0) (xs : List X) → Each P xs → (x : X) → Contains xs x → P x
+each P xs all x known = each_has P xs all x (has xs x known)
+
+-- ---- members that pass a test
+
+passes : {X : Type 0} (test : X → Bool) (xs : List X) (x : X) → Has xs x → test x ≡ true → Has (filter test xs) x
+passes test [] x h e = absurd h
+passes test (y ∷ ys) x (inl is) e = let yes : test y ≡ true = ap test is ∙ e in rw yes (inl is)
+passes {X} test (y ∷ ys) x (inr h) e = from (test y) (passes test ys x h e)
+  where
+    from : (b : Bool) → Has (filter test ys) x → Has (cond b (y ∷ filter test ys) (filter test ys)) x
+    from true g = inr g
+    from false g = g
+
+-- what is said of those that pass is said of each that passes
+pub each_passing : {X : Type 0} (test : X → Bool) (P : X → Type 0) (xs : List X) → Each P (filter test xs) → (x : X) → Contains xs x → test x ≡ true → P x
+each_passing test P xs all x known e = each_has P (filter test xs) all x (passes test xs x (has xs x known) e)
+
+-- ---- places
+
+abbrev pub Slots : {X : Type 0} → (ℕ → X → Type 0) → List X → Type 0
+Slots P [] = Unit {0}
+Slots P (x ∷ xs) = P 0 x × Slots (λ k. P (suc k)) xs
+
+pub slot : {X : Type 0} (P : ℕ → X → Type 0) (xs : List X) → Slots P xs → (k : ℕ) (x : X) → slice_get xs k ≡ Some x → P k x
+slot P [] all k x e = absurd (none_is_some x e)
+slot P (y ∷ ys) all zero x e = subst (P 0) (some_is y x e) all.0
+slot P (y ∷ ys) all (suc k) x e = slot (λ n. P (suc n)) ys all.1 k x e
+
+-- ---- pairs
+
+abbrev pub Pairs : {X : Type 0} → (X → X → Type 0) → List X → Type 0
+Pairs R [] = Unit {0}
+Pairs R (x ∷ xs) = Each (R x) xs × Pairs R xs
+
+all_of : {X : Type 0} (P : X → Type 0) (xs : List X) → Each P xs → All P xs
+all_of P [] all k d within = absurd (omega arith)
+all_of P (y ∷ ys) all zero d within = all.0
+all_of P (y ∷ ys) all (suc k) d within = all_of P ys all.1 k d (omega arith)
+
+pub pairs : {X : Type 0} (R : X → X → Type 0) (xs : List X) → Pairs R xs → AllPairs R xs
+pairs R [] all = λ i j d before within. absurd (omega arith)
+pairs R (x ∷ xs) all = AllPairs-cons R x xs (all_of (R x) xs all.0) (pairs R xs all.1)
+
+-- ---- cuts
+
+head_is : {X : Type 0} (x y : X) (xs ys : List X) → x ∷ xs ≡ y ∷ ys → x ≡ y
+head_is x y xs ys e = cc
+
+tail_is : {X : Type 0} (x y : X) (xs ys : List X) → x ∷ xs ≡ y ∷ ys → xs ≡ ys
+tail_is x y xs ys e = cc
+
+nil_cons : {X : Type 0} (y : X) (ys : List X) → [] ≡ y ∷ ys → ⊥
+nil_cons y ys e = cc
+
+-- of what stands before a member, and of the member
+abbrev pub Cuts : {X : Type 0} → (List X → X → Type 0) → List X → Type 0
+Cuts P [] = Unit {0}
+Cuts P (x ∷ xs) = P [] x × Cuts (λ front. P (x ∷ front)) xs
+
+pub cut : {X : Type 0} (P : List X → X → Type 0) (xs : List X) → Cuts P xs → (front : List X) (x : X) (back : List X) → xs ≡ front ++ x ∷ back → P front x
+cut P [] all [] x back e = absurd (nil_cons x back e)
+cut P [] all (z ∷ front) x back e = absurd (nil_cons z (front ++ x ∷ back) e)
+cut P (y ∷ ys) all [] x back e = subst (P []) (head_is y x ys back e) all.0
+cut P (y ∷ ys) all (z ∷ front) x back e =
+    subst (λ w. P (w ∷ front) x) (head_is y z ys (front ++ x ∷ back) e) (cut (λ f. P (y ∷ f)) ys all.1 front x back (tail_is y z ys (front ++ x ∷ back) e))
+
+-- of each beginning
+abbrev pub Fronts : {X : Type 0} → (List X → Type 0) → List X → Type 0
+Fronts P [] = P []
+Fronts P (x ∷ xs) = P [] × Fronts (λ front. P (x ∷ front)) xs
+
+first_front : {X : Type 0} (P : List X → Type 0) (xs : List X) → Fronts P xs → P []
+first_front P [] all = all
+first_front P (x ∷ xs) all = all.0
+
+pub front_of : {X : Type 0} (P : List X → Type 0) (xs : List X) → Fronts P xs → (front back : List X) → xs ≡ front ++ back → P front
+front_of P xs all [] back e = first_front P xs all
+front_of P [] all (z ∷ front) back e = absurd (nil_cons z (front ++ back) e)
+front_of P (y ∷ ys) all (z ∷ front) back e = subst (λ w. P (w ∷ front)) (head_is y z ys (front ++ back) e) (front_of (λ f. P (y ∷ f)) ys all.1 front back (tail_is y z ys (front ++ back) e))
+
+-- of each member and what stands behind it
+abbrev pub Tails : {X : Type 0} → (X → List X → Type 0) → List X → Type 0
+Tails P [] = Unit {0}
+Tails P (x ∷ xs) = P x xs × Tails P xs
+
+pub tail_at : {X : Type 0} (P : X → List X → Type 0) (xs : List X) → Tails P xs → (front : List X) (x : X) (back : List X) → xs ≡ front ++ x ∷ back → P x back
+tail_at P [] all [] x back e = absurd (nil_cons x back e)
+tail_at P [] all (z ∷ front) x back e = absurd (nil_cons z (front ++ x ∷ back) e)
+tail_at P (y ∷ ys) all [] x back e = subst (λ w. P w back) (head_is y x ys back e) (subst (P y) (tail_is y x ys back e) all.0)
+tail_at P (y ∷ ys) all (z ∷ front) x back e = tail_at P ys all.1 front x back (tail_is y z ys (front ++ x ∷ back) e)

@@ -1,0 +1,11 @@
+pub mod Everything
+pub mod FailedUpload
+pub mod GivenAgain
+pub mod Lies
+pub mod Misfits
+pub mod Orders
+pub mod Pages
+pub mod Reading
+pub mod Refused
+pub mod Runs
+pub mod Services

@@ -1,0 +1,10 @@
+//! Examples of what the definitions of a run's promise let through, and of what they refuse.
+#![tactic(auto)]
+
+mod changes;
+mod classes;
+mod runs;
+
+pub use changes::refused;
+pub use classes::{Documents, one_class};
+pub use runs::{Reading, everything, failed_upload, given_again, two_pages};
