@@ -11,7 +11,7 @@ use Rattle.s3_outside.specs.declared.wire.Failed.{Failed as Fault}
 use Rattle.http_exchange.specs.Answer.{Begins, IsAnswer, Refutes}
 use Rattle.http_exchange.specs.Exchange.{IsExchange, Request}
 use Rattle.http_exchange.specs.Steps.{IsAsked, Receives, talked_of}
-use Rattle.http_exchange.specs.Told.{hears}
+use Rattle.http_exchange.specs.Seen.{hears}
 
 hears_host : (got : List ℕ) (ending : Ending) (talk : Talk) → (hears got ending talk).host ≡ talk.host
 hears_host got Failed talk = refl

@@ -1,20 +1,19 @@
 -- No bytes and ending spell two answers.
-use Rattle.std.proofs.Common.{◌≡◌, ℕ, ◌+◌, ◌<◌, ◌≤◌, Bool, true, List, [], ◌∷◌, ◌++◌, length, take, drop, Option, Some, None, sym, refl, ap, subst, ◌∙◌, arith, append_assoc}
+use Rattle.std.proofs.Common.{◌≡◌, ℕ, List, [], ◌∷◌, ◌++◌, length, take, drop, Option, Some, None, sym, refl, ap, subst, ◌∙◌, arith, append_assoc}
 use Rattle.std.specs.Prelude.{All, flat_map, codes}
 use Rattle.std.specs.Str.Parse.{digits_value}
 use Rattle.std.proofs.lemmas.List.{take_at, drop_at}
 use Rattle.std.proofs.lemmas.List.Elements.{All-head, All-tail}
 use Rattle.httparse.specs.Ascii.{crlf_bytes}
-use Rattle.httparse.specs.Grammar.{ResponseHead, ChunkLine, IsChunkLine, print_chunk_line, chunk_size, status_code}
+use Rattle.httparse.specs.Grammar.{ResponseHead, ChunkLine, IsChunkLine, print_chunk_line, chunk_size}
 use Rattle.httparse.proofs.ChunkLemmas.{chunk_line_unique}
 use Rattle.httparse.proofs.GrammarLemmas.{response_unique}
 use Rattle.s3_model.specs.Talks.{Ending}
-use Rattle.s3_model.specs.declared.answers.Answered.{Answered}
 use Rattle.http_exchange.specs.declared.framing.Framing.{Framing}
 use Rattle.http_exchange.specs.declared.framing.Framing.TheVariants as framing
-use Rattle.http_exchange.specs.Answer.{HasBody, IsAnswer, IsSameAnswer, OneAnswer, Describes}
+use Rattle.http_exchange.specs.Answer.{HasBody, OneAnswer, Describes}
 use Rattle.http_exchange.specs.Chunks.{Chunk, IsChunk, IsSizeLine, ReadsChunks, print_chunk}
-use Rattle.http_exchange.specs.Head.{HasRange, SpellsRange, header_lines, first_named, etag_of, micros_of, may_keep, IsFramed}
+use Rattle.http_exchange.specs.Head.{HasRange, SpellsRange, header_lines, first_named, may_keep}
 use Rattle.http_exchange.proofs.RangeLemmas.{at_slash, number_lacks}
 use Rattle.http_exchange.proofs.ReceiveLemmas.{framed_once}
 

@@ -10,7 +10,7 @@ use Rattle.http_exchange.specs.declared.head.Found.{Found}
 use Rattle.http_exchange.specs.Answer.{HasNoAnswer, Refutes, IsOfTalk}
 use Rattle.http_exchange.specs.Parts.{Breaks, IsOfBytes, LastChance}
 use Rattle.http_exchange.specs.Steps.{BreaksOff, TakesHead}
-use Rattle.http_exchange.specs.Told.{hears}
+use Rattle.http_exchange.specs.Seen.{hears}
 use Rattle.http_exchange.proofs.HeadLemmas.{none_without_head}
 use Rattle.http_exchange.proofs.BodyLemmas.{closed_fine, finished_fine}
 use Rattle.http_exchange.proofs.TalkLemmas.{heard_after}

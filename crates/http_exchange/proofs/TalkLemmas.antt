@@ -5,9 +5,9 @@ use Rattle.std.proofs.lemmas.List.{append-nil}
 use Rattle.s3_model.specs.Talks.{Talk, Ending, Failed, Closed, Finished, Began, WireLog}
 use Rattle.std.proofs.lemmas.Bool.{ne_eqb}
 use Rattle.s3_outside.specs.declared.wire.Failed.{Failed as Fault}
-use Rattle.s3_outside.specs.Told.{Tells}
+use Rattle.s3_outside.specs.Seen.{IsSeenAfter}
 use Rattle.s3_outside.specs.Wire.{sends, gets, closes, change_last, last_talk, after_close, after_take}
-use Rattle.http_exchange.specs.Told.{with_talk, hears}
+use Rattle.http_exchange.specs.Seen.{with_talk, hears}
 
 change_last_after : (f g : Talk → Talk) (talks : List Talk) → change_last f (change_last g talks) ≡ change_last (λ talk. f (g talk)) talks
 change_last_after f g [] = refl
@@ -29,26 +29,26 @@ change_last_id f same (t ∷ []) = ap (λ u. u ∷ []) (same t)
 change_last_id f same (t ∷ u ∷ ts) = ap (λ rest. t ∷ rest) (change_last_id f same (u ∷ ts))
 
 -- a change that changes nothing
-pub told_same : (f : Talk → Talk) → ((talk : Talk) → f talk ≡ talk) → (told : Option WireLog) → told ≡ option_map (last_talk f) told
-told_same f same None = refl
-told_same f same (Some log) = ap (λ (talks : List Talk). Some (record log { talks = talks })) (sym (change_last_id f same log.talks))
+pub seen_same : (f : Talk → Talk) → ((talk : Talk) → f talk ≡ talk) → (seen : Option WireLog) → seen ≡ option_map (last_talk f) seen
+seen_same f same None = refl
+seen_same f same (Some log) = ap (λ (talks : List Talk). Some (record log { talks = talks })) (sym (change_last_id f same log.talks))
 
 -- one change and then another
-pub told_after : (f g h : Talk → Talk) → ((talk : Talk) → f (g talk) ≡ h talk) → (a b c : Option WireLog)
+pub seen_after : (f g h : Talk → Talk) → ((talk : Talk) → f (g talk) ≡ h talk) → (a b c : Option WireLog)
     → b ≡ option_map (last_talk g) a → c ≡ option_map (last_talk f) b → c ≡ option_map (last_talk h) a
-told_after f g h same None b c first second = second ∙ ap (option_map (last_talk f)) first
-told_after f g h same (Some log) b c first second =
+seen_after f g h same None b c first second = second ∙ ap (option_map (last_talk f)) first
+seen_after f g h same (Some log) b c first second =
     second ∙ ap (option_map (last_talk f)) first
     ∙ ap (λ (talks : List Talk). Some (record log { talks = talks })) (change_last_after f g log.talks ∙ change_last_same (λ talk. f (g talk)) h same log.talks)
 
 -- a change of a talk that was begun
-pub tells_after : (f : Talk → Talk) (talk : Talk) (a b c : Option WireLog) (x y z : ℕ)
-    → Tells (with_talk talk) a b x y → c ≡ option_map (last_talk f) b → y ≤ z → Tells (with_talk (f talk)) a c x z
-tells_after f talk a b c x y z (inr stopped) changed later =
+pub changed_after_begin : (f : Talk → Talk) (talk : Talk) (a b c : Option WireLog) (x y z : ℕ)
+    → IsSeenAfter (with_talk talk) a b x y → c ≡ option_map (last_talk f) b → y ≤ z → IsSeenAfter (with_talk (f talk)) a c x z
+changed_after_begin f talk a b c x y z (inr stopped) changed later =
     inr (changed ∙ ap (option_map (last_talk f)) stopped.0, omega (arith, stopped.1))
-tells_after f talk None b c x y z (inl told) changed later = inl (changed ∙ ap (option_map (last_talk f)) told)
-tells_after f talk (Some log) b c x y z (inl told) changed later =
-    inl (changed ∙ ap (option_map (last_talk f)) told
+changed_after_begin f talk None b c x y z (inl seen) changed later = inl (changed ∙ ap (option_map (last_talk f)) seen)
+changed_after_begin f talk (Some log) b c x y z (inl seen) changed later =
+    inl (changed ∙ ap (option_map (last_talk f)) seen
     ∙ ap (λ (talks : List Talk). Some (record { talks = talks; notes = log.notes ++ Began ∷ [] })) (change_last_pushed f log.talks talk))
 
 pub sends_after : (first second : List ℕ) (talk : Talk) → sends second (sends first talk) ≡ sends (first ++ second) talk
@@ -90,10 +90,10 @@ pub heard_after : (first second : List ℕ) (early late : Ending) (a b c : Optio
     → b ≡ option_map (last_talk (hears first early)) a → c ≡ option_map (last_talk (hears second late)) b
     → c ≡ option_map (last_talk (hears (first ++ second) (joins early late))) a
 heard_after first second early late a b c =
-    told_after (hears second late) (hears first early) (hears (first ++ second) (joins early late)) (hears_after first second early late) a b c
+    seen_after (hears second late) (hears first early) (hears (first ++ second) (joins early late)) (hears_after first second early late) a b c
 
-pub heard_nothing : (told : Option WireLog) → told ≡ option_map (last_talk (hears [] Finished)) told
-heard_nothing told = told_same (hears [] Finished) gets_nothing told
+pub heard_nothing : (seen : Option WireLog) → seen ≡ option_map (last_talk (hears [] Finished)) seen
+heard_nothing seen = seen_same (hears [] Finished) gets_nothing seen
 
 -- how a talk goes on after so many bytes were taken, of some that were wanted
 abbrev pub taken_ending : ℕ → Ending

@@ -63,7 +63,7 @@ pub record HasCoding (got : List ℕ) : Type 0 where
   pub reads : ReadsHead got head rest
   pub coded : codings (header_lines head) ≢ []
 
--- What a break says of the bytes: all but want of memory come only where they are no answer. Codings are not read yet.
+-- What a break says of the bytes: all but memory that ran out come only where they are no answer. Codings are not read yet.
 abbrev pub Refutes : Bool → Option ℕ → List ℕ → Ending → Why → Type 0
 Refutes head_only limit got ending why.Memory = ⊤
 Refutes head_only limit got ending why.BadLength = HasNoAnswer head_only limit got ending ⊎ HasCoding got

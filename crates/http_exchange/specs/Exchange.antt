@@ -9,8 +9,8 @@ use Rattle.s3_model.specs.declared.answers.Why.{Why}
 use Rattle.s3_model.specs.declared.answers.Why.TheVariants as why
 use Rattle.s3_model.specs.declared.places.Endpoint.{Endpoint}
 use Rattle.http_exchange.specs.Answer.{Begins, IsAnswer, Refutes, Delivers}
-use Rattle.s3_outside.specs.Told.{Tells}
-use Rattle.http_exchange.specs.Told.{with_talk}
+use Rattle.s3_outside.specs.Seen.{IsSeenAfter}
+use Rattle.http_exchange.specs.Seen.{with_talk}
 
 -- P of the answer, if there is one
 abbrev pub IfAnswered : Talked → (Answered → Type 0) → Type 0
@@ -39,7 +39,7 @@ pub record IsExchange (request : Request) (before after : Buffer) (result : Talk
   pub no_answer : IfBroken result (λ reason. Refutes request.head_only request.limit talk.got talk.ending reason)
   pub failed : (result ≡ talked.Broken why.WireFailed) ↔ (talk.ending ≡ Failed)
 
--- Exactly one talk was made, the wire tells it where it goes on telling, and this is what it came to.
-abbrev pub Exchanges : Request → (told_before told_after : Option WireLog) → (faults_before faults_after : ℕ) → (place_before place_after : Buffer) → Talked → Type 0
-Exchanges request told_before told_after faults_before faults_after place_before place_after result =
-    (talk : Talk) × Tells (with_talk talk) told_before told_after faults_before faults_after × IsExchange request place_before place_after result talk
+-- Exactly one talk was made, it stands in the log where that is still seen, and this is what it came to.
+abbrev pub Exchanges : Request → (seen_before seen_after : Option WireLog) → (faults_before faults_after : ℕ) → (place_before place_after : Buffer) → Talked → Type 0
+Exchanges request seen_before seen_after faults_before faults_after place_before place_after result =
+    (talk : Talk) × IsSeenAfter (with_talk talk) seen_before seen_after faults_before faults_after × IsExchange request place_before place_after result talk

@@ -4,4 +4,4 @@ pub mod Exchange
 pub mod Head
 pub mod Parts
 pub mod Steps
-pub mod Told
+pub mod Seen

@@ -43,7 +43,7 @@ pub record IsHeadAt (head_only : Bool) (got : List ℕ) (found : Head) : Type 0 
   pub says : Describes head_only head found.framing found.answer
   pub empty : found.answer.body.bytes ≡ []
 
--- the breaks that the bytes themselves can be, and want of memory
+-- the breaks that the bytes themselves can be, and memory that ran out
 abbrev pub IsOfBytes : Why → Type 0
 IsOfBytes why.WireFailed = ⊥
 IsOfBytes (why.Status status) = ⊥

@@ -10,14 +10,14 @@ use Rattle.s3_model.specs.declared.answers.Why.{Why}
 use Rattle.s3_model.specs.declared.answers.Why.TheVariants as why
 use Rattle.s3_model.specs.declared.places.Endpoint.{Endpoint}
 use Rattle.s3_outside.specs.Wire.{sends, fails, last_talk}
-use Rattle.s3_outside.specs.Told.{Tells}
+use Rattle.s3_outside.specs.Seen.{IsSeenAfter}
 use Rattle.http_exchange.specs.declared.framing.Framing.{Framing}
 use Rattle.http_exchange.specs.declared.framing.Framing.TheVariants as framing
 use Rattle.http_exchange.specs.declared.head.Found.{Found}
 use Rattle.http_exchange.specs.declared.head.Head.{Head}
 use Rattle.http_exchange.specs.Answer.{Begins, HasBody, Refutes, IsOfTalk, IsAnswer, Delivers}
 use Rattle.http_exchange.specs.Parts.{IsHeadAt}
-use Rattle.http_exchange.specs.Told.{with_talk, hears}
+use Rattle.http_exchange.specs.Seen.{with_talk, hears}
 
 -- the count of faults does not fall, and WireFailed comes only where it rose
 pub record HasWireCause {T : Type 0} (before now : ℕ) (result : Result T Why) : Type 0 where
@@ -41,7 +41,7 @@ pub record IsAsked {T E : Type 0} (endpoint : Endpoint) (bytes : List ℕ) (resu
 
 abbrev pub Asks : {T E : Type 0} → Endpoint → List ℕ → Option WireLog → Option WireLog → (faults_before faults_after : ℕ) → Result T E → Type 0
 Asks endpoint bytes before after faults_before faults_after result =
-    (talk : Talk) × Tells (with_talk talk) before after faults_before faults_after × IsAsked endpoint bytes result talk
+    (talk : Talk) × IsSeenAfter (with_talk talk) before after faults_before faults_after × IsAsked endpoint bytes result talk
 
 -- the talk goes on by these bytes and this ending, of which P holds
 abbrev pub Hears : Option WireLog → Option WireLog → (List ℕ → Ending → Type 0) → Type 0

@@ -1,3 +1,5 @@
+//! How an answer's body is framed.
+
 /// How the end of an answer's body is found (RFC 9112, section 6.3).
 #[derive(Clone, Copy, Debug, PartialEq, Eq)]
 pub enum Framing {

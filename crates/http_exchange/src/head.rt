@@ -101,7 +101,8 @@ fn describe(
     found: &ResponseSpans,
     head_only: bool,
 ) -> Result<Head, Why>
-    ensures { (head : ResponseHead) → header_lines head ≡ pairs lines.now → found.now.code ≡ status_code head → found.now.version ≡ head.minor
+    ensures { (head : ResponseHead) → header_lines head ≡ pairs lines.now →
+        found.now.code ≡ status_code head → found.now.version ≡ head.minor
         → SaysOf head_only head found.now.len result }
 {
     let known = lines.known();
@@ -140,7 +141,8 @@ fn or_memory<T>(taken: Result<T, OutOfMemory>) -> Result<T, Why>
 fn stated_length(lines: &Lines<'_>, known: &KnownFields) -> Result<Option<u64>, Why>
     requires { known.now ≡ known_fields (pairs lines.now) }
     ensures value { IfOk result (StatesLength (lengths (pairs lines.now))) }
-    ensures none { IfErr result (λ reason. (reason ≡ Why.BadLength) × ((stated : Option ℕ) → ¬ (StatesLength (lengths (pairs lines.now)) stated))) }
+    ensures none { IfErr result (λ reason. (reason ≡ Why.BadLength) ×
+        ((stated : Option ℕ) → ¬ (StatesLength (lengths (pairs lines.now)) stated))) }
 {
     match known.content_length {
         ContentLength::Absent => Ok(None),
@@ -158,7 +160,8 @@ fn framing_of(
 ) -> Result<Framing, Why>
     ensures value { IfOk result (λ framing. (known.now.transfer_encoding ≡ TransferEncoding.Absent)
         × (framing ≡ framing_by (has_no_body head_only status) false length)) }
-    ensures coded { IfErr result (λ reason. (reason ≡ Why.BadLength) × (known.now.transfer_encoding ≢ TransferEncoding.Absent)) }
+    ensures coded { IfErr result (λ reason. (reason ≡ Why.BadLength) ×
+        (known.now.transfer_encoding ≢ TransferEncoding.Absent)) }
 {
     if known.transfer_encoding != TransferEncoding::Absent {
         return Err(Why::BadLength);

@@ -1,3 +1,5 @@
+//! The header lines of an answer.
+
 ghost use Rattle.std.specs.Prelude.{length, All};
 ghost use Rattle.httparse.specs.Spans.{IsHeaderWithin};
 

@@ -15,7 +15,7 @@ const PIECE: usize = 65_536;
 
 /// Takes the head of an answer, one byte after the other, and answers it with the bytes that were taken.
 pub(crate) fn take_head<W: Wire>(alloc: Global, wire: &mut W, head_only: bool) -> Result<Found, Why>
-    ensures heard { Hears (W.told wire.old) (W.told wire.new) (TakesHead head_only result) }
+    ensures heard { Hears (W.seen wire.old) (W.seen wire.new) (TakesHead head_only result) }
     ensures cause { HasWireCause (W.faults wire.old) (W.faults wire.new) result }
 {
     let mut got = Vec::new(alloc);
@@ -55,7 +55,7 @@ fn ends_in_blank_line(got: &[u8]) -> bool {
 
 /// Takes one byte, or None at the end of the connection.
 fn take_byte<W: Wire>(wire: &mut W) -> Result<Option<u8>, Why>
-    ensures heard { Hears (W.told wire.old) (W.told wire.new) (TakesByte result) }
+    ensures heard { Hears (W.seen wire.old) (W.seen wire.new) (TakesByte result) }
     ensures cause { HasWireCause (W.faults wire.old) (W.faults wire.new) result }
 {
     let mut byte = [0u8; 1];
@@ -91,7 +91,7 @@ pub(crate) fn take_body<W: Wire>(
     requires empty { body.old.bytes ≡ [] }
     requires room { most ≤ body.old.room }
     requires fits { EndsAt framing most }
-    ensures heard { Hears (W.told wire.old) (W.told wire.new) (TakesBody framing most first.now body.new.bytes result) }
+    ensures heard { Hears (W.seen wire.old) (W.seen wire.new) (TakesBody framing most first.now body.new.bytes result) }
     ensures cause { HasWireCause (W.faults wire.old) (W.faults wire.new) result }
     ensures room_kept { body.new.room ≡ body.old.room }
 {
@@ -107,7 +107,7 @@ pub(crate) fn take_body<W: Wire>(
 
 /// Sees that the connection closes behind a body that is as long as it may be.
 fn expect_close<W: Wire>(wire: &mut W, most: u64) -> Result<(), Why>
-    ensures heard { Hears (W.told wire.old) (W.told wire.new) (Closes most result) }
+    ensures heard { Hears (W.seen wire.old) (W.seen wire.new) (Closes most result) }
     ensures cause { HasWireCause (W.faults wire.old) (W.faults wire.new) result }
 {
     match take_byte(wire)? {
@@ -120,7 +120,7 @@ fn expect_close<W: Wire>(wire: &mut W, most: u64) -> Result<(), Why>
 fn fill<W: Wire>(alloc: Global, wire: &mut W, body: &mut Bytes, most: usize) -> Result<bool, Why>
     requires room { most ≤ body.old.room }
     requires below { length body.old.bytes ≤ most }
-    ensures heard { Hears (W.told wire.old) (W.told wire.new) (Fills most body.old.bytes body.new.bytes result) }
+    ensures heard { Hears (W.seen wire.old) (W.seen wire.new) (Fills most body.old.bytes body.new.bytes result) }
     ensures cause { HasWireCause (W.faults wire.old) (W.faults wire.new) result }
     ensures room_kept { body.new.room ≡ body.old.room }
 {
@@ -143,7 +143,8 @@ fn fill<W: Wire>(alloc: Global, wire: &mut W, body: &mut Bytes, most: usize) -> 
 fn take_piece<W: Wire>(wire: &mut W, piece: &mut [u8], body: &mut Bytes) -> Result<usize, Why>
     requires some { 0 < length piece.old }
     requires room { length body.old.bytes + length piece.old ≤ body.old.room }
-    ensures heard { Hears (W.told wire.old) (W.told wire.new) (TakesPiece (length piece.old) body.old.bytes body.new.bytes result) }
+    ensures heard { Hears (W.seen wire.old) (W.seen wire.new)
+        (TakesPiece (length piece.old) body.old.bytes body.new.bytes result) }
     ensures cause { HasWireCause (W.faults wire.old) (W.faults wire.new) result }
     ensures room_kept { body.new.room ≡ body.old.room }
 {

@@ -14,7 +14,8 @@ pub(crate) fn ask<W: Wire>(
     head: &[u8],
     body: &[u8],
 ) -> Result<(), Failed>
-    ensures talk { Asks endpoint.now (head.now ++ body.now) (W.told wire.old) (W.told wire.new) (W.faults wire.old) (W.faults wire.new) result }
+    ensures talk { Asks endpoint.now (head.now ++ body.now) (W.seen wire.old) (W.seen wire.new) (W.faults wire.old)
+        (W.faults wire.new) result }
     ensures cause { HasCause (W.faults wire.old) (W.faults wire.new) result }
 {
     wire.begin(endpoint.host.as_str(), endpoint.port)?;
@@ -24,7 +25,7 @@ pub(crate) fn ask<W: Wire>(
 
 /// Sends all of the bytes, in as many parts as the wire takes.
 fn send_all<W: Wire>(wire: &mut W, bytes: &[u8]) -> Result<(), Failed>
-    ensures log { Sends bytes.now (W.told wire.old) (W.told wire.new) result }
+    ensures log { Sends bytes.now (W.seen wire.old) (W.seen wire.new) result }
     ensures cause { HasCause (W.faults wire.old) (W.faults wire.new) result }
 {
     let mut sent = 0;

@@ -1,3 +1,5 @@
+//! One request and its answer.
+
 ghost use Rattle.std.specs.Prelude.{◌≡◌, ◌≤◌, ◌++◌, IfSome, None};
 ghost use Rattle.s3_model.specs.Counts.{Rose};
 ghost use Rattle.http_exchange.specs.Answer.{IsOfTalk, body_limit, goes_into, is_success};
@@ -26,8 +28,8 @@ const ERROR_LIMIT: u64 = 65_536;
 ///
 /// # Errors
 ///
-/// `Broken` says why there is no answer: `WireFailed` where a call of the wire failed, `Memory` where memory was
-/// wanted, and else what is wrong with the bytes that came. After it `into` may hold any bytes.
+/// `Broken` says why there is no answer: `WireFailed` where a call of the wire failed, `Memory` where memory ran
+/// out, and else what is wrong with the bytes that came. After it `into` may hold any bytes.
 pub fn exchange<W: Wire>(
     alloc: Global,
     wire: &mut W,
@@ -40,8 +42,9 @@ pub fn exchange<W: Wire>(
     into: &mut Bytes,
 ) -> Talked
     requires { IfSome limit (λ most. most ≤ into.old.room) }
-    ensures talk { let request : Request = record { endpoint = endpoint.now; bytes = head.now ++ body.now; head_only = head_only; limit = limit }
-        in Exchanges request (W.told wire.old) (W.told wire.new) (W.faults wire.old) (W.faults wire.new) into.old into.new result }
+    ensures talk { let request : Request =
+        record { endpoint = endpoint.now; bytes = head.now ++ body.now; head_only = head_only; limit = limit }
+        in Exchanges request (W.seen wire.old) (W.seen wire.new) (W.faults wire.old) (W.faults wire.new) into.old into.new result }
     ensures failed { result ≡ Talked.Broken Why.WireFailed → Rose (W.faults wire.old) (W.faults wire.new) }
     ensures later { W.faults wire.old ≤ W.faults wire.new }
     ensures own { IfBroken result IsOfTalk }
@@ -60,7 +63,7 @@ pub fn exchange<W: Wire>(
 /// Ends a talk.
 fn end<W: Wire>(wire: &mut W, keep: bool, answer: Result<Answered, Why>) -> Talked
     ensures talked { result ≡ talked_of answer }
-    ensures log { W.told wire.new ≡ W.told wire.old }
+    ensures log { W.seen wire.new ≡ W.seen wire.old }
     ensures later { W.faults wire.old ≤ W.faults wire.new }
 {
     match answer {
@@ -84,7 +87,7 @@ fn receive<W: Wire>(
     into: &mut Bytes,
 ) -> Result<Answered, Why>
     requires { IfSome limit (λ most. most ≤ into.old.room) }
-    ensures heard { Hears (W.told wire.old) (W.told wire.new) (Receives head_only limit into.old into.new result) }
+    ensures heard { Hears (W.seen wire.old) (W.seen wire.new) (Receives head_only limit into.old into.new result) }
     ensures cause { HasWireCause (W.faults wire.old) (W.faults wire.new) result }
     ensures room { into.new.room ≡ into.old.room }
     ensures untouched { limit ≡ None → into.new ≡ into.old }
@@ -111,7 +114,8 @@ fn take_into<W: Wire>(
 ) -> Result<Answered, Why>
     requires room { most ≤ into.old.room }
     requires fits { EndsAt head.framing most }
-    ensures heard { Hears (W.told wire.old) (W.told wire.new) (TakesAnswer head first.now most into.new.bytes head.answer.body.bytes result) }
+    ensures heard { Hears (W.seen wire.old) (W.seen wire.new)
+        (TakesAnswer head first.now most into.new.bytes head.answer.body.bytes result) }
     ensures cause { HasWireCause (W.faults wire.old) (W.faults wire.new) result }
     ensures room_kept { into.new.room ≡ into.old.room }
 {
@@ -131,7 +135,7 @@ fn take_held<W: Wire>(
     most: usize,
 ) -> Result<Answered, Why>
     requires { EndsAt head.framing most }
-    ensures heard { Hears (W.told wire.old) (W.told wire.new) (TakesHeld head first.now most result) }
+    ensures heard { Hears (W.seen wire.old) (W.seen wire.new) (TakesHeld head first.now most result) }
     ensures cause { HasWireCause (W.faults wire.old) (W.faults wire.new) result }
 {
     let Ok(mut body) = Bytes::make(alloc, most as u64) else {

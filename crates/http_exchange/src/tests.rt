@@ -1,207 +1,185 @@
 //! Tests over a wire that plays listed bytes.
 
 use crate::exchange;
-use s3_model::{Bytes, Endpoint, Talked, Text, Why};
-use s3_outside::{ScriptWire, TalkEnding, WireCall};
+use s3_model::{Answered, Bytes, Endpoint, Talked, Text, Why};
+use s3_outside::{ScriptWire, TalkEnding, TalkRecord, WireCall};
+use std::alloc::{AllocError, Global};
 use std::test::*;
 
 const HEAD: &[u8; 18] = b"PUT / HTTP/1.1\r\n\r\n";
 
 /// What is expected of one answer.
-#[derive(Drop)]
+#[derive(Clone, Copy)]
 enum Want {
     /// The status, the stated length and the body.
-    Answer(u16, Option<u64>, &'static [u8]),
+    Answer(u16, Option<u64>, &'static str),
     Break(Why),
 }
 
 use Want::{Answer, Break};
 
-fn endpoint(rt: HostRuntime) -> Result<Endpoint, Fail> {
+static ANSWERS: [(&str, Want); 17] = [
+    (
+        "HTTP/1.1 200 OK\r\ncontent-length: 0\r\n\r\n",
+        Answer(200, Some(0), ""),
+    ),
+    (
+        "HTTP/1.1 403 Forbidden\r\nContent-Length: 0\r\n\r\n",
+        Answer(403, Some(0), ""),
+    ),
+    ("HTTP/1.1 2", Break(Why::EndedEarly)),
+    ("SSH-2.0-OpenSSH_9.6\r\n\r\n", Break(Why::NotHttp)),
+    (
+        "HTTP/1.1 200 OK\r\ncontent-length: 5\r\n\r\nhel",
+        Break(Why::EndedEarly),
+    ),
+    (
+        "HTTP/1.1 200 OK\r\n\r\nhello, hello",
+        Answer(200, None, "hello, hello"),
+    ),
+    (
+        "HTTP/1.1 204 No Content\r\n\r\nbehind",
+        Answer(204, None, ""),
+    ),
+    (
+        "HTTP/1.1 304 Not Modified\r\ncontent-length: 7\r\n\r\n",
+        Answer(304, Some(7), ""),
+    ),
+    (
+        "HTTP/1.1 200 OK\r\ncontent-length: 12345678901234567890\r\n\r\n",
+        Break(Why::BadLength),
+    ),
+    (
+        "HTTP/1.1 200 OK\r\ncontent-length: 5\r\nContent-Length: 6\r\n\r\nhello!",
+        Break(Why::BadLength),
+    ),
+    (
+        "HTTP/1.1 200 OK\r\ncontent-length: 05\r\nContent-Length: 5\r\n\r\nhello!",
+        Answer(200, Some(5), "hello"),
+    ),
+    (
+        "HTTP/1.1 200 OK\r\ncontent-length: 8388609\r\n\r\n",
+        Break(Why::BodyTooLong(8_388_608)),
+    ),
+    (
+        "HTTP/1.1 500 No\r\ncontent-length: 65537\r\n\r\n",
+        Break(Why::BodyTooLong(65_536)),
+    ),
+    (
+        "HTTP/1.1 100 Continue\r\n\r\nHTTP/1.1 200 OK\r\ncontent-length: 0\r\n\r\n",
+        Break(Why::NotHttp),
+    ),
+    ("\r\nHTTP/1.0 200\r\n\r\n", Answer(200, None, "")),
+    (
+        "HTTP/1.1 200 OK\r\ntransfer-encoding: chunked\r\n\r\n0\r\n\r\n",
+        Break(Why::BadLength),
+    ),
+    ("", Break(Why::EndedEarly)),
+];
+
+/// How many header lines a head has, whether it is whole, and what it comes to.
+static LONG_HEADS: [(&str, usize, bool, Want); 5] = [
+    ("100 lines", 100, true, Answer(204, None, "")),
+    ("101 lines", 101, true, Break(Why::NotHttp)),
+    ("102 lines", 102, true, Break(Why::NotHttp)),
+    ("102 lines, cut", 102, false, Break(Why::EndedEarly)),
+    ("70 KB, cut", 14_000, false, Break(Why::HeadTooLong)),
+];
+
+const PART: &str =
+    "HTTP/1.1 206 Partial Content\r\nETag: \"abc\"\r\nETag: \"def\"\r\nContent-Range: bytes 2-6/11\r\nLast-Modified: Sun, 06 Nov 1994 08:49:37 GMT\r\nContent-Length: 5\r\n\r\nhello";
+
+fn endpoint(alloc: Global) -> Result<Endpoint, Fail> {
     Ok(Endpoint {
-        host: Text::of(rt.alloc(), "localhost").ok().ok_or("memory")?,
+        host: Text::of(alloc, "localhost")?,
         port: 9000,
-        written: Text::of(rt.alloc(), "localhost:9000").ok().ok_or("memory")?,
+        written: Text::of(alloc, "localhost:9000")?,
     })
 }
 
 /// A wire that plays this answer, by at most 7 bytes a call, and whose listed calls fail.
 fn wire(
-    rt: HostRuntime,
+    alloc: Global,
     answer: &[u8],
-    failing: Option<(WireCall, usize)>,
-) -> Result<ScriptWire, Fail> {
-    let mut answers = Vec::new(rt.alloc());
-    let bytes = Vec::from_slice(rt.alloc(), answer).ok().ok_or("memory")?;
-    answers.push(bytes).ok().ok_or("memory")?;
-    let mut calls = Vec::new(rt.alloc());
-    if let Some(call) = failing {
-        calls.push(call).ok().ok_or("memory")?;
-    }
-    let mut wire = ScriptWire::make(rt.alloc(), answers, calls, 0);
+    failing: &[(WireCall, usize)],
+) -> Result<ScriptWire, AllocError> {
+    let answers = vec![in alloc; answer.to_vec(alloc)?]?;
+    let mut wire = ScriptWire::make(alloc, answers, failing.to_vec(alloc)?, 0);
     wire.move_at_most(7);
     Ok(wire)
 }
 
+/// Whether one talk over this wire comes to what is wanted.
+fn comes_to(
+    alloc: Global,
+    wire: &mut ScriptWire,
+    head_only: bool,
+    want: Want,
+) -> Result<bool, Fail> {
+    let endpoint = endpoint(alloc)?;
+    let mut into = Bytes::make(alloc, 8)?;
+    let talked = exchange(
+        alloc, wire, &endpoint, HEAD, b"hello", head_only, false, None, &mut into,
+    );
+    Ok(is_wanted(&talked, want) && wire.talks().len() == 1)
+}
+
+fn is_wanted(talked: &Talked, want: Want) -> bool {
+    match (talked, want) {
+        (Talked::Answered(answered), Answer(status, length, body)) => {
+            answered.status == status
+                && answered.length == length
+                && answered.taken == body.len() as u64
+                && answered.body.as_slice() == body.as_bytes()
+        }
+        (Talked::Broken(why), Break(wanted)) => *why == wanted,
+        _ => false,
+    }
+}
+
 #[test]
 fn answers_and_breaks(rt: HostRuntime) -> Result<(), Fail> {
-    let endpoint = endpoint(rt)?;
-    let mut into = Bytes::make(rt.alloc(), 8).ok().ok_or("memory")?;
-    let cases: [(&'static [u8], Option<(WireCall, usize)>, bool, Want); 21] = [
-        (
-            b"HTTP/1.1 200 OK\r\ncontent-length: 0\r\n\r\n",
-            None,
-            false,
-            Answer(200, Some(0), b""),
-        ),
-        (
-            b"HTTP/1.1 403 Forbidden\r\nContent-Length: 0\r\n\r\n",
-            None,
-            false,
-            Answer(403, Some(0), b""),
-        ),
-        (b"HTTP/1.1 2", None, false, Break(Why::EndedEarly)),
-        (
-            b"SSH-2.0-OpenSSH_9.6\r\n\r\n",
-            None,
-            false,
-            Break(Why::NotHttp),
-        ),
-        (
-            b"HTTP/1.1 200 OK\r\ncontent-length: 5\r\n\r\nhel",
-            None,
-            false,
-            Break(Why::EndedEarly),
-        ),
-        (
-            b"HTTP/1.1 200 OK\r\n\r\nhello, hello",
-            None,
-            false,
-            Answer(200, None, b"hello, hello"),
-        ),
-        (
-            b"HTTP/1.1 200 OK\r\ncontent-length: 107374182400\r\n\r\n",
-            None,
-            true,
-            Answer(200, Some(107374182400), b""),
-        ),
-        (
-            b"HTTP/1.1 204 No Content\r\n\r\nbehind",
-            None,
-            false,
-            Answer(204, None, b""),
-        ),
-        (
-            b"HTTP/1.1 304 Not Modified\r\ncontent-length: 7\r\n\r\n",
-            None,
-            false,
-            Answer(304, Some(7), b""),
-        ),
-        (
-            b"HTTP/1.1 200 OK\r\ncontent-length: 12345678901234567890\r\n\r\n",
-            None,
-            false,
-            Break(Why::BadLength),
-        ),
-        (
-            b"HTTP/1.1 200 OK\r\ncontent-length: 5\r\nContent-Length: 6\r\n\r\nhello!",
-            None,
-            false,
-            Break(Why::BadLength),
-        ),
-        (
-            b"HTTP/1.1 200 OK\r\ncontent-length: 05\r\nContent-Length: 5\r\n\r\nhello!",
-            None,
-            false,
-            Answer(200, Some(5), b"hello"),
-        ),
-        (
-            b"HTTP/1.1 200 OK\r\ncontent-length: 8388609\r\n\r\n",
-            None,
-            false,
-            Break(Why::BodyTooLong(8_388_608)),
-        ),
-        (
-            b"HTTP/1.1 500 No\r\ncontent-length: 65537\r\n\r\n",
-            None,
-            false,
-            Break(Why::BodyTooLong(65_536)),
-        ),
-        (
-            b"HTTP/1.1 100 Continue\r\n\r\nHTTP/1.1 200 OK\r\ncontent-length: 0\r\n\r\n",
-            None,
-            false,
-            Break(Why::NotHttp),
-        ),
-        (
-            b"\r\nHTTP/1.0 200\r\n\r\n",
-            None,
-            false,
-            Answer(200, None, b""),
-        ),
-        (
-            b"HTTP/1.1 200 OK\r\ntransfer-encoding: chunked\r\n\r\n0\r\n\r\n",
-            None,
-            false,
-            Break(Why::BadLength),
-        ),
-        (b"", None, false, Break(Why::EndedEarly)),
-        (
-            b"",
-            Some((WireCall::Begin, 0)),
-            false,
-            Break(Why::WireFailed),
-        ),
-        (
-            b"",
-            Some((WireCall::Send, 2)),
-            false,
-            Break(Why::WireFailed),
-        ),
-        (
-            b"HTTP/1.1 200 OK\r\ncontent-length: 5\r\n\r\nhel",
-            Some((WireCall::Take, 39)),
-            false,
-            Break(Why::WireFailed),
-        ),
-    ];
-    for (i, (answer, failing, head_only, want)) in cases.iter().enumerate() {
-        let mut wire = wire(rt, *answer, *failing)?;
-        let talked = exchange(
-            rt.alloc(),
-            &mut wire,
-            &endpoint,
-            HEAD,
-            b"hello",
-            *head_only,
-            false,
-            None,
-            &mut into,
-        );
-        match (talked, want) {
-            (Talked::Answered(answered), Answer(status, length, body)) => {
-                assert_eq!(rt; answered.status, *status, "at {i}");
-                assert_eq!(rt; answered.length, *length, "at {i}");
-                assert_eq!(rt; answered.body.as_slice(), *body, "at {i}");
-                assert_eq!(rt; answered.taken, body.len() as u64, "at {i}");
-            }
-            (Talked::Broken(why), Break(wanted)) => assert_eq!(rt; why, *wanted, "at {i}"),
-            _ => assert!(rt; false, "at {i}"),
+    for (answer, want) in ANSWERS.iter() {
+        let mut wire = wire(rt.alloc(), answer.as_bytes(), &[])?;
+        if !comes_to(rt.alloc(), &mut wire, false, *want)? {
+            return Err(Fail::from(*answer));
         }
-        assert_eq!(rt; wire.talks().len(), 1, "at {i}");
     }
     Ok(())
 }
 
 #[test]
-fn one_talk_is_told(rt: HostRuntime) -> Result<(), Fail> {
-    let endpoint = endpoint(rt)?;
-    let mut into = Bytes::make(rt.alloc(), 8).ok().ok_or("memory")?;
-    let answer =
-        b"HTTP/1.1 206 Partial Content\r\nETag: \"abc\"\r\nETag: \"def\"\r\nContent-Range: bytes 2-6/11\r\nLast-Modified: Sun, 06 Nov 1994 08:49:37 GMT\r\nContent-Length: 5\r\n\r\nhello";
-    let mut wire = wire(rt, answer, None)?;
+fn a_head_alone_has_no_body(rt: HostRuntime) -> Result<(), Fail> {
+    let answer = "HTTP/1.1 200 OK\r\ncontent-length: 107374182400\r\n\r\n";
+    let mut wire = wire(rt.alloc(), answer.as_bytes(), &[])?;
+    let want = Answer(200, Some(107_374_182_400), "");
+    assert!(rt; comes_to(rt.alloc(), &mut wire, true, want)?);
+    Ok(())
+}
+
+#[test]
+fn failed_calls_break_the_talk(rt: HostRuntime) -> Result<(), Fail> {
+    assert!(rt; breaks_at(rt.alloc(), WireCall::Begin, 0)?);
+    assert!(rt; breaks_at(rt.alloc(), WireCall::Send, 2)?);
+    assert!(rt; breaks_at(rt.alloc(), WireCall::Take, 39)?);
+    Ok(())
+}
+
+/// Whether a talk in which this call fails is a failed one.
+fn breaks_at(alloc: Global, call: WireCall, number: usize) -> Result<bool, Fail> {
+    let answer = "HTTP/1.1 200 OK\r\ncontent-length: 5\r\n\r\nhel";
+    let mut wire = wire(alloc, answer.as_bytes(), &[(call, number)])?;
+    comes_to(alloc, &mut wire, false, Break(Why::WireFailed))
+}
+
+#[test]
+fn a_part_is_got(rt: HostRuntime) -> Result<(), Fail> {
+    let alloc = rt.alloc();
+    let endpoint = endpoint(alloc)?;
+    let mut into = Bytes::make(alloc, 8)?;
+    let mut wire = wire(alloc, PART.as_bytes(), &[])?;
     let talked = exchange(
-        rt.alloc(),
+        alloc,
         &mut wire,
         &endpoint,
         HEAD,
@@ -214,68 +192,52 @@ fn one_talk_is_told(rt: HostRuntime) -> Result<(), Fail> {
     let Talked::Answered(answered) = talked else {
         return Err("an answer".into());
     };
-    assert_eq!(rt; into.as_slice(), b"hello".as_slice());
-    assert_eq!(rt; answered.body.as_slice().len(), 0);
-    assert_eq!(rt; answered.taken, 5);
-    assert!(rt; answered.keep);
-    assert_eq!(rt; answered.range, Some((2, 6, 11)));
-    assert_eq!(rt; answered.micros, Some(784_111_777_000_000));
-    match &answered.etag {
-        Some(etag) => assert_eq!(rt; etag.as_str(), "\"abc\""),
-        None => assert!(rt; false),
-    }
-    for talk in wire.talks() {
-        assert_eq!(rt; talk.sent.as_slice(), HEAD.as_slice());
-        assert_eq!(rt; talk.got.as_slice(), answer.as_slice());
-        assert_eq!(rt; talk.ending, TalkEnding::Finished);
-    }
+    assert!(rt; into.as_slice() == b"hello".as_slice());
+    assert!(rt; is_part(&answered));
+    assert!(rt; is_one_talk(wire.talks()));
+    assert!(rt; wire.is_alive());
     Ok(())
 }
 
+fn is_part(answered: &Answered) -> bool {
+    answered.body.as_slice().is_empty()
+        && answered.taken == 5
+        && answered.keep
+        && answered.range == Some((2, 6, 11))
+        && answered.micros == Some(784_111_777_000_000)
+        && answered.etag.as_ref().map(|tag| tag.as_str()) == Some("\"abc\"")
+}
+
+fn is_one_talk(talks: &[TalkRecord]) -> bool {
+    match talks {
+        [talk] => {
+            talk.sent.as_slice() == HEAD.as_slice()
+                && talk.got.as_slice() == PART.as_bytes()
+                && talk.ending == TalkEnding::Finished
+        }
+        _ => false,
+    }
+}
+
 /// An answer with so many header lines `a:b`.
-fn many_lines(rt: HostRuntime, count: usize) -> Result<Vec<u8>, Fail> {
-    let mut bytes = Vec::from_slice(rt.alloc(), b"HTTP/1.1 204 No\r\n")
-        .ok()
-        .ok_or("memory")?;
+fn many_lines(alloc: Global, count: usize, is_whole: bool) -> Result<Vec<u8>, AllocError> {
+    let mut bytes = b"HTTP/1.1 204 No\r\n".to_vec(alloc)?;
     for _ in 0..count {
-        bytes.extend_from_slice(b"a:b\r\n").ok().ok_or("memory")?;
+        bytes.extend_from_slice(b"a:b\r\n")?;
+    }
+    if is_whole {
+        bytes.extend_from_slice(b"\r\n")?;
     }
     Ok(bytes)
 }
 
 #[test]
-fn long_heads(rt: HostRuntime) -> Result<(), Fail> {
-    let endpoint = endpoint(rt)?;
-    let mut into = Bytes::make(rt.alloc(), 8).ok().ok_or("memory")?;
-    // How many lines, whether the head is whole, and the break, if any.
-    let cases = [
-        (100, true, None),
-        (101, true, Some(Why::NotHttp)),
-        (102, true, Some(Why::NotHttp)),
-        (102, false, Some(Why::EndedEarly)),
-        (14_000, false, Some(Why::HeadTooLong)),
-    ];
-    for (count, is_whole, want) in cases {
-        let mut answer = many_lines(rt, count)?;
-        if is_whole {
-            answer.extend_from_slice(b"\r\n").ok().ok_or("memory")?;
-        }
-        let mut wire = wire(rt, &answer, None)?;
-        let talked = exchange(
-            rt.alloc(),
-            &mut wire,
-            &endpoint,
-            HEAD,
-            b"",
-            false,
-            false,
-            None,
-            &mut into,
-        );
-        match (talked, want) {
-            (Talked::Answered(answered), None) => assert_eq!(rt; answered.status, 204),
-            (Talked::Broken(why), Some(wanted)) => assert_eq!(rt; why, wanted, "at {count}"),
-            _ => assert!(rt; false, "at {count}"),
+fn heads_are_long_within_limits(rt: HostRuntime) -> Result<(), Fail> {
+    for (name, count, is_whole, want) in LONG_HEADS.iter() {
+        let answer = many_lines(rt.alloc(), *count, *is_whole)?;
+        let mut wire = wire(rt.alloc(), &answer, &[])?;
+        if !comes_to(rt.alloc(), &mut wire, false, *want)? {
+            return Err(Fail::from(*name));
         }
     }
     Ok(())

@@ -1,4 +1,4 @@
 mod Below
 mod LastTalk
-pub mod TellsLemmas
+pub mod SeenLemmas
 mod TextMaps

@@ -9,17 +9,17 @@ use Rattle.s3_outside.specs.declared.files.FileNote.TheVariants as note
 use Rattle.s3_outside.specs.declared.wire.Failed.{Failed}
 
 -- the files, and the calls on them in order
-pub record ToldFiles : Type 0 where
+pub record SeenFiles : Type 0 where
   pub store : FileStore
   pub calls : List FileNote
 
-abbrev pub called : FileNote → ToldFiles → ToldFiles
+abbrev pub called : FileNote → SeenFiles → SeenFiles
 called call files = record files { calls = files.calls ++ call ∷ [] }
 
-abbrev pub asked_kind : List ℕ → Result Shape Failed → ToldFiles → ToldFiles
+abbrev pub asked_kind : List ℕ → Result Shape Failed → SeenFiles → SeenFiles
 asked_kind path answer = called (note.Kind path answer)
 
-abbrev pub asked_bytes : List ℕ → ℕ → ℕ → Result ℕ Failed → ToldFiles → ToldFiles
+abbrev pub asked_bytes : List ℕ → ℕ → ℕ → Result ℕ Failed → SeenFiles → SeenFiles
 asked_bytes path at room answer = called (note.ReadAt path at room answer)
 
 abbrev pub shape_of_rest : FileStore → List ℕ → Shape

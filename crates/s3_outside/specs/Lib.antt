@@ -5,5 +5,5 @@ pub mod Sink
 pub mod StoreCode
 pub mod TalkLog
 pub mod TextMap
-pub mod Told
+pub mod Seen
 pub mod Wire

@@ -1,8 +1,8 @@
--- What files in memory tell.
+-- What is seen of files in memory.
 use Rattle.std.specs.Prelude.{Bool, List, Option, Some, None, if◌then◌else◌}
 use Rattle.s3_model.specs.Files.{FileStore}
-use Rattle.s3_outside.specs.Files.{ToldFiles}
+use Rattle.s3_outside.specs.Files.{SeenFiles}
 use Rattle.s3_outside.specs.declared.files.FileNote.{FileNote}
 
-abbrev pub told_files : Bool → FileStore → List FileNote → Option ToldFiles
-told_files tells store calls = if tells then Some (record { store = store; calls = calls }) else None
+abbrev pub seen_files : Bool → FileStore → List FileNote → Option SeenFiles
+seen_files is_seen store calls = if is_seen then Some (record { store = store; calls = calls }) else None

@@ -1,4 +1,4 @@
--- What a log in memory tells.
+-- What is seen of a log in memory.
 use Rattle.std.specs.Prelude.{Bool, List, Option, Some, None, map, if◌then◌else◌}
 use Rattle.s3_model.specs.Talks as model
 use Rattle.s3_outside.specs.declared.talk_log.TalkEnding.{TalkEnding}
@@ -30,5 +30,5 @@ abbrev pub log_of : List TalkRecord → List WireNote → model.WireLog
 log_of talks notes = record { talks = map talk_of talks; notes = map note_of notes }
 
 -- the log, as long as there was memory for all of it
-abbrev pub told_log : Bool → List TalkRecord → List WireNote → Option model.WireLog
-told_log is_whole talks notes = if is_whole then Some (log_of talks notes) else None
+abbrev pub seen_log : Bool → List TalkRecord → List WireNote → Option model.WireLog
+seen_log is_whole talks notes = if is_whole then Some (log_of talks notes) else None

@@ -1,5 +1,5 @@
 -- What the calls of a wire add to its log.
-use Rattle.std.specs.Prelude.{◌++◌, ◌==◌, ◌&&◌, ℕ, Bool, List, [], ◌∷◌, Result, Ok, Err, length, take, not, if◌then◌else◌}
+use Rattle.std.specs.Prelude.{◌++◌, ◌==◌, ◌&&◌, ℕ, Bool, true, false, List, [], ◌∷◌, Result, Ok, Err, is_ok, length, take, not, if◌then◌else◌}
 use Rattle.s3_model.specs.Talks.{Talk, Ending, Failed, Closed, Finished, Note, Began, WireLog}
 
 abbrev pub noted : Note → WireLog → WireLog
@@ -48,3 +48,22 @@ after_send bytes (Err fault) log = last_talk fails log
 abbrev pub after_take : {E : Type 0} → List ℕ → Result ℕ E → WireLog → WireLog
 after_take into (Ok count) log = if count == 0 && not (length into == 0) then last_talk closes log else last_talk (gets (take count into)) log
 after_take into (Err fault) log = last_talk fails log
+
+abbrev pub went_well : Ending → Bool
+went_well Failed = false
+went_well Closed = true
+went_well Finished = true
+
+-- whether there is a talk, and no call failed in the last
+abbrev pub last_went_well : List Talk → Bool
+last_went_well [] = false
+last_went_well (talk ∷ []) = went_well talk.ending
+last_went_well (talk ∷ next ∷ talks) = last_went_well (next ∷ talks)
+
+-- a failed call ends the connection
+abbrev pub stays_alive : {T E : Type 0} → Result T E → Bool → Bool
+stays_alive result alive = is_ok result && alive
+
+-- the connection is kept where that was asked for and no call failed in the talk
+abbrev pub is_kept : Bool → WireLog → Bool
+is_kept keep log = keep && last_went_well log.talks

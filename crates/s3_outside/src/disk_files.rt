@@ -1,3 +1,5 @@
+//! The files of the system.
+
 ghost use Rattle.std.specs.Prelude.{◌≡◌, None};
 ghost use Rattle.std.specs.Io.{ReadsAtMost};
 
@@ -8,7 +10,7 @@ use std::io::{self, ErrorKind, Read, Seek, SeekFrom};
 use std::rt;
 use std::time::UNIX_EPOCH;
 
-/// The files of the system, which tell nothing.
+/// The files of the system, of which nothing is seen.
 #[derive(Drop)]
 pub struct DiskFiles<R> {
     runtime: R,
@@ -24,7 +26,7 @@ impl<R: rt::Files> DiskFiles<R> {
 }
 
 impl<R: rt::Files> Files for DiskFiles<R> {
-    ghost told = { λ _. None };
+    ghost seen = { λ _. None };
 
     ghost faults = { λ f. f.faults };
 

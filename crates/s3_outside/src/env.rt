@@ -1,3 +1,5 @@
+//! The environment of a run.
+
 ghost use Rattle.std.specs.Prelude.{◌≡◌, ◌≤◌, ℕ, Option, IfOk, IfSome};
 ghost use Rattle.std.specs.FinMap.{get};
 ghost use Rattle.s3_model.specs.Validity.{IsValidLimits};
@@ -15,10 +17,10 @@ pub enum EnvFault {
 /// The environment of a run.
 pub trait Env {
     ghost use Rattle.s3_model.specs.declared.settings.Limits.{Limits};
-    ghost use Rattle.s3_outside.specs.Env.{ToldEnv};
+    ghost use Rattle.s3_outside.specs.Env.{SeenEnv};
 
-    /// The variables, or None where they are not told.
-    ghost told: { Self → Option ToldEnv };
+    /// The variables, or None where they are not seen.
+    ghost seen: { Self → Option SeenEnv };
 
     /// What the service allows.
     ghost allows: { Self → Limits };
@@ -28,8 +30,8 @@ pub trait Env {
 
     /// The value of a variable; None where it is not set or is no UTF-8.
     fn word(&mut self, alloc: Global, name: &str) -> Result<Option<Text>, OutOfMemory>
-        ensures value { IfSome (told self.old) (λ env. IfOk result (λ word. word ≡ get env.variables name.now)) }
-        ensures same { told self.new ≡ told self.old }
+        ensures value { IfSome (seen self.old) (λ env. IfOk result (λ word. word ≡ get env.variables name.now)) }
+        ensures same { seen self.new ≡ seen self.old }
         ensures limits { allows self.new ≡ allows self.old }
         ensures later { faults self.old ≤ faults self.new };
 

@@ -1,3 +1,5 @@
+//! Files and folders in memory.
+
 ghost use Rattle.std.specs.Prelude.{◌≡◌, ◌≤◌, ◌↔◌, ◌++◌, [], ◌∷◌, OnOk, OnErr, length, take, drop, min, IfSome, IsNone};
 ghost use Rattle.std.specs.Option.{option_copied};
 ghost use Rattle.std.specs.FinMap.{empty, get, insert};
@@ -121,7 +123,8 @@ impl FileTable {
 
     /// Adds an empty folder.
     pub fn add_folder(&mut self, alloc: Global, path: &str) -> Result<(), OutOfMemory>
-        ensures added { OnOk result (self.new ≡ record self.old { empty_folders = self.old.empty_folders ++ path.now ∷ [] }) }
+        ensures added { OnOk result
+            (self.new ≡ record self.old { empty_folders = self.old.empty_folders ++ path.now ∷ [] }) }
         ensures same { OnErr result (self.new ≡ self.old) }
     {
         add_path(alloc, &mut self.empty_folders, path)

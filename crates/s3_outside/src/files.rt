@@ -1,3 +1,5 @@
+//! The local files.
+
 ghost use Rattle.std.specs.Prelude.{◌≡◌, ◌≤◌, ℕ, Option, length, IfOk, IfSome};
 ghost use Rattle.s3_model.specs.Counts.{HasCause};
 
@@ -38,19 +40,20 @@ pub enum FileNote {
 
 /// The local files.
 pub trait Files {
-    ghost use Rattle.s3_outside.specs.Told.{Tells};
-    ghost use Rattle.s3_outside.specs.Files.{ToldFiles, shape_at, asked_kind, asked_bytes, Reads};
+    ghost use Rattle.s3_outside.specs.Seen.{IsSeenAfter};
+    ghost use Rattle.s3_outside.specs.Files.{SeenFiles, shape_at, asked_kind, asked_bytes, Reads};
 
-    /// The files and the calls so far, or None where they are not told.
-    ghost told: { Self → Option ToldFiles };
+    /// The files and the calls so far, or None where they are not seen.
+    ghost seen: { Self → Option SeenFiles };
 
     /// How often a call failed. The count stops at 2^64 - 1.
     ghost faults: { Self → ℕ };
 
     /// What stands at a path.
     fn kind(&mut self, path: &str) -> Result<Shape, Failed>
-        ensures shape { IfSome (told self.old) (λ files. IfOk result (λ shape. shape ≡ shape_at files.store path.now)) }
-        ensures calls { Tells (asked_kind path.now result) (told self.old) (told self.new) (faults self.old) (faults self.new) }
+        ensures shape { IfSome (seen self.old) (λ files. IfOk result (λ shape. shape ≡ shape_at files.store path.now)) }
+        ensures calls { IsSeenAfter (asked_kind path.now result) (seen self.old) (seen self.new) (faults self.old)
+            (faults self.new) }
         ensures cause { HasCause (faults self.old) (faults self.new) result };
 
     /// Reads from place `at` of a file to the front of `into`, and answers how many bytes came: none only where `into`
@@ -58,7 +61,8 @@ pub trait Files {
     fn read_at(&mut self, path: &str, at: u64, into: &mut [u8]) -> Result<usize, Failed>
         ensures bound { IfOk result (λ count. count ≤ length into.new) }
         ensures length { length into.new ≡ length into.old }
-        ensures bytes { IfSome (told self.old) (λ files. IfOk result (Reads files.store path.now at into.new)) }
-        ensures calls { Tells (asked_bytes path.now at (length into.old) result) (told self.old) (told self.new) (faults self.old) (faults self.new) }
+        ensures bytes { IfSome (seen self.old) (λ files. IfOk result (Reads files.store path.now at into.new)) }
+        ensures calls { IsSeenAfter (asked_bytes path.now at (length into.old) result) (seen self.old) (seen self.new)
+            (faults self.old) (faults self.new) }
         ensures cause { HasCause (faults self.old) (faults self.new) result };
 }

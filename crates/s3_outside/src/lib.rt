@@ -1,5 +1,4 @@
-//! What a run meets outside: wires, files, outputs and the environment, each with a count of its faults, and with
-//! what it holds where it tells it.
+//! What a run meets outside: wires, files, outputs and the environment, each with a count of its faults.
 #![tactic(auto)]
 
 mod disk_files;

@@ -1,3 +1,5 @@
+//! An environment in memory.
+
 ghost use Rattle.std.specs.Prelude.{◌≡◌, Some, OnOk, OnErr};
 ghost use Rattle.std.specs.Option.{option_map};
 ghost use Rattle.std.specs.FinMap.{empty};
@@ -21,7 +23,7 @@ impl MemEnv {
     /// An environment without variables.
     pub fn make(alloc: Global, limits: Limits) -> MemEnv
         requires { IsValidLimits limits }
-        ensures told { ⟦<MemEnv as Env>⟧.told result ≡ Some (record { variables = empty }) }
+        ensures seen { ⟦<MemEnv as Env>⟧.seen result ≡ Some (record { variables = empty }) }
         ensures limits { ⟦<MemEnv as Env>⟧.allows result ≡ limits }
         ensures faults { ⟦<MemEnv as Env>⟧.faults result ≡ 0 }
     {
@@ -33,8 +35,9 @@ impl MemEnv {
 
     /// Sets a variable, in the place of one of its name.
     pub fn set(&mut self, alloc: Global, name: &str, value: &str) -> Result<(), OutOfMemory>
-        ensures set { OnOk result (⟦<MemEnv as Env>⟧.told self.new ≡ option_map (sets name.now value.now) (⟦<MemEnv as Env>⟧.told self.old)) }
-        ensures same { OnErr result (⟦<MemEnv as Env>⟧.told self.new ≡ ⟦<MemEnv as Env>⟧.told self.old) }
+        ensures set { OnOk result (⟦<MemEnv as Env>⟧.seen self.new ≡ option_map (sets name.now value.now)
+            (⟦<MemEnv as Env>⟧.seen self.old)) }
+        ensures same { OnErr result (⟦<MemEnv as Env>⟧.seen self.new ≡ ⟦<MemEnv as Env>⟧.seen self.old) }
         ensures limits { ⟦<MemEnv as Env>⟧.allows self.new ≡ ⟦<MemEnv as Env>⟧.allows self.old }
         ensures faults { ⟦<MemEnv as Env>⟧.faults self.new ≡ ⟦<MemEnv as Env>⟧.faults self.old }
     {
@@ -44,7 +47,7 @@ impl MemEnv {
 }
 
 impl Env for MemEnv {
-    ghost told = { λ e. Some (record { variables = e.variables }) };
+    ghost seen = { λ e. Some (record { variables = e.variables }) };
 
     ghost allows = { λ e. e.limits };
 

@@ -1,6 +1,8 @@
+//! Local files in memory, with a list of the calls on them.
+
 ghost use Rattle.std.specs.Prelude.{◌≡◌, ◌≢◌, ◌≤◌, ◌⊎◌, [], Some, None, OnErr, IfOk, IfSome};
 ghost use Rattle.s3_model.specs.Counts.{Rose};
-ghost use Rattle.s3_outside.specs.Told.{Tells};
+ghost use Rattle.s3_outside.specs.Seen.{IsSeenAfter};
 ghost use Rattle.s3_outside.specs.Files.{called};
 
 use crate::file_table::FileTable;
@@ -9,14 +11,14 @@ use crate::wire::{Failed, count_fault};
 use s3_model::{OutOfMemory, Text};
 use std::alloc::Global;
 
-/// Files in memory. The calls of `failing` fail, and the reads of `short` answer at most so many bytes; calls are counted
-/// from 0. It tells its files and its calls as long as it finds memory for them, but nothing where a read is short.
+/// Files in memory. The calls of `failing` fail, and the reads of `short` answer at most so many bytes; calls are
+/// counted from 0. Files and calls are seen as long as there is memory for them, but never where a read is short.
 #[derive(Debug, Drop)]
 pub struct MemFiles {
     alloc: Global,
     table: FileTable,
     calls: Vec<FileNote>,
-    tells: bool,
+    is_seen: bool,
     failing: Vec<usize>,
     short: Vec<(usize, usize)>,
     count: usize,
@@ -24,7 +26,7 @@ pub struct MemFiles {
 }
 
 impl MemFiles {
-    ghost use Rattle.s3_outside.specs.MemFiles.{told_files};
+    ghost use Rattle.s3_outside.specs.MemFiles.{seen_files};
 
     pub fn make(
         alloc: Global,
@@ -32,15 +34,16 @@ impl MemFiles {
         failing: Vec<usize>,
         short: Vec<(usize, usize)>,
     ) -> MemFiles
-        ensures told { short.items ≡ [] → ⟦<MemFiles as Files>⟧.told result ≡ Some (record { store = table; calls = [] }) }
-        ensures silent { short.items ≢ [] → ⟦<MemFiles as Files>⟧.told result ≡ None }
+        ensures seen { short.items ≡ [] →
+            ⟦<MemFiles as Files>⟧.seen result ≡ Some (record { store = table; calls = [] }) }
+        ensures silent { short.items ≢ [] → ⟦<MemFiles as Files>⟧.seen result ≡ None }
         ensures faults { ⟦<MemFiles as Files>⟧.faults result ≡ 0 }
     {
         MemFiles {
             alloc,
             table,
             calls: Vec::new(alloc),
-            tells: short.is_empty(),
+            is_seen: short.is_empty(),
             failing,
             short,
             count: 0,
@@ -50,21 +53,21 @@ impl MemFiles {
 
     /// The files.
     pub fn table(&self) -> &FileTable
-        ensures { IfSome (⟦<MemFiles as Files>⟧.told self.now) (λ files. files.store ≡ result.now) }
+        ensures { IfSome (⟦<MemFiles as Files>⟧.seen self.now) (λ files. files.store ≡ result.now) }
     {
         &self.table
     }
 
     /// The calls so far, in order.
     pub fn calls(&self) -> &[FileNote]
-        ensures { IfSome (⟦<MemFiles as Files>⟧.told self.now) (λ files. files.calls ≡ result.now) }
+        ensures { IfSome (⟦<MemFiles as Files>⟧.seen self.now) (λ files. files.calls ≡ result.now) }
     {
         &self.calls
     }
 
     // The number of this call, and whether it is listed to fail.
     fn next_call(&mut self) -> (usize, bool)
-        ensures told { ⟦<MemFiles as Files>⟧.told self.new ≡ ⟦<MemFiles as Files>⟧.told self.old }
+        ensures seen { ⟦<MemFiles as Files>⟧.seen self.new ≡ ⟦<MemFiles as Files>⟧.seen self.old }
         ensures faults { self.new.faults ≡ self.old.faults }
     {
         let number = self.count;
@@ -80,12 +83,14 @@ impl MemFiles {
 
     // Adds a call to the list.
     fn record(&mut self, call: Result<FileNote, OutOfMemory>)
-        ensures tells { IfOk call (λ note. Tells (called note) (⟦<MemFiles as Files>⟧.told self.old) (⟦<MemFiles as Files>⟧.told self.new) self.old.faults self.new.faults) }
-        ensures none { OnErr call (⟦<MemFiles as Files>⟧.told self.new ≡ None) }
-        ensures rose { OnErr call ((⟦<MemFiles as Files>⟧.told self.old ≡ None) ⊎ Rose self.old.faults self.new.faults) }
+        ensures seen { IfOk call (λ note. IsSeenAfter (called note) (⟦<MemFiles as Files>⟧.seen self.old)
+            (⟦<MemFiles as Files>⟧.seen self.new) self.old.faults self.new.faults) }
+        ensures none { OnErr call (⟦<MemFiles as Files>⟧.seen self.new ≡ None) }
+        ensures rose { OnErr call ((⟦<MemFiles as Files>⟧.seen self.old ≡ None) ⊎
+            Rose self.old.faults self.new.faults) }
         ensures later { self.old.faults ≤ self.new.faults }
     {
-        if !self.tells {
+        if !self.is_seen {
             return;
         }
         let added = match call {
@@ -93,7 +98,7 @@ impl MemFiles {
             Err(_) => false,
         };
         if !added {
-            self.tells = false;
+            self.is_seen = false;
             count_fault(&mut self.faults);
         }
     }
@@ -129,9 +134,9 @@ fn read_note(
 }
 
 impl Files for MemFiles {
-    ghost use Rattle.s3_outside.specs.MemFiles.{told_files};
+    ghost use Rattle.s3_outside.specs.MemFiles.{seen_files};
 
-    ghost told = { λ f. told_files f.tells f.table f.calls.items };
+    ghost seen = { λ f. seen_files f.is_seen f.table f.calls.items };
 
     ghost faults = { λ f. f.faults };
 
@@ -149,7 +154,7 @@ impl Files for MemFiles {
     fn read_at(&mut self, path: &str, at: u64, into: &mut [u8]) -> Result<usize, Failed> {
         let (number, is_failing) = self.next_call();
         let room = into.len();
-        let most = if self.tells {
+        let most = if self.is_seen {
             room
         } else {
             self.most(number).min(room)

@@ -1,3 +1,5 @@
+//! An output in memory.
+
 ghost use Rattle.std.specs.Prelude.{◌≡◌, [], Some};
 
 use crate::sink::Sink;
@@ -17,7 +19,7 @@ pub struct MemSink {
 impl MemSink {
     /// An output that took nothing yet, with room for any number of bytes.
     pub fn make(alloc: Global) -> MemSink
-        ensures told { ⟦<MemSink as Sink>⟧.told result ≡ Some [] }
+        ensures seen { ⟦<MemSink as Sink>⟧.seen result ≡ Some [] }
         ensures faults { ⟦<MemSink as Sink>⟧.faults result ≡ 0 }
     {
         MemSink::make_failing(alloc, Vec::new(alloc), usize::MAX)
@@ -25,7 +27,7 @@ impl MemSink {
 
     /// Takes up to `limit` bytes, and fails in the listed calls.
     pub fn make_failing(alloc: Global, failing: Vec<usize>, limit: usize) -> MemSink
-        ensures told { ⟦<MemSink as Sink>⟧.told result ≡ Some [] }
+        ensures seen { ⟦<MemSink as Sink>⟧.seen result ≡ Some [] }
         ensures faults { ⟦<MemSink as Sink>⟧.faults result ≡ 0 }
     {
         MemSink {
@@ -39,14 +41,14 @@ impl MemSink {
 
     /// The bytes that it took.
     pub fn got(&self) -> &[u8]
-        ensures { ⟦<MemSink as Sink>⟧.told self.now ≡ Some result.now }
+        ensures { ⟦<MemSink as Sink>⟧.seen self.now ≡ Some result.now }
     {
         &self.got
     }
 }
 
 impl Sink for MemSink {
-    ghost told = { λ s. Some s.got.items };
+    ghost seen = { λ s. Some s.got.items };
 
     ghost faults = { λ s. s.faults };
 

@@ -1,3 +1,5 @@
+//! The environment of the process.
+
 ghost use Rattle.std.specs.Prelude.{◌≡◌, None};
 ghost use Rattle.s3_outside.specs.declared.real_env.TheConstants.{S3_LIMITS};
 
@@ -15,7 +17,7 @@ pub const S3_LIMITS: Limits = Limits {
     max_object: 1_099_511_627_776,
 };
 
-/// The environment of this process and the limits of Amazon S3. It tells no variables.
+/// The environment of this process and the limits of Amazon S3. No variables are seen.
 #[derive(Drop)]
 pub struct RealEnv<R> {
     runtime: R,
@@ -30,7 +32,7 @@ impl<R: rt::Env + AllocGlobal> RealEnv<R> {
 }
 
 impl<R: rt::Env + AllocGlobal> Env for RealEnv<R> {
-    ghost told = { λ _. None };
+    ghost seen = { λ _. None };
 
     ghost allows = { λ _. S3_LIMITS };
 

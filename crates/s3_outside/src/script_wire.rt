@@ -1,4 +1,6 @@
-ghost use Rattle.std.specs.Prelude.{◌≡◌, ◌<◌, ◌≤◌, [], Some, IfSome, map};
+//! A wire in memory that plays listed answers.
+
+ghost use Rattle.std.specs.Prelude.{◌≡◌, ◌<◌, ◌≤◌, [], Some, IfSome, map, false};
 
 use crate::talk_log::{TalkLog, TalkRecord, WireNote};
 use crate::wire::{Failed, Wire, count_fault};
@@ -21,6 +23,7 @@ pub struct ScriptWire {
     most: usize,
     moment: u64,
     log: TalkLog,
+    is_alive: bool,
     begins: usize,
     sends: usize,
     takes: usize,
@@ -44,7 +47,8 @@ impl ScriptWire {
         moment: u64,
     ) -> ScriptWire
         requires { moment < 253402300800 }
-        ensures told { ⟦<ScriptWire as Wire>⟧.told result ≡ Some (record { talks = []; notes = [] }) }
+        ensures seen { ⟦<ScriptWire as Wire>⟧.seen result ≡ Some (record { talks = []; notes = [] }) }
+        ensures alive { ⟦<ScriptWire as Wire>⟧.alive result ≡ Some false }
         ensures faults { ⟦<ScriptWire as Wire>⟧.faults result ≡ 0 }
     {
         ScriptWire {
@@ -53,6 +57,7 @@ impl ScriptWire {
             most: usize::MAX,
             moment,
             log: TalkLog::make(alloc),
+            is_alive: false,
             begins: 0,
             sends: 0,
             takes: 0,
@@ -64,7 +69,8 @@ impl ScriptWire {
     /// No `send` and no `take` moves more than so many bytes.
     pub fn move_at_most(&mut self, most: usize)
         requires { 1 ≤ most }
-        ensures told { ⟦<ScriptWire as Wire>⟧.told self.new ≡ ⟦<ScriptWire as Wire>⟧.told self.old }
+        ensures seen { ⟦<ScriptWire as Wire>⟧.seen self.new ≡ ⟦<ScriptWire as Wire>⟧.seen self.old }
+        ensures alive { ⟦<ScriptWire as Wire>⟧.alive self.new ≡ ⟦<ScriptWire as Wire>⟧.alive self.old }
         ensures faults { ⟦<ScriptWire as Wire>⟧.faults self.new ≡ ⟦<ScriptWire as Wire>⟧.faults self.old }
     {
         self.most = most;
@@ -72,16 +78,23 @@ impl ScriptWire {
 
     /// The talks so far, in order.
     pub fn talks(&self) -> &[TalkRecord]
-        ensures { IfSome (⟦<ScriptWire as Wire>⟧.told self.now) (λ log. log.talks ≡ map talk_of result.now) }
+        ensures { IfSome (⟦<ScriptWire as Wire>⟧.seen self.now) (λ log. log.talks ≡ map talk_of result.now) }
     {
         self.log.talks()
     }
 
     /// The notes so far, in order.
     pub fn notes(&self) -> &[WireNote]
-        ensures { IfSome (⟦<ScriptWire as Wire>⟧.told self.now) (λ log. log.notes ≡ map note_of result.now) }
+        ensures { IfSome (⟦<ScriptWire as Wire>⟧.seen self.now) (λ log. log.notes ≡ map note_of result.now) }
     {
         self.log.notes()
+    }
+
+    /// Whether the connection is kept for the next talk.
+    pub fn is_alive(&self) -> bool
+        ensures { IfSome (⟦<ScriptWire as Wire>⟧.alive self.now) (λ alive. alive ≡ result) }
+    {
+        self.is_alive
     }
 
     // Whether that call is listed to fail.
@@ -102,16 +115,22 @@ impl ScriptWire {
 
     fn fail(&mut self) -> Failed
         ensures log { self.new.log ≡ option_map (last_talk fails) self.old.log }
+        ensures alive { self.new.is_alive ≡ false }
         ensures counted { Rose self.old.faults self.new.faults }
         ensures later { self.old.faults ≤ self.new.faults }
     {
         self.log.fail();
+        self.is_alive = false;
         count_fault(&mut self.faults)
     }
 }
 
 impl Wire for ScriptWire {
-    ghost told = { λ w. w.log };
+    ghost use Rattle.std.specs.Option.{option_map};
+
+    ghost seen = { λ w. w.log };
+
+    ghost alive = { λ w. option_map (λ _. w.is_alive) w.log };
 
     ghost faults = { λ w. w.faults };
 
@@ -119,6 +138,7 @@ impl Wire for ScriptWire {
         let opened = !self.is_failing(WireCall::Begin, self.begins);
         self.begins = self.begins.saturating_add(1);
         self.place = 0;
+        self.is_alive = opened && self.is_alive;
         if self.log.begin(host, port, opened).is_err() {
             count_fault(&mut self.faults);
         }
@@ -159,7 +179,9 @@ impl Wire for ScriptWire {
         Ok(count)
     }
 
-    fn finish(&mut self, _keep: bool) {}
+    fn finish(&mut self, keep: bool) {
+        self.is_alive = keep && self.log.went_well();
+    }
 
     fn moment(&mut self) -> u64 {
         if self.log.note(WireNote::Moment(self.moment)).is_err() {

@@ -1,3 +1,5 @@
+//! A wire over a socket.
+
 ghost use Rattle.std.specs.Prelude.{◌≡◌, None};
 
 use crate::wire::{Failed, Wire, count_fault};
@@ -10,8 +12,8 @@ use std::time::{Duration, SystemTime, UNIX_EPOCH};
 /// The last second before the year 10,000.
 const LAST_MOMENT: u64 = 253_402_300_799;
 
-/// A wire over the system's sockets and its clock, which tells nothing. Each talk has a connection of its own, which is
-/// closed when the talk ends. Nagle's algorithm (RFC 896) is off.
+/// A wire over the system's sockets and its clock, of which nothing is seen. Each talk has a connection of its own,
+/// which is closed when the talk ends. Nagle's algorithm (RFC 896) is off.
 #[derive(Drop)]
 pub struct SocketWire<R: Net> {
     runtime: R,
@@ -33,7 +35,9 @@ impl<R: Net + Clock> SocketWire<R> {
 }
 
 impl<R: Net + Clock> Wire for SocketWire<R> {
-    ghost told = { λ _. None };
+    ghost seen = { λ _. None };
+
+    ghost alive = { λ _. None };
 
     ghost faults = { λ w. w.faults };
 

@@ -1,9 +1,11 @@
+//! Standard output and standard error.
+
 ghost use Rattle.std.specs.Prelude.{◌≡◌, None};
 
 use crate::sink::Sink;
 use crate::wire::{Failed, count_fault};
 
-/// Standard output or standard error, which tells nothing. Bytes are written at once and kept in no buffer.
+/// Standard output or standard error, of which nothing is seen. Bytes are written at once and kept in no buffer.
 #[derive(Drop)]
 pub struct StdSink<P> {
     to: P,
@@ -20,7 +22,7 @@ impl<P: Print> StdSink<P> {
 }
 
 impl<P: Print> Sink for StdSink<P> {
-    ghost told = { λ _. None };
+    ghost seen = { λ _. None };
 
     ghost faults = { λ s. s.faults };
 

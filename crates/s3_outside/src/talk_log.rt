@@ -1,6 +1,8 @@
+//! The log of a wire in memory.
+
 ghost use Rattle.std.specs.Prelude.{◌≡◌, [], ◌∷◌, ◌++◌, map, OnOk, OnErr, IfSome, IsTrue, is_ok};
 ghost use Rattle.std.specs.Option.{option_map};
-ghost use Rattle.s3_outside.specs.Wire.{begun, noted, change_last, last_talk, sends, gets, fails, closes};
+ghost use Rattle.s3_outside.specs.Wire.{begun, noted, change_last, last_talk, last_went_well, sends, gets, fails, closes};
 
 use s3_model::{OutOfMemory, Text};
 use std::alloc::Global;
@@ -17,7 +19,7 @@ pub enum TalkEnding {
 }
 
 impl TalkEnding {
-    ghost use Rattle.s3_outside.specs.Wire.{after_close};
+    ghost use Rattle.s3_outside.specs.Wire.{after_close, went_well as goes_well};
     ghost use Rattle.s3_outside.specs.TalkLog.{ending_of};
 
     fn closed(self) -> TalkEnding
@@ -26,6 +28,15 @@ impl TalkEnding {
         match self {
             TalkEnding::Failed => TalkEnding::Failed,
             TalkEnding::Closed | TalkEnding::Finished => TalkEnding::Closed,
+        }
+    }
+
+    fn went_well(self) -> bool
+        ensures { result ≡ goes_well (ending_of self) }
+    {
+        match self {
+            TalkEnding::Failed => false,
+            TalkEnding::Closed | TalkEnding::Finished => true,
         }
     }
 }
@@ -48,7 +59,7 @@ pub enum WireNote {
     Began,
 }
 
-/// The log of a wire in memory. Contracts see what it tells, which is None once it found no memory to go on.
+/// The log of a wire in memory. Contracts see None once its memory ran out.
 #[derive(Debug, Drop)]
 pub struct TalkLog {
     alloc: Global,
@@ -60,11 +71,11 @@ pub struct TalkLog {
 impl Model for TalkLog {
     ghost use Rattle.std.specs.Prelude.{Option};
     ghost use Rattle.s3_model.specs.Talks.{WireLog};
-    ghost use Rattle.s3_outside.specs.TalkLog.{told_log};
+    ghost use Rattle.s3_outside.specs.TalkLog.{seen_log};
 
     ghost Value = { Option WireLog };
 
-    ghost view = { λ l. told_log l.is_whole l.talks.items l.notes.items };
+    ghost view = { λ l. seen_log l.is_whole l.talks.items l.notes.items };
 }
 
 ghost use Rattle.s3_outside.specs.TalkLog.{talk_of, note_of, ending_of};
@@ -76,7 +87,8 @@ fn add_talk(
     port: u16,
     ending: TalkEnding,
 ) -> Result<(), OutOfMemory>
-    ensures { OnOk result (map talk_of talks.new.items ≡ map talk_of talks.old.items ++ record { host = host.now; port = port; sent = []; got = []; ending = ending_of ending } ∷ []) }
+    ensures { OnOk result (map talk_of talks.new.items ≡ map talk_of talks.old.items ++
+        record { host = host.now; port = port; sent = []; got = []; ending = ending_of ending } ∷ []) }
 {
     let host = Text::of(alloc, host)?;
     let talk = TalkRecord {
@@ -132,6 +144,15 @@ fn close_last(talks: &mut [TalkRecord])
     }
 }
 
+fn last_went_well(talks: &[TalkRecord]) -> bool
+    ensures { result ≡ last_went_well (map talk_of talks.now) }
+{
+    match talks {
+        [.., last] => last.ending.went_well(),
+        [] => false,
+    }
+}
+
 impl TalkLog {
     /// An empty log, which takes no memory.
     pub fn make(alloc: Global) -> TalkLog
@@ -145,7 +166,7 @@ impl TalkLog {
         }
     }
 
-    /// A talk begins. Without memory for it the log tells nothing from then on.
+    /// A talk begins. Without memory for it nothing of the log is seen from then on.
     pub fn begin(&mut self, host: &str, port: u16, opened: bool) -> Result<(), OutOfMemory>
         ensures added { OnOk result (self.new ≡ option_map (begun host.now port opened) self.old) }
         ensures stopped { OnErr result (self.new ≡ None) }
@@ -164,7 +185,7 @@ impl TalkLog {
         added
     }
 
-    /// A note is added. Without memory for it the log tells nothing from then on.
+    /// A note is added. Without memory for it nothing of the log is seen from then on.
     pub fn note(&mut self, note: WireNote) -> Result<(), OutOfMemory>
         ensures added { OnOk result (self.new ≡ option_map (noted (note_of note)) self.old) }
         ensures stopped { OnErr result (self.new ≡ None) }
@@ -205,6 +226,13 @@ impl TalkLog {
         ensures { self.new ≡ option_map (last_talk closes) self.old }
     {
         close_last(&mut self.talks);
+    }
+
+    /// Whether there is a talk, and no call failed in the last.
+    pub fn went_well(&self) -> bool
+        ensures { IfSome self.now (λ log. result ≡ last_went_well log.talks) }
+    {
+        last_went_well(&self.talks)
     }
 
     /// The talks so far.

@@ -2,7 +2,7 @@ use Rattle.std.proofs.Common.{[], ◌++◌, Err, arith, refl}
 use Rattle.std.proofs.lemmas.Result.{err_from_is_err_and}
 use Rattle.s3_model.specs.Talks.{Finished}
 use Rattle.s3_outside.specs.Wire.{sends}
-use Rattle.http_exchange.proofs.TalkLemmas.{tells_after}
+use Rattle.http_exchange.proofs.TalkLemmas.{changed_after_begin}
 use Rattle.http_exchange.proofs.AskLemmas.{fresh, asked_none, asked_more, asked_front}
 use Rattle.http_exchange.proofs.send.ask.Goals as goal
 
@@ -20,5 +20,5 @@ returns-in_err-send_all-clause-talk g c =
 pub returns-clause-talk : goal.returns-clause-talk
 returns-clause-talk g c =
     asked_more c.args.endpoint.now c.as_str.result.now c.args.endpoint.now.port c.args.head.now c.args.body.now _ _ _ (g.W.Wire.faults c.args.wire.now) (g.W.Wire.faults c.send_all.new.wire) (g.W.Wire.faults c.send_all-2.new.wire) c.send_all-2.result c.as_str.ensures refl
-    (tells_after (sends c.args.head.now) (fresh c.as_str.result.now c.args.endpoint.now.port Finished) _ _ _ (g.W.Wire.faults c.args.wire.now) (g.W.Wire.faults c.begin.new.self) (g.W.Wire.faults c.send_all.new.wire) c.in_ok-begin.ensures.log c.in_ok-send_all.ensures.log (omega (arith, c.send_all.ensures.cause.later)))
+    (changed_after_begin (sends c.args.head.now) (fresh c.as_str.result.now c.args.endpoint.now.port Finished) _ _ _ (g.W.Wire.faults c.args.wire.now) (g.W.Wire.faults c.begin.new.self) (g.W.Wire.faults c.send_all.new.wire) c.in_ok-begin.ensures.log c.in_ok-send_all.ensures.log (omega (arith, c.send_all.ensures.cause.later)))
     c.send_all-2.ensures.log (omega (arith, c.send_all-2.ensures.cause.later))

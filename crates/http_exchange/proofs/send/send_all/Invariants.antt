@@ -6,7 +6,7 @@ use Rattle.http_exchange.proofs.send.send_all.Given as goal
 abbrev pub invariant-loop-sent : goal.invariant-loop-sent
 invariant-loop-sent g l = record {
   in_range : l.sent ≤ length l.bytes;
-  told : g.W.Wire.told l.wire ≡ option_map (last_talk (sends (take l.sent l.bytes))) (g.W.Wire.told l.initial.wire);
+  seen : g.W.Wire.seen l.wire ≡ option_map (last_talk (sends (take l.sent l.bytes))) (g.W.Wire.seen l.initial.wire);
   later : g.W.Wire.faults l.initial.wire ≤ g.W.Wire.faults l.wire;
 }
 
