@@ -6,7 +6,7 @@ use Rattle.std.proofs.lemmas.Bool.Decides.{nat_tests}
 use Rattle.std.proofs.lemmas.List.Elements.{filter-append}
 use Rattle.s3_requests.specs.declared.headers.Header.{Header}
 use Rattle.s3_requests.specs.Pairs.{Pair}
-use Rattle.s3_requests.specs.Headers.{escaped_pairs, pairs_of, next_piece}
+use Rattle.s3_requests.specs.Headers.{text_pairs, pairs_of, next_piece}
 use Rattle.s3_requests.specs.Signing.{parameter, parameters, signed_names, words}
 
 suc_not_zero : (n : ℕ) → nat_eq (suc n) 0 ≡ false
@@ -46,11 +46,11 @@ next_piece-append separator true a b = refl
 next_piece-append separator false a b = append_assoc separator a b
 
 -- one more parameter
-parameters_more : (pairs : List (String Global × String Global)) (i : ℕ) (d : String Global × String Global) → i < length pairs → parameters (escaped_pairs (take (i + 1) pairs)) ≡ parameters (escaped_pairs (take i pairs)) ++ next_piece (38 ∷ []) (nat_eq i 0) (parameter (string_bytes (get_or pairs i d).0, string_bytes (get_or pairs i d).1))
+parameters_more : (pairs : List (String Global × String Global)) (i : ℕ) (d : String Global × String Global) → i < length pairs → parameters (text_pairs (take (i + 1) pairs)) ≡ parameters (text_pairs (take i pairs)) ++ next_piece (38 ∷ []) (nat_eq i 0) (parameter (string_bytes (get_or pairs i d).0, string_bytes (get_or pairs i d).1))
 unfolding parameters
 parameters_more pairs i d h =
     let long : length (take i pairs) ≡ i = length-take-le i pairs (omega arith) in
     rw (map_more {Y = Pair} (λ (p : String Global × String Global). (string_bytes p.0, string_bytes p.1)) pairs i d h, map-append, join_more, length-map, length-map, long) refl
 
-pub parameters_step : (pairs : List (String Global × String Global)) (i : ℕ) (d : String Global × String Global) (before after old : List ℕ) → i < length pairs → before ≡ old ++ parameters (escaped_pairs (take i pairs)) → after ≡ before ++ next_piece (38 ∷ []) (nat_eq i 0) (parameter (string_bytes d.0, string_bytes d.1)) → d ≡ get_or pairs i d → after ≡ old ++ parameters (escaped_pairs (take (i + 1) pairs))
+pub parameters_step : (pairs : List (String Global × String Global)) (i : ℕ) (d : String Global × String Global) (before after old : List ℕ) → i < length pairs → before ≡ old ++ parameters (text_pairs (take i pairs)) → after ≡ before ++ next_piece (38 ∷ []) (nat_eq i 0) (parameter (string_bytes d.0, string_bytes d.1)) → d ≡ get_or pairs i d → after ≡ old ++ parameters (text_pairs (take (i + 1) pairs))
 parameters_step pairs i d before after old h b a e = rw (a, b, parameters_more pairs i d h, ← e, append_assoc)

@@ -3,6 +3,5 @@ pub mod EscapeLemmas
 pub mod HeaderLemmas
 pub mod JoinLemmas
 pub mod RequestLemmas
-pub mod SignedLemmas
 pub mod SortLemmas
 pub mod TimesLemmas

@@ -5,7 +5,7 @@ use Rattle.std.proofs.lemmas.List.Concat.{flat_map-append}
 use Rattle.percent_encoding.specs.Percent.{percent_encode_byte}
 use Rattle.s3_requests.specs.Headers.{delimiter_text, token_text}
 use Rattle.s3_requests.specs.Pairs.{insert_pair, sort_pairs}
-use Rattle.s3_requests.specs.Requests.{bucket_path, object_path, list_parameters, part_number, upload_id}
+use Rattle.s3_requests.specs.Requests.{bucket_path, object_path, list_parameters, part_parameters, target_query, upload_id, uploads}
 use Rattle.s3_requests.specs.Signing.{canonical_query, encode_path, encode_query, parameters}
 
 pub bucket_path_encoded : (bucket : List ℕ) → encode_path (bucket_path bucket) ≡ 47 ∷ encode_path bucket
@@ -19,7 +19,7 @@ object_path_encoded bucket key =
     encode_path-append (bucket_path bucket ++ codes "/") key ∙ ap (λ t. t ++ encode_path key) (encode_path-append (bucket_path bucket) (codes "/"))
     ∙ append_assoc (encode_path (bucket_path bucket)) (codes "/") (encode_path key)
 
-pub uploads_query : canonical_query ((codes "uploads", []) ∷ []) ≡ codes "uploads="
+pub uploads_query : canonical_query (uploads ∷ []) ≡ codes "uploads="
 unfolding canonical_query parameters sort_pairs insert_pair
 uploads_query = refl
 
@@ -27,7 +27,7 @@ pub upload_query : (upload : List ℕ) → canonical_query (upload_id upload ∷
 unfolding canonical_query parameters sort_pairs insert_pair
 upload_query upload = refl
 
-pub part_query : (number : ℕ) (upload : List ℕ) → canonical_query (part_number number ∷ upload_id upload ∷ []) ≡ codes "partNumber=" ++ encode_query (decimal number) ++ (codes "&uploadId=" ++ encode_query upload)
+pub part_query : (number : ℕ) (upload : List ℕ) → canonical_query (part_parameters number upload) ≡ codes "partNumber=" ++ encode_query (decimal number) ++ (codes "&uploadId=" ++ encode_query upload)
 unfolding canonical_query parameters sort_pairs insert_pair
 part_query number upload = refl
 
@@ -47,3 +47,29 @@ unfolding canonical_query parameters sort_pairs
 no_query = refl
 
 pub ruleset queries = (append_assoc, append-nil, no_query, uploads_query, upload_query, part_query, list_query)
+
+-- the query of the request line, by the query that is signed
+pub no_target : target_query [] ≡ []
+unfolding target_query sort_pairs
+no_target = refl
+
+pub uploads_target : target_query (uploads ∷ []) ≡ codes "?uploads"
+unfolding target_query sort_pairs insert_pair
+uploads_target = refl
+
+pub upload_target : (upload : List ℕ) → target_query (upload_id upload ∷ []) ≡ codes "?" ++ canonical_query (upload_id upload ∷ [])
+unfolding target_query canonical_query parameters sort_pairs insert_pair
+upload_target upload = refl
+
+pub part_target : (number : ℕ) (upload : List ℕ) → target_query (part_parameters number upload) ≡ codes "?" ++ canonical_query (part_parameters number upload)
+unfolding target_query canonical_query parameters sort_pairs insert_pair
+part_target number upload = refl
+
+pub list_target : (prefix : List ℕ) (delimited : Bool) (token : Option (List ℕ)) → target_query (list_parameters prefix delimited token) ≡ codes "?" ++ canonical_query (list_parameters prefix delimited token)
+unfolding target_query canonical_query parameters sort_pairs insert_pair percent_encode_byte
+list_target prefix true None = refl
+list_target prefix false None = refl
+list_target prefix true (Some token) = refl
+list_target prefix false (Some token) = refl
+
+pub ruleset targets = (append_assoc, append-nil, no_target, uploads_target, upload_target, part_target, list_target)

@@ -1,11 +1,11 @@
 -- Headers, parameters and parts of a request as the code holds them.
 use Rattle.std.specs.Prelude.{◌++◌, ◌∷◌, [], ℕ, Bool, List, String, Option, Some, None, codes, map, string_bytes, if◌then◌else◌}
 use Rattle.std.specs.List.{flat_map, join_with_byte}
-use Rattle.std.specs.Option.{option_copied, option_map}
+use Rattle.std.specs.Option.{option_copied}
 use Rattle.std.specs.declared.alloc.Global.{Global}
 use Rattle.s3_requests.specs.declared.headers.Header.{Header}
 use Rattle.s3_requests.specs.declared.signing.SignedParts.{SignedParts}
-use Rattle.s3_requests.specs.declared.own.OwnHeaders.{OwnHeaders}
+use Rattle.s3_requests.specs.declared.own.CommonHeaders.{CommonHeaders}
 use Rattle.s3_requests.specs.Pairs.{Pair}
 use Rattle.s3_requests.specs.Requests.{optional}
 use Rattle.s3_requests.specs.Signing.{canonical_header, encode_query, signed_names}
@@ -18,9 +18,9 @@ pairs_of headers = map (λ (h : Header). (h.name.now, h.value.now)) headers
 abbrev pub next_piece : List ℕ → Bool → List ℕ → List ℕ
 next_piece separator first piece = if first then piece else separator ++ piece
 
--- escaped names and values
-abbrev pub escaped_pairs : List (String Global × String Global) → List Pair
-escaped_pairs pairs = map (λ (p : String Global × String Global). (string_bytes p.0, string_bytes p.1)) pairs
+-- names and values that were written
+abbrev pub text_pairs : List (String Global × String Global) → List Pair
+text_pairs pairs = map (λ (p : String Global × String Global). (string_bytes p.0, string_bytes p.1)) pairs
 
 -- the method, the path and the query, each with a line feed
 abbrev pub target_lines : SignedParts → List ℕ
@@ -44,27 +44,8 @@ token_text (Some token) = codes "continuation-token=" ++ encode_query token ++ c
 abbrev pub delimiter_text : Bool → List ℕ
 delimiter_text delimited = if delimited then codes "delimiter=%2F&" else []
 
--- a text that was written, where there is one
-abbrev pub written : Option (String Global) → Option (List ℕ)
-written text = option_map string_bytes text
-
--- the headers of an ask's own, in the order of their names
-abbrev pub own_pairs : OwnHeaders → List Pair
-own_pairs own =
-    optional (codes "content-type") (option_copied own.content_type)
-    ++ (optional (codes "if-match") (option_copied own.if_match)
-    ++ (optional (codes "range") (written own.range)
-    ++ (optional (codes "x-amz-copy-source") (written own.copy_source)
-    ++ (optional (codes "x-amz-copy-source-if-match") (option_copied own.copy_if_match)
-    ++ optional (codes "x-amz-copy-source-range") (written own.copy_range)))))
-
--- all headers, in the order of their names
-abbrev pub all_headers : (own : OwnHeaders) (host hash date : List ℕ) (token : Option (List ℕ)) → List Pair
-all_headers own host hash date token =
-    optional (codes "content-type") (option_copied own.content_type)
-    ++ ((codes "host", host) ∷ (optional (codes "if-match") (option_copied own.if_match)
-    ++ (optional (codes "range") (written own.range)
-    ++ ((codes "x-amz-content-sha256", hash) ∷ (optional (codes "x-amz-copy-source") (written own.copy_source)
-    ++ (optional (codes "x-amz-copy-source-if-match") (option_copied own.copy_if_match)
-    ++ (optional (codes "x-amz-copy-source-range") (written own.copy_range)
-    ++ (codes "x-amz-date", date) ∷ optional (codes "x-amz-security-token") token)))))))
+-- the headers of every request
+abbrev pub common_in : CommonHeaders → List Pair
+common_in c =
+    (codes "host", c.host.now) ∷ (codes "x-amz-content-sha256", c.payload_hash.now) ∷ (codes "x-amz-date", c.date.now)
+    ∷ optional (codes "x-amz-security-token") (option_copied c.token)

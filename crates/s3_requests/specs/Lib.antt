@@ -1,3 +1,4 @@
+pub mod Descriptions
 pub mod Headers
 pub mod Hmac
 pub mod Keeping

@@ -1,28 +1,28 @@
 -- The requests of the Amazon S3 API, path style, as they are sent.
-use Rattle.std.specs.Prelude.{◌++◌, ◌∷◌, ◌==◌, ℕ, Bool, true, false, List, [], length, Option, Some, None, codes, decimal, encode_utf8, if◌then◌else◌}
-use Rattle.std.specs.List.{flat_map, enumerate_from}
-use Rattle.std.specs.Str.{chars}
+use Rattle.std.specs.Prelude.{◌++◌, ◌∷◌, ℕ, Bool, true, false, List, [], length, map, Option, Some, None, codes, decimal, if◌then◌else◌}
+use Rattle.std.specs.List.{flat_map, join_with_byte}
+use Rattle.std.specs.Str.{bytes_eq}
 use Rattle.s3_model.specs.declared.places.Endpoint.{Endpoint}
 use Rattle.s3_model.specs.declared.requests.Ask.{Ask}
 use Rattle.s3_model.specs.declared.requests.Ask.TheVariants as ask
 use Rattle.s3_model.specs.declared.settings.Keys.{Keys}
+use Rattle.s3_model.specs.Documents.{completion}
 use Rattle.s3_requests.specs.Pairs.{Pair, sort_pairs}
-use Rattle.s3_requests.specs.Signing.{encode_path, canonical_query, canonical_request, credential_scope, signature, signed_names, hex_sha256}
+use Rattle.s3_requests.specs.Signing.{encode_path, encode_pair, canonical_request, credential_scope, parameter, signature, signed_names, hex_sha256}
 use Rattle.s3_requests.specs.Times.{basic_date, basic_time}
 
-abbrev pub method_of : Ask → List ℕ
-method_of (ask.Head _ _) = codes "HEAD"
-method_of (ask.Get _ _ _ _) = codes "GET"
-method_of (ask.Put _ _ _) = codes "PUT"
-method_of (ask.Copy _ _ _ _ _) = codes "PUT"
-method_of (ask.Delete _ _) = codes "DELETE"
-method_of (ask.Create _ _ _) = codes "POST"
-method_of (ask.Part _ _ _ _) = codes "PUT"
-method_of (ask.PartCopy _ _ _ _ _ _ _ _) = codes "PUT"
-method_of (ask.Complete _ _ _ _) = codes "POST"
-method_of (ask.Abort _ _ _) = codes "DELETE"
-method_of (ask.List _ _ _ _) = codes "GET"
-method_of ask.Buckets = codes "GET"
+-- a request before it is encoded and signed: its own headers are those beside the headers of every request; the body is the document, and empty where the caller has an object's bytes
+pub record Request : Type 0 where
+  pub method : List ℕ
+  pub path : List ℕ
+  pub query : List Pair
+  pub own_headers : List Pair
+  pub has_body : Bool
+  pub body : List ℕ
+
+-- a method and a path, and nothing else
+abbrev pub plain : (method path : List ℕ) → Request
+plain method path = record { method = method; path = path; query = []; own_headers = []; has_body = false; body = [] }
 
 -- the path of a bucket, and of an object in it
 abbrev pub bucket_path : List ℕ → List ℕ
@@ -31,31 +31,23 @@ bucket_path bucket = codes "/" ++ bucket
 abbrev pub object_path : List ℕ → List ℕ → List ℕ
 object_path bucket key = bucket_path bucket ++ codes "/" ++ key
 
--- the path before it is encoded
-abbrev pub path_of : Ask → List ℕ
-path_of (ask.Head bucket key) = object_path bucket key
-path_of (ask.Get bucket key _ _) = object_path bucket key
-path_of (ask.Put bucket key _) = object_path bucket key
-path_of (ask.Copy bucket key _ _ _) = object_path bucket key
-path_of (ask.Delete bucket key) = object_path bucket key
-path_of (ask.Create bucket key _) = object_path bucket key
-path_of (ask.Part bucket key _ _) = object_path bucket key
-path_of (ask.PartCopy bucket key _ _ _ _ _ _) = object_path bucket key
-path_of (ask.Complete bucket key _ _) = object_path bucket key
-path_of (ask.Abort bucket key _) = object_path bucket key
-path_of (ask.List bucket _ _ _) = bucket_path bucket
-path_of ask.Buckets = codes "/"
-
 -- a pair where there is a value, else none
 abbrev pub optional : List ℕ → Option (List ℕ) → List Pair
 optional name None = []
 optional name (Some value) = (name, value) ∷ []
+
+-- the parameters of queries
+abbrev pub uploads : Pair
+uploads = (codes "uploads", [])
 
 abbrev pub upload_id : List ℕ → Pair
 upload_id upload = (codes "uploadId", upload)
 
 abbrev pub part_number : ℕ → Pair
 part_number number = (codes "partNumber", decimal number)
+
+abbrev pub part_parameters : (number : ℕ) (upload : List ℕ) → List Pair
+part_parameters number upload = part_number number ∷ upload_id upload ∷ []
 
 abbrev pub delimiter : Bool → List Pair
 delimiter delimited = if delimited then (codes "delimiter", codes "/") ∷ [] else []
@@ -65,23 +57,25 @@ list_parameters prefix delimited token =
     optional (codes "continuation-token") token ++ delimiter delimited
     ++ (codes "encoding-type", codes "url") ∷ (codes "list-type", codes "2") ∷ (codes "prefix", prefix) ∷ []
 
--- the parameters of the query before they are encoded
-abbrev pub query_of : Ask → List Pair
-query_of (ask.Create _ _ _) = (codes "uploads", []) ∷ []
-query_of (ask.Part _ _ upload number) = part_number number ∷ upload_id upload ∷ []
-query_of (ask.PartCopy _ _ upload number _ _ _ _) = part_number number ∷ upload_id upload ∷ []
-query_of (ask.Complete _ _ upload _) = upload_id upload ∷ []
-query_of (ask.Abort _ _ upload) = upload_id upload ∷ []
-query_of (ask.List _ prefix delimited token) = list_parameters prefix delimited token
-query_of _ = []
-
 -- bytes=first-last, both ends inside
 abbrev pub byte_range : ℕ × ℕ → List ℕ
 byte_range range = codes "bytes=" ++ decimal range.0 ++ codes "-" ++ decimal range.1
 
+-- the range of a read, where it is not the whole object
 abbrev pub range_header : Option (ℕ × ℕ) → List Pair
 range_header None = []
 range_header (Some range) = (codes "range", byte_range range) ∷ []
+
+-- the bytes are read under the condition that the object still has that ETag
+abbrev pub read_headers : (etag : List ℕ) (range : Option (ℕ × ℕ)) → List Pair
+read_headers etag range = (codes "if-match", etag) ∷ range_header range
+
+-- a fresh request is made under the condition that there is no object
+abbrev pub if_none_match : Bool → List Pair
+if_none_match fresh = if fresh then (codes "if-none-match", codes "*") ∷ [] else []
+
+abbrev pub content_type : Option (List ℕ) → List Pair
+content_type content = optional (codes "content-type") content
 
 -- bucket/key, the key encoded
 abbrev pub source_of : (bucket key : List ℕ) → List ℕ
@@ -92,88 +86,72 @@ abbrev pub copy_source : (bucket key etag : List ℕ) → List Pair
 copy_source bucket key etag =
     (codes "x-amz-copy-source", source_of bucket key) ∷ (codes "x-amz-copy-source-if-match", etag) ∷ []
 
--- the headers that an ask has beside those of every request
-abbrev pub own_headers : Ask → List Pair
-own_headers (ask.Get _ _ etag range) = (codes "if-match", etag) ∷ range_header range
-own_headers (ask.Put _ _ content) = optional (codes "content-type") content
-own_headers (ask.Copy _ _ bucket key etag) = copy_source bucket key etag
-own_headers (ask.Create _ _ content) = optional (codes "content-type") content
-own_headers (ask.PartCopy _ _ _ _ bucket key etag range) =
-    copy_source bucket key etag ++ (codes "x-amz-copy-source-range", byte_range range) ∷ []
-own_headers _ = []
+abbrev pub copy_range : ℕ × ℕ → List Pair
+copy_range range = (codes "x-amz-copy-source-range", byte_range range) ∷ []
 
--- whether a request has a body, be it an empty one
-abbrev pub has_body : Ask → Bool
-has_body (ask.Put _ _ _) = true
-has_body (ask.Copy _ _ _ _ _) = true
-has_body (ask.Create _ _ _) = true
-has_body (ask.Part _ _ _ _) = true
-has_body (ask.PartCopy _ _ _ _ _ _ _ _) = true
-has_body (ask.Complete _ _ _ _) = true
-has_body _ = false
+-- the twelve requests, a row for each
+abbrev pub request_of : Ask → Request
+request_of (ask.Head bucket key) = plain (codes "HEAD") (object_path bucket key)
+request_of (ask.Get bucket key etag range) =
+    record (plain (codes "GET") (object_path bucket key)) { own_headers = read_headers etag range }
+request_of (ask.Put bucket key content fresh) =
+    record (plain (codes "PUT") (object_path bucket key)) { own_headers = content_type content ++ if_none_match fresh; has_body = true }
+request_of (ask.Copy bucket key from_bucket from_key etag) =
+    record (plain (codes "PUT") (object_path bucket key)) { own_headers = copy_source from_bucket from_key etag; has_body = true }
+request_of (ask.Delete bucket key) = plain (codes "DELETE") (object_path bucket key)
+request_of (ask.Create bucket key content) =
+    record (plain (codes "POST") (object_path bucket key)) { query = uploads ∷ []; own_headers = content_type content; has_body = true }
+request_of (ask.Part bucket key upload number) =
+    record (plain (codes "PUT") (object_path bucket key)) { query = part_parameters number upload; has_body = true }
+request_of (ask.PartCopy bucket key upload number from_bucket from_key etag range) =
+    record (plain (codes "PUT") (object_path bucket key)) {
+      query = part_parameters number upload;
+      own_headers = copy_source from_bucket from_key etag ++ copy_range range;
+      has_body = true;
+    }
+request_of (ask.Complete bucket key upload etags fresh) =
+    record (plain (codes "POST") (object_path bucket key)) {
+      query = upload_id upload ∷ [];
+      own_headers = if_none_match fresh;
+      has_body = true;
+      body = completion etags.items;
+    }
+request_of (ask.Abort bucket key upload) =
+    record (plain (codes "DELETE") (object_path bucket key)) { query = upload_id upload ∷ [] }
+request_of (ask.List bucket prefix delimited token) =
+    record (plain (codes "GET") (bucket_path bucket)) { query = list_parameters prefix delimited token }
+request_of ask.Buckets = plain (codes "GET") (codes "/")
 
--- a character of a text in a document
-abbrev pub escape_markup : ℕ → List ℕ
-escape_markup c =
-    if c == 38 then codes "&amp;"
-    else if c == 60 then codes "&lt;"
-    else if c == 62 then codes "&gt;"
-    else if c == 34 then codes "&quot;"
-    else encode_utf8 c
+-- a parameter in the request line, where `uploads` has no `=`
+abbrev pub target_parameter : Pair → List ℕ
+target_parameter p = if bytes_eq p.0 (codes "uploads") then p.0 else parameter p
 
--- a text in a document
-unfoldable pub markup : List ℕ → List ℕ
-markup text = flat_map escape_markup (chars text)
-
-unfoldable pub etag_element : List ℕ → List ℕ
-etag_element etag = codes "<ETag>" ++ markup etag ++ codes "</ETag>"
-
-unfoldable pub number_element : ℕ → List ℕ
-number_element number = codes "<PartNumber>" ++ decimal number ++ codes "</PartNumber>"
-
--- one part of an upload: its number and its ETag
-unfoldable pub part_element : ℕ × List ℕ → List ℕ
-part_element part = codes "<Part>" ++ etag_element part.1 ++ number_element part.0 ++ codes "</Part>"
-
--- the parts, numbered from 1
-unfoldable pub part_elements : List (List ℕ) → List ℕ
-part_elements etags = flat_map part_element (enumerate_from 1 etags)
-
--- the document that ends an upload in parts: the ETags of the parts, in the order of their numbers from 1
-unfoldable pub completion : List (List ℕ) → List ℕ
-completion etags =
-    codes "<CompleteMultipartUpload xmlns=\"http://s3.amazonaws.com/doc/2006-03-01/\">"
-    ++ part_elements etags
-    ++ codes "</CompleteMultipartUpload>"
-
--- the document that an ask sends as its body; every other ask but Put and Part, which send an object's bytes, has an empty body or none
-unfoldable pub document_of : Ask → List ℕ
-document_of (ask.Complete _ _ _ etags) = completion etags.items
-document_of _ = []
-
--- `?` and the query, where there is one
+-- `?` and the text, where there is one
 abbrev pub marked : List ℕ → List ℕ
 marked [] = []
 marked (b ∷ rest) = codes "?" ++ b ∷ rest
 
--- the query of the request line, in which `uploads` has no `=`
-unfoldable pub target_query : Ask → List ℕ
-target_query (ask.Create _ _ _) = codes "?uploads"
-target_query a = marked (canonical_query (query_of a))
+-- the query of the request line, encoded and sorted like the one that is signed
+unfoldable pub target_query : List Pair → List ℕ
+target_query query = marked (join_with_byte 38 (map target_parameter (sort_pairs (map encode_pair query))))
+
+-- the headers of every request
+abbrev pub common_headers : (endpoint : Endpoint) (keys : Keys) (moment : ℕ) (payload_hash : List ℕ) → List Pair
+common_headers endpoint keys moment payload_hash =
+    (codes "host", endpoint.written) ∷ (codes "x-amz-content-sha256", payload_hash) ∷ (codes "x-amz-date", basic_time moment)
+    ∷ optional (codes "x-amz-security-token") keys.token
 
 -- every header that is signed, sorted by name
-unfoldable pub signed_headers : (a : Ask) (endpoint : Endpoint) (keys : Keys) (moment : ℕ) (payload_hash : List ℕ) → List Pair
-signed_headers a endpoint keys moment payload_hash = sort_pairs (
-    own_headers a
-    ++ (codes "host", endpoint.written) ∷ (codes "x-amz-content-sha256", payload_hash) ∷ (codes "x-amz-date", basic_time moment)
-    ∷ optional (codes "x-amz-security-token") keys.token)
+unfoldable pub signed_headers : (r : Request) (endpoint : Endpoint) (keys : Keys) (moment : ℕ) (payload_hash : List ℕ) → List Pair
+signed_headers r endpoint keys moment payload_hash = sort_pairs (r.own_headers ++ common_headers endpoint keys moment payload_hash)
 
 -- name: value and CR LF
 abbrev pub header_line : Pair → List ℕ
 header_line h = h.0 ++ codes ": " ++ h.1 ++ codes "\r\n"
 
-abbrev pub length_line : Ask → ℕ → List ℕ
-length_line a length = if has_body a then header_line (codes "content-length", decimal length) else []
+-- the length of the body, where there is one
+abbrev pub length_line : Bool → ℕ → List ℕ
+length_line has_body length = if has_body then header_line (codes "content-length", decimal length) else []
 
 -- id/scope
 unfoldable pub credential : Keys → ℕ → List ℕ
@@ -186,31 +164,31 @@ authorization keys moment headers signed =
     ++ codes ", SignedHeaders=" ++ signed_names headers ++ codes ", Signature=" ++ signed
 
 -- the method and the encoded path
-unfoldable pub method_and_path : Ask → List ℕ
-method_and_path a = method_of a ++ codes " " ++ encode_path (path_of a)
+unfoldable pub method_and_path : Request → List ℕ
+method_and_path r = r.method ++ codes " " ++ encode_path r.path
 
 -- method target HTTP/1.1
-unfoldable pub request_line : Ask → List ℕ
-request_line a = method_and_path a ++ target_query a ++ codes " HTTP/1.1\r\n"
+unfoldable pub request_line : Request → List ℕ
+request_line r = method_and_path r ++ target_query r.query ++ codes " HTTP/1.1\r\n"
 
 -- the signature of a request with these signed headers
-unfoldable pub signature_of : (a : Ask) (headers : List Pair) (keys : Keys) (moment : ℕ) (payload_hash : List ℕ) → List ℕ
-signature_of a headers keys moment payload_hash =
-    signature keys moment (canonical_request (method_of a) (path_of a) (query_of a) headers payload_hash)
+unfoldable pub signature_of : (r : Request) (headers : List Pair) (keys : Keys) (moment : ℕ) (payload_hash : List ℕ) → List ℕ
+signature_of r headers keys moment payload_hash =
+    signature keys moment (canonical_request r.method r.path r.query headers payload_hash)
 
 -- the head of a request with these signed headers: the request line, the headers and an empty line
-unfoldable pub head_with : (a : Ask) (headers : List Pair) (keys : Keys) (moment : ℕ) (payload_hash : List ℕ) (length : ℕ) → List ℕ
-head_with a headers keys moment payload_hash length =
-    request_line a
+unfoldable pub head_with : (r : Request) (headers : List Pair) (keys : Keys) (moment : ℕ) (payload_hash : List ℕ) (length : ℕ) → List ℕ
+head_with r headers keys moment payload_hash length =
+    request_line r
     ++ (flat_map header_line headers
-    ++ length_line a length
-    ++ header_line (codes "authorization", authorization keys moment headers (signature_of a headers keys moment payload_hash))
+    ++ length_line r.has_body length
+    ++ header_line (codes "authorization", authorization keys moment headers (signature_of r headers keys moment payload_hash))
     ++ codes "\r\n")
 
 -- the head of a request whose body has that hash and length
 abbrev pub request_head : (a : Ask) (endpoint : Endpoint) (keys : Keys) (moment : ℕ) (payload_hash : List ℕ) (length : ℕ) → List ℕ
 request_head a endpoint keys moment payload_hash length =
-    head_with a (signed_headers a endpoint keys moment payload_hash) keys moment payload_hash length
+    head_with (request_of a) (signed_headers (request_of a) endpoint keys moment payload_hash) keys moment payload_hash length
 
 -- a whole request: its head and its body
 abbrev pub request_text : (a : Ask) (endpoint : Endpoint) (keys : Keys) (moment : ℕ) (body : List ℕ) → List ℕ

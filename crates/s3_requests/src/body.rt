@@ -1,6 +1,8 @@
+//! The documents that requests send as their bodies.
 ghost use Rattle.std.specs.Prelude.{◌≡◌, ◌++◌, OnOk, IfOk, codes, string_bytes};
-ghost use Rattle.s3_requests.specs.Requests as spec;
+ghost use Rattle.s3_model.specs.Documents as spec;
 
+use crate::description::{Body, describe};
 use itoa::Buffer;
 use s3_model::{Ask, Bytes, OutOfMemory, Text};
 use std::alloc::{AllocError, Global};
@@ -33,7 +35,7 @@ fn push_markup(out: &mut String, text: &str) -> Result<(), AllocError>
     Ok(())
 }
 
-#[tactic(auto, using(crate::proofs::JoinLemmas::pieces), unfolding(crate::specs::Requests::etag_element))]
+#[tactic(auto, using(crate::proofs::BodyLemmas::documents))]
 fn push_etag(out: &mut String, etag: &str) -> Result<(), AllocError>
     ensures { OnOk result (string_bytes out.new ≡ string_bytes out.old ++ spec.etag_element etag.now) }
 {
@@ -42,7 +44,7 @@ fn push_etag(out: &mut String, etag: &str) -> Result<(), AllocError>
     out.push_str("</ETag>")
 }
 
-#[tactic(auto, using(crate::proofs::JoinLemmas::pieces), unfolding(crate::specs::Requests::number_element))]
+#[tactic(auto, using(crate::proofs::BodyLemmas::documents))]
 fn push_number(out: &mut String, number: usize) -> Result<(), AllocError>
     ensures { OnOk result (string_bytes out.new ≡ string_bytes out.old ++ spec.number_element number) }
 {
@@ -52,7 +54,7 @@ fn push_number(out: &mut String, number: usize) -> Result<(), AllocError>
 }
 
 /// Adds the element of one part.
-#[tactic(auto, using(crate::proofs::JoinLemmas::pieces), unfolding(crate::specs::Requests::part_element))]
+#[tactic(auto, using(crate::proofs::BodyLemmas::documents))]
 fn push_part(out: &mut String, number: usize, etag: &Text) -> Result<(), AllocError>
     ensures { OnOk result (string_bytes out.new ≡ string_bytes out.old ++ spec.part_element (number, etag.now)) }
 {
@@ -73,7 +75,7 @@ fn push_parts(out: &mut String, etags: &[Text]) -> Result<(), AllocError>
 }
 
 /// The document that ends an upload in parts.
-#[tactic(auto, using(crate::proofs::JoinLemmas::pieces), unfolding(crate::specs::Requests::completion))]
+#[tactic(auto, using(crate::proofs::BodyLemmas::documents))]
 fn completion(alloc: Global, etags: &[Text]) -> Result<String, AllocError>
     ensures { IfOk result (λ text. string_bytes text ≡ spec.completion etags.now) }
 {
@@ -95,21 +97,15 @@ fn bytes_of(alloc: Global, text: &[u8]) -> Result<Bytes, OutOfMemory>
 
 /// The document that an ask sends. It is empty for every ask but `Complete`; the body of `Put` and `Part` is the
 /// object's bytes, which the caller has.
-#[tactic(auto, unfolding(crate::specs::Requests::document_of))]
+#[tactic(auto, using(crate::proofs::BodyLemmas::document_of_is))]
 pub fn body_text(alloc: Global, ask: &Ask) -> Result<Bytes, OutOfMemory>
     ensures { IfOk result (λ body. body.bytes ≡ spec.document_of ask.now) }
 {
-    match ask {
-        Ask::Complete { etags, .. } => match completion(alloc, etags.as_slice()) {
+    match describe(ask).body {
+        Body::Document(etags) => match completion(alloc, etags.as_slice()) {
             Ok(text) => bytes_of(alloc, text.as_bytes()),
             Err(_) => Err(OutOfMemory),
         },
-        Ask::Head { .. } | Ask::Get { .. } | Ask::Put { .. } | Ask::Copy { .. } => {
-            Bytes::make(alloc, 0)
-        }
-        Ask::Delete { .. } | Ask::Create { .. } | Ask::Part { .. } | Ask::PartCopy { .. } => {
-            Bytes::make(alloc, 0)
-        }
-        Ask::Abort { .. } | Ask::List { .. } | Ask::Buckets => Bytes::make(alloc, 0),
+        Body::Absent | Body::Bytes => Bytes::make(alloc, 0),
     }
 }

@@ -1,3 +1,4 @@
+//! Escapes of paths and queries.
 ghost use Rattle.std.specs.Prelude.{◌≡◌, ◌++◌, OnOk, string_bytes};
 ghost use Rattle.s3_requests.specs.Signing as spec;
 

@@ -1,15 +1,18 @@
+//! The head of a request: the request line, the headers with the signature, and an empty line.
 ghost use Rattle.std.specs.Prelude.{◌≡◌, ◌++◌, ◌<◌, OnOk, IfOk, codes, string_bytes};
 ghost use Rattle.std.specs.List.{flat_map};
 ghost use Rattle.s3_requests.specs.Requests as spec;
-ghost use Rattle.s3_requests.specs.Headers.{pairs_of};
+ghost use Rattle.s3_requests.specs.Descriptions.{has_body_in, path_in, query_in, request_in};
+ghost use Rattle.s3_requests.specs.Headers.{pairs_of, text_pairs};
 ghost use Rattle.s3_requests.specs.Keeping.{IsKey};
 ghost use Rattle.s3_requests.specs.Signing.{canonical_query, encode_path};
 ghost use Rattle.s3_requests.specs.Times.{basic_time};
 
-use crate::headers::{Header, push_header_line, push_header_lines, push_signed_names};
-use crate::own::{CommonHeaders, own_headers};
-use crate::parts::{has_body, lent, method, push_ask_query, push_target_path};
+use crate::description::{Body, Description, describe, lent};
+use crate::headers::{Header, lend_texts, push_header_line, push_header_lines, push_signed_names};
+use crate::own::{CommonHeaders, signed_headers};
 use crate::signing::{SignedParts, canonical_text, push_scope, signature_under};
+use crate::target::{push_resource, push_signed_query, push_target_query};
 use crate::times::push_basic_time;
 use itoa::Buffer;
 use s3_model::{Ask, Endpoint, Keys};
@@ -23,71 +26,67 @@ pub struct Key<'a> {
     pub key: &'a [u8; 32],
 }
 
-/// The escaped path and query of an ask.
+/// The escaped path and query of a request.
 #[derive(Drop)]
 struct Target {
     path: String,
     query: String,
 }
 
-fn target_of(alloc: Global, ask: &Ask) -> Result<Target, AllocError>
-    ensures path { IfOk result (λ t. string_bytes t.path ≡ encode_path (spec.path_of ask.now)) }
-    ensures query { IfOk result (λ t. string_bytes t.query ≡ canonical_query (spec.query_of ask.now)) }
+fn target_of(alloc: Global, request: &Description<'_>) -> Result<Target, AllocError>
+    ensures path { IfOk result (λ t. string_bytes t.path ≡ encode_path (path_in request.now.resource)) }
+    ensures query { IfOk result (λ t. string_bytes t.query ≡ canonical_query (query_in request.now.query)) }
 {
     let mut path = String::with_capacity(alloc, 128)?;
-    push_target_path(&mut path, ask)?;
+    push_resource(&mut path, request.resource)?;
     let mut query = String::new(alloc);
-    push_ask_query(&mut query, ask)?;
+    push_signed_query(&mut query, request.query)?;
     Ok(Target { path, query })
-}
-
-/// Adds `?` and the query, where there is one; `uploads` stands there without `=`.
-#[tactic(auto, unfolding(crate::specs::Requests::target_query))]
-fn push_target_query(out: &mut String, ask: &Ask, query: &str) -> Result<(), AllocError>
-    requires { query.now ≡ canonical_query (spec.query_of ask.now) }
-    ensures { OnOk result (string_bytes out.new ≡ string_bytes out.old ++ spec.target_query ask.now) }
-{
-    if let Ask::Create { .. } = ask {
-        return out.push_str("?uploads");
-    }
-    if query.is_empty() {
-        return Ok(());
-    }
-    out.push_str("?")?;
-    out.push_str(query)
 }
 
 /// Adds the method and the escaped path.
 #[tactic(auto, using(crate::proofs::JoinLemmas::pieces), unfolding(crate::specs::Requests::method_and_path))]
-fn push_method_and_path(out: &mut String, ask: &Ask, path: &str) -> Result<(), AllocError>
-    requires { path.now ≡ encode_path (spec.path_of ask.now) }
-    ensures { OnOk result (string_bytes out.new ≡ string_bytes out.old ++ spec.method_and_path ask.now) }
+fn push_method_and_path(
+    out: &mut String,
+    request: &Description<'_>,
+    path: &str,
+) -> Result<(), AllocError>
+    requires { path.now ≡ encode_path (path_in request.now.resource) }
+    ensures { OnOk result (string_bytes out.new
+        ≡ string_bytes out.old ++ spec.method_and_path (request_in request.now)) }
 {
-    out.push_str(method(ask))?;
+    out.push_str(request.method)?;
     out.push_str(" ")?;
     out.push_str(path)
 }
 
 /// Adds the request line.
 #[tactic(auto, using(crate::proofs::JoinLemmas::pieces), unfolding(crate::specs::Requests::request_line))]
-fn push_request_line(out: &mut String, ask: &Ask, target: &Target) -> Result<(), AllocError>
-    requires path { string_bytes target.now.path ≡ encode_path (spec.path_of ask.now) }
-    requires query { string_bytes target.now.query ≡ canonical_query (spec.query_of ask.now) }
-    ensures { OnOk result (string_bytes out.new ≡ string_bytes out.old ++ spec.request_line ask.now) }
+fn push_request_line(
+    out: &mut String,
+    request: &Description<'_>,
+    target: &Target,
+) -> Result<(), AllocError>
+    requires path { string_bytes target.now.path ≡ encode_path (path_in request.now.resource) }
+    requires query { string_bytes target.now.query ≡ canonical_query (query_in request.now.query) }
+    ensures { OnOk result (string_bytes out.new ≡ string_bytes out.old ++ spec.request_line (request_in request.now)) }
 {
-    push_method_and_path(out, ask, target.path.as_str())?;
-    push_target_query(out, ask, target.query.as_str())?;
+    push_method_and_path(out, request, target.path.as_str())?;
+    push_target_query(out, request.query, target.query.as_str())?;
     out.push_str(" HTTP/1.1\r\n")
 }
 
 /// Adds the content length, where the request has a body.
-fn push_length_line(out: &mut String, ask: &Ask, length: u64) -> Result<(), AllocError>
-    ensures { OnOk result (string_bytes out.new ≡ string_bytes out.old ++ spec.length_line ask.now length) }
+fn push_length_line(out: &mut String, body: Body<'_>, length: u64) -> Result<(), AllocError>
+    ensures { OnOk result (string_bytes out.new
+        ≡ string_bytes out.old ++ spec.length_line (has_body_in body.entry) length) }
 {
-    if has_body(ask) {
-        push_header_line(out, "content-length", Buffer::new().format(length))?;
+    match body {
+        Body::Absent => Ok(()),
+        Body::Bytes | Body::Document(_) => {
+            push_header_line(out, "content-length", Buffer::new().format(length))
+        }
     }
-    Ok(())
 }
 
 /// Adds the credential: the id of the keys and the scope.
@@ -111,7 +110,8 @@ fn push_authorization(
     signed: &str,
 ) -> Result<(), AllocError>
     requires { moment < 253402300800 }
-    ensures { OnOk result (string_bytes out.new ≡ string_bytes out.old ++ spec.authorization keys.now moment (pairs_of headers.now) signed.now) }
+    ensures { OnOk result (string_bytes out.new
+        ≡ string_bytes out.old ++ spec.authorization keys.now moment (pairs_of headers.now) signed.now) }
 {
     out.push_str("AWS4-HMAC-SHA256 Credential=")?;
     push_credential(out, keys, moment)?;
@@ -125,16 +125,17 @@ fn push_authorization(
 #[tactic(auto, using(crate::proofs::JoinLemmas::pieces))]
 fn push_lines(
     out: &mut String,
-    ask: &Ask,
+    request: &Description<'_>,
     headers: &[Header<'_>],
     length: u64,
     authorization: &str,
 ) -> Result<(), AllocError>
-    ensures { OnOk result (string_bytes out.new ≡ string_bytes out.old ++ (flat_map spec.header_line (pairs_of headers.now) ++ spec.length_line ask.now length
+    ensures { OnOk result (string_bytes out.new ≡ string_bytes out.old
+        ++ (flat_map spec.header_line (pairs_of headers.now) ++ spec.length_line (has_body_in request.now.body) length
         ++ spec.header_line (codes "authorization", authorization.now) ++ codes "\r\n")) }
 {
     push_header_lines(out, headers)?;
-    push_length_line(out, ask, length)?;
+    push_length_line(out, request.body, length)?;
     push_header_line(out, "authorization", authorization)?;
     out.push_str("\r\n")
 }
@@ -143,7 +144,7 @@ fn push_lines(
 #[tactic(auto, unfolding(crate::specs::Requests::signature_of, crate::specs::Signing::canonical_request))]
 fn sign(
     alloc: Global,
-    ask: &Ask,
+    request: &Description<'_>,
     target: &Target,
     key: &Key<'_>,
     headers: &[Header<'_>],
@@ -151,12 +152,13 @@ fn sign(
 ) -> Result<String, AllocError>
     requires moment { key.now.moment < 253402300800 }
     requires key { IsKey key.now }
-    requires path { string_bytes target.now.path ≡ encode_path (spec.path_of ask.now) }
-    requires query { string_bytes target.now.query ≡ canonical_query (spec.query_of ask.now) }
-    ensures { IfOk result (λ text. string_bytes text ≡ spec.signature_of ask.now (pairs_of headers.now) key.now.keys.now key.now.moment payload_hash.now) }
+    requires path { string_bytes target.now.path ≡ encode_path (path_in request.now.resource) }
+    requires query { string_bytes target.now.query ≡ canonical_query (query_in request.now.query) }
+    ensures { IfOk result (λ text. string_bytes text
+        ≡ spec.signature_of (request_in request.now) (pairs_of headers.now) key.now.keys.now key.now.moment payload_hash.now) }
 {
     let parts = SignedParts {
-        method: method(ask),
+        method: request.method,
         path: target.path.as_str(),
         query: target.query.as_str(),
         headers,
@@ -180,7 +182,8 @@ fn authorization(
     signed: &str,
 ) -> Result<String, AllocError>
     requires { key.now.moment < 253402300800 }
-    ensures { IfOk result (λ text. string_bytes text ≡ spec.authorization key.now.keys.now key.now.moment (pairs_of headers.now) signed.now) }
+    ensures { IfOk result (λ text. string_bytes text
+        ≡ spec.authorization key.now.keys.now key.now.moment (pairs_of headers.now) signed.now) }
 {
     let mut out = String::with_capacity(alloc, 256)?;
     push_authorization(&mut out, key.keys, key.moment, headers, signed)?;
@@ -191,7 +194,7 @@ fn authorization(
 #[tactic(auto, unfolding(crate::specs::Requests::head_with))]
 fn head_with(
     alloc: Global,
-    ask: &Ask,
+    request: &Description<'_>,
     key: &Key<'_>,
     headers: &[Header<'_>],
     payload_hash: &str,
@@ -199,14 +202,15 @@ fn head_with(
 ) -> Result<String, AllocError>
     requires moment { key.now.moment < 253402300800 }
     requires key { IsKey key.now }
-    ensures { IfOk result (λ text. string_bytes text ≡ spec.head_with ask.now (pairs_of headers.now) key.now.keys.now key.now.moment payload_hash.now length) }
+    ensures { IfOk result (λ text. string_bytes text
+        ≡ spec.head_with (request_in request.now) (pairs_of headers.now) key.now.keys.now key.now.moment payload_hash.now length) }
 {
-    let target = target_of(alloc, ask)?;
-    let signed = sign(alloc, ask, &target, key, headers, payload_hash)?;
+    let target = target_of(alloc, request)?;
+    let signed = sign(alloc, request, &target, key, headers, payload_hash)?;
     let authorization = authorization(alloc, key, headers, signed.as_str())?;
     let mut out = String::with_capacity(alloc, 768)?;
-    push_request_line(&mut out, ask, &target)?;
-    push_lines(&mut out, ask, headers, length, authorization.as_str())?;
+    push_request_line(&mut out, request, &target)?;
+    push_lines(&mut out, request, headers, length, authorization.as_str())?;
     Ok(out)
 }
 
@@ -221,7 +225,7 @@ fn basic_time_text(alloc: Global, moment: u64) -> Result<String, AllocError>
 }
 
 /// The head of a request, under the signing key of the moment's date.
-#[tactic(auto, unfolding(crate::specs::Requests::signed_headers), using(crate::proofs::SignedLemmas::all_headers_sorted))]
+#[tactic(auto, unfolding(crate::specs::Requests::signed_headers))]
 pub fn head_under(
     alloc: Global,
     ask: &Ask,
@@ -232,16 +236,24 @@ pub fn head_under(
 ) -> Result<String, AllocError>
     requires moment { key.now.moment < 253402300800 }
     requires key { IsKey key.now }
-    ensures { IfOk result (λ text. string_bytes text ≡ spec.request_head ask.now endpoint.now key.now.keys.now key.now.moment payload_hash.now length) }
+    ensures { IfOk result (λ text. string_bytes text
+        ≡ spec.request_head ask.now endpoint.now key.now.keys.now key.now.moment payload_hash.now length) }
 {
+    let request = describe(ask);
     let date = basic_time_text(alloc, key.moment)?;
-    let own = own_headers(alloc, ask)?;
     let common = CommonHeaders {
         host: endpoint.written.as_str(),
         payload_hash,
         date: date.as_str(),
         token: lent(&key.keys.token),
     };
-    let headers = own.with_common(alloc, &common)?;
-    head_with(alloc, ask, key, &headers, payload_hash, length)
+    let headers = signed_headers(alloc, &request.own_headers, &common)?;
+    head_with(
+        alloc,
+        &request,
+        key,
+        &lend_texts(alloc, &headers)?,
+        payload_hash,
+        length,
+    )
 }

@@ -1,8 +1,9 @@
+//! Headers, as they are signed and as they are sent.
 ghost use Rattle.std.specs.Prelude.{◌≡◌, ◌++◌, OnOk, IfOk, map, string_bytes};
 ghost use Rattle.std.specs.List.{flat_map};
 ghost use Rattle.s3_requests.specs.Signing as spec;
 ghost use Rattle.s3_requests.specs.Requests.{header_line};
-ghost use Rattle.s3_requests.specs.Headers.{pairs_of, next_piece};
+ghost use Rattle.s3_requests.specs.Headers.{pairs_of, next_piece, text_pairs};
 
 use s3_model::Pairs;
 use std::alloc::{AllocError, Global};
@@ -20,6 +21,23 @@ pub fn lend<'a>(alloc: Global, pairs: &'a Pairs) -> Result<Vec<Header<'a>>, Allo
 {
     let mut headers = Vec::with_capacity(alloc, pairs.len())?;
     for pair in pairs.as_slice() {
+        headers.push(Header {
+            name: pair.0.as_str(),
+            value: pair.1.as_str(),
+        })?;
+    }
+    Ok(headers)
+}
+
+/// Lends written headers.
+pub fn lend_texts<'a>(
+    alloc: Global,
+    texts: &'a [(String, String)],
+) -> Result<Vec<Header<'a>>, AllocError>
+    ensures { IfOk result (λ headers. pairs_of headers.items ≡ text_pairs texts.now) }
+{
+    let mut headers = Vec::with_capacity(alloc, texts.len())?;
+    for pair in texts {
         headers.push(Header {
             name: pair.0.as_str(),
             value: pair.1.as_str(),
@@ -68,7 +86,8 @@ fn push_canonical_header(out: &mut String, name: &str, value: &str) -> Result<()
 
 /// Adds each header as it is signed.
 pub fn push_canonical_headers(out: &mut String, headers: &[Header<'_>]) -> Result<(), AllocError>
-    ensures { OnOk result (string_bytes out.new ≡ string_bytes out.old ++ flat_map spec.canonical_header (pairs_of headers.now)) }
+    ensures { OnOk result (string_bytes out.new
+        ≡ string_bytes out.old ++ flat_map spec.canonical_header (pairs_of headers.now)) }
 {
     for header in headers {
         push_canonical_header(out, header.name, header.value)?;

@@ -1,3 +1,4 @@
+//! HMAC with SHA-256.
 ghost use Rattle.std.specs.Prelude.{◌≡◌, ◌++◌};
 ghost use Rattle.sha2.specs.Sha256.{sha256};
 ghost use Rattle.s3_requests.specs.Hmac as spec;

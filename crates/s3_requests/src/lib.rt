@@ -2,16 +2,23 @@
 #![tactic(auto)]
 
 mod body;
+mod description;
+#[cfg(test)]
+mod document_tests;
 mod escapes;
+#[cfg(test)]
+mod fixtures;
 mod head;
+#[cfg(test)]
+mod head_tests;
 mod headers;
 mod hmac;
 mod names;
 mod own;
-mod parts;
 mod query;
 mod signer;
 mod signing;
+mod target;
 #[cfg(test)]
 mod tests;
 mod times;

@@ -1,3 +1,4 @@
+//! Names of headers in the order that a signature asks.
 ghost use Rattle.std.specs.Prelude.{◌≡◌, ◌↔◌, All, IsTrue, length};
 ghost use Rattle.std.specs.List.{AllAdjacentBelow};
 ghost use Rattle.std.specs.Cmp.Lexicographic.{slice_cmp};

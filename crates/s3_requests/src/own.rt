@@ -1,25 +1,19 @@
+//! The headers that are signed.
 ghost use Rattle.std.specs.Prelude.{◌≡◌, ◌++◌, ◌∷◌, [], OnOk, IfOk, codes, string_bytes};
 ghost use Rattle.std.specs.Option.{option_copied};
 ghost use Rattle.s3_requests.specs.Requests as spec;
-ghost use Rattle.s3_requests.specs.Headers.{all_headers, own_pairs, pairs_of, written};
+ghost use Rattle.s3_requests.specs.Descriptions.{own_in, source_in};
+ghost use Rattle.s3_requests.specs.Headers.{common_in, text_pairs};
+ghost use Rattle.s3_requests.specs.Pairs.{sort_pairs};
 
+use crate::description::{OwnHeaders, Source};
 use crate::escapes::push_path;
-use crate::headers::Header;
-use crate::parts::lent;
+use crate::query::sort;
 use itoa::Buffer;
-use s3_model::{Ask, Text};
 use std::alloc::{AllocError, Global};
 
-/// The headers that an ask has beside those of every request, in the order of their names.
-#[derive(Drop)]
-pub struct OwnHeaders<'a> {
-    content_type: Option<&'a str>,
-    if_match: Option<&'a str>,
-    range: Option<String>,
-    copy_source: Option<String>,
-    copy_if_match: Option<&'a str>,
-    copy_range: Option<String>,
-}
+/// Names and values of headers.
+pub type Headers = Vec<(String, String)>;
 
 /// The value of a range: bytes=first-last.
 #[tactic(auto, using(crate::proofs::JoinLemmas::pieces))]
@@ -36,7 +30,7 @@ fn byte_range(alloc: Global, range: (u64, u64)) -> Result<String, AllocError>
 
 /// The source of a copy: the bucket, `/` and the escaped key.
 #[tactic(auto, using(crate::proofs::JoinLemmas::pieces))]
-fn copy_source(alloc: Global, bucket: &str, key: &str) -> Result<String, AllocError>
+fn source_text(alloc: Global, bucket: &str, key: &str) -> Result<String, AllocError>
     ensures { IfOk result (λ text. string_bytes text ≡ spec.source_of bucket.now key.now) }
 {
     let mut out = String::with_capacity(alloc, bucket.len())?;
@@ -46,148 +40,121 @@ fn copy_source(alloc: Global, bucket: &str, key: &str) -> Result<String, AllocEr
     Ok(out)
 }
 
-fn of_upload<'a>(content: &'a Option<Text>) -> OwnHeaders<'a>
-    ensures { own_pairs result ≡ spec.optional (codes "content-type") content.now }
-{
-    OwnHeaders {
-        content_type: lent(content),
-        if_match: None,
-        range: None,
-        copy_source: None,
-        copy_if_match: None,
-        copy_range: None,
-    }
-}
-
-fn of_get<'a>(
+/// Adds a header whose value is made for it.
+fn push_made(
     alloc: Global,
-    etag: &'a str,
-    range: Option<(u64, u64)>,
-) -> Result<OwnHeaders<'a>, AllocError>
-    ensures { IfOk result (λ own. own_pairs own ≡ (codes "if-match", etag.now) ∷ spec.range_header range) }
+    headers: &mut Headers,
+    name: &str,
+    value: String,
+) -> Result<(), AllocError>
+    ensures { OnOk result (text_pairs headers.new.items
+        ≡ text_pairs headers.old.items ++ (name.now, string_bytes value) ∷ []) }
 {
-    let range = match range {
-        Some(range) => Some(byte_range(alloc, range)?),
-        None => None,
-    };
-    Ok(OwnHeaders {
-        content_type: None,
-        if_match: Some(etag),
-        range,
-        copy_source: None,
-        copy_if_match: None,
-        copy_range: None,
-    })
+    headers.push((String::from_str(alloc, name)?, value))?;
+    Ok(())
 }
 
-fn of_copy<'a>(
+/// Adds a header.
+fn push_header(
     alloc: Global,
-    bucket: &str,
-    key: &str,
-    etag: &'a str,
-) -> Result<OwnHeaders<'a>, AllocError>
-    ensures { IfOk result (λ own. own_pairs own ≡ spec.copy_source bucket.now key.now etag.now) }
+    headers: &mut Headers,
+    name: &str,
+    value: &str,
+) -> Result<(), AllocError>
+    ensures { OnOk result (text_pairs headers.new.items ≡ text_pairs headers.old.items ++ (name.now, value.now) ∷ []) }
 {
-    Ok(OwnHeaders {
-        content_type: None,
-        if_match: None,
-        range: None,
-        copy_source: Some(copy_source(alloc, bucket, key)?),
-        copy_if_match: Some(etag),
-        copy_range: None,
-    })
-}
-
-fn of_part_copy<'a>(
-    alloc: Global,
-    bucket: &str,
-    key: &str,
-    etag: &'a str,
-    range: (u64, u64),
-) -> Result<OwnHeaders<'a>, AllocError>
-    ensures { IfOk result (λ own. own_pairs own ≡ spec.copy_source bucket.now key.now etag.now ++ (codes "x-amz-copy-source-range", spec.byte_range range) ∷ []) }
-{
-    Ok(OwnHeaders {
-        content_type: None,
-        if_match: None,
-        range: None,
-        copy_source: Some(copy_source(alloc, bucket, key)?),
-        copy_if_match: Some(etag),
-        copy_range: Some(byte_range(alloc, range)?),
-    })
-}
-
-fn none<'a>() -> OwnHeaders<'a>
-    ensures { own_pairs result ≡ [] }
-{
-    OwnHeaders {
-        content_type: None,
-        if_match: None,
-        range: None,
-        copy_source: None,
-        copy_if_match: None,
-        copy_range: None,
-    }
-}
-
-/// The own headers of an ask.
-pub fn own_headers<'a>(alloc: Global, ask: &'a Ask) -> Result<OwnHeaders<'a>, AllocError>
-    ensures { IfOk result (λ own. own_pairs own ≡ spec.own_headers ask.now) }
-{
-    match ask {
-        Ask::Get { etag, range, .. } => of_get(alloc, etag.as_str(), *range),
-        Ask::Put { content, .. } | Ask::Create { content, .. } => Ok(of_upload(content)),
-        Ask::Copy {
-            from_bucket,
-            from_key,
-            etag,
-            ..
-        } => of_copy(
-            alloc,
-            from_bucket.as_str(),
-            from_key.as_str(),
-            etag.as_str(),
-        ),
-        Ask::PartCopy {
-            from_bucket,
-            from_key,
-            etag,
-            range,
-            ..
-        } => of_part_copy(
-            alloc,
-            from_bucket.as_str(),
-            from_key.as_str(),
-            etag.as_str(),
-            *range,
-        ),
-        Ask::Head { .. } | Ask::Delete { .. } | Ask::Part { .. } => Ok(none()),
-        Ask::Complete { .. } | Ask::Abort { .. } => Ok(none()),
-        Ask::List { .. } | Ask::Buckets => Ok(none()),
-    }
+    push_made(alloc, headers, name, String::from_str(alloc, value)?)
 }
 
 /// Adds a header, where there is a value.
-fn push_optional<'a>(
-    headers: &mut Vec<Header<'a>>,
-    name: &'static str,
-    value: Option<&'a str>,
+#[tactic(auto, using(crate::proofs::JoinLemmas::pieces))]
+fn push_optional(
+    alloc: Global,
+    headers: &mut Headers,
+    name: &str,
+    value: Option<&str>,
 ) -> Result<(), AllocError>
-    ensures { OnOk result (pairs_of headers.new.items ≡ pairs_of headers.old.items ++ spec.optional name.now (option_copied value.entry)) }
+    ensures { OnOk result (text_pairs headers.new.items
+        ≡ text_pairs headers.old.items ++ spec.optional name.now (option_copied value.entry)) }
 {
     if let Some(value) = value {
-        headers.push(Header { name, value })?;
+        push_header(alloc, headers, name, value)?;
     }
     Ok(())
 }
 
-/// Lends a text that was written, where there is one.
-fn lent_string(text: &Option<String>) -> Option<&str>
-    ensures { option_copied result ≡ written text.now }
+/// Adds the headers of an upload: its content type, and that there may be no object yet.
+#[tactic(auto, using(crate::proofs::JoinLemmas::pieces))]
+fn push_upload_headers(
+    alloc: Global,
+    headers: &mut Headers,
+    content: Option<&str>,
+    fresh: bool,
+) -> Result<(), AllocError>
+    ensures { OnOk result (text_pairs headers.new.items
+        ≡ text_pairs headers.old.items ++ (spec.content_type (option_copied content.entry) ++ spec.if_none_match fresh)) }
 {
-    match text {
-        Some(text) => Some(text.as_str()),
-        None => None,
+    push_optional(alloc, headers, "content-type", content)?;
+    if fresh {
+        push_header(alloc, headers, "if-none-match", "*")?;
+    }
+    Ok(())
+}
+
+/// Adds the headers of a read: the ETag that the object still has to have, and the range.
+#[tactic(auto, using(crate::proofs::JoinLemmas::pieces))]
+fn push_read_headers(
+    alloc: Global,
+    headers: &mut Headers,
+    etag: &str,
+    range: Option<(u64, u64)>,
+) -> Result<(), AllocError>
+    ensures { OnOk result (text_pairs headers.new.items
+        ≡ text_pairs headers.old.items ++ spec.read_headers etag.now range) }
+{
+    push_header(alloc, headers, "if-match", etag)?;
+    if let Some(range) = range {
+        push_made(alloc, headers, "range", byte_range(alloc, range)?)?;
+    }
+    Ok(())
+}
+
+/// Adds the headers of a copy: its source, and the ETag that the source still has to have.
+fn push_source(alloc: Global, headers: &mut Headers, source: &Source<'_>) -> Result<(), AllocError>
+    ensures { OnOk result (text_pairs headers.new.items ≡ text_pairs headers.old.items ++ source_in source.now) }
+{
+    let text = source_text(alloc, source.bucket, source.key)?;
+    push_made(alloc, headers, "x-amz-copy-source", text)?;
+    push_header(alloc, headers, "x-amz-copy-source-if-match", source.etag)
+}
+
+/// Adds the headers of a copy of a range.
+fn push_range_source(
+    alloc: Global,
+    headers: &mut Headers,
+    source: &Source<'_>,
+    range: (u64, u64),
+) -> Result<(), AllocError>
+    ensures { OnOk result (text_pairs headers.new.items
+        ≡ text_pairs headers.old.items ++ (source_in source.now ++ spec.copy_range range)) }
+{
+    let text = byte_range(alloc, range)?;
+    push_source(alloc, headers, source)?;
+    push_made(alloc, headers, "x-amz-copy-source-range", text)
+}
+
+/// Adds the own headers.
+fn push_own(alloc: Global, headers: &mut Headers, own: &OwnHeaders<'_>) -> Result<(), AllocError>
+    ensures { OnOk result (text_pairs headers.new.items ≡ text_pairs headers.old.items ++ own_in own.now) }
+{
+    match own {
+        OwnHeaders::Nothing => Ok(()),
+        OwnHeaders::Upload { content, fresh } => push_upload_headers(
+            alloc, headers, *content, *fresh,
+        ),
+        OwnHeaders::Read { etag, range } => push_read_headers(alloc, headers, *etag, *range),
+        OwnHeaders::Copy(source) => push_source(alloc, headers, source),
+        OwnHeaders::RangeCopy(source, range) => push_range_source(alloc, headers, source, *range),
     }
 }
 
@@ -200,43 +167,31 @@ pub struct CommonHeaders<'a> {
     pub token: Option<&'a str>,
 }
 
-impl<'a> OwnHeaders<'a> {
-    /// All headers that are signed, in the order of their names.
-    pub fn with_common(
-        &'a self,
-        alloc: Global,
-        common: &CommonHeaders<'a>,
-    ) -> Result<Vec<Header<'a>>, AllocError>
-        ensures { IfOk result (λ headers. pairs_of headers.items
-            ≡ all_headers self.now common.now.host.now common.now.payload_hash.now common.now.date.now (option_copied common.now.token)) }
-    {
-        let mut headers = Vec::with_capacity(alloc, 10)?;
-        push_optional(&mut headers, "content-type", self.content_type)?;
-        push_optional(&mut headers, "host", Some(common.host))?;
-        push_optional(&mut headers, "if-match", self.if_match)?;
-        push_optional(&mut headers, "range", lent_string(&self.range))?;
-        push_optional(
-            &mut headers,
-            "x-amz-content-sha256",
-            Some(common.payload_hash),
-        )?;
-        push_optional(
-            &mut headers,
-            "x-amz-copy-source",
-            lent_string(&self.copy_source),
-        )?;
-        push_optional(
-            &mut headers,
-            "x-amz-copy-source-if-match",
-            self.copy_if_match,
-        )?;
-        push_optional(
-            &mut headers,
-            "x-amz-copy-source-range",
-            lent_string(&self.copy_range),
-        )?;
-        push_optional(&mut headers, "x-amz-date", Some(common.date))?;
-        push_optional(&mut headers, "x-amz-security-token", common.token)?;
-        Ok(headers)
-    }
+/// Adds the headers of every request.
+fn push_common(
+    alloc: Global,
+    headers: &mut Headers,
+    common: &CommonHeaders<'_>,
+) -> Result<(), AllocError>
+    ensures { OnOk result (text_pairs headers.new.items ≡ text_pairs headers.old.items ++ common_in common.now) }
+{
+    push_header(alloc, headers, "host", common.host)?;
+    push_header(alloc, headers, "x-amz-content-sha256", common.payload_hash)?;
+    push_header(alloc, headers, "x-amz-date", common.date)?;
+    push_optional(alloc, headers, "x-amz-security-token", common.token)
+}
+
+/// All headers that are signed, in the order of their names.
+pub fn signed_headers(
+    alloc: Global,
+    own: &OwnHeaders<'_>,
+    common: &CommonHeaders<'_>,
+) -> Result<Headers, AllocError>
+    ensures { IfOk result (λ headers. text_pairs headers.items ≡ sort_pairs (own_in own.now ++ common_in common.now)) }
+{
+    let mut headers = Vec::with_capacity(alloc, 8)?;
+    push_own(alloc, &mut headers, own)?;
+    push_common(alloc, &mut headers, common)?;
+    sort(&mut headers)?;
+    Ok(headers)
 }

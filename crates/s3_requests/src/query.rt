@@ -1,7 +1,8 @@
+//! Queries as they are signed.
 ghost use Rattle.std.specs.Prelude.{◌≡◌, ◌++◌, OnOk, IfOk, codes, map, string_bytes};
 ghost use Rattle.std.specs.List.Sorted.{IsPermutation};
 ghost use Rattle.s3_requests.specs.Signing as spec;
-ghost use Rattle.s3_requests.specs.Headers.{escaped_pairs, next_piece};
+ghost use Rattle.s3_requests.specs.Headers.{text_pairs, next_piece};
 ghost use Rattle.s3_requests.specs.Pairs.{sort_pairs};
 
 use crate::escapes::push_query;
@@ -19,7 +20,7 @@ fn escaped(alloc: Global, text: &str) -> Result<String, AllocError>
 
 /// The pairs, escaped.
 fn escape_all(alloc: Global, query: &Pairs) -> Result<Vec<(String, String)>, AllocError>
-    ensures { IfOk result (λ out. escaped_pairs out.items ≡ map spec.encode_pair query.now.items) }
+    ensures { IfOk result (λ out. text_pairs out.items ≡ map spec.encode_pair query.now.items) }
 {
     let mut out = Vec::with_capacity(alloc, query.len())?;
     for pair in query.as_slice() {
@@ -31,16 +32,18 @@ fn escape_all(alloc: Global, query: &Pairs) -> Result<Vec<(String, String)>, All
     Ok(out)
 }
 
-/// Sorts escaped pairs by name and then by value.
-fn sort(pairs: &mut Vec<(String, String)>) -> Result<(), AllocError>
-    ensures { OnOk result (escaped_pairs pairs.new.items ≡ sort_pairs (escaped_pairs pairs.old.items)) }
+/// Sorts pairs by name and then by value.
+pub fn sort(pairs: &mut Vec<(String, String)>) -> Result<(), AllocError>
+    ensures { OnOk result (text_pairs pairs.new.items ≡ sort_pairs (text_pairs pairs.old.items)) }
 {
     pairs.sort()
 }
 
 /// Adds one escaped parameter, with `&` in front of it unless it is the first.
 fn push_parameter(out: &mut String, first: bool, pair: &(String, String)) -> Result<(), AllocError>
-    ensures { OnOk result (string_bytes out.new ≡ string_bytes out.old ++ next_piece (codes "&") first (spec.parameter (string_bytes pair.now.0, string_bytes pair.now.1))) }
+    ensures { OnOk result (string_bytes out.new
+        ≡ string_bytes out.old
+        ++ next_piece (codes "&") first (spec.parameter (string_bytes pair.now.0, string_bytes pair.now.1))) }
 {
     push_piece(out, "&", first, pair.0.as_str())?;
     out.push_str("=")?;
@@ -49,7 +52,7 @@ fn push_parameter(out: &mut String, first: bool, pair: &(String, String)) -> Res
 
 /// Adds escaped parameters, joined by `&`.
 fn push_parameters(out: &mut String, pairs: &[(String, String)]) -> Result<(), AllocError>
-    ensures { OnOk result (string_bytes out.new ≡ string_bytes out.old ++ spec.parameters (escaped_pairs pairs.now)) }
+    ensures { OnOk result (string_bytes out.new ≡ string_bytes out.old ++ spec.parameters (text_pairs pairs.now)) }
 {
     for (i, pair) in pairs.iter().enumerate() {
         push_parameter(out, i == 0, pair)?;

@@ -1,3 +1,4 @@
+//! Heads of requests, and a signer that keeps the key of a day.
 ghost use Rattle.std.specs.Prelude.{◌≡◌, ◌<◌, IfOk, string_bytes};
 ghost use Rattle.s3_requests.specs.Requests as spec;
 ghost use Rattle.s3_requests.specs.Signing.{signing_key};
@@ -46,7 +47,7 @@ impl Signer {
     }
 
     /// The signing key of the moment's day, made anew only where the day is another one.
-    fn key(&mut self, alloc: Global, moment: u64) -> Result<[u8; 32], AllocError>
+    fn key_of_day(&mut self, alloc: Global, moment: u64) -> Result<[u8; 32], AllocError>
         requires { moment < 253402300800 }
         ensures key { IfOk result (λ key. key ≡ signing_key self.old.secret (basic_date moment) self.old.region) }
         ensures keys { self.new ≡ self.old }
@@ -67,7 +68,8 @@ impl Signer {
         Ok(key)
     }
 
-    fn head(
+    /// The head as [`Signer::head_text`] gives it.
+    fn sign_head(
         &mut self,
         alloc: Global,
         ask: &Ask,
@@ -77,10 +79,11 @@ impl Signer {
         length: u64,
     ) -> Result<String, AllocError>
         requires { moment < 253402300800 }
-        ensures text { IfOk result (λ text. string_bytes text ≡ spec.request_head ask.now endpoint.now self.old moment payload_hash.now length) }
+        ensures text { IfOk result (λ text. string_bytes text
+            ≡ spec.request_head ask.now endpoint.now self.old moment payload_hash.now length) }
         ensures keys { self.new ≡ self.old }
     {
-        let key = self.key(alloc, moment)?;
+        let key = self.key_of_day(alloc, moment)?;
         let with = Key {
             keys: &self.keys,
             moment,
@@ -102,17 +105,19 @@ impl Signer {
         length: u64,
     ) -> Result<Text, OutOfMemory>
         requires { moment < 253402300800 }
-        ensures text { IfOk result (λ text. text ≡ spec.request_head ask.now endpoint.now self.old moment payload_hash.now length) }
+        ensures text { IfOk result (λ text. text
+            ≡ spec.request_head ask.now endpoint.now self.old moment payload_hash.now length) }
         ensures keys { self.new ≡ self.old }
     {
-        match self.head(alloc, ask, endpoint, moment, payload_hash, length) {
+        match self.sign_head(alloc, ask, endpoint, moment, payload_hash, length) {
             Ok(text) => Ok(Text::from(text)),
             Err(_) => Err(OutOfMemory),
         }
     }
 }
 
-fn head_of(
+/// The head as [`head_text`] gives it.
+fn sign_one_head(
     alloc: Global,
     ask: &Ask,
     endpoint: &Endpoint,
@@ -122,7 +127,8 @@ fn head_of(
     length: u64,
 ) -> Result<String, AllocError>
     requires { moment < 253402300800 }
-    ensures { IfOk result (λ text. string_bytes text ≡ spec.request_head ask.now endpoint.now keys.now moment payload_hash.now length) }
+    ensures { IfOk result (λ text. string_bytes text
+        ≡ spec.request_head ask.now endpoint.now keys.now moment payload_hash.now length) }
 {
     let key = key_at(alloc, keys.secret.as_str(), moment, keys.region.as_str())?;
     let with = Key {
@@ -144,9 +150,10 @@ pub fn head_text(
     length: u64,
 ) -> Result<Text, OutOfMemory>
     requires { moment < 253402300800 }
-    ensures { IfOk result (λ text. text ≡ spec.request_head ask.now endpoint.now keys.now moment payload_hash.now length) }
+    ensures { IfOk result (λ text. text
+        ≡ spec.request_head ask.now endpoint.now keys.now moment payload_hash.now length) }
 {
-    match head_of(alloc, ask, endpoint, keys, moment, payload_hash, length) {
+    match sign_one_head(alloc, ask, endpoint, keys, moment, payload_hash, length) {
         Ok(text) => Ok(Text::from(text)),
         Err(_) => Err(OutOfMemory),
     }

@@ -1,3 +1,4 @@
+//! Signature Version 4.
 ghost use Rattle.std.specs.Prelude.{◌≡◌, ◌++◌, ◌<◌, OnOk, IfOk, codes, string_bytes};
 ghost use Rattle.s3_requests.specs.Signing as spec;
 ghost use Rattle.s3_requests.specs.Headers.{canonical_with, header_block, pairs_of, target_lines};
@@ -69,7 +70,8 @@ fn signed_text(
     headers: &Pairs,
     payload_hash: &str,
 ) -> Result<String, AllocError>
-    ensures { IfOk result (λ text. string_bytes text ≡ spec.canonical_request method.now path.now query.now.items headers.now.items payload_hash.now) }
+    ensures { IfOk result (λ text. string_bytes text
+        ≡ spec.canonical_request method.now path.now query.now.items headers.now.items payload_hash.now) }
 {
     let mut escaped = String::with_capacity(alloc, path.len())?;
     push_path(&mut escaped, path)?;
@@ -99,7 +101,8 @@ pub fn canonical_request(
     payload_hash: &str,
 ) -> Result<Text, OutOfMemory>
     requires { spec.HasSortedNames headers.now.items }
-    ensures { IfOk result (λ text. text ≡ spec.canonical_request method.now path.now query.now.items headers.now.items payload_hash.now) }
+    ensures { IfOk result (λ text. text
+        ≡ spec.canonical_request method.now path.now query.now.items headers.now.items payload_hash.now) }
 {
     match signed_text(alloc, method, path, query, headers, payload_hash) {
         Ok(text) => Ok(Text::from(text)),
@@ -129,7 +132,8 @@ pub fn payload_hash(alloc: Global, body: &[u8]) -> Result<Text, OutOfMemory>
 #[tactic(auto, using(crate::proofs::JoinLemmas::pieces), unfolding(crate::specs::Signing::credential_scope))]
 pub fn push_scope(out: &mut String, moment: u64, region: &str) -> Result<(), AllocError>
     requires { moment < 253402300800 }
-    ensures { OnOk result (string_bytes out.new ≡ string_bytes out.old ++ spec.credential_scope (basic_date moment) region.now) }
+    ensures { OnOk result (string_bytes out.new
+        ≡ string_bytes out.old ++ spec.credential_scope (basic_date moment) region.now) }
 {
     push_basic_date(out, moment)?;
     out.push_str("/")?;

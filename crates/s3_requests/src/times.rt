@@ -1,3 +1,4 @@
+//! Moments as dates and times in UTC.
 ghost use Rattle.std.specs.Prelude.{◌≡◌, ◌<◌, ◌/◌, ◌%◌, ◌++◌, OnOk, string_bytes};
 ghost use Rattle.s3_requests.specs.Times as spec;
 

@@ -1,7 +1,7 @@
 use Rattle.std.proofs.Common.{◌++◌, ◌∙◌, ap, flat_map, map-id, string_bytes, sym}
 use Rattle.std.proofs.lemmas.Iterator.{YieldsList-from_chars}
 use Rattle.std.proofs.lemmas.Iterator.Consumers.{YieldsList-end}
-use Rattle.s3_requests.specs.Requests.{escape_markup, markup}
+use Rattle.s3_model.specs.Documents.{escape_markup, markup}
 use Rattle.s3_requests.proofs.body.push_markup.Goals as goal
 
 pub returns : goal.returns

@@ -1,5 +1,5 @@
 use Rattle.std.proofs.Common.{◌≡◌, ◌++◌, string_bytes, flat_map}
-use Rattle.s3_requests.specs.Requests.{escape_markup}
+use Rattle.s3_model.specs.Documents.{escape_markup}
 use Rattle.s3_requests.proofs.body.push_markup.Given as goal
 
 abbrev pub invariant-loop-ch : goal.invariant-loop-ch

@@ -1,5 +1,5 @@
 use Rattle.std.proofs.Common.{string_bytes, rules}
-use Rattle.s3_requests.specs.Requests.{part_elements}
+use Rattle.s3_model.specs.Documents.{part_elements}
 use Rattle.s3_requests.proofs.BodyLemmas.{part_elements_step}
 use Rattle.s3_requests.proofs.body.push_parts.Goals as goal
 

@@ -4,7 +4,7 @@ use Rattle.std.specs.Option.{option_copied}
 use Rattle.s3_requests.specs.Headers.{delimiter_text}
 use Rattle.s3_requests.specs.Signing.{encode_query}
 use Rattle.s3_requests.proofs.RequestLemmas.{listing_written}
-use Rattle.s3_requests.proofs.parts.push_list_query.Goals as goal
+use Rattle.s3_requests.proofs.target.push_list_query.Goals as goal
 
 pub returns : goal.returns
 returns c =
