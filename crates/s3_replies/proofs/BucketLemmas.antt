@@ -4,18 +4,18 @@ use Rattle.std.specs.Option.{is_some}
 use Rattle.std.proofs.lemmas.Bool.{false≢true}
 use Rattle.s3_model.specs.Lists.{Reserved}
 use Rattle.s3_model.specs.declared.places.Entry.{Entry}
-use Rattle.s3_replies.specs.declared.elements.Element.TheVariants as element
-use Rattle.s3_replies.specs.declared.xml.reader.Tag.{Tag}
+use Rattle.reply_xml.specs.declared.elements.Element.TheVariants as element
+use Rattle.reply_xml.specs.declared.reader.Tag.{Tag}
 use Rattle.s3_replies.specs.Buckets.{BucketLeft, HasBucket, HasEachBucket, ListLeft}
-use Rattle.s3_replies.specs.Contents.{Content, Only, is_the, named}
-use Rattle.s3_replies.specs.Children.{IsFormed, IsLeafOf}
-use Rattle.s3_replies.specs.Reading.{ReadsAs, ReadsNone, Advances, Stops, ReadsSome, OnceLeft, LeafLeft}
-use Rattle.s3_replies.specs.Times.{SpellsTime}
-use Rattle.s3_replies.proofs.ChildLemmas.{is_other, once_here, once_bad, once_missing, leaf_same, IsFormed-same}
+use Rattle.reply_xml.specs.Contents.{Content, Only, is_the, named}
+use Rattle.reply_xml.specs.Children.{IsFormed, IsLeafOf}
+use Rattle.reply_xml.specs.Reading.{ReadsAs, ReadsNone, Advances, Stops, ReadsSome, OnceLeft, LeafLeft}
+use Rattle.reply_values.specs.Times.{SpellsTime}
+use Rattle.reply_xml.proofs.ChildLemmas.{is_other, once_here, once_bad, once_missing, leaf_same, IsFormed-same}
 use Rattle.s3_replies.proofs.EachLemmas.{Each-same}
 use Rattle.s3_replies.proofs.EntryLemmas.{entries_same}
-use Rattle.s3_replies.proofs.TimeValues.{SpellsTime-same}
-use Rattle.s3_replies.proofs.TakeLemmas.{Passes, first_advanced, other_advanced, first_stopped, other_stopped, both_pass, part_advanced, part_stopped, skipped, named_passes}
+use Rattle.reply_values.proofs.TimeValues.{SpellsTime-same}
+use Rattle.reply_xml.proofs.TakeLemmas.{Passes, first_advanced, other_advanced, first_stopped, other_stopped, both_pass, part_advanced, part_stopped, skipped, named_passes}
 
 abbrev NameLeft : Option (List ℕ) → Content → List ℕ × ℕ → Type 0
 NameLeft name c v = LeafLeft (IsFormed element.Name) element.Name name c v.0

@@ -1,12 +1,12 @@
 -- Elements of one name, each with a value, as they are found one after another.
 use Rattle.std.proofs.Common.{◌≡◌, ◌++◌, ◌∙◌, ◌↔◌, ℕ, true, List, [], ◌∷◌, sym, refl, subst, ap}
 use Rattle.std.proofs.lemmas.List.{append_assoc, append-nil}
-use Rattle.s3_replies.specs.declared.elements.Element.{Element}
-use Rattle.s3_replies.specs.declared.xml.reader.Tag.{Tag}
-use Rattle.s3_replies.specs.Contents.{Content, is_the, named}
-use Rattle.s3_replies.specs.Children.{Each}
-use Rattle.s3_replies.specs.Reading.{ReadsAs, ReadsNone, Advances, Stops, EachLeft}
-use Rattle.s3_replies.proofs.ChildLemmas.{named_here}
+use Rattle.reply_xml.specs.declared.elements.Element.{Element}
+use Rattle.reply_xml.specs.declared.reader.Tag.{Tag}
+use Rattle.reply_xml.specs.Contents.{Content, is_the, named}
+use Rattle.reply_xml.specs.Children.{Each}
+use Rattle.reply_xml.specs.Reading.{ReadsAs, ReadsNone, Advances, Stops, EachLeft}
+use Rattle.reply_xml.proofs.ChildLemmas.{named_here}
 
 each_first : {V : Type 0} (P : Content → V → Type 0) (c : Content) (cs : List Content) (vs : List V) → Each P (c ∷ cs) vs → (v : V) × (more : List V) × (vs ≡ v ∷ more) × P c v × Each P cs more
 each_first P c cs [] e = absurd e

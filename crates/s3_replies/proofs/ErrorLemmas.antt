@@ -1,14 +1,14 @@
 -- A code and a message, as they are found.
 use Rattle.std.proofs.Common.{◌≡◌, ℕ, true, false, List, [], Option, Some, None, sym, refl, subst, unwrap_or}
 use Rattle.std.specs.Option.{IsSome}
-use Rattle.s3_replies.specs.declared.elements.Element.TheVariants as element
-use Rattle.s3_replies.specs.declared.xml.reader.Tag.{Tag}
-use Rattle.s3_replies.specs.Contents.{Content, Only, is_the}
-use Rattle.s3_replies.specs.Children.{IsFormed, IsLeafOf}
+use Rattle.reply_xml.specs.declared.elements.Element.TheVariants as element
+use Rattle.reply_xml.specs.declared.reader.Tag.{Tag}
+use Rattle.reply_xml.specs.Contents.{Content, Only, is_the}
+use Rattle.reply_xml.specs.Children.{IsFormed, IsLeafOf}
 use Rattle.s3_replies.specs.Errors.{ErrorLeft, HasError}
-use Rattle.s3_replies.specs.Reading.{ReadsAs, Advances, Stops, ReadsSome, OnceLeft, AtMostOnceLeft, LeafLeft, AtMostLeft}
-use Rattle.s3_replies.proofs.ChildLemmas.{is_other, once_missing}
-use Rattle.s3_replies.proofs.TakeLemmas.{Passes, first_advanced, other_advanced, first_stopped, other_stopped, both_pass, part_advanced, part_stopped, skipped, named_passes, at_most_advanced, at_most_stopped}
+use Rattle.reply_xml.specs.Reading.{ReadsAs, Advances, Stops, ReadsSome, OnceLeft, AtMostOnceLeft, LeafLeft, AtMostLeft}
+use Rattle.reply_xml.proofs.ChildLemmas.{is_other, once_missing}
+use Rattle.reply_xml.proofs.TakeLemmas.{Passes, first_advanced, other_advanced, first_stopped, other_stopped, both_pass, part_advanced, part_stopped, skipped, named_passes, at_most_advanced, at_most_stopped}
 
 abbrev CodeLeft : Option (List ℕ) → Content → List ℕ × Option (List ℕ) → Type 0
 CodeLeft code c v = LeafLeft (IsFormed element.Code) element.Code code c v.0

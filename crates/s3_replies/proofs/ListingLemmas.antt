@@ -3,17 +3,17 @@ use Rattle.std.proofs.Common.{◌≡◌, ◌∙◌, ℕ, Bool, true, false, List
 use Rattle.std.specs.List.{AllZip}
 use Rattle.s3_model.specs.declared.answers.Listed.{Listed}
 use Rattle.s3_model.specs.declared.places.Entry.{Entry}
-use Rattle.s3_replies.specs.declared.elements.Element.TheVariants as element
-use Rattle.s3_replies.specs.Contents.{Content, named}
-use Rattle.s3_replies.specs.Children.{AtMostOnce, HasLeaf, IsFormed, IsLeafOf}
+use Rattle.reply_xml.specs.declared.elements.Element.TheVariants as element
+use Rattle.reply_xml.specs.Contents.{Content, named}
+use Rattle.reply_xml.specs.Children.{AtMostOnce, HasLeaf, IsFormed, IsLeafOf}
 use Rattle.s3_replies.specs.Listing.{HasEncoding, HasObject, HasPage, IsListing, IsWritten, MeansEntry, MeansText, Page}
-use Rattle.s3_replies.specs.Numbers.{SpellsTruth}
-use Rattle.s3_replies.proofs.ChildLemmas.{nothing_there, leaf_same, Once-same, IsLeafOf-same, IsFormed-same}
+use Rattle.reply_values.specs.Numbers.{SpellsTruth}
+use Rattle.reply_xml.proofs.ChildLemmas.{nothing_there, leaf_same, Once-same, IsLeafOf-same, IsFormed-same}
 use Rattle.s3_replies.proofs.EachLemmas.{Each-same}
-use Rattle.s3_replies.proofs.NumberLemmas.{SpellsTruth-same}
+use Rattle.reply_values.proofs.NumberLemmas.{SpellsTruth-same}
 use Rattle.s3_replies.proofs.ObjectLemmas.{HasObject-same}
 use Rattle.s3_replies.proofs.PageLemmas.{HasLeaf-same}
-use Rattle.s3_replies.proofs.WholeLemmas.{IsOf-same}
+use Rattle.reply_xml.proofs.WholeLemmas.{IsOf-same}
 
 page_of : Bool → Option (List ℕ) → Bool → List Entry → List (List ℕ) → Page
 page_of more token url entries prefixes = record { more = more; token = token; url = url; entries = entries; prefixes = prefixes }

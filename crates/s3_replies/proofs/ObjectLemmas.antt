@@ -1,19 +1,19 @@
 -- An object of a listing, as its parts are found.
 use Rattle.std.proofs.Common.{◌≡◌, ℕ, true, false, List, [], Option, Some, None, sym, refl, subst}
 use Rattle.s3_model.specs.declared.places.Entry.{Entry}
-use Rattle.s3_replies.specs.declared.elements.Element.TheVariants as element
-use Rattle.s3_replies.specs.declared.xml.reader.Tag.{Tag}
-use Rattle.s3_replies.specs.Contents.{Content, Only, is_the, named}
-use Rattle.s3_replies.specs.Children.{IsFormed, IsLeafOf}
+use Rattle.reply_xml.specs.declared.elements.Element.TheVariants as element
+use Rattle.reply_xml.specs.declared.reader.Tag.{Tag}
+use Rattle.reply_xml.specs.Contents.{Content, Only, is_the, named}
+use Rattle.reply_xml.specs.Children.{IsFormed, IsLeafOf}
 use Rattle.s3_replies.specs.Listing.{HasObject, ObjectLeft}
-use Rattle.s3_replies.specs.Numbers.{SpellsNumber}
-use Rattle.s3_replies.specs.Reading.{ReadsAs, Advances, Stops, ReadsSome, OnceLeft, LeafLeft}
-use Rattle.s3_replies.specs.Times.{SpellsTime}
-use Rattle.s3_replies.proofs.ChildLemmas.{is_other, once_missing, leaf_same, IsFormed-same}
+use Rattle.reply_values.specs.Numbers.{SpellsNumber}
+use Rattle.reply_xml.specs.Reading.{ReadsAs, Advances, Stops, ReadsSome, OnceLeft, LeafLeft}
+use Rattle.reply_values.specs.Times.{SpellsTime}
+use Rattle.reply_xml.proofs.ChildLemmas.{is_other, once_missing, leaf_same, IsFormed-same}
 use Rattle.s3_replies.proofs.EntryLemmas.{entries_same}
-use Rattle.s3_replies.proofs.NumberLemmas.{SpellsNumber-same}
-use Rattle.s3_replies.proofs.TimeValues.{SpellsTime-same}
-use Rattle.s3_replies.proofs.TakeLemmas.{Both, Passes, first_advanced, other_advanced, first_stopped, other_stopped, both_pass, part_advanced, part_stopped, skipped, named_passes}
+use Rattle.reply_values.proofs.NumberLemmas.{SpellsNumber-same}
+use Rattle.reply_values.proofs.TimeValues.{SpellsTime-same}
+use Rattle.reply_xml.proofs.TakeLemmas.{Both, Passes, first_advanced, other_advanced, first_stopped, other_stopped, both_pass, part_advanced, part_stopped, skipped, named_passes}
 
 abbrev KeyLeft : Option (List ℕ) → Content → Entry → Type 0
 KeyLeft key content entry = LeafLeft (IsFormed element.Key) element.Key key content entry.key

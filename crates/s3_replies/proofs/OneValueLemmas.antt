@@ -2,21 +2,21 @@
 use Rattle.std.proofs.Common.{◌≡◌, ◌∙◌, ℕ, Bool, List, [], ◌∷◌, sym, refl, subst, ap, codes, unwrap_or}
 use Rattle.std.specs.List.{AllZip}
 use Rattle.s3_model.specs.declared.places.Entry.{Entry}
-use Rattle.s3_replies.specs.declared.elements.Element.TheVariants as element
+use Rattle.reply_xml.specs.declared.elements.Element.TheVariants as element
 use Rattle.s3_replies.specs.Buckets.{HasBuckets, HasEachBucket}
-use Rattle.s3_replies.specs.Children.{HasLeaf, IsFormed, IsLeafOf}
-use Rattle.s3_replies.specs.Contents.{Content, named}
+use Rattle.reply_xml.specs.Children.{HasLeaf, IsFormed, IsLeafOf}
+use Rattle.reply_xml.specs.Contents.{Content, named}
 use Rattle.s3_replies.specs.Errors.{HasError}
 use Rattle.s3_replies.specs.Listing.{MeansEntry, MeansText, Page}
 use Rattle.s3_replies.specs.OneValue.{OneBucketList, OneEntityTag, OneError, OneListing, OneUpload}
 use Rattle.s3_replies.specs.Results.{copy_root}
 use Rattle.s3_replies.proofs.BucketLemmas.{HasEachBucket-same}
-use Rattle.s3_replies.proofs.ChildLemmas.{IsFormed-same, IsLeafOf-same, Once-same}
+use Rattle.reply_xml.proofs.ChildLemmas.{IsFormed-same, IsLeafOf-same, Once-same}
 use Rattle.s3_replies.proofs.EntryLemmas.{entries_same}
 use Rattle.s3_replies.proofs.ListingLemmas.{at_most_same, IsWritten-same}
 use Rattle.s3_replies.proofs.PageLemmas.{HasLeaf-same}
 use Rattle.s3_replies.proofs.PlainLemmas.{MeansText-same}
-use Rattle.s3_replies.proofs.WholeLemmas.{IsOf-same}
+use Rattle.reply_xml.proofs.WholeLemmas.{IsOf-same}
 
 pairs_same : {A B : Type 0} (a b : A × B) → b.0 ≡ a.0 → b.1 ≡ a.1 → b ≡ a
 pairs_same a b e f = ap (λ x. (x, b.1)) e ∙ ap (λ y. (a.0, y)) f

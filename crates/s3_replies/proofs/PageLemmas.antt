@@ -2,18 +2,18 @@
 use Rattle.std.proofs.Common.{◌≡◌, ◌∙◌, ◌↔◌, ℕ, Bool, true, false, List, [], ◌∷◌, Option, Some, None, sym, refl, subst, ap, codes}
 use Rattle.std.proofs.lemmas.Bool.{false≢true}
 use Rattle.s3_model.specs.declared.places.Entry.{Entry}
-use Rattle.s3_replies.specs.declared.elements.Element.{Element}
-use Rattle.s3_replies.specs.declared.elements.Element.TheVariants as element
-use Rattle.s3_replies.specs.declared.xml.reader.Tag.{Tag}
-use Rattle.s3_replies.specs.Contents.{Content, Only, Then, is_the, named}
-use Rattle.s3_replies.specs.Children.{HasLeaf, IsFormed, IsLeaf, IsLeafOf}
+use Rattle.reply_xml.specs.declared.elements.Element.{Element}
+use Rattle.reply_xml.specs.declared.elements.Element.TheVariants as element
+use Rattle.reply_xml.specs.declared.reader.Tag.{Tag}
+use Rattle.reply_xml.specs.Contents.{Content, Only, Then, is_the, named}
+use Rattle.reply_xml.specs.Children.{HasLeaf, IsFormed, IsLeaf, IsLeafOf}
 use Rattle.s3_replies.specs.Listing.{EncodingLeft, HasEncoding, HasObject, HasPage, ObjectsLeft, Page, PageLeft, PrefixesLeft}
-use Rattle.s3_replies.specs.Numbers.{SpellsTruth}
-use Rattle.s3_replies.specs.Reading.{ReadsAs, ReadsNone, ReadsSome, Advances, Stops, OnceLeft, AtMostOnceLeft, LeafLeft, AtMostLeft, EachLeft}
-use Rattle.s3_replies.proofs.ChildLemmas.{is_other, named_here, nothing_there, content_same, leaf_same, IsFormed-same}
+use Rattle.reply_values.specs.Numbers.{SpellsTruth}
+use Rattle.reply_xml.specs.Reading.{ReadsAs, ReadsNone, ReadsSome, Advances, Stops, OnceLeft, AtMostOnceLeft, LeafLeft, AtMostLeft, EachLeft}
+use Rattle.reply_xml.proofs.ChildLemmas.{is_other, named_here, nothing_there, content_same, leaf_same, IsFormed-same}
 use Rattle.s3_replies.proofs.EachLemmas.{each_start, each_end}
-use Rattle.s3_replies.proofs.LeafLemmas.{IsLeaf-same, ReadsAs-same}
-use Rattle.s3_replies.proofs.TakeLemmas.{Both, Passes, first_advanced, other_advanced, first_stopped, other_stopped, both_pass, part_advanced, part_stopped, skipped, named_passes}
+use Rattle.reply_xml.proofs.LeafLemmas.{IsLeaf-same, ReadsAs-same}
+use Rattle.reply_xml.proofs.TakeLemmas.{Both, Passes, first_advanced, other_advanced, first_stopped, other_stopped, both_pass, part_advanced, part_stopped, skipped, named_passes}
 
 pub HasLeaf-same : (of : Element) (c : Content) (v w : List ℕ) → HasLeaf of c v → HasLeaf of c w → w ≡ v
 HasLeaf-same of c v w r s = leaf_same (IsFormed of) (IsFormed-same of) (named of c) v w r s

@@ -3,8 +3,8 @@ use Rattle.std.proofs.Common.{◌≡◌, ◌∙◌, ℕ, Bool, true, false, List
 use Rattle.std.specs.List.{AllZip}
 use Rattle.std.proofs.lemmas.Bool.{false≢true}
 use Rattle.s3_replies.specs.Listing.{MeansText}
-use Rattle.s3_replies.specs.UrlText.{SpellsUrlText}
-use Rattle.s3_replies.proofs.UrlTextLemmas.{SpellsUrlText-same}
+use Rattle.reply_values.specs.UrlText.{SpellsUrlText}
+use Rattle.reply_values.proofs.UrlTextLemmas.{SpellsUrlText-same}
 
 pub MeansText-same : (url : Bool) (written text other : List ℕ) → MeansText url written text → MeansText url written other → other ≡ text
 MeansText-same false written text other r s = s ∙ sym r

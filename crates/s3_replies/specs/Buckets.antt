@@ -2,12 +2,12 @@
 use Rattle.std.specs.Prelude.{◌≡◌, ℕ, List, [], Option, Some, None, codes}
 use Rattle.s3_model.specs.Lists.{Reserved}
 use Rattle.s3_model.specs.declared.places.Entry.{Entry}
-use Rattle.s3_replies.specs.declared.elements.Element.TheVariants as element
-use Rattle.s3_replies.specs.Contents.{Content, named}
-use Rattle.s3_replies.specs.Children.{Each, HasLeaf, IsFormed, IsLeafOf, Once}
-use Rattle.s3_replies.specs.Documents.{IsOf}
-use Rattle.s3_replies.specs.Reading.{EachLeft, LeafLeft, OnceLeft}
-use Rattle.s3_replies.specs.Times.{SpellsTime}
+use Rattle.reply_xml.specs.declared.elements.Element.TheVariants as element
+use Rattle.reply_xml.specs.Contents.{Content, named}
+use Rattle.reply_xml.specs.Children.{Each, HasLeaf, IsFormed, IsLeafOf, Once}
+use Rattle.reply_xml.specs.Documents.{IsOf}
+use Rattle.reply_xml.specs.Reading.{EachLeft, LeafLeft, OnceLeft}
+use Rattle.reply_values.specs.Times.{SpellsTime}
 
 -- a bucket: its name, and when it was made; it has no size and no entity tag
 pub record HasBucket (content : Content) (entry : Entry) : Type 0 where

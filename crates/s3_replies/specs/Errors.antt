@@ -1,10 +1,10 @@
 -- The document that names an error (Amazon S3 API Reference, "Error responses").
 use Rattle.std.specs.Prelude.{◌≡◌, ℕ, List, [], Option, unwrap_or, codes}
-use Rattle.s3_replies.specs.declared.elements.Element.TheVariants as element
-use Rattle.s3_replies.specs.Contents.{Content, named}
-use Rattle.s3_replies.specs.Children.{AtMostOnce, HasLeaf, IsFormed, IsLeafOf}
-use Rattle.s3_replies.specs.Documents.{IsOf}
-use Rattle.s3_replies.specs.Reading.{AtMostLeft, LeafLeft}
+use Rattle.reply_xml.specs.declared.elements.Element.TheVariants as element
+use Rattle.reply_xml.specs.Contents.{Content, named}
+use Rattle.reply_xml.specs.Children.{AtMostOnce, HasLeaf, IsFormed, IsLeafOf}
+use Rattle.reply_xml.specs.Documents.{IsOf}
+use Rattle.reply_xml.specs.Reading.{AtMostLeft, LeafLeft}
 
 -- the code, and the message, which is empty where it is absent
 abbrev pub HasError : Content → List ℕ × List ℕ → Type 0

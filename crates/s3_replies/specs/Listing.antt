@@ -3,15 +3,15 @@ use Rattle.std.specs.Prelude.{◌≡◌, ℕ, Bool, true, false, List, [], ◌�
 use Rattle.std.specs.List.{AllZip}
 use Rattle.s3_model.specs.declared.answers.Listed.{Listed}
 use Rattle.s3_model.specs.declared.places.Entry.{Entry}
-use Rattle.s3_replies.specs.declared.elements.Element.TheVariants as element
-use Rattle.s3_replies.specs.Contents.{Content, named}
-use Rattle.s3_replies.specs.Children.{AtMostOnce, Each, HasLeaf, IsFormed, IsLeaf, IsLeafOf, Once}
-use Rattle.s3_replies.specs.Documents.{IsOf}
-use Rattle.s3_replies.specs.Forms.{IsKey}
-use Rattle.s3_replies.specs.Numbers.{SpellsNumber, SpellsTruth}
-use Rattle.s3_replies.specs.Reading.{AtMostLeft, EachLeft, LeafLeft}
-use Rattle.s3_replies.specs.Times.{SpellsTime}
-use Rattle.s3_replies.specs.UrlText.{SpellsUrlText}
+use Rattle.reply_xml.specs.declared.elements.Element.TheVariants as element
+use Rattle.reply_xml.specs.Contents.{Content, named}
+use Rattle.reply_xml.specs.Children.{AtMostOnce, Each, HasLeaf, IsFormed, IsLeaf, IsLeafOf, Once}
+use Rattle.reply_xml.specs.Documents.{IsOf}
+use Rattle.reply_values.specs.Forms.{IsKey}
+use Rattle.reply_values.specs.Numbers.{SpellsNumber, SpellsTruth}
+use Rattle.reply_xml.specs.Reading.{AtMostLeft, EachLeft, LeafLeft}
+use Rattle.reply_values.specs.Times.{SpellsTime}
+use Rattle.reply_values.specs.UrlText.{SpellsUrlText}
 
 -- an object as it is listed, with its key as it is written there
 pub record HasObject (content : Content) (entry : Entry) : Type 0 where

@@ -1,8 +1,8 @@
 -- The documents that name an upload or an entity tag (Amazon S3 API Reference: CreateMultipartUpload, CompleteMultipartUpload, CopyObject and UploadPartCopy).
 use Rattle.std.specs.Prelude.{ℕ, Bool, true, false, List, codes}
-use Rattle.s3_replies.specs.declared.elements.Element.TheVariants as element
-use Rattle.s3_replies.specs.Documents.{IsOf}
-use Rattle.s3_replies.specs.Children.{HasLeaf}
+use Rattle.reply_xml.specs.declared.elements.Element.TheVariants as element
+use Rattle.reply_xml.specs.Documents.{IsOf}
+use Rattle.reply_xml.specs.Children.{HasLeaf}
 
 -- an upload was made, with this id
 abbrev pub IsCreated : List ℕ → List ℕ → Type 0

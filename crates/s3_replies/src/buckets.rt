@@ -1,13 +1,12 @@
+//! The list of buckets.
+
 ghost use Rattle.std.specs.Prelude.{◌≡◌, ◌≤◌, ℕ, List, None, Option, IfOk, OnOk, length};
 ghost use Rattle.s3_model.specs.declared.places.Entry.{Entry};
 ghost use Rattle.s3_replies.specs.Buckets.{BucketLeft, BucketsLeft, HasBucket, HasBuckets, HasEachBucket, IsBucketList, ListLeft};
-ghost use Rattle.s3_replies.specs.Faults.{IfRefused};
-ghost use Rattle.s3_replies.specs.Reading.{Advances, ReadsAs, ReadsNone, Stops};
+ghost use Rattle.reply_xml.specs.Faults.{IfRefused};
+ghost use Rattle.reply_xml.specs.Reading.{Advances, ReadsAs, ReadsNone, Stops};
 
-use crate::elements::Element;
-use crate::faults::DocFault;
-use crate::only::is_the;
-use crate::xml::reader::{Reader, Tag};
+use reply_xml::{DocFault, Element, Reader, Tag, is_the};
 use s3_model::{Entries, Entry, Text};
 use std::alloc::Global;
 
@@ -18,7 +17,8 @@ fn take_part<'a>(
     name: &mut Option<Text>,
     created: &mut Option<u64>,
 ) -> Result<(), DocFault>
-    ensures value { OnOk result (Advances (BucketLeft name.old created.old) (BucketLeft name.new created.new) tag.now reader.old.rest.now reader.new.rest.now) }
+    ensures value { OnOk result (Advances (BucketLeft name.old created.old) (BucketLeft name.new created.new)
+        tag.now reader.old.rest.now reader.new.rest.now) }
     ensures no_longer { length reader.new.rest.now ≤ length reader.old.rest.now }
     ensures refused { IfRefused result (Stops (BucketLeft name.old created.old) tag.now reader.old.rest.now) }
 {
@@ -62,7 +62,8 @@ fn take_bucket<'a>(
     tag: &Tag<'a>,
     rows: &mut Entries,
 ) -> Result<(), DocFault>
-    ensures value { OnOk result (Advances (BucketsLeft rows.old.items) (BucketsLeft rows.new.items) tag.now reader.old.rest.now reader.new.rest.now) }
+    ensures value { OnOk result (Advances (BucketsLeft rows.old.items) (BucketsLeft rows.new.items)
+        tag.now reader.old.rest.now reader.new.rest.now) }
     ensures no_longer { length reader.new.rest.now ≤ length reader.old.rest.now }
     ensures refused { IfRefused result (Stops (BucketsLeft rows.old.items) tag.now reader.old.rest.now) }
 {
@@ -79,7 +80,8 @@ fn take_bucket<'a>(
 
 /// The buckets inside their element.
 fn buckets<'a>(reader: &mut Reader<'a>, parent: &Tag<'a>) -> Result<Entries, DocFault>
-    ensures value { IfOk result (λ rows. ReadsAs HasEachBucket parent.now reader.old.rest.now reader.new.rest.now rows.items) }
+    ensures value { IfOk result
+        (λ rows. ReadsAs HasEachBucket parent.now reader.old.rest.now reader.new.rest.now rows.items) }
     ensures no_longer { length reader.new.rest.now ≤ length reader.old.rest.now }
     ensures refused { IfRefused result (ReadsNone HasEachBucket parent.now reader.old.rest.now) }
 {
@@ -96,7 +98,8 @@ fn take_list<'a>(
     tag: &Tag<'a>,
     found: &mut Option<Entries>,
 ) -> Result<(), DocFault>
-    ensures value { OnOk result (Advances (ListLeft found.old) (ListLeft found.new) tag.now reader.old.rest.now reader.new.rest.now) }
+    ensures value { OnOk result (Advances (ListLeft found.old) (ListLeft found.new)
+        tag.now reader.old.rest.now reader.new.rest.now) }
     ensures no_longer { length reader.new.rest.now ≤ length reader.old.rest.now }
     ensures refused { IfRefused result (Stops (ListLeft found.old) tag.now reader.old.rest.now) }
 {
@@ -112,7 +115,8 @@ fn take_list<'a>(
 
 /// The buckets of a document, by what stands inside its root.
 fn list_inside<'a>(reader: &mut Reader<'a>, root: &Tag<'a>) -> Result<Entries, DocFault>
-    ensures value { IfOk result (λ rows. ReadsAs HasBuckets root.now reader.old.rest.now reader.new.rest.now rows.items) }
+    ensures value { IfOk result
+        (λ rows. ReadsAs HasBuckets root.now reader.old.rest.now reader.new.rest.now rows.items) }
     ensures refused { IfRefused result (ReadsNone HasBuckets root.now reader.old.rest.now) }
 {
     let mut found = None;

@@ -1,3 +1,5 @@
+//! The codes of errors.
+
 ghost use Rattle.std.specs.Prelude.{◌≡◌, ◌<◌, Some, length, map, slice_get};
 ghost use Rattle.s3_replies.specs.ErrorCodes.{code_names, error_code};
 

@@ -1,12 +1,11 @@
+//! The document of an error.
+
 ghost use Rattle.std.specs.Prelude.{◌≡◌, ◌≤◌, ℕ, List, None, Option, IfOk, OnOk, length};
 ghost use Rattle.s3_replies.specs.Errors.{ErrorLeft, HasError, IsError};
-ghost use Rattle.s3_replies.specs.Faults.{IfRefused};
-ghost use Rattle.s3_replies.specs.Reading.{Advances, ReadsAs, ReadsNone, Stops};
+ghost use Rattle.reply_xml.specs.Faults.{IfRefused};
+ghost use Rattle.reply_xml.specs.Reading.{Advances, ReadsAs, ReadsNone, Stops};
 
-use crate::elements::Element;
-use crate::faults::DocFault;
-use crate::only::is_the;
-use crate::xml::reader::{Reader, Tag};
+use reply_xml::{DocFault, Element, Reader, Tag, is_the};
 use s3_model::Text;
 use std::alloc::Global;
 
@@ -17,7 +16,8 @@ fn take_error<'a>(
     code: &mut Option<Text>,
     message: &mut Option<Text>,
 ) -> Result<(), DocFault>
-    ensures value { OnOk result (Advances (ErrorLeft code.old message.old) (ErrorLeft code.new message.new) tag.now reader.old.rest.now reader.new.rest.now) }
+    ensures value { OnOk result (Advances (ErrorLeft code.old message.old) (ErrorLeft code.new message.new)
+        tag.now reader.old.rest.now reader.new.rest.now) }
     ensures no_longer { length reader.new.rest.now ≤ length reader.old.rest.now }
     ensures refused { IfRefused result (Stops (ErrorLeft code.old message.old) tag.now reader.old.rest.now) }
 {

@@ -1,3 +1,5 @@
+//! A document has one value.
+
 ghost use Rattle.s3_replies.specs.OneValue.{OneBucketList, OneEntityTag, OneError, OneListing, OneUpload};
 
 /// A document has one value: the same bytes are no two errors, listings, bucket lists, ids of an upload or entity tags.

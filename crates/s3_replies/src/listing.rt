@@ -1,14 +1,13 @@
-ghost use Rattle.std.specs.Prelude.{◌≡◌, ◌≤◌, ℕ, List, None, Option, IfOk, OnOk, length, true};
-ghost use Rattle.s3_replies.specs.Contents.{is_the};
-ghost use Rattle.s3_replies.specs.declared.elements.Element.TheVariants as element;
-ghost use Rattle.s3_replies.specs.Faults.{IfRefused};
-ghost use Rattle.s3_replies.specs.Listing.{EncodingLeft, HasObject, HasPage, IsWritten, ObjectLeft, ObjectsLeft, Page, PageLeft, PrefixesLeft};
-ghost use Rattle.s3_replies.specs.Reading.{Advances, ReadsAs, ReadsNone, Stops};
+//! A page of a listing, as it is written.
 
-use crate::elements::Element;
-use crate::faults::DocFault;
-use crate::only::is_the;
-use crate::xml::reader::{Reader, Tag, is_same};
+ghost use Rattle.std.specs.Prelude.{◌≡◌, ◌≤◌, ℕ, List, None, Option, IfOk, OnOk, length, true};
+ghost use Rattle.reply_xml.specs.Contents.{is_the};
+ghost use Rattle.reply_xml.specs.declared.elements.Element.TheVariants as element;
+ghost use Rattle.reply_xml.specs.Faults.{IfRefused};
+ghost use Rattle.s3_replies.specs.Listing.{EncodingLeft, HasObject, HasPage, IsWritten, ObjectLeft, ObjectsLeft, Page, PageLeft, PrefixesLeft};
+ghost use Rattle.reply_xml.specs.Reading.{Advances, ReadsAs, ReadsNone, Stops};
+
+use reply_xml::{DocFault, Element, Reader, Tag, is_same, is_the};
 use s3_model::{Entry, Text};
 use std::alloc::Global;
 
@@ -21,9 +20,11 @@ fn take_part<'a>(
     etag: &mut Option<Text>,
     size: &mut Option<u64>,
 ) -> Result<(), DocFault>
-    ensures value { OnOk result (Advances (ObjectLeft key.old modified.old etag.old size.old) (ObjectLeft key.new modified.new etag.new size.new) tag.now reader.old.rest.now reader.new.rest.now) }
+    ensures value { OnOk result (Advances (ObjectLeft key.old modified.old etag.old size.old)
+        (ObjectLeft key.new modified.new etag.new size.new) tag.now reader.old.rest.now reader.new.rest.now) }
     ensures no_longer { length reader.new.rest.now ≤ length reader.old.rest.now }
-    ensures refused { IfRefused result (Stops (ObjectLeft key.old modified.old etag.old size.old) tag.now reader.old.rest.now) }
+    ensures refused { IfRefused result (Stops (ObjectLeft key.old modified.old etag.old size.old)
+        tag.now reader.old.rest.now) }
 {
     if is_the(Element::Key, tag.element) {
         return reader.take_text(tag, Element::Key, key);
@@ -80,7 +81,8 @@ fn take_object<'a>(
     rows: &mut Vec<Entry>,
 ) -> Result<(), DocFault>
     requires { is_the element.Contents tag.now.element ≡ true }
-    ensures value { OnOk result (Advances (ObjectsLeft rows.old.items) (ObjectsLeft rows.new.items) tag.now reader.old.rest.now reader.new.rest.now) }
+    ensures value { OnOk result (Advances (ObjectsLeft rows.old.items) (ObjectsLeft rows.new.items)
+        tag.now reader.old.rest.now reader.new.rest.now) }
     ensures no_longer { length reader.new.rest.now ≤ length reader.old.rest.now }
     ensures refused { IfRefused result (Stops (ObjectsLeft rows.old.items) tag.now reader.old.rest.now) }
 {
@@ -98,7 +100,8 @@ fn take_prefix<'a>(
     rows: &mut Vec<Text>,
 ) -> Result<(), DocFault>
     requires { is_the element.CommonPrefixes tag.now.element ≡ true }
-    ensures value { OnOk result (Advances (PrefixesLeft rows.old.items) (PrefixesLeft rows.new.items) tag.now reader.old.rest.now reader.new.rest.now) }
+    ensures value { OnOk result (Advances (PrefixesLeft rows.old.items) (PrefixesLeft rows.new.items)
+        tag.now reader.old.rest.now reader.new.rest.now) }
     ensures no_longer { length reader.new.rest.now ≤ length reader.old.rest.now }
     ensures refused { IfRefused result (Stops (PrefixesLeft rows.old.items) tag.now reader.old.rest.now) }
 {
@@ -112,7 +115,8 @@ fn take_prefix<'a>(
 /// Takes in the name of the encoding, of which `url` is the only one.
 fn take_encoding<'a>(reader: &mut Reader<'a>, tag: &Tag<'a>, url: &mut bool) -> Result<(), DocFault>
     requires { is_the element.EncodingType tag.now.element ≡ true }
-    ensures value { OnOk result (Advances (EncodingLeft url.old) (EncodingLeft url.new) tag.now reader.old.rest.now reader.new.rest.now) }
+    ensures value { OnOk result (Advances (EncodingLeft url.old) (EncodingLeft url.new)
+        tag.now reader.old.rest.now reader.new.rest.now) }
     ensures no_longer { length reader.new.rest.now ≤ length reader.old.rest.now }
     ensures refused { IfRefused result (Stops (EncodingLeft url.old) tag.now reader.old.rest.now) }
 {
@@ -137,9 +141,12 @@ fn take_page<'a>(
     entries: &mut Vec<Entry>,
     prefixes: &mut Vec<Text>,
 ) -> Result<(), DocFault>
-    ensures value { OnOk result (Advances (PageLeft more.old token.old url.old entries.old.items prefixes.old.items) (PageLeft more.new token.new url.new entries.new.items prefixes.new.items) tag.now reader.old.rest.now reader.new.rest.now) }
+    ensures value { OnOk result (Advances (PageLeft more.old token.old url.old entries.old.items prefixes.old.items)
+        (PageLeft more.new token.new url.new entries.new.items prefixes.new.items)
+        tag.now reader.old.rest.now reader.new.rest.now) }
     ensures no_longer { length reader.new.rest.now ≤ length reader.old.rest.now }
-    ensures refused { IfRefused result (Stops (PageLeft more.old token.old url.old entries.old.items prefixes.old.items) tag.now reader.old.rest.now) }
+    ensures refused { IfRefused result (Stops (PageLeft more.old token.old url.old entries.old.items prefixes.old.items)
+        tag.now reader.old.rest.now) }
 {
     if is_the(Element::Contents, tag.element) {
         return take_object(reader, tag, entries);
@@ -171,7 +178,13 @@ pub(crate) struct Written {
 
 /// The page inside the root of a document, as it is written.
 fn page<'a>(reader: &mut Reader<'a>, root: &Tag<'a>) -> Result<Written, DocFault>
-    ensures value { IfOk result (λ page. ReadsAs HasPage root.now reader.old.rest.now reader.new.rest.now (record { more = page.more; token = page.token; url = page.url; entries = page.entries.items; prefixes = page.prefixes.items })) }
+    ensures value { IfOk result (λ page. ReadsAs HasPage root.now reader.old.rest.now reader.new.rest.now (record {
+      more = page.more;
+      token = page.token;
+      url = page.url;
+      entries = page.entries.items;
+      prefixes = page.prefixes.items;
+    })) }
     ensures refused { IfRefused result (ReadsNone HasPage root.now reader.old.rest.now) }
 {
     let mut more = None;
@@ -204,7 +217,14 @@ fn page<'a>(reader: &mut Reader<'a>, root: &Tag<'a>) -> Result<Written, DocFault
 
 /// The page of a document, as it is written.
 pub(crate) fn written_page(alloc: Global, doc: &[u8]) -> Result<Written, DocFault>
-    ensures value { IfOk result (λ page. IsWritten doc.now (record { more = page.more; token = page.token; url = page.url; entries = page.entries.items; prefixes = page.prefixes.items })) }
+    ensures value { IfOk result (λ page. IsWritten doc.now (record {
+      more = page.more;
+      token = page.token;
+      url
+          = page.url;
+      entries = page.entries.items;
+      prefixes = page.prefixes.items;
+    })) }
     ensures refused { IfRefused result ((page : Page) → ¬ (IsWritten doc.now page)) }
 {
     let (mut reader, root) = match Reader::open(alloc, doc, "ListBucketResult") {

@@ -1,15 +1,15 @@
+//! A page of a listing, with its keys unescaped.
+
 ghost use Rattle.std.specs.Prelude.{◌≡◌, ℕ, List, IfOk};
 ghost use Rattle.std.specs.List.{AllZip};
 ghost use Rattle.s3_model.specs.declared.answers.Listed.{Listed};
 ghost use Rattle.s3_model.specs.declared.places.Entry.{Entry};
-ghost use Rattle.s3_replies.specs.Faults.{IfRefused};
+ghost use Rattle.reply_xml.specs.Faults.{IfRefused};
 ghost use Rattle.s3_replies.specs.Listing.{IsListing, MeansEntry, MeansText};
 
-use crate::elements::Element;
-use crate::faults::DocFault;
 use crate::listing::{Written, written_page};
-use crate::values::forms::is_key;
-use crate::values::url_text::{UrlFault, url_decode};
+use reply_values::{UrlFault, is_key, url_decode};
+use reply_xml::{DocFault, Element};
 use s3_model::{Entries, Entry, Listed, Text, Texts};
 use std::alloc::Global;
 

@@ -1,12 +1,12 @@
+//! The answers that have one value: an id of an upload or an entity tag.
+
 ghost use Rattle.std.specs.Prelude.{◌≡◌, ℕ, List, IfOk, OnOk};
-ghost use Rattle.s3_replies.specs.Children.{HasLeaf};
-ghost use Rattle.s3_replies.specs.Documents.{IsOf};
-ghost use Rattle.s3_replies.specs.Faults.{IfRefused};
+ghost use Rattle.reply_xml.specs.Children.{HasLeaf};
+ghost use Rattle.reply_xml.specs.Documents.{IsOf};
+ghost use Rattle.reply_xml.specs.Faults.{IfRefused};
 ghost use Rattle.s3_replies.specs.Results.{copy_root, IsCompleted, IsCopied, IsCreated};
 
-use crate::elements::Element;
-use crate::faults::DocFault;
-use crate::xml::reader::Reader;
+use reply_xml::{DocFault, Element, Reader};
 use s3_model::Text;
 use std::alloc::Global;
 

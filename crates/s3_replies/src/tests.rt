@@ -1,3 +1,5 @@
+//! Documents of the services, each with its value or its fault.
+
 use crate::{
     DocFault, ErrorCode, error_code, read_buckets, read_completed, read_copied, read_created,
     read_error, read_list,

@@ -1,8 +1,8 @@
 use Rattle.std.proofs.Common.{◌∙◌, refl, arith}
 use Rattle.s3_replies.specs.Buckets.{BucketLeft}
-use Rattle.s3_replies.proofs.FaultLemmas.{refused_past}
-use Rattle.s3_replies.proofs.OpenLemmas.{iff_past}
-use Rattle.s3_replies.proofs.TakeLemmas.{advanced, stopped, ended}
+use Rattle.reply_xml.proofs.FaultLemmas.{refused_past}
+use Rattle.reply_xml.proofs.OpenLemmas.{iff_past}
+use Rattle.reply_xml.proofs.TakeLemmas.{advanced, stopped, ended}
 use Rattle.s3_replies.proofs.BucketLemmas.{bucket_opened, bucket_closed, bucket_left, no_bucket_name, no_bucket_date}
 use Rattle.s3_replies.proofs.buckets.bucket.Goals as goal
 

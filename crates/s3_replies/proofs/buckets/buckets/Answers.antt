@@ -1,9 +1,9 @@
 use Rattle.std.proofs.Common.{refl, arith}
-use Rattle.s3_replies.specs.declared.elements.Element.TheVariants as element
+use Rattle.reply_xml.specs.declared.elements.Element.TheVariants as element
 use Rattle.s3_replies.specs.Buckets.{BucketsLeft, HasBucket}
-use Rattle.s3_replies.proofs.FaultLemmas.{refused_past}
-use Rattle.s3_replies.proofs.OpenLemmas.{iff_past}
-use Rattle.s3_replies.proofs.TakeLemmas.{advanced, stopped, ended}
+use Rattle.reply_xml.proofs.FaultLemmas.{refused_past}
+use Rattle.reply_xml.proofs.OpenLemmas.{iff_past}
+use Rattle.reply_xml.proofs.TakeLemmas.{advanced, stopped, ended}
 use Rattle.s3_replies.proofs.EachLemmas.{each_started, each_end}
 use Rattle.s3_replies.proofs.buckets.buckets.Goals as goal
 

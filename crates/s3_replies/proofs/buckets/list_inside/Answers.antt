@@ -1,8 +1,8 @@
 use Rattle.std.proofs.Common.{refl}
 use Rattle.s3_replies.specs.Buckets.{ListLeft}
-use Rattle.s3_replies.proofs.FaultLemmas.{refused_past}
-use Rattle.s3_replies.proofs.OpenLemmas.{iff_past}
-use Rattle.s3_replies.proofs.TakeLemmas.{advanced, stopped, ended}
+use Rattle.reply_xml.proofs.FaultLemmas.{refused_past}
+use Rattle.reply_xml.proofs.OpenLemmas.{iff_past}
+use Rattle.reply_xml.proofs.TakeLemmas.{advanced, stopped, ended}
 use Rattle.s3_replies.proofs.BucketLemmas.{list_left, no_list}
 use Rattle.s3_replies.proofs.buckets.list_inside.Goals as goal
 

@@ -1,7 +1,7 @@
 use Rattle.std.proofs.Common.{◌↔◌, ℕ, List, length}
 use Rattle.s3_model.specs.declared.places.Entry.{Entry}
 use Rattle.s3_replies.specs.Buckets.{ListLeft, HasBuckets}
-use Rattle.s3_replies.specs.Reading.{ReadsAs}
+use Rattle.reply_xml.specs.Reading.{ReadsAs}
 use Rattle.s3_replies.proofs.buckets.list_inside.Given as goal
 
 abbrev pub invariant-children : goal.invariant-children

@@ -1,8 +1,8 @@
 use Rattle.std.proofs.Common.{◌++◌, ◌∷◌, [], ◌∙◌, ap, sym}
-use Rattle.s3_replies.specs.declared.elements.Element.TheVariants as element
+use Rattle.reply_xml.specs.declared.elements.Element.TheVariants as element
 use Rattle.s3_replies.specs.Buckets.{BucketsLeft, HasBucket}
-use Rattle.s3_replies.proofs.FaultLemmas.{refused_past, refused_so}
-use Rattle.s3_replies.proofs.TakeLemmas.{stops_there}
+use Rattle.reply_xml.proofs.FaultLemmas.{refused_past, refused_so}
+use Rattle.reply_xml.proofs.TakeLemmas.{stops_there}
 use Rattle.s3_replies.proofs.EachLemmas.{each_advanced, each_stopped}
 use Rattle.s3_replies.proofs.BucketLemmas.{HasBucket-same}
 use Rattle.s3_replies.proofs.buckets.take_bucket.Goals as goal

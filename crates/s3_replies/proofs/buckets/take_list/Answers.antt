@@ -1,7 +1,7 @@
 use Rattle.std.proofs.Common.{◌∙◌, sym}
 use Rattle.s3_replies.specs.Buckets.{ListLeft}
-use Rattle.s3_replies.proofs.FaultLemmas.{refused_past, refused_so}
-use Rattle.s3_replies.proofs.TakeLemmas.{stops_there}
+use Rattle.reply_xml.proofs.FaultLemmas.{refused_past, refused_so}
+use Rattle.reply_xml.proofs.TakeLemmas.{stops_there}
 use Rattle.s3_replies.proofs.BucketLemmas.{list_advanced, list_stopped}
 use Rattle.s3_replies.proofs.buckets.take_list.Goals as goal
 

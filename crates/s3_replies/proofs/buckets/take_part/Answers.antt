@@ -1,7 +1,7 @@
 use Rattle.std.proofs.Common.{◌∙◌, sym}
 use Rattle.s3_replies.specs.Buckets.{BucketLeft}
-use Rattle.s3_replies.proofs.FaultLemmas.{refused_so, OnOk-map}
-use Rattle.s3_replies.proofs.TakeLemmas.{stops_there}
+use Rattle.reply_xml.proofs.FaultLemmas.{refused_so, OnOk-map}
+use Rattle.reply_xml.proofs.TakeLemmas.{stops_there}
 use Rattle.s3_replies.proofs.BucketLemmas.{name_advanced, name_stopped, created_advanced, created_stopped, bucket_skipped}
 use Rattle.s3_replies.proofs.buckets.take_part.Goals as goal
 

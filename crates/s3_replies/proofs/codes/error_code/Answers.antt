@@ -2,7 +2,7 @@ use Rattle.std.proofs.Common.{◌∙◌, Some, None, map, sym, refl, arith}
 use Rattle.std.proofs.lemmas.List.{length-map}
 use Rattle.std.proofs.lemmas.Option.{slice_get_within}
 use Rattle.s3_replies.specs.ErrorCodes.{code_names, error_code}
-use Rattle.s3_replies.proofs.Rows.{lookup_found}
+use Rattle.reply_xml.proofs.Rows.{lookup_found}
 use Rattle.s3_replies.proofs.codes.error_code.Goals as goal
 
 pub code_at-requires : goal.code_at-requires

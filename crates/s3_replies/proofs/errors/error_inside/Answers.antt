@@ -1,8 +1,8 @@
 use Rattle.std.proofs.Common.{◌∙◌, Some, None, refl}
 use Rattle.s3_replies.specs.Errors.{ErrorLeft}
-use Rattle.s3_replies.proofs.FaultLemmas.{refused_past}
-use Rattle.s3_replies.proofs.OpenLemmas.{iff_past}
-use Rattle.s3_replies.proofs.TakeLemmas.{advanced, stopped, ended}
+use Rattle.reply_xml.proofs.FaultLemmas.{refused_past}
+use Rattle.reply_xml.proofs.OpenLemmas.{iff_past}
+use Rattle.reply_xml.proofs.TakeLemmas.{advanced, stopped, ended}
 use Rattle.s3_replies.proofs.ErrorLemmas.{error_opened, error_closed, error_left, no_code}
 use Rattle.s3_replies.proofs.errors.error_inside.Goals as goal
 

@@ -1,6 +1,6 @@
 use Rattle.std.proofs.Common.{◌↔◌, ℕ, List, Option, None, length}
 use Rattle.s3_replies.specs.Errors.{ErrorLeft}
-use Rattle.s3_replies.specs.Reading.{ReadsAs}
+use Rattle.reply_xml.specs.Reading.{ReadsAs}
 use Rattle.s3_replies.proofs.errors.error_inside.Given as goal
 
 abbrev pub invariant-children : goal.invariant-children

@@ -1,7 +1,7 @@
 use Rattle.std.proofs.Common.{◌∙◌, sym}
 use Rattle.s3_replies.specs.Errors.{ErrorLeft}
-use Rattle.s3_replies.proofs.FaultLemmas.{refused_so, OnOk-map, OnOk-all}
-use Rattle.s3_replies.proofs.TakeLemmas.{stops_there}
+use Rattle.reply_xml.proofs.FaultLemmas.{refused_so, OnOk-map, OnOk-all}
+use Rattle.reply_xml.proofs.TakeLemmas.{stops_there}
 use Rattle.s3_replies.proofs.ErrorLemmas.{code_advanced, code_stopped, message_advanced, message_stopped, error_skipped}
 use Rattle.s3_replies.proofs.errors.take_error.Goals as goal
 

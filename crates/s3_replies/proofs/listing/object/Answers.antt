@@ -1,12 +1,12 @@
 use Rattle.std.proofs.Common.{refl, arith}
-use Rattle.s3_replies.specs.declared.elements.Element.TheVariants as element
-use Rattle.s3_replies.specs.Children.{IsFormed}
+use Rattle.reply_xml.specs.declared.elements.Element.TheVariants as element
+use Rattle.reply_xml.specs.Children.{IsFormed}
 use Rattle.s3_replies.specs.Listing.{ObjectLeft}
-use Rattle.s3_replies.specs.Numbers.{SpellsNumber}
-use Rattle.s3_replies.specs.Times.{SpellsTime}
-use Rattle.s3_replies.proofs.FaultLemmas.{refused_past}
-use Rattle.s3_replies.proofs.OpenLemmas.{iff_past}
-use Rattle.s3_replies.proofs.TakeLemmas.{advanced, stopped, ended}
+use Rattle.reply_values.specs.Numbers.{SpellsNumber}
+use Rattle.reply_values.specs.Times.{SpellsTime}
+use Rattle.reply_xml.proofs.FaultLemmas.{refused_past}
+use Rattle.reply_xml.proofs.OpenLemmas.{iff_past}
+use Rattle.reply_xml.proofs.TakeLemmas.{advanced, stopped, ended}
 use Rattle.s3_replies.proofs.ObjectLemmas.{object_opened, object_closed, object_left, part_missing}
 use Rattle.s3_replies.proofs.listing.object.Goals as goal
 

@@ -1,7 +1,7 @@
 use Rattle.std.proofs.Common.{◌≤◌, ◌↔◌, ℕ, List, None, length}
 use Rattle.s3_model.specs.declared.places.Entry.{Entry}
 use Rattle.s3_replies.specs.Listing.{ObjectLeft}
-use Rattle.s3_replies.specs.Reading.{ReadsAs}
+use Rattle.reply_xml.specs.Reading.{ReadsAs}
 use Rattle.s3_replies.proofs.listing.object.Given as goal
 
 abbrev pub invariant-children : goal.invariant-children

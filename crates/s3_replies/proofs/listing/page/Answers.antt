@@ -1,11 +1,11 @@
 use Rattle.std.proofs.Common.{refl}
 use Rattle.s3_replies.specs.Listing.{Page, PageLeft}
-use Rattle.s3_replies.specs.Numbers.{SpellsTruth}
-use Rattle.s3_replies.proofs.FaultLemmas.{refused_past}
-use Rattle.s3_replies.proofs.OpenLemmas.{iff_past}
+use Rattle.reply_values.specs.Numbers.{SpellsTruth}
+use Rattle.reply_xml.proofs.FaultLemmas.{refused_past}
+use Rattle.reply_xml.proofs.OpenLemmas.{iff_past}
 use Rattle.s3_replies.proofs.ObjectLemmas.{part_missing}
 use Rattle.s3_replies.proofs.PageLemmas.{page_started, page_left}
-use Rattle.s3_replies.proofs.TakeLemmas.{advanced, stopped, ended}
+use Rattle.reply_xml.proofs.TakeLemmas.{advanced, stopped, ended}
 use Rattle.s3_replies.proofs.listing.page.Goals as goal
 
 pub children-init : goal.children-init

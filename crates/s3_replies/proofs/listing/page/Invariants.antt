@@ -1,6 +1,6 @@
 use Rattle.std.proofs.Common.{◌↔◌, ℕ, List, length}
 use Rattle.s3_replies.specs.Listing.{HasPage, Page, PageLeft}
-use Rattle.s3_replies.specs.Reading.{ReadsAs}
+use Rattle.reply_xml.specs.Reading.{ReadsAs}
 use Rattle.s3_replies.proofs.listing.page.Given as goal
 
 abbrev pub invariant-children : goal.invariant-children

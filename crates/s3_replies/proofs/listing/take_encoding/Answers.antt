@@ -1,5 +1,5 @@
 use Rattle.std.proofs.Common.{◌∙◌, sym}
-use Rattle.s3_replies.proofs.FaultLemmas.{refused_past}
+use Rattle.reply_xml.proofs.FaultLemmas.{refused_past}
 use Rattle.s3_replies.proofs.PageLemmas.{encoding_advanced, encoding_none, encoding_other, encoding_twice}
 use Rattle.s3_replies.proofs.listing.take_encoding.Goals as goal
 

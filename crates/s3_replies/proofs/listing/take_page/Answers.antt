@@ -1,9 +1,9 @@
 use Rattle.std.proofs.Common.{◌∙◌, sym}
-use Rattle.s3_replies.specs.declared.elements.Element.TheVariants as element
-use Rattle.s3_replies.specs.Children.{IsFormed}
+use Rattle.reply_xml.specs.declared.elements.Element.TheVariants as element
+use Rattle.reply_xml.specs.Children.{IsFormed}
 use Rattle.s3_replies.specs.Listing.{PageLeft}
-use Rattle.s3_replies.proofs.FaultLemmas.{refused_so, OnOk-map, OnOk-all}
-use Rattle.s3_replies.proofs.TakeLemmas.{stops_there, at_most_advanced, at_most_stopped}
+use Rattle.reply_xml.proofs.FaultLemmas.{refused_so, OnOk-map, OnOk-all}
+use Rattle.reply_xml.proofs.TakeLemmas.{stops_there, at_most_advanced, at_most_stopped}
 use Rattle.s3_replies.proofs.PageLemmas.{entries_advanced, entries_stopped, prefixes_advanced, prefixes_stopped, more_advanced, more_stopped, token_advanced, token_stopped, url_advanced, url_stopped, page_skipped}
 use Rattle.s3_replies.proofs.listing.take_page.Goals as goal
 

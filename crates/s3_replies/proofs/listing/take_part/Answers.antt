@@ -1,7 +1,7 @@
 use Rattle.std.proofs.Common.{◌∙◌, sym}
 use Rattle.s3_replies.specs.Listing.{ObjectLeft}
-use Rattle.s3_replies.proofs.FaultLemmas.{refused_so, OnOk-map}
-use Rattle.s3_replies.proofs.TakeLemmas.{stops_there}
+use Rattle.reply_xml.proofs.FaultLemmas.{refused_so, OnOk-map}
+use Rattle.reply_xml.proofs.TakeLemmas.{stops_there}
 use Rattle.s3_replies.proofs.ObjectLemmas.{key_advanced, key_stopped, modified_advanced, modified_stopped, etag_advanced, etag_stopped, size_advanced, size_stopped, object_skipped}
 use Rattle.s3_replies.proofs.listing.take_part.Goals as goal
 

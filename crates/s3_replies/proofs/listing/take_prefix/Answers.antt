@@ -1,6 +1,6 @@
-use Rattle.s3_replies.specs.declared.elements.Element.TheVariants as element
-use Rattle.s3_replies.specs.Children.{HasLeaf}
-use Rattle.s3_replies.proofs.FaultLemmas.{refused_past}
+use Rattle.reply_xml.specs.declared.elements.Element.TheVariants as element
+use Rattle.reply_xml.specs.Children.{HasLeaf}
+use Rattle.reply_xml.proofs.FaultLemmas.{refused_past}
 use Rattle.s3_replies.proofs.EachLemmas.{each_advanced, each_stopped}
 use Rattle.s3_replies.proofs.PageLemmas.{HasLeaf-same}
 use Rattle.s3_replies.proofs.listing.take_prefix.Goals as goal

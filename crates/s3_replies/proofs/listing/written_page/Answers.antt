@@ -1,8 +1,8 @@
 use Rattle.std.proofs.Common.{ℕ, Bool, List, codes}
 use Rattle.s3_replies.specs.Listing.{HasPage, Page}
-use Rattle.s3_replies.specs.Documents.{IsOf, BeginsDocument}
-use Rattle.s3_replies.proofs.FaultLemmas.{Tells-map, refused_past}
-use Rattle.s3_replies.proofs.WholeLemmas.{no_root, no_inside, no_whole, whole}
+use Rattle.reply_xml.specs.Documents.{IsOf, BeginsDocument}
+use Rattle.reply_xml.proofs.FaultLemmas.{Tells-map, refused_past}
+use Rattle.reply_xml.proofs.WholeLemmas.{no_root, no_inside, no_whole, whole}
 use Rattle.s3_replies.proofs.listing.written_page.Goals as goal
 
 pub returns-in-Err-clause-refused : goal.returns-in-Err-clause-refused

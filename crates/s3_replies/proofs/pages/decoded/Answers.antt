@@ -1,5 +1,5 @@
 use Rattle.std.proofs.Common.{ℕ, List, Err, ap, subst}
-use Rattle.s3_replies.specs.UrlText.{SpellsUrlText}
+use Rattle.reply_values.specs.UrlText.{SpellsUrlText}
 use Rattle.s3_replies.proofs.PlainLemmas.{no_url}
 use Rattle.s3_replies.proofs.pages.decoded.Goals as goal
 

@@ -4,7 +4,7 @@ use Rattle.std.specs.Vec.Iter.{into_iter_items}
 use Rattle.std.proofs.lemmas.List.{append-nil, nil_from_length}
 use Rattle.s3_model.specs.declared.places.Entry.{Entry}
 use Rattle.s3_replies.specs.Listing.{MeansEntry}
-use Rattle.s3_replies.proofs.FaultLemmas.{refused_past}
+use Rattle.reply_xml.proofs.FaultLemmas.{refused_past}
 use Rattle.s3_replies.proofs.PlainLemmas.{zip_parts}
 use Rattle.s3_replies.proofs.pages.entries_of.Goals as goal
 

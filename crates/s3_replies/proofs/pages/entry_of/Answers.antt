@@ -1,6 +1,6 @@
 use Rattle.std.proofs.Common.{◌∙◌, sym, subst}
 use Rattle.std.proofs.lemmas.Bool.{false≢true}
-use Rattle.s3_replies.specs.Forms.{IsKey}
+use Rattle.reply_values.specs.Forms.{IsKey}
 use Rattle.s3_replies.proofs.PlainLemmas.{MeansText-same}
 use Rattle.s3_replies.proofs.pages.entry_of.Goals as goal
 

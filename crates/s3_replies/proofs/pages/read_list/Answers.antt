@@ -1,6 +1,6 @@
 use Rattle.std.proofs.Common.{refl}
 use Rattle.s3_replies.specs.Listing.{Page}
-use Rattle.s3_replies.proofs.FaultLemmas.{refused_past}
+use Rattle.reply_xml.proofs.FaultLemmas.{refused_past}
 use Rattle.s3_replies.proofs.ListingLemmas.{no_entries, no_prefixes}
 use Rattle.s3_replies.proofs.pages.read_list.Goals as goal
 

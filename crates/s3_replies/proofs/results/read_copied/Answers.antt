@@ -1,5 +1,5 @@
 use Rattle.std.proofs.Common.{Bool, List, ℕ, IfOk, sym, subst}
-use Rattle.s3_replies.specs.Faults.{IfRefused}
+use Rattle.reply_xml.specs.Faults.{IfRefused}
 use Rattle.s3_replies.specs.Results.{IsCopied}
 use Rattle.s3_replies.proofs.results.read_copied.Goals as goal
 

@@ -1,0 +1,49 @@
+-- Character data without markup, and the references in it (XML 1.0, sections 2.4, 4.1 and 4.6).
+use Rattle.std.specs.Prelude.{◌≡◌, ◌≢◌, ◌⊎◌, ◌++◌, ◌∷◌, ◌<◌, ℕ, List, [], length, take, drop, slice_index, codes, encode_utf8}
+use Rattle.std.specs.Char.{IsScalar}
+use Rattle.reply_values.specs.Numbers.{Writes}
+use Rattle.reply_values.specs.Spelling.{Spells, StartsNoPiece}
+
+-- the predefined entities
+abbrev pub IsEntity : List ℕ → ℕ → Type 0
+IsEntity name char =
+    ((name ≡ codes "lt") × (char ≡ 60)) ⊎ ((name ≡ codes "gt") × (char ≡ 62)) ⊎ ((name ≡ codes "amp") × (char ≡ 38))
+    ⊎ ((name ≡ codes "quot") × (char ≡ 34)) ⊎ ((name ≡ codes "apos") × (char ≡ 39))
+
+-- a character by its number, decimal behind `#` or hexadecimal behind `#x`
+abbrev pub IsNumbered : List ℕ → ℕ → Type 0
+IsNumbered name char =
+    IsScalar char × (((digits : List ℕ) × (name ≡ codes "#" ++ digits) × Writes 10 digits char)
+    ⊎ ((digits : List ℕ) × (name ≡ codes "#x" ++ digits) × Writes 16 digits char))
+
+-- what a name between `&` and `;` stands for
+abbrev pub Names : List ℕ → ℕ → Type 0
+Names name char = IsEntity name char ⊎ IsNumbered name char
+
+-- `&name;` stands for a character, in UTF-8
+pub record IsReference (piece text : List ℕ) : Type 0 where
+  pub name : List ℕ
+  pub char : ℕ
+  pub written : piece ≡ codes "&" ++ name ++ codes ";"
+  pub named : Names name char
+  pub meant : text ≡ encode_utf8 char
+
+-- every byte but `&` stands for itself
+pub record IsPlain (piece text : List ℕ) : Type 0 where
+  pub own : ℕ
+  pub written : piece ≡ own ∷ []
+  pub meant : text ≡ own ∷ []
+  pub no_reference : own ≢ 38
+
+abbrev pub StandsForText : List ℕ → List ℕ → Type 0
+StandsForText piece text = IsReference piece text ⊎ IsPlain piece text
+
+abbrev pub IsUnescaped : List ℕ → List ℕ → Type 0
+IsUnescaped raw text = Spells StandsForText raw text
+
+-- The first bad reference: what stands before it spells a text, a `&` stands there, and no reference begins there.
+pub record IsBadReference (raw : List ℕ) (place : ℕ) : Type 0 where
+  pub before : (text : List ℕ) × IsUnescaped (take place raw) text
+  pub inside : place < length raw
+  pub ampersand : slice_index raw place ≡ 38
+  pub bad : StartsNoPiece IsReference (drop place raw)

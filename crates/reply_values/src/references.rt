@@ -1,0 +1,84 @@
+//! References to characters, and the text that character data spells.
+
+ghost use Rattle.std.specs.Prelude.{◌≡◌, ◌∷◌, ℕ, List, IfOk, IfSome, IfNone, encode_utf8};
+ghost use Rattle.reply_values.specs.References.{IsNumbered, Names, IsReference, IsUnescaped, IsBadReference};
+ghost use Rattle.reply_values.specs.Spelling.{StartsPiece, StartsNoPiece};
+
+use crate::numbers::unsigned;
+use s3_model::Text;
+use std::alloc::Global;
+
+/// Why character data spells no text.
+#[derive(Clone, Copy, Debug, PartialEq, Eq)]
+pub enum ReferenceFault {
+    /// The place of the `&` of the first bad reference.
+    Bad(usize),
+    Memory,
+}
+
+/// The character whose number follows `#` in decimal, or `#x` in hexadecimal.
+fn numbered(name: &str) -> Option<char>
+    ensures value { IfSome result (IsNumbered name.now) }
+    ensures refused { IfNone result ((char : ℕ) → ¬ (IsNumbered name.now char)) }
+{
+    let digits = name.strip_prefix('#')?;
+    let number = match digits.strip_prefix('x') {
+        Some(digits) => unsigned(digits, 16)?,
+        None => unsigned(digits, 10)?,
+    };
+    char::from_u32(u32::try_from(number).ok()?)
+}
+
+/// The character that a name between `&` and `;` stands for.
+fn named(name: &str) -> Option<char>
+    ensures value { IfSome result (Names name.now) }
+    ensures refused { IfNone result ((char : ℕ) → ¬ (Names name.now char)) }
+{
+    match name {
+        "lt" => Some('<'),
+        "gt" => Some('>'),
+        "amp" => Some('&'),
+        "quot" => Some('"'),
+        "apos" => Some('\''),
+        _ => numbered(name),
+    }
+}
+
+/// The character of the reference whose `&` stands in front of the text, and what follows its `;`.
+fn reference(text: &str) -> Option<(char, &str)>
+    ensures value { IfSome result (λ read. StartsPiece IsReference (38 ∷ text.now) (encode_utf8 read.0) read.1.now) }
+    ensures refused { IfNone result (StartsNoPiece IsReference (38 ∷ text.now)) }
+{
+    let (name, rest) = text.split_once(';')?;
+    Some((named(name)?, rest))
+}
+
+/// The text that character data, cut at the next `<`, spells: a reference is its character (XML 1.0, sections 4.1 and
+/// 4.6), and every other byte is itself. The five predefined entities are known, and each character by its number, zero
+/// included, with any number of leading zeros.
+///
+/// `Bad` where a `&` begins no reference, with the place of the first such `&` in bytes.
+pub fn unescape(alloc: Global, raw: &str) -> Result<Text, ReferenceFault>
+    ensures value { IfOk result (IsUnescaped raw.now) }
+    ensures bad { (place : ℕ) → result ≡ Err (ReferenceFault.Bad place) → IsBadReference raw.now place }
+    ensures refused { (place : ℕ) → result ≡ Err (ReferenceFault.Bad place) → (text : List ℕ) →
+        ¬ (IsUnescaped raw.now text) }
+{
+    let Ok(mut text) = String::with_capacity(alloc, raw.len()) else {
+        return Err(ReferenceFault::Memory);
+    };
+    let mut rest = raw;
+    while let Some((plain, behind)) = rest.split_once('&') {
+        let Some((char, next)) = reference(behind) else {
+            return Err(ReferenceFault::Bad(raw.len() - behind.len() - 1));
+        };
+        if text.push_str(plain).is_err() || text.push(char).is_err() {
+            return Err(ReferenceFault::Memory);
+        }
+        rest = next;
+    }
+    if text.push_str(rest).is_err() {
+        return Err(ReferenceFault::Memory);
+    }
+    Ok(Text::from(text))
+}

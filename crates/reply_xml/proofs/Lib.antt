@@ -1,0 +1,11 @@
+pub mod ChildLemmas
+pub mod ContentLemmas
+pub mod DocumentLemmas
+pub mod FaultLemmas
+pub mod LeafLemmas
+pub mod OpenLemmas
+pub mod Rows
+pub mod RunLemmas
+pub mod TagLemmas
+pub mod TakeLemmas
+pub mod WholeLemmas

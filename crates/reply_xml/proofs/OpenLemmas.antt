@@ -1,0 +1,139 @@
+-- Elements that are open, one in another.
+use Rattle.std.proofs.Common.{◌≡◌, ◌-◌, ◌++◌, ◌∙◌, ◌↔◌, ℕ, Bool, true, false, List, [], ◌∷◌, Option, refl, sym, ap, subst, arith}
+use Rattle.reply_xml.specs.declared.elements.Element.{Element}
+use Rattle.reply_xml.specs.declared.reader.Tag.{Tag}
+use Rattle.reply_xml.specs.Contents.{Content, Only, Then, ReadsContent, ReadsInner}
+use Rattle.reply_xml.specs.Elements.{element_named}
+use Rattle.reply_xml.specs.Tags.{ReadsTag, ReadsEndTag}
+use Rattle.reply_xml.specs.Reading.{BeginsChild, EndsContent, ReadsSome, ReadsOpen}
+use Rattle.reply_xml.proofs.TagLemmas.{ReadsTag-same, tag_or_end}
+use Rattle.reply_xml.proofs.ContentLemmas.{ReadsText-same, ReadsContent-same, inner_open, content_inner}
+
+-- the innermost of the open elements
+pub open_in : (tags : List Tag) (tag : Tag) (bytes at rest : List ℕ) → ReadsSome tag bytes at → ReadsOpen tags at rest → ReadsOpen (tags ++ tag ∷ []) bytes rest
+open_in [] tag bytes at rest s o = (bytes, refl, subst (λ (b : List ℕ). ReadsSome tag bytes b) (sym o) s)
+open_in (outer ∷ tags) tag bytes at rest s o = (o.0, open_in tags tag bytes at o.0 s o.1, o.2)
+
+pub open_out : (tags : List Tag) (tag : Tag) (bytes rest : List ℕ) → ReadsOpen (tags ++ tag ∷ []) bytes rest → (at : List ℕ) × ReadsSome tag bytes at × ReadsOpen tags at rest
+open_out [] tag bytes rest o = (rest, subst (λ (b : List ℕ). ReadsSome tag b rest) o.1 o.2, refl)
+open_out (outer ∷ tags) tag bytes rest o =
+    let more = open_out tags tag bytes o.0 o.1 in
+    (more.0, more.1, (o.0, more.2, o.2))
+
+-- an element inside, and what follows it, are what stands there
+pub child_before : (room : ℕ) (bytes from next rest name : List ℕ) (tag : Tag) (inner more : Content) → (b : BeginsChild room bytes tag from) → ReadsInner tag.closed inner tag.room tag.name.now from next
+    → ReadsContent more room name next rest → ReadsContent (Then b.text tag.element inner more) room name bytes rest
+child_before room bytes from next rest name tag inner more b i m =
+    let less : tag.room ≡ room - 1 = omega (arith, b.deeper) in (
+      omega (arith, b.deeper),
+      (
+        next,
+        record {
+          at_tag = b.at_tag;
+          before = b.before;
+          closed = tag.closed;
+          name = tag.name.now;
+          at_inner = from;
+          tag = b.opens;
+          known = b.known;
+          inside = subst (λ r. ReadsInner tag.closed inner r tag.name.now from next) less i;
+        },
+        m,
+      ),
+    )
+
+pub inner_at : (closed other : Bool) (inner : Content) (room less : ℕ) (name found from place next : List ℕ) → other ≡ closed → less ≡ room → found ≡ name → place ≡ from
+    → ReadsInner other inner less found place next → ReadsInner closed inner room name from next
+inner_at closed other inner room less name found from place next e f g h r =
+    subst (λ (b : List ℕ). ReadsInner closed inner room name b next) h
+    (subst (λ (n : List ℕ). ReadsInner closed inner room n place next) g
+    (subst (λ l. ReadsInner closed inner l found place next) f (subst (λ (c : Bool). ReadsInner c inner less found place next) e r)))
+
+then_at : (text other : List ℕ) (child found : Option Element) (inner more : Content) → text ≡ other → child ≡ found → Then text child inner more ≡ Then other found inner more
+then_at text other child found inner more e f = cc
+
+-- what a content has behind the element that it begins with
+pub record BeginsWith (room : ℕ) (name from rest text : List ℕ) (tag : Tag) (c : Content) : Type 0 where
+  pub inner : Content
+  pub more : Content
+  pub next : List ℕ
+  pub is : c ≡ Then text tag.element inner more
+  pub inside : ReadsInner tag.closed inner tag.room tag.name.now from next
+  pub after : ReadsContent more room name next rest
+
+-- and where an element was found, every content has it
+pub child_past : (c : Content) (room : ℕ) (name bytes from rest : List ℕ) (tag : Tag) → (b : BeginsChild room bytes tag from) → ReadsContent c room name bytes rest
+    → BeginsWith room name from rest b.text tag c
+child_past (Only text) room name bytes from rest tag b r =
+    absurd
+    (
+    tag_or_end tag.closed tag.name.now name b.at_tag from rest b.opens
+    (subst (λ (t : List ℕ). ReadsEndTag name t rest) (ReadsText-same b.text text bytes b.at_tag r.0 b.before r.1).1 r.2)
+    )
+child_past (Then text child inner more) room name bytes from rest tag b r =
+    let a = r.1.1 in
+    let texts = ReadsText-same b.text text bytes b.at_tag a.at_tag b.before a.before in
+    let tags = ReadsTag-same tag.closed a.closed tag.name.now a.name b.at_tag from a.at_inner b.opens (subst (λ (t : List ℕ). ReadsTag a.closed a.name t a.at_inner) texts.1 a.tag) in
+    let less : room - 1 ≡ tag.room = omega (arith, b.deeper) in
+    record {
+      inner = inner;
+      more = more;
+      next = r.1.0;
+      is = then_at text b.text child tag.element inner more texts.0 (a.known ∙ ap element_named tags.1 ∙ sym b.known);
+      inside = inner_at tag.closed a.closed inner tag.room (room - 1) tag.name.now a.name from a.at_inner r.1.0 tags.0 less tags.1 tags.2 a.inside;
+      after = r.1.2;
+    }
+
+-- what stands inside a tag that is not closed, split at the element found there
+pub some_before : (parent tag : Tag) (bytes from rest : List ℕ) → parent.closed ≡ false → BeginsChild parent.room bytes tag from
+    → (at : List ℕ) → ReadsSome tag from at → ReadsSome parent at rest → ReadsSome parent bytes rest
+some_before parent tag bytes from rest plain b at s p =
+    let more = inner_open parent.closed p.0 parent.room parent.name.now at rest plain p.1 in (
+      Then b.text tag.element s.0 p.0,
+      content_inner parent.closed (Then b.text tag.element s.0 p.0) parent.room parent.name.now bytes rest plain
+          (child_before parent.room bytes from at rest parent.name.now tag s.0 p.0 b s.1 more),
+    )
+
+pub some_past : (parent tag : Tag) (bytes from rest : List ℕ) → parent.closed ≡ false → BeginsChild parent.room bytes tag from
+    → ReadsSome parent bytes rest → (at : List ℕ) × ReadsSome tag from at × ReadsSome parent at rest
+some_past parent tag bytes from rest plain b p =
+    let c = child_past p.0 parent.room parent.name.now bytes from rest tag b (inner_open parent.closed p.0 parent.room parent.name.now bytes rest plain p.1) in
+    (c.next, (c.inner, c.inside), (c.more, content_inner parent.closed c.more parent.room parent.name.now c.next rest plain c.after))
+
+-- where the content ends, nothing else stands
+pub ReadsInner-same : (closed : Bool) (c d : Content) (room : ℕ) (name bytes rest left : List ℕ) → ReadsInner closed c room name bytes rest → ReadsInner closed d room name bytes left → (d ≡ c) × (left ≡ rest)
+ReadsInner-same true c d room name bytes rest left r s = (s.0 ∙ sym r.0, s.1 ∙ sym r.1)
+ReadsInner-same false c d room name bytes rest left r s = let same = ReadsContent-same c d room name name bytes rest left r s in (same.0, same.2)
+
+pub ends_at : (tag : Tag) (bytes rest left : List ℕ) → EndsContent tag bytes rest → ReadsSome tag bytes left → left ≡ rest
+ends_at tag bytes rest left e s = (ReadsInner-same tag.closed (Only e.0) s.0 tag.room tag.name.now bytes rest left e.1 s.1).1
+
+-- what an element inside and the elements around it leave to be read
+abbrev pub Left : Tag → List Tag → List ℕ → List ℕ → Type 0
+Left inner outer here rest = (at : List ℕ) × ReadsSome inner here at × ReadsOpen outer at rest
+
+pub left_in : (outer items : List Tag) (inner child : Tag) (here from rest : List ℕ) → inner.closed ≡ false → BeginsChild inner.room here child from → items ≡ outer ++ inner ∷ []
+    → Left child items from rest ↔ Left inner outer here rest
+left_in outer items inner child here from rest plain b e = (
+  λ l. let o = open_out outer inner l.0 rest (subst (λ (ts : List Tag). ReadsOpen ts l.0 rest) e l.2) in
+      (o.0, some_before inner child here from o.0 plain b l.0 l.1 o.1, o.2),
+  λ l. let s = some_past inner child here from l.0 plain b l.1 in
+      (s.0, s.1, subst (λ (ts : List Tag). ReadsOpen ts s.0 rest) (sym e) (open_in outer inner s.0 l.0 rest s.2 l.2)),
+)
+
+pub left_out : (outer items : List Tag) (inner parent : Tag) (here from rest : List ℕ) → EndsContent inner here from → items ≡ outer ++ parent ∷ []
+    → Left parent outer from rest ↔ Left inner items here rest
+left_out outer items inner parent here from rest ends e = (
+  λ l. (from, (Only ends.0, ends.1), subst (λ (ts : List Tag). ReadsOpen ts from rest) (sym e) (open_in outer parent from l.0 rest l.1 l.2)),
+  λ l. let at = ends_at inner here from l.0 ends l.1 in
+      open_out outer parent from rest (subst (λ (ts : List Tag). ReadsOpen ts from rest) e (subst (λ (b : List ℕ). ReadsOpen items b rest) at l.2)),
+)
+
+pub left_end : (items : List Tag) (inner : Tag) (here from : List ℕ) → EndsContent inner here from → items ≡ [] → Left inner items here from
+left_end items inner here from ends e = (from, (Only ends.0, ends.1), subst (λ (ts : List Tag). ReadsOpen ts from from) (sym e) refl)
+
+pub left_none : (items : List Tag) (inner : Tag) (here rest : List ℕ) → ((c : Content) (at : List ℕ) → ¬ (ReadsInner inner.closed c inner.room inner.name.now here at)) → Left inner items here rest → ⊥
+left_none items inner here rest none l = none l.1.0 l.0 l.1.1
+
+pub iff_past : {A B C : Type 0} → A ↔ B → B ↔ C → A ↔ C
+iff_past f g = (λ a. g.0 (f.0 a), λ c. f.1 (g.1 c))

@@ -1,0 +1,50 @@
+-- Bytes begin with one run of a sort.
+use Rattle.std.proofs.Common.{◌≡◌, ◌<◌, ◌≤◌, ◌++◌, ◌∙◌, ℕ, Bool, true, false, List, [], ◌∷◌, refl, sym, ap, subst, length, get_or, drop, take, drop-cons}
+use Rattle.std.specs.List.{AllPass}
+use Rattle.std.proofs.lemmas.Bool.{false≢true}
+use Rattle.std.proofs.lemmas.List.{take-append-drop, append-nil, take_all}
+use Rattle.std.proofs.lemmas.List.Elements.{All-head, All-tail}
+use Rattle.reply_xml.specs.declared.runs.Sort.{Sort}
+use Rattle.reply_xml.specs.Runs.{is_of, BeginsOutside, ReadsRun}
+
+pub parts_same : (x y : ℕ) (xs ys : List ℕ) → x ∷ xs ≡ y ∷ ys → (x ≡ y) × (xs ≡ ys)
+parts_same x y xs ys e = (cc, cc)
+
+pub front_same : (x y : ℕ) (xs ys : List ℕ) → x ≡ y → xs ≡ ys → x ∷ xs ≡ y ∷ ys
+front_same x y xs ys e f = cc
+
+outside : (test : ℕ → Bool) (a : List ℕ) (y : ℕ) (ys : List ℕ) → BeginsOutside test a → a ≡ y ∷ ys → test y ≡ true → ⊥
+outside test a y ys ends e h =
+    let first : test y ≡ false = subst (BeginsOutside test) e ends in
+    false≢true (sym first ∙ h)
+
+-- a list is cut in one way where a test first fails
+pub runs_same : (test : ℕ → Bool) (xs ys a b : List ℕ) → AllPass test xs → AllPass test ys → BeginsOutside test a → BeginsOutside test b → xs ++ a ≡ ys ++ b → (xs ≡ ys) × (a ≡ b)
+runs_same test [] [] a b p q f g e = (refl, e)
+runs_same test [] (y ∷ ys) a b p q f g e = absurd (outside test a y (ys ++ b) f e (All-head (λ x. test x ≡ true) y ys q))
+runs_same test (x ∷ xs) [] a b p q f g e = absurd (outside test b x (xs ++ a) g (sym e) (All-head (λ x. test x ≡ true) x xs p))
+runs_same test (x ∷ xs) (y ∷ ys) a b p q f g e =
+    let same = parts_same x y (xs ++ a) (ys ++ b) e in
+    let more = runs_same test xs ys a b (All-tail (λ x. test x ≡ true) x xs p) (All-tail (λ x. test x ≡ true) y ys q) f g same.1 in
+    (front_same x y xs ys same.0 more.0, more.1)
+
+pub ReadsRun-same : (of : Sort) (run other bytes rest left : List ℕ) → ReadsRun of run bytes rest → ReadsRun of other bytes left → (other ≡ run) × (left ≡ rest)
+ReadsRun-same of run other bytes rest left r s = runs_same (is_of of) other run left rest s.inside r.inside s.ends r.ends (sym s.split ∙ r.split)
+
+-- where a test fails at a place, what stands from there on begins outside
+begins_at : (test : ℕ → Bool) (bytes : List ℕ) (i : ℕ) → i < length bytes → test (get_or bytes i 0) ≡ false → BeginsOutside test (drop i bytes)
+begins_at test bytes i h fails = subst (BeginsOutside test) (sym (drop-cons bytes i 0 h)) fails
+
+pub ReadsRun-to : (of : Sort) (bytes run rest : List ℕ) (i : ℕ) → i < length bytes → run ≡ take i bytes → rest ≡ drop i bytes → AllPass (is_of of) (take i bytes) → is_of of (get_or bytes i 0) ≡ false → ReadsRun of run bytes rest
+ReadsRun-to of bytes run rest i h e f inside fails = record {
+  split = sym (take-append-drop i bytes) ∙ ap (λ r. r ++ drop i bytes) (sym e) ∙ ap (λ r. run ++ r) (sym f);
+  inside = subst (AllPass (is_of of)) (sym e) inside;
+  ends = subst (BeginsOutside (is_of of)) (sym f) (begins_at (is_of of) bytes i h fails);
+}
+
+pub ReadsRun-whole : (of : Sort) (bytes : List ℕ) (i : ℕ) → length bytes ≤ i → AllPass (is_of of) (take i bytes) → ReadsRun of bytes bytes []
+ReadsRun-whole of bytes i h inside = record {
+  split = sym (append-nil bytes);
+  inside = subst (AllPass (is_of of)) (take_all i bytes h) inside;
+  ends = tt;
+}

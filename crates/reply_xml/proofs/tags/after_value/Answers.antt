@@ -1,0 +1,14 @@
+use Rattle.std.proofs.Common.{subst}
+use Rattle.std.specs.Str.{IsUtf8}
+use Rattle.reply_xml.proofs.TagLemmas.{value_parts}
+use Rattle.reply_xml.proofs.tags.after_value.Goals as goal
+
+pub returns-in_default-from_utf8-clause-refused : goal.returns-in_default-from_utf8-clause-refused
+returns-in_default-from_utf8-clause-refused c rest r =
+    let parts = value_parts _ rest _ _ _ _ c.in-Some.ensures.cases.0 c.split_run.ensures.value r in
+    c.in_default-from_utf8.ensures.cases.0 (subst IsUtf8 parts.1 r.characters)
+
+pub returns-in-None-clause-refused : goal.returns-in-None-clause-refused
+returns-in-None-clause-refused c rest r =
+    let parts = value_parts _ rest _ _ _ _ c.in-Some.ensures.cases.0 c.split_run.ensures.value r in
+    c.in-None.ensures.value rest parts.2

@@ -1,0 +1,9 @@
+pub mod Children
+pub mod Contents
+pub mod Documents
+pub mod Elements
+pub mod Faults
+pub mod Meaning
+pub mod Reading
+pub mod Runs
+pub mod Tags

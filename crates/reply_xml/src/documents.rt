@@ -1,0 +1,110 @@
+//! The front and the end of a document.
+
+ghost use Rattle.std.specs.Prelude.{◌≡◌, ◌++◌, ◌<◌, ◌≤◌, ◌+◌, ℕ, Bool, List, [], IfOk, OnOk, OnErr, MatchOption, codes, length, drop, take};
+ghost use Rattle.reply_xml.specs.Contents.{Content};
+ghost use Rattle.reply_xml.specs.Documents.{BeginsDocument, EndsAt, IsDocument, MayDeclare, ReadsSpace};
+ghost use Rattle.reply_xml.specs.Faults.{IfRefused};
+ghost use Rattle.reply_xml.specs.Tags.{ReadsTag};
+
+use crate::elements::element_named;
+use crate::faults::DocFault;
+use crate::places::utf8_front;
+use crate::reader::{Reader, Tag, is_same};
+use crate::runs::{Sort, split_run};
+use crate::tags::split_tag;
+use std::alloc::Global;
+
+/// Levels of elements below the root.
+const LEVELS: usize = 15;
+
+/// The place of the first `?>`.
+fn declaration_end(bytes: &[u8]) -> Option<usize>
+    ensures { MatchOption result ((k : ℕ) → ¬ (EndsAt bytes.now k))
+        (λ place. EndsAt bytes.now place × ((k : ℕ) → k < place → ¬ (EndsAt bytes.now k))) }
+{
+    for i in 1..bytes.len() {
+        if bytes[i - 1] == b'?' && bytes[i] == b'>' {
+            return Some(i - 1);
+        }
+    }
+    None
+}
+
+/// What follows `<?xml`, if that stands at the front.
+fn after_opening(bytes: &[u8]) -> Option<&[u8]>
+    ensures { MatchOption result ((after : List ℕ) → ¬ (bytes.now ≡ codes "<?xml" ++ after))
+        (λ after. bytes.now ≡ codes "<?xml" ++ after.now) }
+{
+    match bytes {
+        [b'<', b'?', b'x', b'm', b'l', after @ ..] => Some(after),
+        _ => None,
+    }
+}
+
+/// What follows the declaration, or all where there is none. An error is the number of bytes that are left where the
+/// grammar fails.
+fn after_declaration(bytes: &[u8]) -> Result<&[u8], usize>
+    ensures value { IfOk result (λ rest. MayDeclare bytes.now rest.now) }
+    ensures refused { OnErr result ((rest : List ℕ) → ¬ (MayDeclare bytes.now rest)) }
+{
+    let Some(after) = after_opening(bytes) else {
+        return Ok(bytes);
+    };
+    let Some(end) = declaration_end(after) else {
+        return Err(0);
+    };
+    let Ok(_) = std::str::from_utf8(&after[..end]) else {
+        return Err(after.len().saturating_sub(utf8_front(&after[..end])));
+    };
+    Ok(&after[end + 2..])
+}
+
+impl<'a> Reader<'a> {
+    /// Reads the bytes up to the content of the root.
+    pub fn open(alloc: Global, doc: &'a [u8], root: &str) -> Result<(Reader<'a>, Tag<'a>), DocFault>
+        ensures begins { IfOk result (λ parts. BeginsDocument root.now doc.now parts.1.closed parts.0.rest.now) }
+        ensures room { IfOk result (λ parts. parts.1.room ≡ 15) }
+        ensures named { IfOk result (λ parts. parts.1.name.now ≡ root.now) }
+        ensures refused { IfRefused result ((closed : Bool) (rest : List ℕ) →
+            ¬ (BeginsDocument root.now doc.now closed rest)) }
+    {
+        let (_, at_declaration) = split_run(Sort::Space, doc);
+        let at_space = match after_declaration(at_declaration) {
+            Ok(rest) => rest,
+            Err(left) => return Err(DocFault::NotADocument(doc.len().saturating_sub(left))),
+        };
+        let (_, at_root) = split_run(Sort::Space, at_space);
+        let (name, closed, rest) = match split_tag(at_root) {
+            Ok(parts) => parts,
+            Err(left) => return Err(DocFault::NotADocument(doc.len().saturating_sub(left))),
+        };
+        if !is_same(name, root.as_bytes()) {
+            let left = at_root.len().saturating_sub(name.len()).saturating_sub(1);
+            return Err(DocFault::NotADocument(doc.len().saturating_sub(left)));
+        }
+        let reader = Reader {
+            alloc,
+            size: doc.len(),
+            rest,
+        };
+        let tag = Tag {
+            name,
+            element: element_named(name),
+            closed,
+            room: LEVELS,
+        };
+        Ok((reader, tag))
+    }
+
+    /// White space up to the end of the document.
+    pub fn close(&self) -> Result<(), DocFault>
+        ensures value { OnOk result (ReadsSpace self.now.rest.now []) }
+        ensures refused { IfRefused result (¬ (ReadsSpace self.now.rest.now [])) }
+    {
+        let (_, rest) = split_run(Sort::Space, self.rest);
+        if !rest.is_empty() {
+            return Err(DocFault::NotADocument(self.place(rest.len())));
+        }
+        Ok(())
+    }
+}

@@ -1,0 +1,33 @@
+//! Where bytes leave the grammar.
+
+ghost use Rattle.std.specs.Prelude.{◌≤◌, length};
+
+/// How many bytes at the front of a name stand at the front of another one.
+pub(crate) fn common_front(name: &[u8], other: &[u8]) -> usize
+    ensures { result ≤ length name.now }
+{
+    for (i, byte) in name.iter().enumerate() {
+        if other.get(i) != Some(byte) {
+            return i;
+        }
+    }
+    name.len()
+}
+
+/// Whether a character of several bytes begins with this one (RFC 3629, section 4).
+fn is_lead(byte: u8) -> bool {
+    matches!(byte, 0xC2..=0xF4)
+}
+
+/// How many bytes at the front are UTF-8, or the beginning of a text that is.
+pub(crate) fn utf8_front(bytes: &[u8]) -> usize {
+    let Err(fault) = std::str::from_utf8(bytes) else {
+        return bytes.len();
+    };
+    let valid = fault.valid_up_to();
+    match (bytes.get(valid), fault.error_len()) {
+        (Some(byte), Some(length)) if is_lead(*byte) => valid.saturating_add(length),
+        (_, Some(_)) => valid,
+        (_, None) => bytes.len(),
+    }
+}

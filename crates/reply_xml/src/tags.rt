@@ -1,0 +1,128 @@
+//! Tags, with their attributes.
+
+ghost use Rattle.std.specs.Prelude.{◌≡◌, ◌<◌, ◌≤◌, ◌∷◌, ℕ, Bool, List, length, IfOk, OnErr, IfSome, MatchOption};
+ghost use Rattle.reply_xml.specs.Tags.{ReadsAttribute, ReadsEndTag, ReadsGap, ReadsName, ReadsTag, ReadsTagEnd, ReadsValue};
+
+use crate::places::utf8_front;
+use crate::runs::{Sort, split_run};
+
+/// What follows the byte, where it stands at the front.
+pub(crate) fn after_byte(byte: u8, bytes: &[u8]) -> Option<&[u8]>
+    ensures value { MatchOption result ((rest : List ℕ) → ¬ (bytes.now ≡ byte ∷ rest))
+        (λ rest. bytes.now ≡ byte ∷ rest.now) }
+    ensures shorter { IfSome result (λ rest. length rest.now < length bytes.now) }
+{
+    match bytes {
+        [first, rest @ ..] if *first == byte => Some(rest),
+        _ => None,
+    }
+}
+
+/// A name at the front, and what follows it. An error is the number of bytes that are left where the grammar fails.
+pub(crate) fn split_name(bytes: &[u8]) -> Result<(&[u8], &[u8]), usize>
+    ensures value { IfOk result (λ parts. ReadsName parts.0.now bytes.now parts.1.now) }
+    ensures shorter { IfOk result (λ parts. length parts.1.now < length bytes.now) }
+    ensures refused { OnErr result ((name rest : List ℕ) → ¬ (ReadsName name bytes.now rest)) }
+{
+    let (name, rest) = split_run(Sort::Name, bytes);
+    if name.is_empty() {
+        return Err(bytes.len());
+    }
+    Ok((name, rest))
+}
+
+/// What follows the quoted value at the front.
+fn after_value(bytes: &[u8]) -> Result<&[u8], usize>
+    ensures value { IfOk result (λ rest. ReadsValue bytes.now rest.now) }
+    ensures shorter { IfOk result (λ rest. length rest.now < length bytes.now) }
+    ensures refused { OnErr result ((rest : List ℕ) → ¬ (ReadsValue bytes.now rest)) }
+{
+    let Some((quote, inside)) = bytes.split_first() else {
+        return Err(bytes.len());
+    };
+    let quote = *quote;
+    if quote != b'"' && quote != b'\'' {
+        return Err(bytes.len());
+    }
+    let (value, last) = split_run(Sort::Value(quote), inside);
+    let Ok(_) = std::str::from_utf8(value) else {
+        return Err(inside.len().saturating_sub(utf8_front(value)));
+    };
+    match after_byte(quote, last) {
+        Some(rest) => Ok(rest),
+        None => Err(last.len()),
+    }
+}
+
+/// What follows the attribute at the front.
+fn after_attribute(bytes: &[u8]) -> Result<&[u8], usize>
+    ensures value { IfOk result (λ rest. ReadsAttribute bytes.now rest.now) }
+    ensures shorter { IfOk result (λ rest. length rest.now < length bytes.now) }
+    ensures refused { OnErr result ((rest : List ℕ) → ¬ (ReadsAttribute bytes.now rest)) }
+{
+    let (_, equals) = split_name(bytes)?;
+    let Some(value) = after_byte(b'=', equals) else {
+        return Err(equals.len());
+    };
+    after_value(value)
+}
+
+/// What stands in a tag behind its name: attributes, white space, and the end. Also whether the end is that of an
+/// empty-element tag.
+fn after_tag_end(bytes: &[u8]) -> Result<(bool, &[u8]), usize>
+    ensures value { IfOk result (λ parts. ReadsTagEnd parts.0 bytes.now parts.1.now) }
+    ensures shorter { IfOk result (λ parts. length parts.1.now < length bytes.now) }
+    ensures refused { OnErr result ((closed : Bool) (rest : List ℕ) → ¬ (ReadsTagEnd closed bytes.now rest)) }
+{
+    let mut here = bytes;
+    'attributes: loop {
+        let (space, at) = split_run(Sort::Space, here);
+        if let Some(rest) = after_byte(b'>', at) {
+            return Ok((false, rest));
+        }
+        if let Some(last) = after_byte(b'/', at) {
+            return match after_byte(b'>', last) {
+                Some(rest) => Ok((true, rest)),
+                None => Err(last.len()),
+            };
+        }
+        if space.is_empty() {
+            return Err(at.len());
+        }
+        here = after_attribute(at)?;
+    }
+}
+
+/// The name of the tag at the front, whether it is closed, and what follows it.
+pub(crate) fn split_tag(bytes: &[u8]) -> Result<(&[u8], bool, &[u8]), usize>
+    ensures value { IfOk result (λ parts. ReadsTag parts.1 parts.0.now bytes.now parts.2.now) }
+    ensures shorter { IfOk result (λ parts. length parts.2.now < length bytes.now) }
+    ensures refused { OnErr result ((closed : Bool) (name rest : List ℕ) → ¬ (ReadsTag closed name bytes.now rest)) }
+{
+    let Some(at_name) = after_byte(b'<', bytes) else {
+        return Err(bytes.len());
+    };
+    let (name, at_attributes) = split_name(at_name)?;
+    let (closed, rest) = after_tag_end(at_attributes)?;
+    Ok((name, closed, rest))
+}
+
+/// The name of the end tag at the front, and what follows it.
+pub(crate) fn split_end_tag(bytes: &[u8]) -> Result<(&[u8], &[u8]), usize>
+    ensures value { IfOk result (λ parts. ReadsEndTag parts.0.now bytes.now parts.1.now) }
+    ensures shorter { IfOk result (λ parts. length parts.1.now < length bytes.now) }
+    ensures refused { OnErr result ((name rest : List ℕ) → ¬ (ReadsEndTag name bytes.now rest)) }
+{
+    let Some(at_slash) = after_byte(b'<', bytes) else {
+        return Err(bytes.len());
+    };
+    let Some(at_name) = after_byte(b'/', at_slash) else {
+        return Err(at_slash.len());
+    };
+    let (name, at_space) = split_name(at_name)?;
+    let (_, at_close) = split_run(Sort::Space, at_space);
+    match after_byte(b'>', at_close) {
+        Some(rest) => Ok((name, rest)),
+        None => Err(at_close.len()),
+    }
+}
