@@ -6,13 +6,18 @@ use Rattle.std.proofs.lemmas.List.Sums.{sum_by-set, sum_by-cons, sum_by-le, get_
 use Rattle.std.proofs.lemmas.List.Elements.{All-get_or, All-set, All-weaker}
 use Rattle.bounded_executor.specs.Exchange.{Exchange, unused, jobs_out, with_taken}
 use Rattle.bounded_executor.specs.Lane.{LaneState}
-use Rattle.bounded_executor.specs.Desk.{lane_of, all_out, desk_of, TookOne, IsLaneOf, IsDesk}
+use Rattle.bounded_executor.specs.Desk.{DeskState, lane_of, all_out, desk_of, TookOne, IsLaneOf, IsDesk}
 
 -- one job less is out of a lane whose outcome was taken
 jobs_out-with_taken : {J D : Type 0} (e : Exchange J D) (done : D) → 0 < jobs_out e → jobs_out (with_taken e done) + 1 ≡ jobs_out e
 jobs_out-with_taken e done some = omega (arith, length_push e.taken done)
 
 module _ {W J D : Type 0} where
+  -- a lane that contracts see is there
+  pub in_range : (depth : ℕ) (lanes : List (LaneState W J D)) (desk : DeskState W J D) (i : ℕ) → desk_of depth lanes ≡ desk → i < length desk.lanes → i < length lanes
+  in_range depth lanes desk i is in' =
+      omega (arith, ap (λ (d : DeskState W J D). length d.lanes) is, length-map lanes (λ (m : LaneState W J D). m.exchange))
+
   -- what was exchanged with the lane at a place
   pub lane_of-desk_of : (depth : ℕ) (lanes : List (LaneState W J D)) (i : ℕ) (l : LaneState W J D) → i < length lanes → l ≡ get_or lanes i l → lane_of (desk_of depth lanes) i ≡ l.exchange
   lane_of-desk_of depth lanes i l in' is =

@@ -6,3 +6,4 @@ pub mod Station
 pub mod Crew
 pub mod Lane
 pub mod Parts
+pub mod WholeRun

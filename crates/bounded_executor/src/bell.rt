@@ -1,3 +1,5 @@
+//! A bell that wakes one sleeper.
+
 use std::sync::Wait;
 use std::sync::atomic::{AtomicBool, Ordering};
 use std::thread::Parker;

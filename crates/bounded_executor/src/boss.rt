@@ -1,3 +1,5 @@
+//! What gives the jobs and takes their outcomes.
+
 ghost use Rattle.std.specs.Prelude.{◌≡◌, ℕ, List, length, replicate};
 ghost use Rattle.bounded_executor.specs.Exchange.{Exchange, unused};
 ghost use Rattle.bounded_executor.specs.Desk.{all_out, SameDesk};

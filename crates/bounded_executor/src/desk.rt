@@ -1,5 +1,7 @@
-use crate::bell::Bell;
+//! The desk, at which jobs are given and outcomes taken.
+
 use crate::lane::Lane;
+use crate::ready::ReadyLanes;
 use crate::worker::Worker;
 use std::marker::Model;
 use std::sync::{Arc, Wait};
@@ -14,9 +16,9 @@ pub struct Desk<W: Worker> {
     // How many jobs were given and not taken back.
     out: u32,
     lanes: Vec<Lane<W>>,
-    // Where the next look for outcomes begins, so that lanes take turns.
-    first: u32,
-    bell: Arc<Bell>,
+    // Whether a lane has no thread.
+    carries: bool,
+    ready: Arc<ReadyLanes>,
 }
 
 impl<W: Worker> Model for Desk<W> {
@@ -30,16 +32,17 @@ impl<W: Worker> Model for Desk<W> {
 }
 
 impl<W: Worker> Desk<W> {
-    pub(crate) fn new(depth: u32, lanes: Vec<Lane<W>>, bell: Arc<Bell>) -> Desk<W>
+    pub(crate) fn new(depth: u32, lanes: Vec<Lane<W>>, ready: Arc<ReadyLanes>) -> Desk<W>
         requires { IsDesk depth 0 lanes.items }
         ensures { result ≡ desk_of depth lanes.items }
     {
+        let carries = any_is_here(&lanes);
         Desk {
             depth,
             out: 0,
             lanes,
-            first: 0,
-            bell,
+            carries,
+            ready,
         }
     }
 
@@ -53,8 +56,8 @@ impl<W: Worker> Desk<W> {
             depth: _,
             out: _,
             lanes,
-            first: _,
-            bell: _,
+            carries: _,
+            ready: _,
         } = self;
         close_all(&lanes);
         let mut workers = workers;
@@ -103,21 +106,24 @@ impl<W: Worker> Desk<W> {
             if let Some(taken) = self.carry() {
                 return taken;
             }
-            self.bell.wait(rt);
+            self.ready.wait(rt);
         }
         unreachable!()
     }
 
-    // An outcome that has come. Lanes take turns.
+    // An outcome that has come from a thread. Lanes take turns.
     fn collect(&mut self) -> Option<(u32, W::Done)>
         ensures taken { IfSome result (λ r. TookOne self.old r.0 r.1 self.new) }
         ensures none { IfNone result (self.new ≡ self.old) }
     {
-        let first = self.first as usize;
-        let count = self.lanes.len();
-        for step in 0..count {
-            let lane = ((first + step) % count) as u32;
-            if let Some(done) = self.collect_at(lane) {
+        for _look in 0..self.lanes() {
+            let Some(lane) = self.ready.next() else {
+                return None;
+            };
+            if lane >= self.lanes() {
+                return None;
+            }
+            if let Some(done) = self.take_ready(lane) {
                 return Some((lane, done));
             }
         }
@@ -129,35 +135,38 @@ impl<W: Worker> Desk<W> {
         ensures taken { IfSome result (λ r. TookOne self.old r.0 r.1 self.new) }
         ensures none { IfNone result (self.new ≡ self.old) }
     {
+        if !self.carries {
+            return None;
+        }
         for lane in 0..self.lanes() {
-            if let Some(done) = self.carry_at(lane) {
+            if let Some(done) = self.take_of(lane) {
                 return Some((lane, done));
             }
         }
         None
     }
 
-    fn collect_at(&mut self, lane: u32) -> Option<W::Done>
+    // The mark goes when no outcome is there, and before the last look, so that none is missed.
+    fn take_ready(&mut self, lane: u32) -> Option<W::Done>
         requires { lane < length self.old.lanes }
         ensures taken { IfSome result (λ done. TookOne self.old lane done self.new) }
         ensures none { IfNone result (self.new ≡ self.old) }
     {
-        let slot = &mut self.lanes[lane as usize];
-        let Some(done) = slot.collect() else {
-            return None;
-        };
-        self.out -= 1;
-        self.first = lane + 1;
-        Some(done)
+        if let Some(done) = self.take_of(lane) {
+            return Some(done);
+        }
+        self.ready.unmark(lane as usize);
+        self.take_of(lane)
     }
 
-    fn carry_at(&mut self, lane: u32) -> Option<W::Done>
+    // An outcome of this lane, if there is one, or if its job is carried here.
+    fn take_of(&mut self, lane: u32) -> Option<W::Done>
         requires { lane < length self.old.lanes }
         ensures taken { IfSome result (λ done. TookOne self.old lane done self.new) }
         ensures none { IfNone result (self.new ≡ self.old) }
     {
         let slot = &mut self.lanes[lane as usize];
-        let Some(done) = slot.carry() else {
+        let Some(done) = slot.take() else {
             return None;
         };
         self.out -= 1;
@@ -185,6 +194,15 @@ impl<W: Worker> Desk<W> {
     {
         self.lanes.len() as u32
     }
+}
+
+fn any_is_here<W: Worker>(lanes: &[Lane<W>]) -> bool {
+    for lane in lanes {
+        if lane.is_here() {
+            return true;
+        }
+    }
+    false
 }
 
 // Tells the threads of the lanes that no job comes any more.

@@ -1,3 +1,5 @@
+//! One lane, with its worker on a thread or beside the desk.
+
 ghost use Rattle.std.specs.Prelude.{◌≡◌, ◌<◌};
 
 use crate::bell::Bell;
@@ -84,8 +86,20 @@ impl<W: Worker> Lane<W> {
         self.bell.ring();
     }
 
+    // An outcome that has come, or that of a job carried here.
+    pub(crate) fn take(&mut self) -> Option<W::Done>
+        ensures some { IfSome result (λ done. self.new ≡ record self.old { exchange = with_taken self.old.exchange done }) }
+        ensures was_out { IfSome result (λ _. 0 < jobs_out self.old.exchange) }
+        ensures none { IfNone result (self.new ≡ self.old) }
+    {
+        match &self.crew {
+            Crew::Away(_) => self.collect(),
+            Crew::Here(_) => self.carry(),
+        }
+    }
+
     // An outcome that has come from the lane's thread, if there is one.
-    pub(crate) fn collect(&mut self) -> Option<W::Done>
+    fn collect(&mut self) -> Option<W::Done>
         ensures some { IfSome result (λ done. self.new ≡ record self.old { exchange = with_taken self.old.exchange done }) }
         ensures was_out { IfSome result (λ _. 0 < jobs_out self.old.exchange) }
         ensures none { IfNone result (self.new ≡ self.old) }
@@ -105,7 +119,7 @@ impl<W: Worker> Lane<W> {
     }
 
     // Carries the oldest job here, where no thread does, and takes its outcome.
-    pub(crate) fn carry(&mut self) -> Option<W::Done>
+    fn carry(&mut self) -> Option<W::Done>
         ensures some { IfSome result (λ done. self.new ≡ record self.old { exchange = with_taken self.old.exchange done }) }
         ensures was_out { IfSome result (λ _. 0 < jobs_out self.old.exchange) }
         ensures none { IfNone result (self.new ≡ self.old) }
@@ -121,6 +135,11 @@ impl<W: Worker> Lane<W> {
             return Some(done);
         }
         None
+    }
+
+    // Whether the lane has no thread.
+    pub(crate) fn is_here(&self) -> bool {
+        matches!(&self.crew, Crew::Here(_))
     }
 
     // Tells the lane's thread that no job comes any more.

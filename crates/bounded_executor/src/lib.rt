@@ -9,14 +9,12 @@ mod lane;
 mod open;
 mod outbox;
 mod parts;
+mod ready;
 mod run;
 mod station;
 mod worker;
 
 pub use boss::Boss;
 pub use desk::Desk;
-pub use run::with_workers;
+pub use run::{with_stack_size, with_workers};
 pub use worker::Worker;
-
-#[cfg(test)]
-mod tests;

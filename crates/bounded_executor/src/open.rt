@@ -1,3 +1,5 @@
+//! Lanes are opened and closed.
+
 ghost use Rattle.std.specs.Prelude.{◌≡◌, ◌≤◌, [], map, replicate, vec_len, vec_capacity};
 ghost use Rattle.bounded_executor.specs.Lane.{opened};
 ghost use Rattle.bounded_executor.specs.Station.{IsUnused, HasServed};
@@ -10,11 +12,12 @@ use std::snapshot::Snapshot;
 use std::sync::Wait;
 use std::thread::{Builder, Threads};
 
-// Sends a worker into a thread of its own, or keeps it at the desk where none can be started.
+// Sends the worker of the lane of this number into a thread of its own, or keeps it at the desk where none can be started.
 pub(crate) fn open_lane<R: Threads + Wait + Send + Drop + 'static, W: Worker + 'static>(
     rt: &R,
     parts: Parts<R, W::Job, W::Done>,
     worker: W,
+    number: usize,
     builder: Builder,
 ) -> Lane<W>
 where
@@ -30,7 +33,7 @@ where
         outcomes,
         bell,
         worker_bell,
-        desk_bell,
+        ready,
         rt: thread_rt,
     } = parts;
     let start = Snapshot::of(&worker);
@@ -45,7 +48,7 @@ where
     let work = move || -> Station<W>
         requires { IsUnused station }
         ensures { HasServed W.carries station result }
-    { station.serve(&thread_rt, &worker_bell, &desk_bell) };
+    { station.serve(&thread_rt, &worker_bell, &ready, number) };
     let crew = match builder.spawn_with(rt, opened, work) {
         Ok(thread) => Crew::Away(thread),
         Err(refused) => {
@@ -92,7 +95,8 @@ where
             Some(size) => Builder::new().stack_size(size),
             None => Builder::new(),
         };
-        lanes.push_reserved(open_lane(rt, part, worker, builder));
+        let number = lanes.len();
+        lanes.push_reserved(open_lane(rt, part, worker, number, builder));
     }
     lanes
 }

@@ -1,3 +1,5 @@
+//! The end of a ring at which jobs are given.
+
 use rtrb::Producer;
 use std::collections::VecDeque;
 

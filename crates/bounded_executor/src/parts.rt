@@ -1,7 +1,10 @@
+//! The rings and bells of a lane.
+
 ghost use Rattle.std.specs.Prelude.{◌≡◌, IfOk, replicate};
 
 use crate::bell::Bell;
 use crate::outbox::Outbox;
+use crate::ready::ReadyLanes;
 use rtrb::{Consumer, Producer, RingBuffer};
 use std::alloc::{AllocError, Global};
 use std::collections::VecDeque;
@@ -20,7 +23,7 @@ pub(crate) struct Parts<R, J, D> {
     pub(crate) outcomes: Consumer<D>,
     pub(crate) bell: Arc<Bell>,
     pub(crate) worker_bell: Arc<Bell>,
-    pub(crate) desk_bell: Arc<Bell>,
+    pub(crate) ready: Arc<ReadyLanes>,
     pub(crate) rt: R,
 }
 
@@ -41,7 +44,7 @@ impl<R: Clone, J: Drop, D: Drop> Parts<R, J, D> {
         rt: &R,
         alloc: Global,
         depth: u32,
-        desk_bell: &Arc<Bell>,
+        ready: &Arc<ReadyLanes>,
     ) -> Result<Self, AllocError>
         ensures { IfOk result (λ parts. parts ≡ depth) }
     {
@@ -50,7 +53,7 @@ impl<R: Clone, J: Drop, D: Drop> Parts<R, J, D> {
         let waiting = VecDeque::with_capacity(alloc, depth as usize)?;
         let bell = Arc::new(alloc, Bell::new())?;
         let worker_bell = Arc::try_clone(&bell)?;
-        let desk_bell = Arc::try_clone(desk_bell)?;
+        let ready = Arc::try_clone(ready)?;
         let rt = rt.clone()?;
         Ok(Parts {
             depth,
@@ -60,7 +63,7 @@ impl<R: Clone, J: Drop, D: Drop> Parts<R, J, D> {
             outcomes,
             bell,
             worker_bell,
-            desk_bell,
+            ready,
             rt,
         })
     }
@@ -72,13 +75,13 @@ pub(crate) fn all_parts<R: Clone + Drop, J: Drop, D: Drop>(
     alloc: Global,
     count: usize,
     depth: u32,
-    desk_bell: &Arc<Bell>,
+    ready: &Arc<ReadyLanes>,
 ) -> Result<Vec<Parts<R, J, D>>, AllocError>
     ensures { IfOk result (λ parts. parts.items ≡ replicate count depth) }
 {
     let mut parts = Vec::with_capacity(alloc, count)?;
     for _made in 0..count {
-        parts.push(Parts::new(rt, alloc, depth, desk_bell)?)?;
+        parts.push(Parts::new(rt, alloc, depth, ready)?)?;
     }
     Ok(parts)
 }

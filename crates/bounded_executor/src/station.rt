@@ -1,8 +1,11 @@
+//! The end of a lane at which its worker stands.
+
 ghost use Rattle.std.specs.Prelude.{◌≡◌, ◌++◌, ◌∷◌, [], IfSome, IfNone};
 ghost use Rattle.rtrb.specs.Ring.{sent, received, SameConsumer, SameProducer};
 ghost use Rattle.bounded_executor.specs.Station.{IsUnused, HasServed};
 
 use crate::bell::Bell;
+use crate::ready::ReadyLanes;
 use crate::worker::Worker;
 use rtrb::{Consumer, Producer, PushError};
 use std::snapshot::Snapshot;
@@ -46,8 +49,9 @@ fn next_job<R: Wait, J: Drop>(rt: &R, bell: &Bell, jobs: &mut Consumer<J>) -> Op
     unreachable!()
 }
 
-// The ring has room for the outcome of each job that is out, so this does not wait.
-fn push_outcome<R: Wait, D: Drop>(rt: &R, bell: &Bell, outcomes: &mut Producer<D>, outcome: D)
+// The ring has room for the outcome of each job that is out, so the first round sends it. No clause of a ring tells its
+// producer so; a full ring would be tried again at once, since nobody rings when an outcome is taken.
+fn push_outcome<R: Wait, D: Drop>(rt: &R, outcomes: &mut Producer<D>, outcome: D)
     ensures ring { SameProducer outcomes.old outcomes.new }
     ensures sent { sent outcomes.new ≡ sent outcomes.old ++ outcome ∷ [] }
 {
@@ -57,14 +61,19 @@ fn push_outcome<R: Wait, D: Drop>(rt: &R, bell: &Bell, outcomes: &mut Producer<D
             Ok(()) => return,
             Err(PushError::Full(back)) => outcome = back,
         }
-        bell.wait(rt);
     }
     unreachable!()
 }
 
 impl<W: Worker> Station<W> {
-    // Carries each job that comes, until the bell is closed and no job is left.
-    pub(crate) fn serve<R: Wait>(self, rt: &R, bell: &Bell, desk_bell: &Bell) -> Station<W>
+    // Carries each job that comes, until the bell is closed and no job is left. Tells the desk of each outcome of the lane.
+    pub(crate) fn serve<R: Wait>(
+        self,
+        rt: &R,
+        bell: &Bell,
+        ready: &ReadyLanes,
+        lane: usize,
+    ) -> Station<W>
         requires { IsUnused self }
         ensures { HasServed W.carries self result }
     {
@@ -74,8 +83,8 @@ impl<W: Worker> Station<W> {
                 return station;
             };
             let outcome = station.worker.carry(job);
-            push_outcome(rt, bell, &mut station.outcomes, outcome);
-            desk_bell.ring();
+            push_outcome(rt, &mut station.outcomes, outcome);
+            ready.mark(lane);
         }
         unreachable!()
     }

@@ -1,3 +1,5 @@
+//! What carries jobs.
+
 /// What carries jobs, one after another.
 pub trait Worker: Send + Drop {
     type Job: Send + Drop;

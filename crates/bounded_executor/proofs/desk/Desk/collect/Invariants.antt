@@ -1,5 +1,5 @@
 use Rattle.std.proofs.Common.{◌≡◌}
 use Rattle.bounded_executor.proofs.desk.Desk.collect.Given as goal
 
-abbrev pub invariant-loop-step : goal.invariant-loop-step
-invariant-loop-step g l = l.self ≡ l.initial.self
+abbrev pub invariant-loop-look : goal.invariant-loop-look
+invariant-loop-look g l = l.self ≡ l.initial.self

@@ -1,65 +1,15 @@
-ghost use Rattle.std.specs.Prelude.{◌≡◌, ◌<◌, ◌≤◌, ◌*◌, IfOk, length, vec_len};
-ghost use Rattle.bounded_executor.specs.Desk.{SameDesk, all_out};
+//! Which jobs and outcomes go through which lane, with threads and without.
 
-use super::*;
-use crate::run::run_lanes;
+ghost use Rattle.std.specs.Prelude.{◌≡◌, ◌<◌, ◌≤◌, length};
+ghost use Rattle.bounded_executor.specs.Desk.{SameDesk};
+
+use super::carriers::{Doubler, doublers, take_all, take_one};
+use bounded_executor::{Boss, Desk, with_stack_size, with_workers};
 use std::alloc::{AllocError, Global};
 use std::process::Abort;
 use std::sync::Wait;
 use std::test::Fail;
-use std::thread;
-use std::thread::Builder;
-
-// Keeps each job, and answers it doubled.
-#[derive(Debug, Drop)]
-struct Doubler {
-    seen: Vec<u32>,
-}
-
-impl Worker for Doubler {
-    type Job = u32;
-
-    type Done = u64;
-
-    ghost carries = { λ before job done after. done ≡ 2 * job };
-
-    fn carry(&mut self, job: u32) -> u64 {
-        let _ = self.seen.push(job);
-        2 * u64::from(job)
-    }
-}
-
-fn doublers(alloc: Global, count: u32) -> Result<Vec<Doubler>, AllocError>
-    ensures { IfOk result (λ workers. vec_len workers ≡ count) }
-{
-    let mut workers = Vec::new(alloc);
-    for _made in 0..count {
-        workers.push(Doubler {
-            seen: Vec::new(alloc),
-        })?;
-    }
-    Ok(workers)
-}
-
-fn take_one<R: Wait>(rt: &R, desk: &mut Desk<Doubler>, taken: &mut Vec<(u32, u64)>)
-    ensures { SameDesk desk.old desk.new }
-{
-    if desk.out() > 0 {
-        let _ = taken.push(desk.take(rt));
-    }
-}
-
-fn take_all<R: Wait>(rt: &R, desk: &mut Desk<Doubler>, taken: &mut Vec<(u32, u64)>)
-    ensures same_desk { SameDesk desk.old desk.new }
-    ensures none_out { all_out desk.new ≡ 0 }
-{
-    for _ in rt.forever() {
-        if desk.out() == 0 {
-            return;
-        }
-        take_one(rt, desk, taken);
-    }
-}
+use std::thread::{Builder, Threads};
 
 // Gives the jobs below `count` to the lanes in turn, and takes an outcome where a lane refuses.
 #[derive(Drop)]
@@ -102,21 +52,23 @@ impl Boss<Doubler> for InTurn {
     }
 }
 
-// Gives three jobs to the first lane, and keeps the answers.
+// Gives each job to the lane of its number, and keeps the answers.
 #[derive(Drop)]
-struct Overfull {
+struct ByNumber {
+    jobs: Vec<u32>,
     answers: Vec<Result<(), u32>>,
     taken: Vec<(u32, u64)>,
 }
 
-impl Boss<Doubler> for Overfull {
+impl Boss<Doubler> for ByNumber {
     ghost may_direct = { λ boss lanes depth. 1 ≤ lanes };
 
     ghost directs = { λ before lanes after. Unit {0} };
 
     fn direct<R: Wait>(&mut self, rt: &R, desk: &mut Desk<Doubler>) {
-        for job in 7..10 {
-            let _ = self.answers.push(desk.give(0, job));
+        for job in &self.jobs {
+            let lane = *job % desk.lanes();
+            let _ = self.answers.push(desk.give(lane, *job));
         }
         take_all(rt, desk, &mut self.taken);
     }
@@ -167,7 +119,8 @@ fn three_workers_double_ten_jobs(rt: HostRuntime) -> Result<(), Fail> {
 fn a_full_lane_gives_the_job_back(rt: HostRuntime) -> Result<(), Fail> {
     let alloc = rt.alloc();
     let mut workers = doublers(alloc, 1)?;
-    let mut boss = Overfull {
+    let mut boss = ByNumber {
+        jobs: Vec::from_array(alloc, [7, 8, 9])?,
         answers: Vec::new(alloc),
         taken: Vec::new(alloc),
     };
@@ -180,25 +133,44 @@ fn a_full_lane_gives_the_job_back(rt: HostRuntime) -> Result<(), Fail> {
     Ok(())
 }
 
+// No thread has a stack of this many bytes.
+fn no_stack(rt: &(impl Threads + Abort)) -> usize {
+    let size = usize::MAX;
+    assert!(rt; Builder::new().stack_size(size).spawn(rt, || ()).is_err());
+    size
+}
+
 #[test]
 fn the_desk_carries_where_no_thread_starts(rt: HostRuntime) -> Result<(), Fail> {
     let alloc = rt.alloc();
-    let too_large = Builder::new().stack_size(usize::MAX).spawn(&rt, || ());
-    assert!(rt; too_large.is_err());
     let mut workers = doublers(alloc, 3)?;
     let mut boss = InTurn {
         count: 10,
         taken: Vec::new(alloc),
     };
-    run_lanes(&rt, alloc, &mut workers, 2, &mut boss, Some(usize::MAX))?;
+    with_stack_size(&rt, alloc, &mut workers, 2, &mut boss, no_stack(&rt))?;
     check_ten(&rt, alloc, &workers, &boss.taken)?;
+    Ok(())
+}
+
+#[test]
+fn the_desk_carries_the_lowest_lane_first(rt: HostRuntime) -> Result<(), Fail> {
+    let alloc = rt.alloc();
+    let mut workers = doublers(alloc, 3)?;
+    let mut boss = ByNumber {
+        jobs: Vec::from_array(alloc, [2, 1, 0])?,
+        answers: Vec::new(alloc),
+        taken: Vec::new(alloc),
+    };
+    with_stack_size(&rt, alloc, &mut workers, 2, &mut boss, no_stack(&rt))?;
+    assert_eq!(rt; boss.taken.as_slice(), [(0, 0), (1, 2), (2, 4)].as_slice());
     Ok(())
 }
 
 #[test]
 fn many_lanes_and_jobs(rt: HostRuntime) -> Result<(), Fail> {
     let alloc = rt.alloc();
-    let mut workers = doublers(alloc, 64)?;
+    let mut workers = doublers(alloc, 130)?;
     let mut boss = InTurn {
         count: 20_000,
         taken: Vec::new(alloc),
@@ -212,7 +184,7 @@ fn many_lanes_and_jobs(rt: HostRuntime) -> Result<(), Fail> {
     assert_eq!(rt; sum, 399_980_000);
     for (lane, worker) in workers.iter().enumerate() {
         for (turn, job) in worker.seen.iter().enumerate() {
-            assert_eq!(rt; *job as usize, turn.wrapping_mul(64).wrapping_add(lane));
+            assert_eq!(rt; *job as usize, turn.wrapping_mul(130).wrapping_add(lane));
         }
     }
     Ok(())
