@@ -72,7 +72,8 @@ pub fn settings(
     requires config { length config.now ≤ 1048576 }
     requires credentials { length credentials.now ≤ 1048576 }
     ensures settings { IfOk result (λ settings. answer words.now config.now credentials.now ≡ Ok settings) }
-    ensures fault { IfErr result (λ fault. fault ≢ ProfileFault.Memory → answer words.now config.now credentials.now ≡ Err fault) }
+    ensures fault { IfErr result (λ fault. fault ≢ ProfileFault.Memory →
+        answer words.now config.now credentials.now ≡ Err fault) }
     ensures valid { IfOk result (λ settings. IsValidConfig settings.config) }
 {
     let profile = profile_of(words);

@@ -120,8 +120,10 @@ pub(crate) fn take_line<'a>(
     ensures right { is_some result ≡ not (is_wrong (reading_of line (above context.entry) (kind_of text.now))) }
     ensures above { IfSome result (λ next. above next ≡ above_next (above context.entry) (kind_of text.now)) }
     ensures inside { IfSome result (λ next. next.inside ≡ is_inside (section_name sought.now) (above next).section) }
-    ensures seen { IfSome result (λ next. next.seen ≡ (context.entry.seen || is_section_line (section_name sought.now) (kind_of text.now))) }
-    ensures slots { OnSome result (Takes (section_name sought.now) (reading_of line (above context.entry) (kind_of text.now)) slots.old slots.new) }
+    ensures seen { IfSome result
+        (λ next. next.seen ≡ (context.entry.seen || is_section_line (section_name sought.now) (kind_of text.now))) }
+    ensures slots { OnSome result (Takes (section_name sought.now)
+        (reading_of line (above context.entry) (kind_of text.now)) slots.old slots.new) }
 {
     match kind_of(text) {
         Kind::Skipped => Some(context),

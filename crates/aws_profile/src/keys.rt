@@ -72,7 +72,8 @@ fn access_key<'a>(
     secret: Option<&'a str>,
     token: Option<&'a str>,
 ) -> Option<AccessKey<'a>>
-    ensures { option_map key_shown result ≡ access_key (option_copied id.entry) (option_copied secret.entry) (option_copied token.entry) }
+    ensures { option_map key_shown result ≡ access_key (option_copied id.entry) (option_copied secret.entry)
+        (option_copied token.entry) }
 {
     match (id, secret) {
         (Some(id), Some(secret)) => Some(AccessKey { id, secret, token }),

@@ -78,7 +78,8 @@ fn read_limit(
 
 /// The one with the lower line; the first where they are equal.
 fn earlier(first: Option<Misread>, other: Option<Misread>) -> Option<Misread>
-    ensures { option_map misread_shown result ≡ earlier (option_map misread_shown first) (option_map misread_shown other) }
+    ensures { option_map misread_shown result ≡ earlier (option_map misread_shown first)
+        (option_map misread_shown other) }
 {
     match (first, other) {
         (Some(a), Some(b)) => Some(if b.line < a.line { b } else { a }),

@@ -16,7 +16,8 @@ fn without_carriage_return(line: &[u8]) -> &[u8]
 
 /// The first line of a file without its end, and what follows it.
 pub(crate) fn first_line(file: &[u8]) -> Option<(&[u8], &[u8])>
-    ensures parts { MatchOption result (lines file.now ≡ []) (λ parts. lines file.now ≡ parts.0.now ∷ lines parts.1.now) }
+    ensures parts { MatchOption result (lines file.now ≡ [])
+        (λ parts. lines file.now ≡ parts.0.now ∷ lines parts.1.now) }
     ensures shorter { IfSome result (λ parts. length parts.1.now < length file.now) }
 {
     if file.is_empty() {

@@ -1,3 +1,5 @@
+//! Settings from variables and files.
+
 use crate::{EnvWords, ProfileFault, Settings, settings};
 use s3_model::{OutOfMemory, Text};
 use std::alloc::{AllocError, Global};

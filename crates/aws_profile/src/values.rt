@@ -45,8 +45,10 @@ fn sought_config(profile: &str) -> Sought<'_>
 pub(crate) fn read_config<'a>(file: &'a [u8], profile: &str) -> Result<ConfigValues<'a>, u32>
     requires { length file.now ≤ 1048576 }
     ensures right { OnOk result (bad_line file.now ≡ None) }
-    ensures has { IfOk result (λ values. values.has_section ≡ has_section (config_section profile.now) (lines file.now)) }
-    ensures values { IfOk result (λ values. config_shown values ≡ config_values (readings file.now) (config_section profile.now)) }
+    ensures has { IfOk result (λ values. values.has_section ≡ has_section (config_section profile.now)
+        (lines file.now)) }
+    ensures values { IfOk result (λ values. config_shown values ≡ config_values (readings file.now)
+        (config_section profile.now)) }
     ensures wrong { IfErr result (λ line. bad_line file.now ≡ Some line) }
 {
     let mut slots = [

@@ -1,3 +1,5 @@
+//! How a transfer is cut into pieces.
+
 ghost use Rattle.std.specs.Prelude.{◌≡◌, ◌+◌, ◌^◌, ◌<◌, ◌≤◌};
 ghost use Rattle.s3_model.specs.Parts.{IsFirstFitting, piece_count, piece_range};
 ghost use Rattle.s3_model.specs.Validity.{IsValidLimits};

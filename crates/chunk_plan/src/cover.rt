@@ -1,3 +1,5 @@
+//! The law that the pieces cover the object.
+
 ghost use Rattle.chunk_plan.specs.Cover.{PiecesCoverTheObject, PiecesAreDetermined};
 
 /// The pieces of a transfer are the bytes of its object, each once and in order. All but the last have one length, and

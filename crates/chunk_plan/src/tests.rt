@@ -1,3 +1,5 @@
+//! Pieces and pools at the sizes in use.
+
 ghost use Rattle.s3_model.specs.Validity.{IsValidLimits};
 
 use crate::{PartPool, adjust, part_count, part_range, pieces_cover_the_object};
@@ -97,5 +99,22 @@ fn parts_are_lent_and_come_back(rt: HostRuntime) -> Result<(), Fail> {
     pool.give_back(first);
     pool.give_back(second);
     assert_eq!(rt; (pool.free(), pool.lent()), (2, 0));
+    Ok(())
+}
+
+/// The sizes of transfers: ten parts of 8 MiB, then of 128 MiB, and one part of 1 GiB.
+#[test]
+fn large_parts_are_made(rt: HostRuntime) -> Result<(), Fail> {
+    let mut pool = PartPool::make(rt.alloc(), 10, 8388608)?;
+    let part = pool.lend().expect(&rt, "a free part");
+    assert_eq!(rt; part.bytes.room(), 8388608);
+    pool.give_back(part);
+    pool.enlarge(134217728)?;
+    let part = pool.lend().expect(&rt, "a free part");
+    assert_eq!(rt; part.bytes.room(), 134217728);
+    let mut single = PartPool::make(rt.alloc(), 1, 8388608)?;
+    single.enlarge(1073741824)?;
+    let part = single.lend().expect(&rt, "a free part");
+    assert_eq!(rt; part.bytes.room(), 1073741824);
     Ok(())
 }

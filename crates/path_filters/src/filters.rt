@@ -1,3 +1,5 @@
+//! Which relative paths are kept.
+
 ghost use Rattle.std.specs.Prelude.{◌≡◌, ◌∷◌, ◌++◌, [], OnOk, OnErr};
 ghost use Rattle.std.specs.Str.{chars};
 

@@ -1,9 +1,11 @@
-ghost use Rattle.std.specs.Prelude.{◌≡◌, ◌↔◌, ◌≤◌, ◌∷◌, length, false, IsTrue, IfOk};
+//! Patterns, read from their texts.
+
+ghost use Rattle.std.specs.Prelude.{◌≡◌, ◌↔◌, ◌≤◌, ◌∷◌, ℕ, List, length, false, IsTrue, IfOk};
 ghost use Rattle.std.specs.Str.{chars};
-ghost use Rattle.path_filters.specs.Patterns.{BeginsWith, IsPattern, Matches, is_match};
+ghost use Rattle.path_filters.specs.Patterns.{BeginsWith, IsClosed, IsPattern, Matches, is_match};
 ghost use Rattle.path_filters.specs.Sets.{NeverClosed};
 
-use crate::pieces::Piece;
+use crate::pieces::{FirstPiece, Piece};
 use crate::runs::matches;
 use crate::sets::set_or_bracket;
 use crate::texts::first_char;
@@ -27,55 +29,59 @@ impl Model for Pattern {
     ghost view = { λ p. p.pieces.items };
 }
 
-/// The piece that begins with a character, what follows it, and whether a later `[` can be closed; `closes` says whether
-/// this one can.
+/// What a character stands for that begins no set.
+fn plain_piece(code: char) -> Piece
+    ensures { (rest : List ℕ) → (code ≡ 91 → ¬ (IsClosed rest)) → BeginsWith (code ∷ rest) result rest }
+{
+    match code {
+        '*' => Piece::Star,
+        '?' => Piece::Question,
+        _ => Piece::One(code),
+    }
+}
+
+/// What a pattern begins with, of its first character and the text behind that; `closes` says whether a `[` can be closed.
 fn piece_from(
     alloc: Global,
     code: char,
     text: &str,
     closes: bool,
-) -> Result<(Piece, &str, bool), OutOfMemory>
+) -> Result<FirstPiece<'_>, OutOfMemory>
     requires { closes ≡ false → NeverClosed (code ∷ chars text.now) }
-    ensures piece { IfOk result (λ parts. BeginsWith (code ∷ chars text.now) parts.0 (chars parts.1.now)) }
-    ensures shorter { IfOk result (λ parts. length parts.1.now ≤ length text.now) }
-    ensures closes { IfOk result (λ parts. parts.2 ≡ false → NeverClosed (chars parts.1.now)) }
+    ensures piece { IfOk result (λ first. BeginsWith (code ∷ chars text.now) first.piece (chars first.rest.now)) }
+    ensures shorter { IfOk result (λ first. length first.rest.now ≤ length text.now) }
+    ensures closes { IfOk result (λ first. first.closes ≡ false → NeverClosed (chars first.rest.now)) }
 {
-    match code {
-        '*' => Ok((Piece::Star, text, closes)),
-        '?' => Ok((Piece::Question, text, closes)),
-        '[' => {
-            if closes {
-                set_or_bracket(alloc, text)
-            } else {
-                Ok((Piece::One(code), text, closes))
-            }
-        }
-        _ => Ok((Piece::One(code), text, closes)),
+    if closes && code == '[' {
+        return set_or_bracket(alloc, text);
     }
+    Ok(FirstPiece {
+        piece: plain_piece(code),
+        rest: text,
+        closes,
+    })
 }
 
 impl Pattern {
-    ghost use Rattle.std.specs.Prelude.{List};
     ghost use Rattle.path_filters.specs.declared.pieces.Piece.{Piece};
 
     /// Reads a pattern; every text is one. A `[` that no `]` closes stands for itself, a `]` that comes first in a set is a
     /// member of it, and a range with its ends reversed has no member.
     pub fn read(alloc: Global, text: &str) -> Result<Pattern, OutOfMemory>
         ensures spelled { IfOk result (λ pattern. IsPattern (chars text.now) pattern) }
-        ensures alone { IfOk result (λ pattern. (pieces : List Piece) → IsPattern (chars text.now) pieces → pieces ≡ pattern) }
+        ensures alone { IfOk result (λ pattern. (pieces : List Piece) → IsPattern (chars text.now) pieces →
+            pieces ≡ pattern) }
     {
         let mut pieces = Vec::new(alloc);
         let mut left = text;
         let mut closes = true;
         while let Some((code, after)) = first_char(left) {
-            let Ok((piece, rest, later)) = piece_from(alloc, code, after, closes) else {
-                return Err(OutOfMemory);
-            };
-            if pieces.push(piece).is_err() {
+            let first = piece_from(alloc, code, after, closes)?;
+            left = first.rest;
+            closes = first.closes;
+            if pieces.push(first.piece).is_err() {
                 return Err(OutOfMemory);
             }
-            left = rest;
-            closes = later;
         }
         Ok(Pattern { pieces })
     }

@@ -1,3 +1,5 @@
+//! What a pattern is made of.
+
 ghost use Rattle.std.specs.Prelude.{◌≡◌, ◌↔◌, ◌∷◌, ◌++◌, [], IsTrue, OnOk, OnErr};
 ghost use Rattle.path_filters.specs.Patterns.{IsMember, Takes, is_star};
 
@@ -38,6 +40,16 @@ pub enum Piece {
     One(char),
     /// `[seq]` or `[!seq]`, one character in or out of the set.
     Set { negated: bool, members: Ranges },
+}
+
+/// What a pattern begins with.
+#[derive(Drop)]
+pub(crate) struct FirstPiece<'t> {
+    pub piece: Piece,
+    /// What follows the piece.
+    pub rest: &'t str,
+    /// Whether a `[` of the rest can be closed.
+    pub closes: bool,
 }
 
 impl Ranges {

@@ -1,3 +1,5 @@
+//! Whether a text matches a pattern.
+
 ghost use Rattle.std.specs.Prelude.{◌≡◌, ◌∷◌, [], ◌≤◌, ◌↔◌, length, IsTrue, IfSome, IfNone};
 ghost use Rattle.std.specs.Str.{chars};
 ghost use Rattle.path_filters.specs.Patterns.{Matches};
@@ -49,7 +51,8 @@ fn run_to_end<'p, 't>(pieces: &'p [Piece], text: &'t str) -> Option<(&'p [Piece]
 /// The same for pieces behind a star, from the first place in the text where they match.
 fn first_run<'p, 't>(pieces: &'p [Piece], text: &'t str) -> Option<(&'p [Piece], &'t str)>
     ensures stuck { IfNone result (¬ (Matches (Piece.Star ∷ pieces.now) (chars text.now))) }
-    ensures left { IfSome result (λ ends. Matches (Piece.Star ∷ pieces.now) (chars text.now) ↔ Matches ends.0.now (chars ends.1.now)) }
+    ensures left { IfSome result (λ ends. Matches (Piece.Star ∷ pieces.now) (chars text.now) ↔
+        Matches ends.0.now (chars ends.1.now)) }
     ensures stops { IfSome result (λ ends. StopsAtStar ends.0.now) }
     ensures fewer { IfSome result (λ ends. length ends.0.now ≤ length pieces.now) }
 {

@@ -1,16 +1,19 @@
+//! Sets of characters in brackets.
+
 ghost use Rattle.std.specs.Prelude.{◌≡◌, ◌≢◌, ◌∷◌, ◌++◌, ◌≤◌, ◌<◌, [], List, ℕ, All, length, false, MatchOption, IfSome, IfOk};
 ghost use Rattle.std.specs.Str.{chars};
 ghost use Rattle.path_filters.specs.Patterns.{ranges_of, bracketed, IsInside, IsClosed, BeginsWith};
 ghost use Rattle.path_filters.specs.Sets.{IsRangeEnd, NeverClosed};
 
-use crate::pieces::{Piece, Range, Ranges};
+use crate::pieces::{FirstPiece, Piece, Range, Ranges};
 use crate::texts::first_char;
 use s3_model::OutOfMemory;
 use std::alloc::Global;
 
 /// The character that ends a range, where a `-` and such a character come next, and what follows it.
 fn range_end(text: &str) -> Option<(char, &str)>
-    ensures end { MatchOption result (¬ (IsRangeEnd (chars text.now))) (λ parts. chars text.now ≡ 45 ∷ parts.0 ∷ chars parts.1.now) }
+    ensures end { MatchOption result (¬ (IsRangeEnd (chars text.now)))
+        (λ parts. chars text.now ≡ 45 ∷ parts.0 ∷ chars parts.1.now) }
     ensures shorter { IfSome result (λ parts. length parts.1.now < length text.now) }
 {
     let Some((dash, after)) = first_char(text) else {
@@ -51,7 +54,8 @@ fn negation(text: &str) -> (bool, &str)
 
 /// What stands before the first `]`, and what follows it.
 fn split_at_bracket(text: &str) -> Option<(&str, &str)>
-    ensures parts { MatchOption result (All (λ code. code ≢ 93) (chars text.now)) (λ parts. chars text.now ≡ chars parts.0.now ++ 93 ∷ chars parts.1.now) }
+    ensures parts { MatchOption result (All (λ code. code ≢ 93) (chars text.now))
+        (λ parts. chars text.now ≡ chars parts.0.now ++ 93 ∷ chars parts.1.now) }
     ensures before { IfSome result (λ parts. All (λ code. code ≢ 93) (chars parts.0.now)) }
     ensures shorter { IfSome result (λ parts. length parts.1.now < length text.now) }
 {
@@ -69,7 +73,8 @@ struct SetParts<'t> {
 
 /// The parts of the set whose `[` stands before the text, where a `]` closes it.
 fn set_parts(text: &str) -> Option<SetParts<'_>>
-    ensures closed { MatchOption result (¬ (IsClosed (chars text.now))) (λ set. chars text.now ≡ bracketed set.negated (set.first ∷ chars set.others.now) ++ 93 ∷ chars set.rest.now) }
+    ensures closed { MatchOption result (¬ (IsClosed (chars text.now)))
+        (λ set. chars text.now ≡ bracketed set.negated (set.first ∷ chars set.others.now) ++ 93 ∷ chars set.rest.now) }
     ensures inside { IfSome result (λ set. IsInside set.negated (set.first ∷ chars set.others.now)) }
     ensures shorter { IfSome result (λ set. length set.rest.now < length text.now) }
 {
@@ -103,17 +108,25 @@ fn ranges(alloc: Global, first: char, others: &str) -> Result<Ranges, OutOfMemor
     Ok(ranges)
 }
 
-/// The piece that a `[` begins, what follows it, and whether a later `[` can be closed; one that is never closed stands
-/// for itself, and none behind it is closed either.
-pub(crate) fn set_or_bracket(alloc: Global, text: &str) -> Result<(Piece, &str, bool), OutOfMemory>
-    ensures piece { IfOk result (λ parts. BeginsWith (91 ∷ chars text.now) parts.0 (chars parts.1.now)) }
-    ensures shorter { IfOk result (λ parts. length parts.1.now ≤ length text.now) }
-    ensures closes { IfOk result (λ parts. parts.2 ≡ false → NeverClosed (chars parts.1.now)) }
+/// The piece that a `[` begins, which stands before the text. One that is never closed stands for itself, and then none
+/// behind it is closed either.
+pub(crate) fn set_or_bracket(alloc: Global, text: &str) -> Result<FirstPiece<'_>, OutOfMemory>
+    ensures piece { IfOk result (λ first. BeginsWith (91 ∷ chars text.now) first.piece (chars first.rest.now)) }
+    ensures shorter { IfOk result (λ first. length first.rest.now ≤ length text.now) }
+    ensures closes { IfOk result (λ first. first.closes ≡ false → NeverClosed (chars first.rest.now)) }
 {
     let Some(set) = set_parts(text) else {
-        return Ok((Piece::One('['), text, false));
+        return Ok(FirstPiece {
+            piece: Piece::One('['),
+            rest: text,
+            closes: false,
+        });
     };
     let members = ranges(alloc, set.first, set.others)?;
     let negated = set.negated;
-    Ok((Piece::Set { negated, members }, set.rest, true))
+    Ok(FirstPiece {
+        piece: Piece::Set { negated, members },
+        rest: set.rest,
+        closes: true,
+    })
 }

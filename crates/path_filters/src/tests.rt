@@ -1,3 +1,5 @@
+//! Patterns and filters over paths.
+
 use crate::{Filters, Pattern};
 use s3_model::OutOfMemory;
 use std::alloc::{AllocError, Global};
@@ -165,5 +167,25 @@ fn many_stars_are_no_burden(rt: HostRuntime) -> Result<(), Fail> {
         let found = stands(alloc, pattern.as_str(), path.as_str())?;
         assert_eq!(rt; found, want, "{piece} and {end}");
     }
+    Ok(())
+}
+
+/// Patterns of 4,096 bytes, and a thousand filters.
+#[test]
+fn long_patterns_are_read(rt: HostRuntime) -> Result<(), Fail> {
+    let alloc = rt.alloc();
+    let brackets = repeated(alloc, "[", 4096, "")?;
+    assert!(rt; stands(alloc, brackets.as_str(), brackets.as_str())?);
+    let set = repeated(alloc, "[a-c", 1023, "x]")?;
+    assert!(rt; stands(alloc, set.as_str(), "[")?);
+    assert!(rt; !stands(alloc, set.as_str(), "d")?);
+
+    let mut filters = Filters::make(alloc);
+    for _ in 0..1000 {
+        filters.push(false, Pattern::read(alloc, "*")?)?;
+    }
+    filters.push(true, Pattern::read(alloc, "*.txt")?)?;
+    assert!(rt; filters.keeps("a.txt"));
+    assert!(rt; !filters.keeps("a.log"));
     Ok(())
 }

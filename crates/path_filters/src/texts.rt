@@ -1,3 +1,5 @@
+//! The first character of a text.
+
 ghost use Rattle.std.specs.Prelude.{◌≡◌, ◌∷◌, [], ◌<◌, length, IfSome, MatchOption};
 ghost use Rattle.std.specs.Str.{chars};
 

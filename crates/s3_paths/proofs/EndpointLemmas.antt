@@ -1,22 +1,15 @@
 -- What a text is that breaks no rule of endpoints.
-use Rattle.std.proofs.Common.{◌≡◌, ◌≢◌, ◌<◌, ◌≤◌, ◌⊎◌, ℕ, Bool, true, false, cond, List, [], ◌∷◌, ◌++◌, Option, Some, None, length, get_or, drop, codes, refl, sym, ap, ◌∙◌, inl, inr, arith}
-use Rattle.std.specs.Fmt.{decimal}
+use Rattle.std.proofs.Common.{◌≡◌, ◌<◌, ◌≤◌, ◌⊎◌, ℕ, Bool, true, false, cond, List, [], ◌∷◌, ◌++◌, Option, Some, None, length, get_or, drop, codes, refl, sym, ap, ◌∙◌, inl, inr, arith}
 use Rattle.std.specs.List.{position_or_len, after_first}
-use Rattle.std.specs.Str.{all_ascii_digits}
 use Rattle.std.specs.Str.Parse.{digits_value}
-use Rattle.std.proofs.lemmas.Bool.{cases_lt, and_parts, ltb-true, ltb-false, lt-ltb, le-ltb, cond-true, cond-false, not-false, eqb-true, eqb-false, not-true}
+use Rattle.std.proofs.lemmas.Bool.{cases_lt, and_parts, ltb-true, ltb-false, lt-ltb, le-ltb, cond-true, cond-false, not-false, eqb-true}
 use Rattle.std.proofs.lemmas.Bool.Decides.{Decides-eqb}
-use Rattle.std.proofs.lemmas.Fmt.{decimal-digits_value, decimal_digit}
 use Rattle.std.proofs.lemmas.List.{append_assoc, nil_from_length}
 use Rattle.std.proofs.lemmas.List.Sums.{AllPass-from_list_all}
 use Rattle.std.proofs.lemmas.Slice.Eq.{starts_is}
-use Rattle.std.proofs.lemmas.Str.Parse.{IsNumeralModel, numerals_by_value, tells_all_ascii_digits}
 use Rattle.s3_paths.specs.Uris.{is_slash}
-use Rattle.s3_paths.specs.Endpoints.{is_colon, is_host_byte, is_host, host_of, port_number, port_of, authority_in, path_in, endpoint_fault, IsEndpoint}
+use Rattle.s3_paths.specs.Endpoints.{is_colon, is_host_byte, is_host, host_of, port_number, port_of, authority_in, path_in, endpoint_fault, IsDecimal, IsEndpoint}
 use Rattle.s3_paths.proofs.FirstPlace.{list_any-position, before-after, before_none}
-
-own : IsNumeralModel (λ ds. all_ascii_digits ds ≡ true) (digits_value 10)
-own = numerals_by_value _ tells_all_ascii_digits
 
 guarded : {T : Type 0} (b : Bool) (o : Option T) (x : T) → cond b (Some x) o ≡ None → (b ≡ false) × (o ≡ None)
 guarded true o x e = absurd cc
@@ -26,36 +19,29 @@ chosen : {T : Type 0} (b : Bool) (x y : T) → cond b (Some x) None ≡ Some y �
 chosen true x y e = (refl, cc)
 chosen false x y e = absurd cc
 
--- a port's digits are how its number is written
-port_written : (digits : List ℕ) (port : ℕ) → Some port ≡ port_number digits → (digits ≡ decimal port) × (1 ≤ port) × (port ≤ 65535)
+-- a port's digits write its number
+port_written : (digits : List ℕ) (port : ℕ) → Some port ≡ port_number digits → IsDecimal digits port × (1 ≤ port) × (port ≤ 65535)
 port_written digits port e =
     let read = chosen _ _ _ (sym e) in
     let outer = and_parts _ _ read.0 in
     let inner = and_parts _ _ outer.0 in
-    let first = and_parts _ _ inner.0 in
+    let some : 0 < digits_value 10 digits = ltb-true _ _ inner.1 in
     let small : digits_value 10 digits < 65536 = ltb-true _ _ outer.1 in
-    let no_zero : get_or digits 0 0 ≢ 48 = eqb-false _ _ (not-true _ inner.1) in
-    let same : decimal (digits_value 10 digits) ≡ digits = decimal-digits_value own digits first.1 (ltb-true _ _ first.0) (λ z. absurd (no_zero z)) (omega arith) in
     let value = read.1 in
-    let least : 1 ≤ port = elim (cases_lt 0 port) [
-      | inl h ↦ omega arith
-      | inr z ↦
-          let nothing : digits_value 10 digits ≡ 0 = omega arith in
-          absurd (no_zero (ap (λ ds. get_or ds 0 0) (sym same ∙ ap decimal nothing ∙ decimal_digit 0 (omega arith))))
-    ] in
-    (sym (ap decimal (sym value) ∙ same), least, omega arith)
+    ((inner.0, value), omega arith, omega arith)
 
 -- the authority is the host, or the host, a colon and the port
-authority_parts : (authority : List ℕ) (port : ℕ) → Some port ≡ port_of authority → (((authority ≡ host_of authority) × (port ≡ 80)) ⊎ (authority ≡ host_of authority ++ codes ":" ++ decimal port)) × (1 ≤ port) × (port ≤ 65535)
+authority_parts : (authority : List ℕ) (port : ℕ) → Some port ≡ port_of authority → (((authority ≡ host_of authority) × (port ≡ 80)) ⊎ ((digits : List ℕ) × (authority ≡ host_of authority ++ codes ":" ++ digits) × IsDecimal digits port)) × (1 ≤ port) × (port ≤ 65535)
 authority_parts authority port e =
     elim (cases_lt (position_or_len is_colon authority) (length authority)) [
       | inl h ↦
           let split = before-after is_colon 0 authority h in
           let colon : get_or authority (position_or_len is_colon authority) 0 ≡ 58 = eqb-true _ _ split.0 in
           let any = list_any-position is_colon authority ∙ lt-ltb _ _ h in
-          let digits = port_written _ port (e ∙ cond-true _ _ _ any) in
-          let whole : authority ≡ host_of authority ++ 58 ∷ decimal port = split.1 ∙ ap (λ byte. host_of authority ++ byte ∷ after_first is_colon authority) colon ∙ ap (λ ds. host_of authority ++ 58 ∷ ds) digits.0 in
-          (inr (whole ∙ sym (simp append_assoc)), digits.1, digits.2)
+          let digits = after_first is_colon authority in
+          let read = port_written digits port (e ∙ cond-true _ _ _ any) in
+          let whole : authority ≡ host_of authority ++ 58 ∷ digits = split.1 ∙ ap (λ byte. host_of authority ++ byte ∷ digits) colon in
+          (inr (digits, whole ∙ sym (simp append_assoc), read.0), read.1, read.2)
       | inr h ↦
           let none = before_none is_colon authority h in
           let any = list_any-position is_colon authority ∙ le-ltb _ _ h in

@@ -5,7 +5,7 @@ use Rattle.std.proofs.lemmas.Bool.{and_parts, and_from, eqb-true, leb-true, le-l
 use Rattle.std.proofs.lemmas.List.{take-append-drop, drop_more, drop-drop, take_at, drop_at, append_assoc, length-append, length-drop, length-take}
 use Rattle.std.proofs.lemmas.List.Sums.{AllPass-from_list_all, list_all-from_AllPass}
 use Rattle.std.proofs.lemmas.Slice.Eq.{bytes_eq-Decides}
-use Rattle.s3_paths.specs.Names.{is_lower_hex, is_temp_ending, is_temp_name, IsTempName}
+use Rattle.s3_model.specs.TempNames.{is_lower_hex, is_temp_ending, is_temp_name, IsTempName}
 
 ending_parts : (ending : List ℕ) → length ending ≡ 16 → is_temp_ending ending ≡ true → (ending ≡ (codes "." ++ take 8 (drop 1 ending)) ++ codes ".s3part") × (length (take 8 (drop 1 ending)) ≡ 8) × AllPass is_lower_hex (take 8 (drop 1 ending))
 ending_parts ending n h =

@@ -1,10 +1,10 @@
 -- The names of a transfer's two sides, and which of them are left out.
-use Rattle.std.specs.Prelude.{◌≡◌, ◌-◌, ◌==◌, ◌&&◌, ◌||◌, ◌++◌, ℕ, Bool, List, Option, Some, None, length, drop, codes, nat_eq, nat_lt, nat_le, slice_index, slice_range, if◌then◌else◌}
-use Rattle.std.specs.Int.{is_in_range}
-use Rattle.std.specs.List.{AllPass, list_any, list_all, ends_with, slice_split}
+use Rattle.std.specs.Prelude.{◌==◌, ◌||◌, ◌++◌, ℕ, Bool, List, Option, Some, None, length, codes, nat_eq, nat_lt, if◌then◌else◌}
+use Rattle.std.specs.List.{list_any, ends_with, slice_split}
 use Rattle.std.specs.Str.{bytes_eq}
 use Rattle.s3_model.specs.declared.faults.KeySkip.{KeySkip}
 use Rattle.s3_model.specs.declared.faults.KeySkip.TheVariants.{EmptyName, Dots, TempLike, LongKey}
+use Rattle.s3_model.specs.TempNames.{is_temp_name}
 use Rattle.s3_paths.specs.Uris.{is_slash}
 
 -- what stands before, between and after the `/` of a path
@@ -16,21 +16,6 @@ is_empty_name name = length name == 0
 
 abbrev pub is_dot_name : List ℕ → Bool
 is_dot_name name = bytes_eq name (codes ".") || bytes_eq name (codes "..")
-
--- a digit or a letter from `a` to `f`
-abbrev pub is_lower_hex : ℕ → Bool
-is_lower_hex byte = is_in_range 48 57 byte || is_in_range 97 102 byte
-
--- sixteen bytes are `.`, eight lower-case hex digits and `.s3part`
-abbrev pub is_temp_ending : List ℕ → Bool
-is_temp_ending ending = slice_index ending 0 == 46 && list_all is_lower_hex (slice_range ending 1 9) && bytes_eq (drop 9 ending) (codes ".s3part")
-
-abbrev pub is_temp_name : List ℕ → Bool
-is_temp_name name = nat_le 16 (length name) && is_temp_ending (drop (length name - 16) name)
-
--- the same in other words
-abbrev pub IsTempName : List ℕ → Type 0
-IsTempName name = (stem : List ℕ) × (digits : List ℕ) × (name ≡ stem ++ codes "." ++ digits ++ codes ".s3part") × (length digits ≡ 8) × AllPass is_lower_hex digits
 
 -- why the file of a relative path is left out
 abbrev pub name_skip : List ℕ → Option KeySkip

@@ -1,3 +1,5 @@
+//! The URLs of services.
+
 ghost use Rattle.std.specs.Prelude.{◌≡◌, ◌≢◌, OnOk, IfOk, IfErr, Some, None};
 ghost use Rattle.std.specs.List.{list_all};
 ghost use Rattle.s3_paths.specs.Endpoints.{IsEndpoint, is_host_byte, is_host, host_of, port_number, port_of, authority_in, endpoint_fault};
@@ -29,10 +31,13 @@ fn is_host(host: &str) -> bool
 fn port_number(digits: &str) -> Option<u16>
     ensures { result ≡ port_number digits.now }
 {
-    if digits.starts_with('0') || digits.starts_with('+') {
+    if digits.starts_with('+') {
         return None;
     }
-    digits.parse::<u16>().ok()
+    let Ok(port) = digits.parse::<u16>() else {
+        return None;
+    };
+    (port > 0).then_some(port)
 }
 
 /// The host, and the port that follows a `:`.
@@ -76,7 +81,8 @@ fn parts_of(text: &str) -> Result<(&str, &str, u16), EndpointFault>
 
 /// Reads an endpoint, `http://host` or `http://host:port`, which one `/` may follow. The port is 80 where none is written.
 ///
-/// A host has letters, digits, `.` and `-`; a port is a number of 1 to 65,535 without a leading zero (RFC 3986, section 3.2).
+/// A host has letters, digits, `.` and `-`; a port is digits whose number is 1 to 65,535, where zeros may come first
+/// (RFC 3986, section 3.2).
 pub fn endpoint(alloc: Global, text: &str) -> Result<Endpoint, EndpointFault>
     ensures fits { OnOk result (endpoint_fault text.now ≡ None) }
     ensures written { IfOk result (λ endpoint. endpoint.written ≡ authority_in text.now) }

@@ -2,7 +2,6 @@
 #![tactic(auto)]
 
 mod endpoints;
-mod joins;
 mod names;
 mod uris;
 

@@ -1,8 +1,10 @@
+//! Keys and local paths, made of relative paths.
+
 ghost use Rattle.std.specs.Prelude.{◌≡◌, ◌≢◌, ◌↔◌, ◌++◌, IsTrue, length, OnOk, IfOk, IfErr, Some, None, codes, nat_eq};
 ghost use Rattle.std.specs.List.{list_any, list_all, ends_with};
-ghost use Rattle.s3_paths.specs.Names.{components, is_empty_name, is_dot_name, is_lower_hex, is_temp_ending, is_temp_name, IsTempName, name_skip, key_skip, local_path};
+ghost use Rattle.s3_model.specs.TempNames.{is_lower_hex, is_temp_ending, is_temp_name, IsTempName};
+ghost use Rattle.s3_paths.specs.Names.{components, is_empty_name, is_dot_name, name_skip, key_skip, local_path};
 
-use crate::joins::joined;
 use crate::uris::LONGEST_KEY;
 use s3_model::{KeySkip, Text};
 use std::alloc::Global;
@@ -93,7 +95,7 @@ pub fn local_of(alloc: Global, root: &str, rel: &str) -> Result<Text, KeySkip>
         return Err(skip);
     }
     let between = if ends_in_slash(root) { "" } else { "/" };
-    joined(alloc, &[root, between, rel]).map_err(|_| KeySkip::Memory)
+    Text::joined(alloc, &[root, between, rel]).map_err(|_| KeySkip::Memory)
 }
 
 /// The key of an object: the prefix and then the relative path, of 1 to 1,024 bytes.
@@ -109,5 +111,5 @@ pub fn key_of(alloc: Global, prefix: &str, rel: &str) -> Result<Text, KeySkip>
     if size > LONGEST_KEY {
         return Err(KeySkip::LongKey(size));
     }
-    joined(alloc, &[prefix, rel]).map_err(|_| KeySkip::Memory)
+    Text::joined(alloc, &[prefix, rel]).map_err(|_| KeySkip::Memory)
 }

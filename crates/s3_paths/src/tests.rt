@@ -1,3 +1,5 @@
+//! Tables of URIs, endpoints and names.
+
 use crate::{S3Uri, endpoint, key_of, local_of};
 use std::alloc::{AllocError, Global};
 use std::test::Fail;
@@ -91,6 +93,9 @@ fn prints_uris(rt: HostRuntime) -> Result<(), Fail> {
     assert_eq!(rt; uri.print(alloc)?.as_str(), "s3://b/a/é.txt");
     let bucket = S3Uri::read(alloc, "s3://b")?;
     assert_eq!(rt; bucket.print(alloc)?.as_str(), "s3://b/");
+    let longest = repeated(alloc, "s3://b/", "k", 1024, "")?;
+    let uri = S3Uri::read(alloc, longest.as_str())?;
+    assert_eq!(rt; uri.print(alloc)?.as_str(), longest.as_str());
     Ok(())
 }
 
@@ -110,6 +115,9 @@ fn joins_local_paths(rt: HostRuntime) -> Result<(), Fail> {
         let shown = local_shown(alloc, root, rel)?;
         assert_eq!(rt; shown.as_str(), want, "{text}");
     }
+    let rel = repeated(alloc, "", "a/", 2000, "b")?;
+    let path = repeated(alloc, "d/", "a/", 2000, "b")?;
+    assert_eq!(rt; local_of(alloc, "d", rel.as_str())?.as_str(), path.as_str());
     Ok(())
 }
 
@@ -196,6 +204,8 @@ http://127.0.0.1/ => 127.0.0.1 port 80 written 127.0.0.1
 http://a-B:80 => a-B port 80 written a-B:80
 http://h:1 => h port 1 written h:1
 http://h:65535 => h port 65535 written h:65535
+http://h:080 => h port 80 written h:080
+http://h:0000000000000000000065535/ => h port 65535 written h:0000000000000000000065535
 https://h => Tls
 https://h:0/x => Tls
  => NotHttp
@@ -216,7 +226,8 @@ http://é => NoHost
 http://h?x => NoHost
 http://h: => BadPort
 http://h:0 => BadPort
-http://h:080 => BadPort
+http://h:00 => BadPort
+http://h:065536 => BadPort
 http://h:+80 => BadPort
 http://h:-1 => BadPort
 http://h:8o => BadPort

@@ -1,8 +1,9 @@
+//! URIs of the scheme `s3`.
+
 ghost use Rattle.std.specs.Prelude.{◌≡◌, ◌≢◌, OnOk, IfOk, IfErr, Some, None, Contains, drop, position, not};
 ghost use Rattle.std.specs.List.{before_first, after_first};
 ghost use Rattle.s3_paths.specs.Uris.{IsUri, is_slash, is_bucket_byte, bad_place, bucket_fault, key_fault, uri_fault, bucket_in, key_in, uri_text};
 
-use crate::joins::joined;
 use s3_model::{OutOfMemory, Text, UriFault};
 use std::alloc::Global;
 
@@ -103,7 +104,7 @@ impl S3Uri {
     pub fn print(&self, alloc: Global) -> Result<Text, OutOfMemory>
         ensures { IfOk result (λ text. text ≡ uri_text self.now.bucket self.now.key) }
     {
-        joined(
+        Text::joined(
             alloc,
             &["s3://", self.bucket.as_str(), "/", self.key.as_str()],
         )

@@ -1,7 +1,7 @@
 use Rattle.std.proofs.Common.{rules, tests, lit<}
 use Rattle.std.proofs.lemmas.Iterator.Search.{any_from_yields_List}
 use Rattle.std.proofs.lemmas.Iterator.Splits.{YieldsList-from_str_split}
-use Rattle.s3_paths.specs.Names.{is_temp_name}
+use Rattle.s3_model.specs.TempNames.{is_temp_name}
 use Rattle.s3_paths.proofs.names.has_temp_name.Goals as goal
 
 pub returns : goal.returns

@@ -1,6 +1,6 @@
 use Rattle.std.proofs.Common.{◌≡◌, sym, ◌∙◌, arith}
 use Rattle.std.proofs.lemmas.Grind.{common_steps}
-use Rattle.s3_paths.specs.Names.{is_temp_name}
+use Rattle.s3_model.specs.TempNames.{is_temp_name}
 use Rattle.s3_paths.proofs.TempNames.{is_temp_name-IsTempName}
 use Rattle.s3_paths.proofs.names.is_temp_name.Goals as goal
 

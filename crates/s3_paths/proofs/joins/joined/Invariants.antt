@@ -1,8 +1,0 @@
-use Rattle.std.proofs.Common.{◌≡◌, take}
-use Rattle.std.specs.List.{flat_map}
-use Rattle.std.specs.String.{string_bytes}
-use Rattle.s3_paths.proofs.joins.joined.Given as goal
-
--- the pieces before this one stand in the text
-abbrev pub invariant-loop-piece : goal.invariant-loop-piece
-invariant-loop-piece l = string_bytes l.text ≡ flat_map (λ piece. piece.now) (take l.piece-index l.pieces)
