@@ -10,7 +10,7 @@ use std::{env, io};
 /// How many connections there are at most.
 const WIRES: usize = 64;
 
-/// The status where memory was wanted before the run.
+/// The status where memory ran out before the run.
 const OUT_OF_MEMORY: u8 = 70;
 
 /// The status where standard output failed.

@@ -1,5 +1,5 @@
 -- A signed request and its talk make a Put that was carried.
-use Rattle.std.proofs.Common.{◌≡◌, ◌++◌, false, ℕ, List, [], ◌∷◌, Option, None, refl, ap, subst}
+use Rattle.std.proofs.Common.{◌≡◌, ◌++◌, Bool, false, ℕ, List, [], ◌∷◌, Option, None, refl, ap, subst}
 use Rattle.s3_model.specs.declared.requests.Ask.{Ask}
 use Rattle.s3_model.specs.declared.requests.Ask.TheVariants as ask
 use Rattle.s3_model.specs.declared.answers.Talked.{Talked}
@@ -8,7 +8,7 @@ use Rattle.s3_model.specs.declared.places.Endpoint.{Endpoint}
 use Rattle.s3_model.specs.declared.settings.Keys.{Keys}
 use Rattle.s3_model.specs.Lists.{Buffer}
 use Rattle.s3_model.specs.Talks.{Talk, Note, Began, WireLog}
-use Rattle.s3_model.specs.Carried.{IsPrefixOf, SaysAll}
+use Rattle.run_promise.specs.Carried.{IsPrefixOf, SaysAll}
 use Rattle.http_exchange.specs.Exchange.{IsExchange, IfBroken}
 use Rattle.http_exchange.specs.Answer.{IsOfTalk}
 use Rattle.s3_main.specs.declared.carry.Ending.{Ending}
@@ -26,9 +26,9 @@ as_one_talk endpoint keys asked body (ending.Uncertain reason) result talks note
 as_one_talk endpoint keys asked body ending.Memory (talked.Answered answered) talks notes judges one = absurd judges
 as_one_talk endpoint keys asked body ending.Memory (talked.Broken reason) talks notes judges one = absurd judges
 
-module _ (bucket key : List ℕ) (content : Option (List ℕ)) (endpoint : Endpoint) (keys : Keys) (body head : List ℕ) (of_ending : Ending) where
+module _ (bucket key : List ℕ) (content : Option (List ℕ)) (fresh : Bool) (endpoint : Endpoint) (keys : Keys) (body head : List ℕ) (of_ending : Ending) where
   abbrev put : Ask
-  put = ask.Put bucket key content
+  put = ask.Put bucket key content fresh
 
   one_talk : (first last : Buffer) (result : Talked) (talk : Talk) (talks : List Talk) (notes : List Note) → IsSigned endpoint keys put body head talks notes
       → IsExchange (record { endpoint = endpoint; bytes = head ++ body; head_only = false; limit = None }) first last result talk → IfBroken result IsOfTalk → JudgesAs result of_ending
@@ -42,9 +42,9 @@ module _ (bucket key : List ℕ) (content : Option (List ℕ)) (endpoint : Endpo
     to_port = e.port;
     text = λ shown bytes h.
         subst (λ (text : List ℕ). SaysAll Shows (request_text endpoint keys) endpoint.host endpoint.port shown talk.sent text) signed.signed
-        (judge.says bucket key content endpoint (head ++ body) first last talk (request_text endpoint keys) endpoint.host endpoint.port result e shown bytes h);
-    beginning = subst (IsPrefixOf talk.sent) signed.signed (judge.beginning bucket key content endpoint (head ++ body) first last talk result e);
-    judged = judge.judged bucket key content endpoint (head ++ body) first last talk result of_ending e own judges;
+        (judge.says bucket key content fresh endpoint (head ++ body) first last talk (request_text endpoint keys) endpoint.host endpoint.port result e shown bytes h);
+    beginning = subst (IsPrefixOf talk.sent) signed.signed (judge.beginning bucket key content fresh endpoint (head ++ body) first last talk result e);
+    judged = judge.judged bucket key content fresh endpoint (head ++ body) first last talk result of_ending e own judges;
   }
 
   carried_put : (first second third : Option WireLog) (b a : ℕ) → Gains first second (IsSigned endpoint keys put body head) → IsAnsweredBy endpoint (head ++ body) second third b a of_ending
@@ -61,5 +61,5 @@ module _ (bucket key : List ℕ) (content : Option (List ℕ)) (endpoint : Endpo
 pub carried : (endpoint : Endpoint) (keys : Keys) (asked : Ask) (body head : List ℕ) (of_ending : Ending) → IsPut asked
     → (first second third : Option WireLog) (b a : ℕ) → Gains first second (IsSigned endpoint keys asked body head) → IsAnsweredBy endpoint (head ++ body) second third b a of_ending
     → Gains first third (CarriesAs endpoint keys asked body of_ending)
-carried endpoint keys (ask.Put bucket key content) body head of_ending is_put = carried_put bucket key content endpoint keys body head of_ending
+carried endpoint keys (ask.Put bucket key content fresh) body head of_ending is_put = carried_put bucket key content fresh endpoint keys body head of_ending
 carried endpoint keys asked body head of_ending is_put = absurd is_put

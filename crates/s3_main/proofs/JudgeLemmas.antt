@@ -1,5 +1,5 @@
 -- What an answer is judged to be is what its talk shows.
-use Rattle.std.proofs.Common.{◌≡◌, ◌≤◌, ◌<◌, ◌⊎◌, ℕ, List, [], Option, false, Some, None, refl, sym, ap, subst, inl, inr, arith}
+use Rattle.std.proofs.Common.{◌≡◌, ◌≤◌, ◌<◌, ◌⊎◌, ◌↔◌, ℕ, Bool, List, [], Option, false, Some, None, refl, sym, ap, subst, inl, inr, arith}
 use Rattle.s3_model.specs.declared.requests.Ask.{Ask}
 use Rattle.s3_model.specs.declared.requests.Ask.TheVariants as ask
 use Rattle.s3_model.specs.declared.answers.Answered.{Answered}
@@ -15,7 +15,7 @@ use Rattle.s3_model.specs.Classes as row
 use Rattle.s3_model.specs.Lists.{Buffer}
 use Rattle.s3_model.specs.declared.places.Endpoint.{Endpoint}
 use Rattle.s3_model.specs.Talks.{Talk, Failed}
-use Rattle.s3_model.specs.Carried.{IsPrefixOf, SaysAll}
+use Rattle.run_promise.specs.Carried.{IsPrefixOf, SaysAll}
 use Rattle.http_exchange.specs.Answer.{IsAnswer, HasNoAnswer, HasCoding, IsOfTalk}
 use Rattle.http_exchange.specs.Exchange.{Request, IsExchange, IfBroken}
 use Rattle.one_put.specs.OnePut.{IsJudged, stored, refused, open_ended, unread, most_body}
@@ -30,9 +30,9 @@ stated talk answered body a = record { head = a.head; rest = a.rest; reads = a.r
 no_error : (document code message : List ℕ) → ¬ (ReadsNoError document code message)
 no_error document code message h = h
 
-module _ (bucket key : List ℕ) (content : Option (List ℕ)) (endpoint : Endpoint) (bytes : List ℕ) (before after : Buffer) (talk : Talk) where
+module _ (bucket key : List ℕ) (content : Option (List ℕ)) (fresh : Bool) (endpoint : Endpoint) (bytes : List ℕ) (before after : Buffer) (talk : Talk) where
   abbrev put : Ask
-  put = ask.Put bucket key content
+  put = ask.Put bucket key content fresh
 
   abbrev request : Request
   request = record { endpoint = endpoint; bytes = bytes; head_only = false; limit = None }
@@ -41,7 +41,7 @@ module _ (bucket key : List ℕ) (content : Option (List ℕ)) (endpoint : Endpo
   Judged of_ending = IsJudged Shows put talk (of_ending ≡ ending.Uncertain why.Memory) (mark_of_ending of_ending) (outcome_of of_ending)
 
   -- the talk has the class that the whole answer has
-  shows_class : (answered : Answered) (shown : Class) → IsExchange request before after (talked.Answered answered) talk → IsClass ReadsNoError ReadsNoReply put answered shown
+  shows_class : (answered : Answered) (shown : Class) → (e : IsExchange request before after (talked.Answered answered) talk) → IsClass ReadsNoError ReadsNoReply put answered e.answered.0 shown
       → (body : List ℕ) × Shows put most_body talk shown body
   shows_class answered shown e class_is = (e.answered.0, inl (answered, stated talk answered e.answered.0 e.answered.1, class_is))
 
@@ -54,15 +54,15 @@ module _ (bucket key : List ℕ) (content : Option (List ℕ)) (endpoint : Endpo
   judged_other answered e (inl low) = let least = final_status answered e in absurd (omega arith)
   judged_other answered e (inr high) =
       let shows = shows_class answered (class.Uncertain (why.Status answered.status)) e (row.other high (λ code message busy. busy.1)) in
-      open_ended (why.Status answered.status) shows.0 _ shows.1
+      open_ended (why.Status answered.status) shows.0 (λ clash. cc) shows.1
 
   judged_answer : (answered : Answered) (of_ending : Ending) → IsExchange request before after (talked.Answered answered) talk → JudgesAs (talked.Answered answered) of_ending → Judged of_ending
   judged_answer answered ending.Stored e two =
       let shows = shows_class answered (class.Success reply.Stored) e (row.succeeded reply.Stored two tt) in stored reply.Stored shows.0 shows.1
   judged_answer answered (ending.Refused code message) e h =
-      let shows = shows_class answered (class.Refusal code message) e (row.refused code message h.0 h.1 (inr (λ has. no_error answered.body.bytes, h.2, h.3))) in
-      refused code message shows.0 _ shows.1
-  judged_answer answered (ending.Uncertain reason) e (inl memory) = unread _ (ap ending.Uncertain memory)
+      let shows = shows_class answered (class.Refusal code message) e (row.refused code message h.0 h.1 (inr (λ has. no_error e.answered.0, h.2, h.3))) in
+      refused code message shows.0 shows.1
+  judged_answer answered (ending.Uncertain reason) e (inl memory) = subst (λ (r : Why). Judged (ending.Uncertain r)) (sym memory) (unread refl)
   judged_answer answered (ending.Uncertain reason) e (inr h) = subst (λ (r : Why). Judged (ending.Uncertain r)) (sym h.0) (judged_other answered e h.1)
   judged_answer answered ending.Memory e h = absurd h
 
@@ -70,19 +70,28 @@ module _ (bucket key : List ℕ) (content : Option (List ℕ)) (endpoint : Endpo
   unstated : HasNoAnswer false None talk.got talk.ending → HasNoAnswer false (Some most_body) talk.got talk.ending
   unstated none answered body a = none answered body (record { head = a.head; rest = a.rest; reads = a.reads; framed = a.framed; says = a.says; has_body = a.has_body; within = a.within; taken = a.taken; no_fault = a.no_fault })
 
-  broken_as : (reason : Why) → IsOfTalk reason → HasNoAnswer false None talk.got talk.ending ⊎ HasCoding talk.got → Judged (ending.Uncertain reason)
-  broken_as reason own (inl none) = open_ended reason [] _ (inr (reason, (own, inl (unstated none)), refl, refl))
-  broken_as reason own (inr coding) = open_ended reason [] _ (inr (reason, (own, inr coding), refl, refl))
+  none_stated : HasNoAnswer false None talk.got talk.ending ⊎ HasCoding talk.got → HasNoAnswer false (Some most_body) talk.got talk.ending ⊎ HasCoding talk.got
+  none_stated (inl none) = inl (unstated none)
+  none_stated (inr coding) = inr coding
+
+  broken_as : (reason : Why) → IsOfTalk reason → IsExchange request before after (talked.Broken reason) talk → HasNoAnswer false None talk.got talk.ending ⊎ HasCoding talk.got
+      → Shows put most_body talk (class.Uncertain reason) []
+  broken_as reason own e none =
+      let failed : (reason ≡ why.WireFailed) ↔ (talk.ending ≡ Failed) = ((λ is. e.failed.0 (ap talked.Broken is)), (λ fails. same_reason reason why.WireFailed (e.failed.1 fails))) in
+      inr (reason, record { of_talk = own; no_answer = none_stated none; failed = failed }, refl, refl)
+    where
+      same_reason : (a b : Why) → talked.Broken a ≡ talked.Broken b → a ≡ b
+      same_reason a b is = cc
 
   judged_broken : (reason : Why) → IsExchange request before after (talked.Broken reason) talk → IsOfTalk reason → Judged (ending.Uncertain reason)
-  judged_broken why.Memory e own = unread _ refl
-  judged_broken why.BadLength e own = broken_as why.BadLength own e.no_answer
-  judged_broken why.WireFailed e own = broken_as why.WireFailed own (inl e.no_answer)
-  judged_broken why.EndedEarly e own = broken_as why.EndedEarly own (inl e.no_answer)
-  judged_broken why.NotHttp e own = broken_as why.NotHttp own (inl e.no_answer)
-  judged_broken why.HeadTooLong e own = broken_as why.HeadTooLong own (inl e.no_answer)
-  judged_broken (why.BodyTooLong limit) e own = broken_as (why.BodyTooLong limit) own (inl e.no_answer)
-  judged_broken why.BadChunk e own = broken_as why.BadChunk own (inl e.no_answer)
+  judged_broken why.Memory e own = unread refl
+  judged_broken why.BadLength e own = open_ended why.BadLength [] (λ clash. cc) (broken_as why.BadLength own e e.no_answer)
+  judged_broken why.WireFailed e own = open_ended why.WireFailed [] (λ clash. cc) (broken_as why.WireFailed own e (inl e.no_answer))
+  judged_broken why.EndedEarly e own = open_ended why.EndedEarly [] (λ clash. cc) (broken_as why.EndedEarly own e (inl e.no_answer))
+  judged_broken why.NotHttp e own = open_ended why.NotHttp [] (λ clash. cc) (broken_as why.NotHttp own e (inl e.no_answer))
+  judged_broken why.HeadTooLong e own = open_ended why.HeadTooLong [] (λ clash. cc) (broken_as why.HeadTooLong own e (inl e.no_answer))
+  judged_broken (why.BodyTooLong limit) e own = open_ended (why.BodyTooLong limit) [] (λ clash. cc) (broken_as (why.BodyTooLong limit) own e (inl e.no_answer))
+  judged_broken why.BadChunk e own = open_ended why.BadChunk [] (λ clash. cc) (broken_as why.BadChunk own e (inl e.no_answer))
   judged_broken (why.Status status) e own = absurd own
   judged_broken why.Internal e own = absurd own
   judged_broken why.Document e own = absurd own
@@ -106,7 +115,7 @@ module _ (bucket key : List ℕ) (content : Option (List ℕ)) (endpoint : Endpo
 
     -- all of it, whatever the class
     says_whole : talk.sent ≡ bytes → (shown : Class) → IsPrefixOf talk.sent bytes → Says shown
-    says_whole whole (class.Success told) front = whole
+    says_whole whole (class.Success seen) front = whole
     says_whole whole (class.Refusal code message) front = whole
     says_whole whole (class.Uncertain reason) front = front
 

@@ -9,15 +9,18 @@ use Rattle.s3_model.specs.declared.settings.Keys.{Keys}
 use Rattle.s3_model.specs.declared.tries.Mark.{Mark}
 use Rattle.s3_model.specs.Counts.{Rose}
 use Rattle.s3_model.specs.Talks.{WireLog}
-use Rattle.s3_outside.specs.Files.{ToldFiles}
+use Rattle.s3_outside.specs.Files.{SeenFiles}
 use Rattle.one_put.specs.OnePut.{put_job}
+use Rattle.s3_model.specs.declared.answers.Why.{Why}
+use Rattle.s3_model.specs.declared.answers.Why.TheVariants as why
 use Rattle.s3_main.specs.declared.carry.Ending.{Ending}
+use Rattle.s3_main.specs.declared.carry.Ending.TheVariants as ending
 use Rattle.s3_main.specs.declared.source.ReadFault.{ReadFault}
 use Rattle.s3_main.specs.declared.source.ReadFault.TheVariants as read
-use Rattle.s3_main.specs.Carrying.{CarriesAs, Gains, outcome_of}
+use Rattle.s3_main.specs.Carrying.{CarriesAs, Gains, lost_cause, outcome_of}
 use Rattle.s3_main.specs.Sources.{AreFirstBytes, HasFewer}
 use Rattle.s3_main.specs.Texts.{IsPlain}
-use Rattle.s3_main.specs.Uploading.{IsReadCause, Uploads, marks_of, put_journal, read_cause}
+use Rattle.s3_main.specs.Uploading.{IsReadCause, Uploads, WantsJournal, marks_of, put_journal, read_cause}
 use Rattle.s3_main.proofs.GainLemmas.{gains_nothing, gains_as}
 
 pub read_is_plain : (fault : ReadFault) → IsPlain (read_cause fault)
@@ -26,33 +29,33 @@ read_is_plain read.Short = tt
 read_is_plain read.Memory = tt
 
 -- the cause of a read that failed
-read_reason : (told : Option ToldFiles) (path : List ℕ) (size before after : ℕ) (fault : ReadFault) → (fault ≡ read.Failed → Rose before after)
-    → IfSome told (λ files. fault ≡ read.Short → HasFewer files.store path size) → IsReadCause told path size before after (read_cause fault)
-read_reason told path size before after read.Failed rose fewer = rose refl
+read_reason : (seen : Option SeenFiles) (path : List ℕ) (size before after : ℕ) (fault : ReadFault) → (fault ≡ read.Failed → Rose before after)
+    → IfSome seen (λ files. fault ≡ read.Short → HasFewer files.store path size) → IsReadCause seen path size before after (read_cause fault)
+read_reason seen path size before after read.Failed rose fewer = rose refl
 read_reason None path size before after read.Short rose fewer = tt
 read_reason (Some files) path size before after read.Short rose fewer = fewer refl
-read_reason told path size before after read.Memory rose fewer = tt
+read_reason seen path size before after read.Memory rose fewer = tt
 
 -- nothing was sent, since the bytes did not come
-pub unread : (endpoint : Endpoint) (keys : Keys) (asked : Ask) (told : Option ToldFiles) (path : List ℕ) (size before after : ℕ) (journal : List Event) (wire : Option WireLog) (fault : ReadFault)
-    → (fault ≡ read.Failed → Rose before after) → IfSome told (λ files. fault ≡ read.Short → HasFewer files.store path size) → journal ≡ []
-    → Gains wire wire (Uploads endpoint keys asked told path size before after journal (outcome.Failed (read_cause fault)))
-unread endpoint keys asked told path size before after journal wire fault rose fewer none =
-    gains_nothing (Uploads endpoint keys asked told path size before after journal (outcome.Failed (read_cause fault))) wire
-    (inl (record { why = read_cause fault; failed = refl; reason = read_reason told path size before after fault rose fewer; no_job = none; no_talk = refl; no_note = refl }))
+pub unread : (endpoint : Endpoint) (keys : Keys) (asked : Ask) (seen : Option SeenFiles) (path : List ℕ) (size before after : ℕ) (journal : List Event) (wire : Option WireLog) (fault : ReadFault)
+    → (fault ≡ read.Failed → Rose before after) → IfSome seen (λ files. fault ≡ read.Short → HasFewer files.store path size) → journal ≡ []
+    → Gains wire wire (Uploads endpoint keys asked seen path size before after journal (outcome.Failed (read_cause fault)))
+unread endpoint keys asked seen path size before after journal wire fault rose fewer none =
+    gains_nothing (Uploads endpoint keys asked seen path size before after journal (outcome.Failed (read_cause fault))) wire
+    (inl (record { why = read_cause fault; failed = refl; reason = read_reason seen path size before after fault rose fewer; no_job = none; no_talk = refl; no_note = refl }))
 
 -- the Put of the bytes was carried
-pub given : (endpoint : Endpoint) (keys : Keys) (asked : Ask) (told : Option ToldFiles) (path : List ℕ) (size before after : ℕ) (journal : List Event) (first last : Option WireLog) (of_ending : Ending) (bytes : List ℕ)
-    → Gains first last (CarriesAs endpoint keys asked bytes of_ending) → journal ≡ put_journal of_ending → length bytes ≡ size → IfSome told (λ files. AreFirstBytes files.store path bytes)
-    → Gains first last (Uploads endpoint keys asked told path size before after journal (outcome_of of_ending))
-given endpoint keys asked told path size before after journal first last of_ending bytes gains journals same first_bytes =
-    gains_as (CarriesAs endpoint keys asked bytes of_ending) (Uploads endpoint keys asked told path size before after journal (outcome_of of_ending))
+pub given : (endpoint : Endpoint) (keys : Keys) (asked : Ask) (seen : Option SeenFiles) (path : List ℕ) (size before after : ℕ) (journal : List Event) (first last : Option WireLog) (of_ending : Ending) (bytes : List ℕ)
+    → Gains first last (CarriesAs endpoint keys asked bytes of_ending) → journal ≡ put_journal of_ending → length bytes ≡ size → IfSome seen (λ files. AreFirstBytes files.store path bytes)
+    → Gains first last (Uploads endpoint keys asked seen path size before after journal (outcome_of of_ending))
+given endpoint keys asked seen path size before after journal first last of_ending bytes gains journals same first_bytes =
+    gains_as (CarriesAs endpoint keys asked bytes of_ending) (Uploads endpoint keys asked seen path size before after journal (outcome_of of_ending))
     (λ talks notes carries. inr (record { of_ending = of_ending; bytes = bytes; carries = carries; journals = journals; judged = refl; size_is = same; read = first_bytes }))
     first last gains
 
--- a read that came short, where files are told
-pub short_told : (T : Type 0) (told : Option ToldFiles) (path : List ℕ) (size : ℕ) (fault : ReadFault) → IfSome told (λ files. (let r : Result T ReadFault = Err fault in IsErrOf r read.Short) → HasFewer files.store path size)
-    → IfSome told (λ files. fault ≡ read.Short → HasFewer files.store path size)
+-- a read that came short, where files are seen
+pub short_told : (T : Type 0) (seen : Option SeenFiles) (path : List ℕ) (size : ℕ) (fault : ReadFault) → IfSome seen (λ files. (let r : Result T ReadFault = Err fault in IsErrOf r read.Short) → HasFewer files.store path size)
+    → IfSome seen (λ files. fault ≡ read.Short → HasFewer files.store path size)
 short_told T None path size fault h = tt
 short_told T (Some files) path size fault h = λ e. h (ap Err e)
 
@@ -62,3 +65,30 @@ pub journal_of : (old one two : List Event) (marks : List Mark) (of_ending : End
 journal_of old one two marks of_ending none given came same =
     came ∙ (ap (λ (xs : List Event). xs ++ entry.Came put_job 0 marks ∷ []) (given ∙ ap (λ (xs : List Event). xs ++ entry.Given put_job 0 ∷ []) none)
     ∙ ap (λ (ms : List Mark). entry.Given put_job 0 ∷ entry.Came put_job 0 ms ∷ []) same)
+
+-- ---- the jobs that an outcome wants
+
+pub read_wants : (before after : ℕ) (fault : ReadFault) (journal : List Event) → (fault ≡ read.Failed → Rose before after) → journal ≡ []
+    → WantsJournal before after (outcome.Failed (read_cause fault)) journal
+read_wants before after read.Failed journal rose none = (none, rose refl)
+read_wants before after read.Short journal rose none = none
+read_wants before after read.Memory journal rose none = inl none
+
+lost_wants : (before after : ℕ) (reason : Why) (journal : List Event) → journal ≡ put_journal (ending.Uncertain reason) → WantsJournal before after (outcome.Unknown (lost_cause reason)) journal
+lost_wants before after why.Memory journal is = is
+lost_wants before after why.WireFailed journal is = (refl, is)
+lost_wants before after why.EndedEarly journal is = (refl, is)
+lost_wants before after why.NotHttp journal is = (refl, is)
+lost_wants before after why.HeadTooLong journal is = (refl, is)
+lost_wants before after (why.BodyTooLong most) journal is = (refl, is)
+lost_wants before after why.BadLength journal is = (refl, is)
+lost_wants before after why.BadChunk journal is = (refl, is)
+lost_wants before after (why.Status status) journal is = (refl, is)
+lost_wants before after why.Internal journal is = (refl, is)
+lost_wants before after why.Document journal is = (refl, is)
+
+pub ending_wants : (before after : ℕ) (of_ending : Ending) (journal : List Event) → journal ≡ put_journal of_ending → WantsJournal before after (outcome_of of_ending) journal
+ending_wants before after ending.Stored journal is = is
+ending_wants before after (ending.Refused code message) journal is = (refl, is)
+ending_wants before after (ending.Uncertain reason) journal is = lost_wants before after reason journal is
+ending_wants before after ending.Memory journal is = inr is

@@ -1,5 +1,5 @@
 -- One request carried over a wire: what the wire gains, and what the answer comes to.
-use Rattle.std.specs.Prelude.{◌≡◌, ◌≤◌, ◌<◌, ◌++◌, ◌⊎◌, ℕ, Bool, true, false, List, [], ◌∷◌, Option, Some, None, decimal}
+use Rattle.std.specs.Prelude.{◌≡◌, ◌≤◌, ◌<◌, ◌++◌, ◌⊎◌, ◌↔◌, ℕ, Bool, true, false, List, [], ◌∷◌, Option, Some, None, decimal}
 use Rattle.s3_model.specs.declared.requests.Ask.{Ask}
 use Rattle.s3_model.specs.declared.requests.Ask.TheVariants as ask
 use Rattle.s3_model.specs.declared.requests.Op.TheVariants as op
@@ -20,12 +20,12 @@ use Rattle.s3_model.specs.declared.tries.Mark.TheVariants as mark
 use Rattle.s3_model.specs.declared.places.Endpoint.{Endpoint}
 use Rattle.s3_model.specs.declared.settings.Keys.{Keys}
 use Rattle.s3_model.specs.Classes.{IsClass, IsTwoHundred, status_message}
-use Rattle.s3_model.specs.Talks.{Talk, Note, Moment, Began, WireLog}
+use Rattle.s3_model.specs.Talks.{Talk, Note, Moment, Began, Failed, WireLog}
 use Rattle.s3_requests.specs.Requests as requests
 use Rattle.http_exchange.specs.Answer.{IsAnswer, HasNoAnswer, HasCoding, IsOfTalk}
 use Rattle.http_exchange.specs.Exchange.{Exchanges, IfBroken}
 use Rattle.s3_model.specs.Lists.{Buffer}
-use Rattle.s3_model.specs.Carried.{IsPrefixOf, SaysAll}
+use Rattle.run_promise.specs.Carried.{IsPrefixOf, SaysAll}
 use Rattle.one_put.specs.OnePut.{AreIdle, IsJudged, most_body}
 use Rattle.s3_main.specs.declared.carry.Ending.{Ending}
 use Rattle.s3_main.specs.declared.carry.Ending.TheVariants as ending
@@ -37,21 +37,29 @@ abbrev pub ReadsNoError : List ℕ → List ℕ → List ℕ → Type 0
 ReadsNoError document code message = ⊥
 
 abbrev pub ReadsNoReply : Ask → List ℕ → Reply → Type 0
-ReadsNoReply asked document told = ⊥
+ReadsNoReply asked document seen = ⊥
 
 abbrev pub is_head : Ask → Bool
 is_head (ask.Head bucket key) = true
 is_head asked = false
 
--- a break of the talk: the bytes are no answer, or name a transfer coding, which is not read yet
-abbrev pub IsBroken : Ask → ℕ → Talk → Why → Type 0
-IsBroken asked limit talk reason = IsOfTalk reason × (HasNoAnswer (is_head asked) (Some limit) talk.got talk.ending ⊎ HasCoding talk.got)
+-- a break of the talk: the bytes are no answer, or name a transfer coding, which is not read yet; and a call of the wire failed
+-- in it exactly where that is the reason
+pub record IsBroken (asked : Ask) (limit : ℕ) (talk : Talk) (reason : Why) : Type 0 where
+  pub of_talk : IsOfTalk reason
+  pub no_answer : HasNoAnswer (is_head asked) (Some limit) talk.got talk.ending ⊎ HasCoding talk.got
+  pub failed : (reason ≡ why.WireFailed) ↔ (talk.ending ≡ Failed)
 
 -- The talk has that class for the ask, and its answer that body.
 abbrev pub Shows : Ask → ℕ → Talk → Class → List ℕ → Type 0
 Shows asked limit talk shown bytes =
-    ((answered : Answered) × IsAnswer (is_head asked) (Some limit) talk.got talk.ending answered bytes × IsClass ReadsNoError ReadsNoReply asked answered shown)
+    ((answered : Answered) × IsAnswer (is_head asked) (Some limit) talk.got talk.ending answered bytes × IsClass ReadsNoError ReadsNoReply asked answered bytes shown)
     ⊎ ((reason : Why) × IsBroken asked limit talk reason × (shown ≡ class.Uncertain reason) × (bytes ≡ []))
+
+-- the answer of the talk has that HTTP status
+abbrev pub HasStatus : Ask → ℕ → Talk → ℕ → Type 0
+HasStatus asked limit talk status =
+    (answered : Answered) × (bytes : List ℕ) × IsAnswer (is_head asked) (Some limit) talk.got talk.ending answered bytes × (answered.status ≡ status)
 
 -- the text of a request to this service, signed with these keys
 abbrev pub request_text : Endpoint → Keys → Ask → List ℕ → ℕ → List ℕ
@@ -59,7 +67,7 @@ request_text endpoint keys asked body moment = requests.request_text asked endpo
 
 -- ---- what a wire gains
 
--- talks and notes behind those before, as far as the wire still tells
+-- talks and notes behind those before, as far as the wire is still seen
 abbrev pub Gains : Option WireLog → Option WireLog → (List Talk → List Note → Type 0) → Type 0
 Gains before None P = Unit {0}
 Gains None (Some after) P = ⊥
@@ -73,7 +81,7 @@ abbrev pub Refuses : ℕ → Ending → Type 0
 Refuses status (ending.Refused code message) = (code ≡ decimal status) × (message ≡ status_message status)
 Refuses status of_ending = ⊥
 
--- the ending says what the status said, but for want of memory
+-- the ending says what the status said, unless memory ran out
 abbrev pub JudgesStatus : ℕ → Ending → Type 0
 JudgesStatus status ending.Stored = IsTwoHundred status
 JudgesStatus status (ending.Refused code message) = (300 ≤ status) × (status < 500) × (code ≡ decimal status) × (message ≡ status_message status)
@@ -92,7 +100,7 @@ mark_of_ending (ending.Refused code message) = mark.Refusal
 mark_of_ending (ending.Uncertain reason) = mark.Uncertain
 mark_of_ending ending.Memory = mark.Uncertain
 
--- a lost answer, or want of memory
+-- a lost answer, or memory that ran out
 abbrev pub lost_cause : Why → Cause
 lost_cause why.Memory = cause.Memory
 lost_cause reason = cause.Lost op.Put reason
@@ -107,10 +115,10 @@ outcome_of ending.Memory = outcome.Failed cause.Memory
 -- ---- carrying a Put
 
 abbrev pub IsPut : Ask → Type 0
-IsPut (ask.Put bucket key content) = Unit {0}
+IsPut (ask.Put bucket key content fresh) = Unit {0}
 IsPut asked = ⊥
 
--- memory was wanted before the talk
+-- memory ran out before the talk
 pub record IsSilentGain (talks : List Talk) (notes : List Note) : Type 0 where
   pub no_talk : talks ≡ []
   pub idle : AreIdle notes

@@ -9,4 +9,4 @@ pub mod Starts
 pub mod Texts
 pub mod Uploading
 pub mod Words
-pub mod Worked
+pub mod Executed

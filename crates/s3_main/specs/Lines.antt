@@ -2,11 +2,11 @@
 use Rattle.std.specs.Prelude.{◌≡◌, ◌≢◌, ◌⊎◌, ℕ, List, [], true, false, Some, Result, Ok, Err, if◌then◌else◌}
 use Rattle.s3_model.specs.declared.list.OutOfMemory.{OutOfMemory}
 use Rattle.s3_main.specs.declared.run.Fatal.TheVariants as fatal
-use Rattle.s3_main.specs.declared.work.Line.{Line}
+use Rattle.s3_main.specs.declared.execution.Line.{Line}
 use Rattle.s3_main.specs.declared.run.Run.{Run}
 use Rattle.s3_main.specs.Runs.{err_text, out_text}
 
--- the line has the texts of the run, unless memory was wanted for it
+-- the line has the texts of the run, unless memory ran out for it
 abbrev pub IsLineOf : Run → Result Line OutOfMemory → Type 0
 IsLineOf run (Ok line) =
     ((line.to_err ≡ true) × (line.text ≡ err_text run) × (out_text run ≡ []) ⊎ (line.to_err ≡ false) × (line.text ≡ out_text run) × (err_text run ≡ []))

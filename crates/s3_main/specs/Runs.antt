@@ -16,20 +16,21 @@ use Rattle.s3_model.specs.declared.settings.Limits.{Limits}
 use Rattle.s3_model.specs.declared.tasks.Task.{Task}
 use Rattle.s3_model.specs.Counts.{Rose}
 use Rattle.s3_model.specs.Talks.{Talk, Note}
-use Rattle.s3_model.specs.Truthful.{Shown, IsTruthful, IsDoneWhereWilling}
-use Rattle.s3_outside.specs.Env.{ToldEnv}
-use Rattle.s3_outside.specs.Files.{ToldFiles, shape_at}
+use Rattle.run_promise.specs.Settled.{IsSettingOf, cause_of, is_memory}
+use Rattle.run_promise.specs.Truthful.{Shown, IsTruthful, IsDoneWhereWilling}
+use Rattle.s3_outside.specs.Env.{SeenEnv}
+use Rattle.s3_outside.specs.Files.{SeenFiles, shape_at}
 use Rattle.s3_paths.specs.Endpoints.{authority_in, host_of, port_of}
-use Rattle.one_put.specs.OnePut.{IsPlannedNothing, in_first, tells_file_failed}
+use Rattle.one_put.specs.OnePut.{PlansNothing, in_first, tells_file_failed}
 use Rattle.s3_main.specs.declared.run.Fatal.{Fatal}
 use Rattle.s3_main.specs.declared.run.Fatal.TheVariants as fatal
 use Rattle.s3_main.specs.declared.run.Run.{Run}
-use Rattle.s3_main.specs.Carrying.{Shows, request_text}
+use Rattle.s3_main.specs.Carrying.{HasStatus, Shows, request_text}
 use Rattle.s3_main.specs.Printed.{Prints, PrintsFront}
 use Rattle.s3_main.specs.Settings.{settings_of}
 use Rattle.s3_main.specs.Sources.{IsBeyond, first_large}
-use Rattle.s3_main.specs.Uploading.{Uploads, upload_ask, upload_task}
-use Rattle.s3_main.specs.Texts.{is_fine, task_line}
+use Rattle.s3_main.specs.Uploading.{IsReadCause, Uploads, WantsJournal, upload_ask, upload_task}
+use Rattle.s3_main.specs.Texts.{is_fine, is_unfinished, task_line}
 use Rattle.s3_main.specs.Words.{is_upload, path_word, uri_word, url_word}
 use Rattle.s3_paths.specs.Uris.{bucket_in, key_in}
 use Rattle.s3_outside.specs.declared.files.Shape.TheVariants as shape
@@ -46,7 +47,7 @@ fatal_status other = 1
 
 -- 1 where a task did not end as planned
 abbrev pub outcomes_status : List Outcome → ℕ
-outcomes_status outcomes = if list_any (λ (how : Outcome). not (is_fine how)) outcomes then 1 else 0
+outcomes_status outcomes = if list_any is_unfinished outcomes then 1 else 0
 
 abbrev pub status_by : Option Fatal → List Outcome → ℕ
 status_by (Some why) outcomes = fatal_status why
@@ -55,6 +56,10 @@ status_by None outcomes = outcomes_status outcomes
 -- the status of a run whose lines could be written
 abbrev pub status_of : Run → ℕ
 status_of run = status_by run.fatal run.outcomes.items
+
+-- The status is that, or 74 where an output failed; where memory ran out it is 70, whatever the outputs did.
+abbrev pub EndsWith : Run → (OutputFailed : Type 0) → Type 0
+EndsWith run OutputFailed = (run.status ≡ status_of run) ⊎ ((run.status ≡ 74) × OutputFailed × (run.fatal ≢ Some fatal.Memory))
 
 -- ---- the lines
 
@@ -88,7 +93,7 @@ out_text run = out_by run.fatal run.plan.tasks.items run.outcomes.items
 abbrev pub err_text : Run → List ℕ
 err_text run = err_by run.fatal run.plan.tasks.items run.outcomes.items
 
--- Both texts were written whole; after a fault of an output, status 74, a beginning of them; and where memory was wanted,
+-- Both texts were written whole; after a fault of an output, status 74, a beginning of them; and where memory ran out,
 -- status 70, a beginning of the line that says so.
 pub record IsPrinted (run : Run) (out_before out_after err_before err_after : Option (List ℕ)) : Type 0 where
   pub whole : run.status ≢ 70 → run.status ≢ 74 → Prints out_before out_after (out_text run) × Prints err_before err_after (err_text run)
@@ -97,14 +102,14 @@ pub record IsPrinted (run : Run) (out_before out_after err_before err_after : Op
 
 -- ---- why a run ended before its task
 
-abbrev pub StopsFor : (words : List (List ℕ)) → Option ToldEnv → Option ToldFiles → (faults_before faults_after : ℕ) → Fatal → Type 0
+abbrev pub StopsFor : (words : List (List ℕ)) → Option SeenEnv → Option SeenFiles → (faults_before faults_after : ℕ) → Fatal → Type 0
 StopsFor words env files before after fatal.Memory = Unit {0}
 StopsFor words env files before after fatal.NotYet =
-    (is_upload words ≡ false) ⊎ ((is_upload words ≡ true) × IfSome files (λ told. IsBeyond (shape_at told.store (path_word words))))
-StopsFor words env files before after (fatal.Profile fault) = (is_upload words ≡ true) × IfSome env (λ told. settings_of told.variables ≡ Err fault)
+    (is_upload words ≡ false) ⊎ ((is_upload words ≡ true) × IfSome files (λ seen. IsBeyond (shape_at seen.store (path_word words))))
+StopsFor words env files before after (fatal.Profile fault) = (is_upload words ≡ true) × IfSome env (λ seen. settings_of seen.variables ≡ Err fault)
 StopsFor words env files before after (fatal.Walk walk.Files) = (is_upload words ≡ true) × Rose before after
 StopsFor words env files before after (fatal.Plan (plan_fault.NoSource path)) =
-    (is_upload words ≡ true) × (path ≡ path_word words) × IfSome files (λ told. shape_at told.store (path_word words) ≡ shape.Absent)
+    (is_upload words ≡ true) × (path ≡ path_word words) × IfSome files (λ seen. shape_at seen.store (path_word words) ≡ shape.Absent)
 StopsFor words env files before after other = ⊥
 
 -- ---- how far it went
@@ -129,18 +134,40 @@ pub record IsUnplanned (run : Run) (talks : List Talk) (notes : List Note) : Typ
   pub no_note : notes ≡ []
 
 -- one task was planned: the file is there and small, the keys are those of the environment, and it was uploaded so
-pub record IsPlanned (words : List (List ℕ)) (env : Option ToldEnv) (was now : Option ToldFiles) (faults_before faults_after : ℕ) (run : Run) (talks : List Talk) (notes : List Note) : Type 0 where
+pub record IsPlanned (words : List (List ℕ)) (env : Option SeenEnv) (was now : Option SeenFiles) (faults_before faults_after : ℕ) (run : Run) (talks : List Talk) (notes : List Note) : Type 0 where
   pub keys : Keys
   pub size : ℕ
   pub micros : ℕ
   pub how : Outcome
   pub form : is_upload words ≡ true
-  pub settled : IfSome env (λ told. settings_of told.variables ≡ Ok keys)
-  pub stands : IfSome was (λ told. shape_at told.store (path_word words) ≡ shape.File size micros)
+  pub settled : IfSome env (λ seen. settings_of seen.variables ≡ Ok keys)
+  pub stands : IfSome was (λ seen. shape_at seen.store (path_word words) ≡ shape.File size micros)
   pub small : size < first_large
   pub one_task : run.plan.tasks.items ≡ upload_task (path_word words) (bucket_word words) (key_word words) size micros ∷ []
   pub one_outcome : run.outcomes.items ≡ how ∷ []
   pub uploads : Uploads (endpoint_of words) keys (upload_ask (path_word words) (bucket_word words) (key_word words)) now (path_word words) size faults_before faults_after run.journal.items how talks notes
+
+-- ---- what needs no look at wires, files and variables
+
+pub record IsNothingPlanned (run : Run) : Type 0 where
+  pub stopped : is_some run.fatal ≡ true
+  pub no_task : run.plan.tasks.items ≡ []
+  pub no_outcome : run.outcomes.items ≡ []
+  pub no_job : run.journal.items ≡ []
+
+-- one upload, as the words name it, with its outcome and the jobs that this wants
+pub record IsOneUpload (words : List (List ℕ)) (faults_before faults_after : ℕ) (run : Run) : Type 0 where
+  pub size : ℕ
+  pub micros : ℕ
+  pub how : Outcome
+  pub form : is_upload words ≡ true
+  pub small : size < first_large
+  pub one_task : run.plan.tasks.items ≡ upload_task (path_word words) (bucket_word words) (key_word words) size micros ∷ []
+  pub one_outcome : run.outcomes.items ≡ how ∷ []
+  pub wants : WantsJournal faults_before faults_after how run.journal.items
+
+abbrev pub Undertakes : (words : List (List ℕ)) → (faults_before faults_after : ℕ) → Run → Type 0
+Undertakes words before after run = IsNothingPlanned run ⊎ IsOneUpload words before after run
 
 -- ---- the promise
 
@@ -148,33 +175,26 @@ pub record IsPlanned (words : List (List ℕ)) (env : Option ToldEnv) (was now :
 abbrev pub default_config : Config
 default_config = record { threshold = first_large; chunk = first_large; lanes = 10; queue = 1000; buffers = 10; attempts = 1 }
 
-abbrev pub is_memory : Cause → Bool
-is_memory cause.Memory = true
-is_memory other = false
-
-abbrev pub wants_memory : Outcome → Bool
-wants_memory (outcome.Failed why) = is_memory why
-wants_memory (outcome.Unknown why) = is_memory why
-wants_memory (outcome.Copied why) = is_memory why
-wants_memory how = false
-
 abbrev pub wanted_by : Run → Option ℕ → Bool
 wanted_by run None = run.status == 70
-wanted_by run (Some n) = option_map_or wants_memory (slice_get run.outcomes.items n) false
+wanted_by run (Some n) = is_memory (cause_of (slice_get run.outcomes.items n))
 
 -- what the run shows: its plan and outcomes, its journal, what the first wire gained, and the files before and after
-abbrev pub shown_of : Limits → Run → List Talk → List Note → (was now : ToldFiles) → Shown
+abbrev pub shown_of : Limits → Run → List Talk → List Note → (was now : SeenFiles) → Shown
 shown_of limits run talks notes was now = record {
   setting = record {
     config = default_config;
     limits = limits;
+    lanes = 1;
     tasks = run.plan.tasks.items;
     dryrun = false;
     held = was.store.held;
+    others = was.store.others;
     file_failed = λ n. tells_file_failed (slice_get run.outcomes.items n);
     cancelled_at = None;
     wanted_memory = wanted_by run;
   };
+  status = run.status;
   outcomes = run.outcomes.items;
   journal = run.journal.items;
   logs = in_first talks;
@@ -183,19 +203,28 @@ shown_of limits run talks notes was now = record {
   excused = record { left = []; untimed = []; wanted_memory = run.status == 70 };
 }
 
+-- the calls on files show that one of the task failed so: a read failed, or the file gave fewer bytes than planned
+abbrev pub CallFailed : (path : List ℕ) → (now : SeenFiles) → (faults_before faults_after : ℕ) → Run → ℕ → Cause → Type 0
+CallFailed path now before after run n why =
+    (task : Task) × (slice_get run.plan.tasks.items n ≡ Some task) × IsReadCause (Some now) path task.size before after why
+
 -- Over every honest service the outcomes are true, and over a willing one the task is done; the keys are those of the environment
 -- where a request was sent.
-pub record IsTrue (words : List (List ℕ)) (env : Option ToldEnv) (limits : Limits) (run : Run) (talks : List Talk) (notes : List Note) (was now : ToldFiles) : Type 0 where
+pub record IsTrue (words : List (List ℕ)) (env : Option SeenEnv) (limits : Limits) (faults_before faults_after : ℕ) (run : Run) (talks : List Talk) (notes : List Note) (was now : SeenFiles) : Type 0 where
   pub keys : Keys
-  pub settled : run.journal.items ≢ [] → IfSome env (λ told. settings_of told.variables ≡ Ok keys)
-  pub truthful : IsTruthful Shows (request_text (endpoint_of words) keys) (endpoint_of words).host (endpoint_of words).port IsPlannedNothing (shown_of limits run talks notes was now)
-  pub willing : IsDoneWhereWilling Shows (request_text (endpoint_of words) keys) (endpoint_of words).host (endpoint_of words).port IsPlannedNothing (shown_of limits run talks notes was now)
+  pub settled : run.journal.items ≢ [] → IfSome env (λ seen. settings_of seen.variables ≡ Ok keys)
+  pub truthful : IsTruthful Shows HasStatus (request_text (endpoint_of words) keys) (endpoint_of words).host (endpoint_of words).port PlansNothing
+      (CallFailed (path_word words) now faults_before faults_after run) (shown_of limits run talks notes was now)
+  pub willing : IsDoneWhereWilling Shows HasStatus (request_text (endpoint_of words) keys) (endpoint_of words).host (endpoint_of words).port PlansNothing
+      (CallFailed (path_word words) now faults_before faults_after run) (shown_of limits run talks notes was now)
+  -- the setting is that of a run with this status and these warnings, in which no output is waited for and nothing is listed
+  pub settles : IsSettingOf Shows HasStatus PlansNothing (shown_of limits run talks notes was now) run.warnings.items ⊥ ⊥
 
--- where the files are told before and after
-abbrev pub IfTold : (was now : Option ToldFiles) → (ToldFiles → ToldFiles → Type 0) → Type 0
-IfTold was None P = Unit {0}
-IfTold None (Some now) P = Unit {0}
-IfTold (Some was) (Some now) P = P was now
+-- where the files are seen before and after
+abbrev pub IfSeen : (was now : Option SeenFiles) → (SeenFiles → SeenFiles → Type 0) → Type 0
+IfSeen was None P = Unit {0}
+IfSeen None (Some now) P = Unit {0}
+IfSeen (Some was) (Some now) P = P was now
 
 -- the first of two lists, which are the same behind it
 abbrev pub OnFirst : {W : Type 0} → List W → List W → (W → W → Type 0) → Type 0

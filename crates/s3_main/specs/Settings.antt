@@ -37,7 +37,7 @@ settings_of variables =
     keys_from (variable variables (codes "AWS_ACCESS_KEY_ID")) (variable variables (codes "AWS_SECRET_ACCESS_KEY"))
     (variable variables (codes "AWS_SESSION_TOKEN")) (variable variables (codes "AWS_REGION"))
 
--- the answer is that of the settings, but for want of memory
+-- the answer is that of the settings, unless memory ran out
 abbrev pub AnswersAs : Result Keys ProfileFault → Result Keys Fatal → Type 0
 AnswersAs expected (Ok keys) = expected ≡ Ok keys
 AnswersAs expected (Err why) = (why ≡ fatal.Memory) ⊎ ((fault : ProfileFault) × (why ≡ fatal.Profile fault) × (expected ≡ Err fault))

@@ -1,10 +1,12 @@
 -- The local file that is copied up: what stands at its path, and its bytes.
-use Rattle.std.specs.Prelude.{◌≡◌, ◌≤◌, ◌<◌, ◌⊎◌, ℕ, List, Option, Some, None, Result, Ok, Err, length, take}
+use Rattle.std.specs.Prelude.{◌≡◌, ◌≤◌, ◌<◌, ◌⊎◌, ◌++◌, ℕ, List, [], ◌∷◌, Option, Some, None, Result, Ok, Err, length, take}
 use Rattle.std.specs.FinMap.{get}
 use Rattle.s3_model.specs.declared.faults.PlanFault.TheVariants.{NoSource}
 use Rattle.s3_model.specs.declared.faults.WalkFault.TheVariants as walk
 use Rattle.s3_model.specs.Files.{FileStore, HeldFile}
-use Rattle.s3_outside.specs.Files.{ToldFiles}
+use Rattle.s3_outside.specs.Files.{SeenFiles}
+use Rattle.s3_outside.specs.declared.files.FileNote.{FileNote}
+use Rattle.s3_outside.specs.declared.files.FileNote.TheVariants as note
 use Rattle.s3_outside.specs.declared.files.Shape.{Shape}
 use Rattle.s3_outside.specs.declared.files.Shape.TheVariants as shape
 use Rattle.s3_main.specs.declared.run.Fatal.{Fatal}
@@ -15,11 +17,24 @@ use Rattle.s3_main.specs.declared.source.Source.{Source}
 abbrev pub first_large : ℕ
 first_large = 8388608
 
--- the files are the same after the call, as far as they are still told
-abbrev pub Keeps : Option ToldFiles → Option ToldFiles → Type 0
+-- the calls ask for this path alone
+abbrev pub AskFor : List ℕ → List FileNote → Type 0
+AskFor path [] = Unit {0}
+AskFor path (note.Kind asked answer ∷ calls) = (asked ≡ path) × AskFor path calls
+AskFor path (note.ReadAt asked at room answer ∷ calls) = (asked ≡ path) × AskFor path calls
+
+-- the files are the same after the call, as far as they are still seen
+abbrev pub Keeps : Option SeenFiles → Option SeenFiles → Type 0
 Keeps before None = Unit {0}
 Keeps None (Some after) = ⊥
 Keeps (Some before) (Some after) = after.store ≡ before.store
+
+-- The files are the same after the calls, which asked for this path alone, as far as they are still seen.
+abbrev pub LooksAt : List ℕ → Option SeenFiles → Option SeenFiles → Type 0
+LooksAt path before None = Unit {0}
+LooksAt path None (Some after) = ⊥
+LooksAt path (Some before) (Some after) =
+    (after.store ≡ before.store) × (calls : List FileNote) × (after.calls ≡ before.calls ++ calls) × AskFor path calls
 
 -- what the program does not copy yet
 abbrev pub IsBeyond : Shape → Type 0
@@ -28,7 +43,7 @@ IsBeyond (shape.File size micros) = first_large ≤ size
 IsBeyond shape.Folder = Unit {0}
 IsBeyond shape.Other = Unit {0}
 
--- a small file, or why there is none, but for want of memory and a failed call
+-- a small file, or why there is none, unless memory ran out or a call failed
 abbrev pub FindsAs : Shape → List ℕ → Result Source Fatal → Type 0
 FindsAs stands path (Ok source) = (stands ≡ shape.File source.size source.micros) × (source.size < first_large)
 FindsAs stands path (Err why) =

@@ -106,13 +106,20 @@ task_line task outcome.Dry = codes "(dryrun) " ++ verb task ++ codes ": " ++ nam
 task_line task (outcome.Failed of_cause) = verb task ++ codes " failed: " ++ names task ++ codes " " ++ cause_text (place_text task.dest) of_cause ++ codes "\n"
 task_line task (outcome.Unknown of_cause) = verb task ++ codes " unknown: " ++ names task ++ codes " " ++ cause_text (place_text task.dest) of_cause ++ codes "\n"
 task_line task (outcome.Copied of_cause) = codes "move" ++ codes " copied: " ++ names task ++ codes " " ++ cause_text (place_text task.dest) of_cause ++ codes "\n"
-task_line task outcome.Skipped = []
+task_line task outcome.Skipped = verb task ++ codes " skipped: " ++ names task ++ codes "\n"
 
 -- the lines of tasks that went as planned go to standard output, the others to standard error
 abbrev pub is_fine : Outcome → Bool
 is_fine outcome.Done = true
 is_fine outcome.Dry = true
 is_fine of_outcome = false
+
+-- the outcomes by which a run ends with status 1; a skipped task is none of them
+abbrev pub is_unfinished : Outcome → Bool
+is_unfinished (outcome.Failed of_cause) = true
+is_unfinished (outcome.Unknown of_cause) = true
+is_unfinished (outcome.Copied of_cause) = true
+is_unfinished of_outcome = false
 
 -- the causes of an upload, whose text needs no path
 abbrev pub IsPlain : Cause → Type 0

@@ -2,11 +2,11 @@
 
 use s3_model::{Text, Why};
 
-mod judge;
 mod send;
+mod verdict;
 
-pub(crate) use judge::{judge, mark};
 pub(crate) use send::carry;
+pub(crate) use verdict::{ending_of, mark};
 
 /// What carrying a Put came to.
 #[derive(Debug, Drop)]
@@ -17,6 +17,6 @@ pub(crate) enum Ending {
     Refused { code: Text, message: Text },
     /// Nobody here can know.
     Uncertain(Why),
-    /// Memory was wanted before anything was sent.
+    /// Memory ran out before anything was sent.
     Memory,
 }

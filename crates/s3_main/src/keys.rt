@@ -29,8 +29,8 @@ fn is_visible(text: &str) -> bool
 
 /// The value of a variable, where it can be used in a signature.
 fn usable_word<E: Env>(alloc: Global, env: &mut E, name: &str) -> Result<Option<Text>, OutOfMemory>
-    ensures value { IfSome (E.told env.old) (λ told. IfOk result (λ word. word ≡ variable told.variables name.now)) }
-    ensures same { E.told env.new ≡ E.told env.old }
+    ensures value { IfSome (E.seen env.old) (λ seen. IfOk result (λ word. word ≡ variable seen.variables name.now)) }
+    ensures same { E.seen env.new ≡ E.seen env.old }
     ensures limits { E.allows env.new ≡ E.allows env.old }
     ensures later { E.faults env.old ≤ E.faults env.new }
 {
@@ -65,9 +65,9 @@ fn keys_from(
 
 /// The keys and the region of the run.
 pub(crate) fn read_keys<E: Env>(alloc: Global, env: &mut E) -> Result<Keys, Fatal>
-    ensures settings { IfSome (E.told env.old) (λ told. AnswersAs (settings_of told.variables) result) }
+    ensures settings { IfSome (E.seen env.old) (λ seen. AnswersAs (settings_of seen.variables) result) }
     ensures fault { IfErr result IsSettingsFault }
-    ensures same { E.told env.new ≡ E.told env.old }
+    ensures same { E.seen env.new ≡ E.seen env.old }
     ensures limits { E.allows env.new ≡ E.allows env.old }
     ensures later { E.faults env.old ≤ E.faults env.new }
 {

@@ -2,6 +2,7 @@
 #![tactic(auto)]
 
 mod carry;
+mod execution;
 mod keys;
 mod lines;
 mod output;
@@ -14,7 +15,6 @@ mod tests;
 mod top;
 mod upload;
 mod words;
-mod work;
 
 pub use run::{Fatal, Run};
 pub use top::run_s3;

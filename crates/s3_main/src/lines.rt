@@ -1,7 +1,7 @@
 //! The lines of tasks.
 
 ghost use Rattle.std.specs.Prelude.{◌≡◌, ◌++◌, [], List, ℕ, IfOk, OnOk, codes, string_bytes};
-ghost use Rattle.s3_main.specs.Texts.{HasPlainCause, IsPlain, call_name, cause_text, is_fine, kind_verb, names, op_name, place_text, reason_text, source_text, task_line, verb, why_text};
+ghost use Rattle.s3_main.specs.Texts.{HasPlainCause, IsPlain, call_name, cause_text, is_fine, is_unfinished, kind_verb, names, op_name, place_text, reason_text, source_text, task_line, verb, why_text};
 
 use s3_model::{Cause, FileCall, Kind, Op, OutOfMemory, Outcome, Place, Reason, Task, Text, Why};
 use std::alloc::Global;
@@ -207,21 +207,21 @@ fn names(alloc: Global, task: &Task) -> Result<Text, OutOfMemory>
     }
 }
 
-/// The line of a task that ended as planned.
-fn fine_line(alloc: Global, front: &str, task: &Task) -> Result<Text, OutOfMemory>
-    ensures { IfOk result (λ text. text ≡ front.now ++ verb task.now ++ codes ": " ++ names task.now ++ codes "\n") }
+/// The line of a task that has no cause.
+fn plain_line(alloc: Global, front: &str, middle: &str, task: &Task) -> Result<Text, OutOfMemory>
+    ensures { IfOk result (λ text. text ≡ front.now ++ verb task.now ++ middle.now ++ names task.now ++ codes "\n") }
 {
     let names = names(alloc, task)?;
     let mut line = String::new(alloc);
     add(&mut line, front)?;
     add(&mut line, verb(task))?;
-    add(&mut line, ": ")?;
+    add(&mut line, middle)?;
     add(&mut line, names.as_str())?;
     add(&mut line, "\n")?;
     Ok(Text::from(line))
 }
 
-/// The line of a task that ended otherwise.
+/// The line of a task that has a cause.
 fn other_line(
     alloc: Global,
     front: &str,
@@ -230,7 +230,8 @@ fn other_line(
     cause: &Cause,
 ) -> Result<Text, OutOfMemory>
     requires { IsPlain cause.now }
-    ensures { IfOk result (λ text. text ≡ front.now ++ middle.now ++ names task.now ++ codes " " ++ cause_text (place_text task.now.dest) cause.now ++ codes "\n") }
+    ensures { IfOk result (λ text. text ≡ front.now ++ middle.now ++ names task.now ++ codes " " ++ cause_text
+        (place_text task.now.dest) cause.now ++ codes "\n") }
 {
     let names = names(alloc, task)?;
     let cause = cause_text(alloc, cause)?;
@@ -250,12 +251,12 @@ pub(crate) fn task_line(alloc: Global, task: &Task, outcome: &Outcome) -> Result
     ensures { IfOk result (λ text. text ≡ task_line task.now outcome.now) }
 {
     match outcome {
-        Outcome::Done => fine_line(alloc, "", task),
-        Outcome::Dry => fine_line(alloc, "(dryrun) ", task),
+        Outcome::Done => plain_line(alloc, "", ": ", task),
+        Outcome::Dry => plain_line(alloc, "(dryrun) ", ": ", task),
         Outcome::Failed(cause) => other_line(alloc, verb(task), " failed: ", task, cause),
         Outcome::Unknown(cause) => other_line(alloc, verb(task), " unknown: ", task, cause),
         Outcome::Copied(cause) => other_line(alloc, "move", " copied: ", task, cause),
-        Outcome::Skipped => Text::of(alloc, ""),
+        Outcome::Skipped => plain_line(alloc, "", " skipped: ", task),
     }
 }
 
@@ -264,4 +265,14 @@ pub(crate) fn is_fine(outcome: &Outcome) -> bool
     ensures { result ≡ is_fine outcome.now }
 {
     matches!(outcome, Outcome::Done | Outcome::Dry)
+}
+
+/// Whether a run with this outcome ends with status 1.
+pub(crate) fn is_unfinished(outcome: &Outcome) -> bool
+    ensures { result ≡ is_unfinished outcome.now }
+{
+    matches!(
+        outcome,
+        Outcome::Failed(_) | Outcome::Unknown(_) | Outcome::Copied(_)
+    )
 }

@@ -10,8 +10,9 @@ use s3_outside::{Failed, Sink};
 fn write_more<S: Sink>(sink: &mut S, bytes: &[u8], at: usize) -> Result<usize, Failed>
     requires { at < length bytes.now }
     ensures further { IfOk result (λ next. (at < next) × (next ≤ length bytes.now)) }
-    ensures printed { IfOk result (λ next. Prints (S.told sink.old) (S.told sink.new) (take (next - at) (drop at bytes.now))) }
-    ensures nothing { OnErr result (S.told sink.new ≡ S.told sink.old) }
+    ensures printed { IfOk result (λ next. Prints (S.seen sink.old) (S.seen sink.new)
+        (take (next - at) (drop at bytes.now))) }
+    ensures nothing { OnErr result (S.seen sink.new ≡ S.seen sink.old) }
     ensures failed { OnErr result (Rose (S.faults sink.old) (S.faults sink.new)) }
     ensures later { S.faults sink.old ≤ S.faults sink.new }
 {
@@ -21,8 +22,8 @@ fn write_more<S: Sink>(sink: &mut S, bytes: &[u8], at: usize) -> Result<usize, F
 
 /// Writes a whole text; after a fault a beginning of it was written.
 pub(crate) fn write_text<S: Sink>(sink: &mut S, text: &str) -> Result<(), Failed>
-    ensures whole { OnOk result (Prints (S.told sink.old) (S.told sink.new) text.now) }
-    ensures front { OnErr result (PrintsFront (S.told sink.old) (S.told sink.new) text.now) }
+    ensures whole { OnOk result (Prints (S.seen sink.old) (S.seen sink.new) text.now) }
+    ensures front { OnErr result (PrintsFront (S.seen sink.old) (S.seen sink.new) text.now) }
     ensures failed { OnErr result (Rose (S.faults sink.old) (S.faults sink.new)) }
     ensures later { S.faults sink.old ≤ S.faults sink.new }
 {

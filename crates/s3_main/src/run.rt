@@ -1,3 +1,5 @@
+//! What a run comes to.
+
 use s3_model::{
     BadListing, Cause, Journal, OutOfMemory, Outcomes, Plan, PlanFault, ProfileFault, WalkFault,
     Warnings, WordFault,

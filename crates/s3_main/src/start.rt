@@ -2,8 +2,9 @@
 
 ghost use Rattle.std.specs.Prelude.{◌≡◌, ◌≤◌, IfOk, IfErr, map, string_bytes};
 ghost use Rattle.s3_main.specs.Runs.{StopsFor};
-ghost use Rattle.s3_main.specs.Sources.{Keeps};
+ghost use Rattle.s3_main.specs.Sources.{LooksAt};
 ghost use Rattle.s3_main.specs.Starts.{Starts};
+ghost use Rattle.s3_main.specs.Words.{path_word};
 
 use crate::keys::read_keys;
 use crate::run::Fatal;
@@ -30,12 +31,14 @@ pub(crate) fn read_start<F: Files, E: Env>(
     env: &mut E,
     files: &mut F,
 ) -> Result<Start, Fatal>
-    ensures starts { IfOk result (Starts (map string_bytes words.now) (E.told env.old) (F.told files.old)) }
-    ensures stops { IfErr result (StopsFor (map string_bytes words.now) (E.told env.old) (F.told files.old) (F.faults files.old) (F.faults files.new)) }
-    ensures files { Keeps (F.told files.old) (F.told files.new) }
+    ensures starts { IfOk result (Starts (map string_bytes words.now) (E.seen env.old) (F.seen files.old)) }
+    ensures stops { IfErr result (StopsFor (map string_bytes words.now) (E.seen env.old) (F.seen files.old)
+        (F.faults files.old) (F.faults files.new)) }
+    ensures files { LooksAt (path_word (map string_bytes words.now)) (F.seen files.old) (F.seen files.new) }
     ensures later { F.faults files.old ≤ F.faults files.new }
-    ensures env { E.told env.new ≡ E.told env.old }
+    ensures env { E.seen env.new ≡ E.seen env.old }
     ensures limits { E.allows env.new ≡ E.allows env.old }
+    ensures env_later { E.faults env.old ≤ E.faults env.new }
 {
     let upload = match read_upload(alloc, words) {
         Ok(upload) => upload,

@@ -1,4 +1,4 @@
-//! Worked runs over a wire, files, outputs and an environment in memory.
+//! Executed runs over a wire, files, outputs and an environment in memory.
 
 use crate::{Fatal, run_s3};
 use s3_outside::{FileTable, MemEnv, MemFile, MemFiles, MemSink, S3_LIMITS, ScriptWire};

@@ -3,12 +3,14 @@
 ghost use Rattle.std.specs.Prelude.{◌≡◌, ◌≤◌, ◌⊎◌, [], map, string_bytes, vec_len, IfSome};
 ghost use Rattle.s3_model.specs.Counts.{Rose};
 ghost use Rattle.s3_main.specs.Carrying.{Gains};
-ghost use Rattle.s3_main.specs.Runs.{IfTold, IsPrinted, IsTrue, OnFirst, StopsFor, status_of};
-ghost use Rattle.s3_main.specs.Worked.{GoesAs};
+ghost use Rattle.s3_main.specs.Runs.{EndsWith, IfSeen, IsPrinted, IsTrue, OnFirst, StopsFor, Undertakes};
+ghost use Rattle.s3_main.specs.Sources.{LooksAt};
+ghost use Rattle.s3_main.specs.Words.{path_word};
+ghost use Rattle.s3_main.specs.Executed.{GoesAs};
 
+use crate::execution::execute;
 use crate::report::report;
 use crate::run::Run;
-use crate::work::work;
 use s3_outside::{Env, Files, Sink, Wire};
 use std::alloc::Global;
 use std::sync::Wait;
@@ -20,7 +22,7 @@ use std::thread::Threads;
 /// has 8,388,608 bytes or more, nothing is done and the status is 252. Keys and region come from the environment; where
 /// they are missing the status is 253. The file goes up in one Put (Amazon S3 API Reference, "PutObject"), which is
 /// tried once, over the first wire. The status is then 0 where it is done, and 1 where it failed, where nobody can know,
-/// or where FILE is not there. After want of memory the status is 70, and after a fault of an output 74.
+/// or where FILE is not there. Where memory ran out the status is 70, and after a fault of an output 74.
 pub fn run_s3<R, W, F, O, X, E>(
     rt: &R,
     alloc: Global,
@@ -42,19 +44,38 @@ where
     requires most { vec_len wires.old ≤ 65535 }
 
     // What the first wire gained, with the exact text of the request, and that the others stay.
-    ensures went { OnFirst wires.old.items wires.new.items (λ before after. Gains (W.told before) (W.told after)
-        (GoesAs (map string_bytes words.now) (E.told env.old) (F.told files.old) (F.told files.new) (F.faults files.old) (F.faults files.new) result)) }
+    ensures went { OnFirst wires.old.items wires.new.items (λ before after. Gains (W.seen before) (W.seen after)
+        (GoesAs (map string_bytes words.now) (E.seen env.old) (F.seen files.old) (F.seen files.new)
+        (F.faults files.old) (F.faults files.new) result)) }
 
     // Over every honest service, and whatever is lost, refused or late, the outcomes are true.
-    ensures truthful { OnFirst wires.old.items wires.new.items (λ before after. Gains (W.told before) (W.told after) (λ talks notes.
-        IfTold (F.told files.old) (F.told files.new) (IsTrue (map string_bytes words.now) (E.told env.old) (E.allows env.old) result talks notes))) }
+    ensures truthful { OnFirst wires.old.items wires.new.items (λ before after.
+        Gains (W.seen before) (W.seen after) (λ talks notes. IfSeen (F.seen files.old) (F.seen files.new)
+        (IsTrue (map string_bytes words.now) (E.seen env.old) (E.allows env.old)
+        (F.faults files.old) (F.faults files.new) result talks notes))) }
 
-    ensures stops { IfSome result.fatal (StopsFor (map string_bytes words.now) (E.told env.old) (F.told files.old) (F.faults files.old) (F.faults files.new)) }
-    ensures status { (result.status ≡ status_of result) ⊎ ((result.status ≡ 74) × (Rose (O.faults out.old) (O.faults out.new) ⊎ Rose (X.faults err.old) (X.faults err.new))) }
-    ensures printed { IsPrinted result (O.told out.old) (O.told out.new) (X.told err.old) (X.told err.new) }
+    ensures stops { IfSome result.fatal (StopsFor (map string_bytes words.now)
+        (E.seen env.old) (F.seen files.old) (F.faults files.old) (F.faults files.new)) }
+    ensures status { EndsWith result
+        (Rose (O.faults out.old) (O.faults out.new) ⊎ Rose (X.faults err.old) (X.faults err.new)) }
+    ensures printed { IsPrinted result (O.seen out.old) (O.seen out.new) (X.seen err.old) (X.seen err.new) }
     ensures warnings { result.warnings.items ≡ [] }
+    ensures plan_warnings { result.plan.warnings.items ≡ [] }
+
+    // What needs no look at wires, files and variables: the plan as the words say, its outcome and the jobs that it wants.
+    ensures does { Undertakes (map string_bytes words.now) (F.faults files.old) (F.faults files.new) result }
+
+    // The files stay, and only the path of the words is asked for.
+    ensures files { LooksAt (path_word (map string_bytes words.now)) (F.seen files.old) (F.seen files.new) }
+
+    // No count of faults falls.
+    ensures env_later { E.faults env.old ≤ E.faults env.new }
+    ensures files_later { F.faults files.old ≤ F.faults files.new }
+    ensures wires_later { OnFirst wires.old.items wires.new.items (λ before after. W.faults before ≤ W.faults after) }
+    ensures out_later { O.faults out.old ≤ O.faults out.new }
+    ensures err_later { X.faults err.old ≤ X.faults err.new }
 {
     let _ = rt;
-    let worked = work(alloc, words, env, files, &mut wires[0]);
-    report(worked, out, err)
+    let executed = execute(alloc, words, env, files, &mut wires[0]);
+    report(executed, out, err)
 }

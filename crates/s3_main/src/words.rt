@@ -39,7 +39,8 @@ fn is_object_key(key: &str) -> bool
 
 /// The words, where there are five.
 fn five_words(words: &[String]) -> Option<(&str, &str, &str, &str, &str)>
-    ensures found { IfSome result (λ w. map string_bytes words.now ≡ w.0.now ∷ w.1.now ∷ w.2.now ∷ w.3.now ∷ w.4.now ∷ []) }
+    ensures found { IfSome result
+        (λ w. map string_bytes words.now ≡ w.0.now ∷ w.1.now ∷ w.2.now ∷ w.3.now ∷ w.4.now ∷ []) }
     ensures other { IfNone result (length words.now ≢ 5) }
 {
     let [first, second, third, fourth, fifth] = words else {
@@ -56,7 +57,8 @@ fn five_words(words: &[String]) -> Option<(&str, &str, &str, &str, &str)>
 
 /// FILE, the S3 URI and the URL, where the other words are those of an upload.
 fn upload_words(words: &[String]) -> Option<(&str, &str, &str)>
-    ensures form { IfSome result (λ w. is_upload (map string_bytes words.now) ≡ (is_object_uri w.1.now && is_endpoint w.2.now)) }
+    ensures form { IfSome result
+        (λ w. is_upload (map string_bytes words.now) ≡ (is_object_uri w.1.now && is_endpoint w.2.now)) }
     ensures path { IfSome result (λ w. path_word (map string_bytes words.now) ≡ w.0.now) }
     ensures uri { IfSome result (λ w. uri_word (map string_bytes words.now) ≡ w.1.now) }
     ensures url { IfSome result (λ w. url_word (map string_bytes words.now) ≡ w.2.now) }
@@ -77,7 +79,8 @@ fn read_object(alloc: Global, text: &str) -> Result<S3Uri, Fatal>
     ensures object { OnOk result (is_object_uri text.now ≡ true) }
     ensures bucket { IfOk result (λ uri. uri.bucket ≡ bucket_in text.now) }
     ensures key { IfOk result (λ uri. uri.key ≡ key_in text.now) }
-    ensures fault { IfErr result (λ fatal. (fatal ≡ Fatal.Memory) ⊎ ((fatal ≡ Fatal.NotYet) × (is_object_uri text.now ≡ false))) }
+    ensures fault { IfErr result (λ fatal. (fatal ≡ Fatal.Memory) ⊎
+        ((fatal ≡ Fatal.NotYet) × (is_object_uri text.now ≡ false))) }
 {
     match S3Uri::read(alloc, text) {
         Ok(uri) if is_object_key(uri.key.as_str()) => Ok(uri),
@@ -91,7 +94,8 @@ fn read_endpoint(alloc: Global, text: &str) -> Result<Endpoint, Fatal>
     ensures written { IfOk result (λ endpoint. endpoint.written ≡ authority_in text.now) }
     ensures host { IfOk result (λ endpoint. endpoint.host ≡ host_of (authority_in text.now)) }
     ensures port { IfOk result (λ endpoint. Some endpoint.port ≡ port_of (authority_in text.now)) }
-    ensures fault { IfErr result (λ fatal. (fatal ≡ Fatal.Memory) ⊎ ((fatal ≡ Fatal.NotYet) × (is_endpoint text.now ≡ false))) }
+    ensures fault { IfErr result (λ fatal. (fatal ≡ Fatal.Memory) ⊎
+        ((fatal ≡ Fatal.NotYet) × (is_endpoint text.now ≡ false))) }
 {
     match endpoint(alloc, text) {
         Ok(endpoint) => Ok(endpoint),
@@ -106,10 +110,14 @@ pub(crate) fn read_upload(alloc: Global, words: &[String]) -> Result<Upload, Fat
     ensures path { IfOk result (λ upload. upload.path ≡ path_word (map string_bytes words.now)) }
     ensures bucket { IfOk result (λ upload. upload.uri.bucket ≡ bucket_in (uri_word (map string_bytes words.now))) }
     ensures key { IfOk result (λ upload. upload.uri.key ≡ key_in (uri_word (map string_bytes words.now))) }
-    ensures written { IfOk result (λ upload. upload.endpoint.written ≡ authority_in (url_word (map string_bytes words.now))) }
-    ensures host { IfOk result (λ upload. upload.endpoint.host ≡ host_of (authority_in (url_word (map string_bytes words.now)))) }
-    ensures port { IfOk result (λ upload. Some upload.endpoint.port ≡ port_of (authority_in (url_word (map string_bytes words.now)))) }
-    ensures fault { IfErr result (λ fatal. (fatal ≡ Fatal.Memory) ⊎ ((fatal ≡ Fatal.NotYet) × (is_upload (map string_bytes words.now) ≡ false))) }
+    ensures written { IfOk result
+        (λ upload. upload.endpoint.written ≡ authority_in (url_word (map string_bytes words.now))) }
+    ensures host { IfOk result
+        (λ upload. upload.endpoint.host ≡ host_of (authority_in (url_word (map string_bytes words.now)))) }
+    ensures port { IfOk result
+        (λ upload. Some upload.endpoint.port ≡ port_of (authority_in (url_word (map string_bytes words.now)))) }
+    ensures fault { IfErr result (λ fatal. (fatal ≡ Fatal.Memory) ⊎
+        ((fatal ≡ Fatal.NotYet) × (is_upload (map string_bytes words.now) ≡ false))) }
 {
     let Some((path, uri, url)) = upload_words(words) else {
         return Err(Fatal::NotYet);

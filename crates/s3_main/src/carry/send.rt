@@ -3,7 +3,7 @@
 ghost use Rattle.std.specs.Prelude.{◌≤◌, ◌++◌, IfOk, OnErr};
 ghost use Rattle.s3_main.specs.Carrying.{CarriesAs, Gains, IsAnsweredBy, IsPut, IsSigned, IsSilentGain};
 
-use super::{Ending, judge};
+use super::{Ending, ending_of};
 use http_exchange::exchange;
 use s3_model::{Ask, Bytes, Endpoint, Keys, OutOfMemory, Text};
 use s3_outside::Wire;
@@ -19,8 +19,9 @@ fn sign<W: Wire>(
     ask: &Ask,
     body: &[u8],
 ) -> Result<Text, OutOfMemory>
-    ensures signed { IfOk result (λ head. Gains (W.told wire.old) (W.told wire.new) (IsSigned endpoint.now keys.now ask.now body.now head)) }
-    ensures silent { OnErr result (Gains (W.told wire.old) (W.told wire.new) IsSilentGain) }
+    ensures signed { IfOk result (λ head. Gains (W.seen wire.old) (W.seen wire.new)
+        (IsSigned endpoint.now keys.now ask.now body.now head)) }
+    ensures silent { OnErr result (Gains (W.seen wire.old) (W.seen wire.new) IsSilentGain) }
     ensures later { W.faults wire.old ≤ W.faults wire.new }
 {
     let hash = payload_hash(alloc, body)?;
@@ -37,7 +38,7 @@ fn sign<W: Wire>(
 }
 
 /// Sends a Put whose head is signed, and judges the answer.
-fn talk<W: Wire>(
+fn send_signed<W: Wire>(
     alloc: Global,
     wire: &mut W,
     endpoint: &Endpoint,
@@ -45,7 +46,8 @@ fn talk<W: Wire>(
     body: &[u8],
     place: &mut Bytes,
 ) -> Ending
-    ensures answered { IsAnsweredBy endpoint.now (head.now ++ body.now) (W.told wire.old) (W.told wire.new) (W.faults wire.old) (W.faults wire.new) result }
+    ensures answered { IsAnsweredBy endpoint.now (head.now ++ body.now) (W.seen wire.old) (W.seen wire.new)
+        (W.faults wire.old) (W.faults wire.new) result }
     ensures later { W.faults wire.old ≤ W.faults wire.new }
 {
     let talked = exchange(
@@ -59,7 +61,7 @@ fn talk<W: Wire>(
         None,
         place,
     );
-    judge(alloc, talked)
+    ending_of(alloc, talked)
 }
 
 /// Carries a Put: one attempt, unless memory is wanted before it.
@@ -72,14 +74,15 @@ pub(crate) fn carry<W: Wire>(
     body: &[u8],
 ) -> Ending
     requires { IsPut ask.now }
-    ensures carried { Gains (W.told wire.old) (W.told wire.new) (CarriesAs endpoint.now keys.now ask.now body.now result) }
+    ensures carried { Gains (W.seen wire.old) (W.seen wire.new)
+        (CarriesAs endpoint.now keys.now ask.now body.now result) }
     ensures later { W.faults wire.old ≤ W.faults wire.new }
 {
     let Ok(mut place) = Bytes::make(alloc, 0) else {
         return Ending::Memory;
     };
     match sign(alloc, wire, endpoint, keys, ask, body) {
-        Ok(head) => talk(alloc, wire, endpoint, &head, body, &mut place),
+        Ok(head) => send_signed(alloc, wire, endpoint, &head, body, &mut place),
         Err(_) => Ending::Memory,
     }
 }

@@ -1,7 +1,9 @@
+//! Looking for the local file, and reading it.
+
 ghost use Rattle.std.specs.Prelude.{◌≡◌, ◌≢◌, ◌≤◌, ◌<◌, ◌⊎◌, length, take, Err, IfOk, IfErr, IfSome, IsErrOf, vec_len};
 ghost use Rattle.s3_model.specs.Counts.{Rose};
 ghost use Rattle.s3_outside.specs.Files.{shape_at};
-ghost use Rattle.s3_main.specs.Sources.{AreFirstBytes, FindsAs, HasFewer, IsSourceFault, Keeps};
+ghost use Rattle.s3_main.specs.Sources.{AreFirstBytes, FindsAs, HasFewer, IsSourceFault, Keeps, LooksAt};
 
 use super::{FIRST_LARGE, ReadFault, Source};
 use crate::run::Fatal;
@@ -37,11 +39,13 @@ pub(crate) fn find_source<F: Files>(
     files: &mut F,
     path: &str,
 ) -> Result<Source, Fatal>
-    ensures found { IfSome (F.told files.old) (λ told. FindsAs (shape_at told.store path.now) path.now result) }
+    ensures found { IfSome (F.seen files.old) (λ seen. FindsAs (shape_at seen.store path.now) path.now result) }
     ensures small { IfOk result (λ source. source.size < FIRST_LARGE) }
     ensures fault { IfErr result (IsSourceFault path.now) }
-    ensures failed { IfErr result (λ why. why ≡ Fatal.Walk WalkFault.Files → Rose (F.faults files.old) (F.faults files.new)) }
-    ensures files { Keeps (F.told files.old) (F.told files.new) }
+    ensures failed { IfErr result (λ why. why ≡ Fatal.Walk WalkFault.Files →
+        Rose (F.faults files.old) (F.faults files.new)) }
+    ensures files { Keeps (F.seen files.old) (F.seen files.new) }
+    ensures looks { LooksAt path.now (F.seen files.old) (F.seen files.new) }
     ensures later { F.faults files.old ≤ F.faults files.new }
 {
     match files.kind(path) {
@@ -59,11 +63,14 @@ fn read_more<F: Files>(
 ) -> Result<usize, ReadFault>
     requires { at < length bytes.old }
     ensures further { IfOk result (λ next. (at < next) × (next ≤ length bytes.old)) }
-    ensures bytes { IfSome (F.told files.new) (λ told. IfOk result (λ next. AreFirstBytes told.store path.now (take at bytes.old) → AreFirstBytes told.store path.now (take next bytes.new))) }
-    ensures short { IfSome (F.told files.new) (λ told. IsErrOf result ReadFault.Short → HasFewer told.store path.now (length bytes.old)) }
+    ensures bytes { IfSome (F.seen files.new) (λ seen. IfOk result (λ next. AreFirstBytes seen.store path.now
+        (take at bytes.old) → AreFirstBytes seen.store path.now (take next bytes.new))) }
+    ensures short { IfSome (F.seen files.new)
+        (λ seen. IsErrOf result ReadFault.Short → HasFewer seen.store path.now (length bytes.old)) }
     ensures failed { IsErrOf result ReadFault.Failed → Rose (F.faults files.old) (F.faults files.new) }
     ensures memory { result ≢ Err ReadFault.Memory }
-    ensures files { Keeps (F.told files.old) (F.told files.new) }
+    ensures files { Keeps (F.seen files.old) (F.seen files.new) }
+    ensures looks { LooksAt path.now (F.seen files.old) (F.seen files.new) }
     ensures later { F.faults files.old ≤ F.faults files.new }
 {
     match files.read_at(path, at as u64, &mut bytes[at..]) {
@@ -74,6 +81,7 @@ fn read_more<F: Files>(
 }
 
 /// The bytes of a file, of which there must be `size`.
+#[tactic(auto, using(crate::proofs::SourceLemmas::looks_both))]
 pub(crate) fn read_whole<F: Files>(
     alloc: Global,
     files: &mut F,
@@ -81,10 +89,13 @@ pub(crate) fn read_whole<F: Files>(
     size: u64,
 ) -> Result<Vec<u8>, ReadFault>
     ensures length { IfOk result (λ bytes. vec_len bytes ≡ size) }
-    ensures bytes { IfSome (F.told files.new) (λ told. IfOk result (λ bytes. AreFirstBytes told.store path.now bytes.items)) }
-    ensures short { IfSome (F.told files.new) (λ told. IsErrOf result ReadFault.Short → HasFewer told.store path.now size) }
+    ensures bytes { IfSome (F.seen files.new)
+        (λ seen. IfOk result (λ bytes. AreFirstBytes seen.store path.now bytes.items)) }
+    ensures short { IfSome (F.seen files.new)
+        (λ seen. IsErrOf result ReadFault.Short → HasFewer seen.store path.now size) }
     ensures failed { IsErrOf result ReadFault.Failed → Rose (F.faults files.old) (F.faults files.new) }
-    ensures files { Keeps (F.told files.old) (F.told files.new) }
+    ensures files { Keeps (F.seen files.old) (F.seen files.new) }
+    ensures looks { LooksAt path.now (F.seen files.old) (F.seen files.new) }
     ensures later { F.faults files.old ≤ F.faults files.new }
 {
     let Ok(mut bytes) = vec![in alloc; 0u8; size as usize] else {

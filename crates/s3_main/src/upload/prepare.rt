@@ -39,7 +39,8 @@ fn content(alloc: Global, path: &str) -> Result<Option<Text>, OutOfMemory>
 }
 
 fn task_of(alloc: Global, upload: &Upload, source: Source) -> Result<Task, OutOfMemory>
-    ensures { IfOk result (λ task. task ≡ upload_task upload.now.path upload.now.uri.bucket upload.now.uri.key source.size source.micros) }
+    ensures { IfOk result (λ task. task ≡
+        upload_task upload.now.path upload.now.uri.bucket upload.now.uri.key source.size source.micros) }
 {
     let path = upload.path.copy()?;
     let bucket = upload.uri.bucket.copy()?;
@@ -55,6 +56,7 @@ fn task_of(alloc: Global, upload: &Upload, source: Source) -> Result<Task, OutOf
         etag,
         micros: source.micros,
         content,
+        fresh: false,
     })
 }
 
@@ -68,6 +70,7 @@ fn ask_of(alloc: Global, upload: &Upload) -> Result<Ask, OutOfMemory>
         bucket,
         key,
         content,
+        fresh: false,
     })
 }
 
@@ -101,8 +104,10 @@ pub(crate) fn prepare(
     upload: &Upload,
     source: Source,
 ) -> Result<Prepared, OutOfMemory>
-    ensures task { IfOk result (λ made. made.task ≡ upload_task upload.now.path upload.now.uri.bucket upload.now.uri.key source.size source.micros) }
-    ensures request { IfOk result (λ made. made.ask ≡ upload_ask upload.now.path upload.now.uri.bucket upload.now.uri.key) }
+    ensures task { IfOk result (λ made. made.task ≡
+        upload_task upload.now.path upload.now.uri.bucket upload.now.uri.key source.size source.micros) }
+    ensures request { IfOk result
+        (λ made. made.ask ≡ upload_ask upload.now.path upload.now.uri.bucket upload.now.uri.key) }
     ensures room { IfOk result (λ made. HasRoom made.lists) }
 {
     let lists = make_lists(alloc)?;

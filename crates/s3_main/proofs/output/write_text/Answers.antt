@@ -5,7 +5,7 @@ use Rattle.s3_main.proofs.output.write_text.Goals as goal
 
 pub returns-in-Err-clause-front : goal.returns-in-Err-clause-front
 returns-in-Err-clause-front g c =
-    subst (λ (text : List ℕ). PrintsFront (g.S.Sink.told c.args.sink.now) (g.S.Sink.told c.write_more.new.sink) text) c.as_bytes-bytes.ensures.value
+    subst (λ (text : List ℕ). PrintsFront (g.S.Sink.seen c.args.sink.now) (g.S.Sink.seen c.write_more.new.sink) text) c.as_bytes-bytes.ensures.value
     (prints_front _ _ _ _ c.pieces.at c.pieces.invariant.printed c.in-Err.ensures.nothing)
 
 pub pieces-preserved : goal.pieces-preserved

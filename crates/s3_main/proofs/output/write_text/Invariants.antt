@@ -6,7 +6,7 @@ use Rattle.s3_main.proofs.output.write_text.Given as goal
 abbrev pub invariant-pieces : goal.invariant-pieces
 invariant-pieces g l = record {
   inside : l.at ≤ length l.bytes;
-  printed : Prints (g.S.Sink.told l.fn.sink) (g.S.Sink.told l.sink) (take l.at l.bytes);
+  printed : Prints (g.S.Sink.seen l.fn.sink) (g.S.Sink.seen l.sink) (take l.at l.bytes);
   later : g.S.Sink.faults l.fn.sink ≤ g.S.Sink.faults l.sink;
 }
 

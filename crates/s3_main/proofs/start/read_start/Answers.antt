@@ -4,5 +4,5 @@ use Rattle.s3_main.proofs.start.read_start.Goals as goal
 
 pub returns-in-Err-clause-stops : goal.returns-in-Err-clause-stops
 returns-in-Err-clause-stops g c =
-    words_stop (map (string_bytes {Z = Global}) c.args.words.now) (g.E.Env.told c.args.env.now) (g.F.Files.told c.args.files.now) (g.F.Files.faults c.args.files.now) (g.F.Files.faults c.args.files.now)
+    words_stop (map (string_bytes {Z = Global}) c.args.words.now) (g.E.Env.seen c.args.env.now) (g.F.Files.seen c.args.files.now) (g.F.Files.faults c.args.files.now) (g.F.Files.faults c.args.files.now)
     c.in-Err.fatal c.in-Err.ensures.fault

@@ -30,7 +30,7 @@ fn status_code(alloc: Global, status: u16) -> Result<Text, OutOfMemory>
 }
 
 /// A refusal by its status alone.
-fn refused(alloc: Global, status: u16) -> Result<Ending, OutOfMemory>
+fn refusal(alloc: Global, status: u16) -> Result<Ending, OutOfMemory>
     ensures { IfOk result (Refuses status) }
 {
     let code = status_code(alloc, status)?;
@@ -39,21 +39,21 @@ fn refused(alloc: Global, status: u16) -> Result<Ending, OutOfMemory>
 }
 
 /// What an answer to a Put means, by its status.
-pub(crate) fn judge(alloc: Global, talked: Talked) -> Ending
+pub(crate) fn ending_of(alloc: Global, talked: Talked) -> Ending
     ensures { JudgesAs talked result }
 {
     match talked {
         Talked::Broken(why) => Ending::Uncertain(why),
-        Talked::Answered(answered) => judge_status(alloc, answered.status),
+        Talked::Answered(answered) => ending_by_status(alloc, answered.status),
     }
 }
 
-fn judge_status(alloc: Global, status: u16) -> Ending
+fn ending_by_status(alloc: Global, status: u16) -> Ending
     ensures { JudgesStatus status result }
 {
     match status {
         200..=299 => Ending::Stored,
-        300..=499 => match refused(alloc, status) {
+        300..=499 => match refusal(alloc, status) {
             Ok(ending) => ending,
             Err(_) => Ending::Uncertain(Why::Memory),
         },

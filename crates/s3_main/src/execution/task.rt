@@ -1,14 +1,14 @@
 //! The task of a run is done.
 
-ghost use Rattle.std.specs.Prelude.{◌≡◌, ◌≤◌, [], ◌∷◌, not, length, None, IfOk};
+ghost use Rattle.std.specs.Prelude.{◌≡◌, ◌≤◌, [], ◌∷◌, not, None, IfOk};
 ghost use Rattle.s3_main.specs.Carrying.{Gains, IsPut};
 ghost use Rattle.s3_main.specs.Lines.{IsLineOf};
 ghost use Rattle.s3_main.specs.Rooms.{HasRoom};
-ghost use Rattle.s3_main.specs.Sources.{Keeps};
+ghost use Rattle.s3_main.specs.Sources.{LooksAt};
 ghost use Rattle.s3_main.specs.Texts.{HasPlainCause, is_fine, task_line};
-ghost use Rattle.s3_main.specs.Worked.{HasUploaded};
+ghost use Rattle.s3_main.specs.Executed.{HasOneOutcome, HasUploaded};
 
-use super::{Line, Worked};
+use super::{Executed, Line};
 use crate::lines::{is_fine, task_line};
 use crate::run::Run;
 use crate::start::Start;
@@ -31,21 +31,23 @@ fn line_of(alloc: Global, task: &Task, outcome: &Outcome) -> Result<Line, OutOfM
 }
 
 /// Does the task of a run.
-pub(crate) fn go<F: Files, W: Wire>(
+pub(crate) fn execute_task<F: Files, W: Wire>(
     alloc: Global,
     start: Start,
     files: &mut F,
     wire: &mut W,
-) -> Worked
+) -> Executed
     requires room { HasRoom start.prepared.lists }
     requires put { IsPut start.prepared.ask }
     ensures line { IsLineOf result.run result.line }
     ensures fatal { result.run.fatal ≡ None }
     ensures tasks { result.run.plan.tasks.items ≡ start.prepared.task ∷ [] }
-    ensures went { Gains (W.told wire.old) (W.told wire.new) (HasUploaded start (F.told files.new) (F.faults files.old) (F.faults files.new) result.run) }
-    ensures outcomes { length result.run.outcomes.items ≡ 1 }
+    ensures went { Gains (W.seen wire.old) (W.seen wire.new)
+        (HasUploaded start (F.seen files.new) (F.faults files.old) (F.faults files.new) result.run) }
+    ensures outcome { HasOneOutcome (F.faults files.old) (F.faults files.new) result.run }
     ensures warnings { result.run.warnings.items ≡ [] }
-    ensures files { Keeps (F.told files.old) (F.told files.new) }
+    ensures planned { result.run.plan.warnings.items ≡ [] }
+    ensures files { LooksAt start.upload.path (F.seen files.old) (F.seen files.new) }
     ensures files_later { F.faults files.old ≤ F.faults files.new }
     ensures wire_later { W.faults wire.old ≤ W.faults wire.new }
 {
@@ -79,7 +81,7 @@ pub(crate) fn go<F: Files, W: Wire>(
         tasks,
         warnings: Warnings::make(alloc),
     };
-    Worked {
+    Executed {
         run: Run {
             status: 0,
             plan,

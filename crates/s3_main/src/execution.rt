@@ -3,11 +3,11 @@
 use crate::run::Run;
 use s3_model::{OutOfMemory, Text};
 
-mod course;
-mod stopping;
-mod tasks;
+mod command;
+mod early_end;
+mod task;
 
-pub(crate) use course::work;
+pub(crate) use command::execute;
 
 /// A line with its line feed, and where it goes.
 #[derive(Drop)]
@@ -18,7 +18,7 @@ pub(crate) struct Line {
 
 /// A run before anything is printed, and the line that is to be.
 #[derive(Drop)]
-pub(crate) struct Worked {
+pub(crate) struct Executed {
     pub run: Run,
     pub line: Result<Line, OutOfMemory>,
 }

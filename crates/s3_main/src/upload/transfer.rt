@@ -2,9 +2,9 @@
 
 ghost use Rattle.std.specs.Prelude.{◌≡◌, ◌≤◌, [], IfOk};
 ghost use Rattle.s3_main.specs.Carrying.{Gains, IsPut, lost_cause, outcome_of};
-ghost use Rattle.s3_main.specs.Sources.{Keeps};
+ghost use Rattle.s3_main.specs.Sources.{LooksAt};
 ghost use Rattle.s3_main.specs.Texts.{HasPlainCause};
-ghost use Rattle.s3_main.specs.Uploading.{Uploads, marks_of, read_cause};
+ghost use Rattle.s3_main.specs.Uploading.{Uploads, WantsJournal, marks_of, read_cause};
 
 use crate::carry::{Ending, carry, mark};
 use crate::source::{ReadFault, read_whole};
@@ -83,9 +83,11 @@ pub(crate) fn upload<F: Files, W: Wire>(
     requires put { IsPut ask.now }
     requires empty { journal.old.items ≡ [] }
     requires room { 2 ≤ journal.old.spare }
-    ensures went { Gains (W.told wire.old) (W.told wire.new) (Uploads endpoint.now keys.now ask.now (F.told files.new) path.now size (F.faults files.old) (F.faults files.new) journal.new.items result) }
+    ensures went { Gains (W.seen wire.old) (W.seen wire.new) (Uploads endpoint.now keys.now ask.now (F.seen files.new)
+        path.now size (F.faults files.old) (F.faults files.new) journal.new.items result) }
+    ensures wants { WantsJournal (F.faults files.old) (F.faults files.new) result journal.new.items }
     ensures plain { HasPlainCause result }
-    ensures files { Keeps (F.told files.old) (F.told files.new) }
+    ensures files { LooksAt path.now (F.seen files.old) (F.seen files.new) }
     ensures files_later { F.faults files.old ≤ F.faults files.new }
     ensures wire_later { W.faults wire.old ≤ W.faults wire.new }
 {

@@ -4,7 +4,7 @@ ghost use Rattle.std.specs.Prelude.{◌≡◌, ◌≢◌, ◌++◌, [], codes, S
 ghost use Rattle.s3_main.specs.Lines.{IsLineOf};
 ghost use Rattle.s3_main.specs.Runs.{fatal_line};
 
-use super::{Line, Worked};
+use super::{Executed, Line};
 use crate::run::{Fatal, Run};
 use s3_model::{
     Journal, OutOfMemory, Outcomes, Plan, PlanFault, ProfileFault, Tasks, Text, WalkFault, Warnings,
@@ -12,12 +12,13 @@ use s3_model::{
 use std::alloc::Global;
 
 /// A run that ended before its task.
-fn stopped(alloc: Global, fatal: Fatal) -> Run
+fn ended_run(alloc: Global, fatal: Fatal) -> Run
     ensures stopped { result.fatal ≡ Some fatal }
     ensures tasks { result.plan.tasks.items ≡ [] }
     ensures outcomes { result.outcomes.items ≡ [] }
     ensures journal { result.journal.items ≡ [] }
     ensures warnings { result.warnings.items ≡ [] }
+    ensures planned { result.plan.warnings.items ≡ [] }
 {
     Run {
         status: 0,
@@ -32,7 +33,7 @@ fn stopped(alloc: Global, fatal: Fatal) -> Run
     }
 }
 
-/// The line of a run that ended before its task; for want of memory it is not made.
+/// The line of a run that ended before its task; where memory ran out it is not made.
 fn fatal_text(alloc: Global, fatal: &Fatal) -> Result<Text, OutOfMemory>
     ensures text { IfOk result (λ text. text ≡ fatal_line fatal.now) }
     ensures memory { OnOk result (fatal.now ≢ Fatal.Memory) }
@@ -60,20 +61,21 @@ fn no_source_text(alloc: Global, path: &Text) -> Result<Text, OutOfMemory>
 }
 
 /// Ends a run before its task.
-pub(crate) fn stop(alloc: Global, fatal: Fatal) -> Worked
+pub(crate) fn end_early(alloc: Global, fatal: Fatal) -> Executed
     ensures line { IsLineOf result.run result.line }
     ensures stopped { result.run.fatal ≡ Some fatal }
     ensures tasks { result.run.plan.tasks.items ≡ [] }
     ensures outcomes { result.run.outcomes.items ≡ [] }
     ensures journal { result.run.journal.items ≡ [] }
     ensures warnings { result.run.warnings.items ≡ [] }
+    ensures planned { result.run.plan.warnings.items ≡ [] }
 {
     let line = match fatal_text(alloc, &fatal) {
         Ok(text) => Ok(Line { to_err: true, text }),
         Err(memory) => Err(memory),
     };
-    Worked {
-        run: stopped(alloc, fatal),
+    Executed {
+        run: ended_run(alloc, fatal),
         line,
     }
 }
