@@ -1,15 +1,19 @@
 //! Times parts of the product for the scripts in `bench/`.
 //!
 //! `timings handovers LANES JOBS` prints nanoseconds and the sum of the outcomes; `timings listing` prints a listing, and
-//! `timings listings READS` prints nanoseconds, the listing's length in bytes, and how many objects were read. Without
-//! words it gives a few jobs, reads a listing, and prints the sum and the number of objects.
+//! `timings listings READS` prints nanoseconds, the listing's length in bytes, and how many objects were read;
+//! `timings patterns PATTERN PATH ROUNDS` prints how often the pattern was read, the nanoseconds for that and for matching
+//! it with the path as often, and how often it matched. Without words it gives a few jobs, reads a listing, and prints the
+//! sum and the number of objects.
 #![tactic(auto)]
 
 mod handovers;
 mod listings;
+mod patterns;
 
 use handovers::hand_over;
 use listings::{listing, read_again};
+use path_filters::Pattern;
 use std::alloc::Global;
 use std::process::ExitCode;
 use std::rt::Runtime;
@@ -50,6 +54,29 @@ fn time_listings<R: Runtime>(rt: &R, alloc: Global, reads: u32) -> io::Result<u8
     Ok(0)
 }
 
+/// Prints how long it took to read a pattern that often, and to match it with a path.
+fn time_patterns<R: Runtime>(
+    rt: &R,
+    alloc: Global,
+    text: &str,
+    path: &str,
+    rounds: u32,
+) -> io::Result<u8> {
+    let begun = Instant::now(rt)?;
+    let (Ok(reads), Ok(pattern)) = (
+        patterns::read_again(alloc, text, rounds),
+        Pattern::read(alloc, text),
+    ) else {
+        return Ok(REFUSED);
+    };
+    let read = begun.elapsed(rt)?.as_nanos();
+    let begun = Instant::now(rt)?;
+    let matched = patterns::match_again(&pattern, path, rounds);
+    let took = begun.elapsed(rt)?.as_nanos();
+    println!(rt; "{reads} {read} {took} {matched}")?;
+    Ok(0)
+}
+
 fn show_listing<R: Runtime>(rt: &R, alloc: Global) -> io::Result<u8> {
     let text = listing(alloc)?;
     println!(rt; "{text}")?;
@@ -82,6 +109,10 @@ fn run<R: Runtime + Threads + Wait + Send + 'static>(
         [what] if what.as_str() == "listing" => show_listing(rt, alloc),
         [what, reads] if what.as_str() == "listings" => match reads.parse() {
             Ok(reads) => time_listings(rt, alloc, reads),
+            Err(_) => Ok(REFUSED),
+        },
+        [what, text, path, rounds] if what.as_str() == "patterns" => match rounds.parse() {
+            Ok(rounds) => time_patterns(rt, alloc, text.as_str(), path.as_str(), rounds),
             Err(_) => Ok(REFUSED),
         },
         [what, lanes, jobs] if what.as_str() == "handovers" => match (lanes.parse(), jobs.parse()) {
