@@ -370,4 +370,4 @@ module _ (Shows : Ask → ℕ → Talk → Class → List ℕ → Type 0) (HasSt
   pub orderly_is_done : OrderlyIsDone Shows HasStatus Plans CallFailed
   orderly_is_done request_text host port shown counted fresh orderly sources dispatched coming start trace scheduled carried runs honest willing fits certain alone buckets not_cancelled =
       willing_is_done request_text host port shown dispatched coming start trace (orderly dispatched coming scheduled carried) counted fresh (record { runs = runs; honest = honest; fits = fits })
-      willing certain alone buckets (sources dispatched start trace runs honest fits) not_cancelled
+      willing certain alone buckets (sources dispatched coming start trace scheduled carried runs honest willing alone fits) not_cancelled

@@ -58,12 +58,15 @@ module _ (Shows : Ask → ℕ → Talk → Class → List ℕ → Type 0) (HasSt
       → shown.setting.cancelled_at ≡ None
       → (n : ℕ) (how : Outcome) → slice_get shown.outcomes n ≡ Some how → IsOwed shown start n how
 
-  -- So a run that is orderly however its jobs are read is done where the service is willing.
+  -- So a run that is orderly however its jobs are read is done where the service is willing. That the sources were there is asked only where
+  -- nobody else writes, since there what planning found was so from the start.
   abbrev pub OrderlyIsDone : Type 0
   OrderlyIsDone = (request_text : Ask → List ℕ → ℕ → List ℕ) (host : List ℕ) (port : ℕ) (shown : Shown) → AreCallsCounted shown → AreFreshByKind shown.setting.tasks
       → ((dispatched coming : List Dispatched) → IsSchedule Shows shown.setting Plans dispatched coming
       → IsCarried Shows request_text host port shown.setting shown.journal shown.logs shown.notes dispatched coming
       → IsOrderly Shows HasStatus Plans CallFailed request_text host port shown dispatched coming)
-      → ((dispatched : List Dispatched) (start : State) (trace : List Step) → IsTrace shown.setting.limits [] start trace → IsHonest start trace (IsDest shown.setting.tasks)
+      → ((dispatched coming : List Dispatched) (start : State) (trace : List Step) → IsSchedule Shows shown.setting Plans dispatched coming
+      → IsCarried Shows request_text host port shown.setting shown.journal shown.logs shown.notes dispatched coming
+      → IsTrace shown.setting.limits [] start trace → IsHonest start trace (IsDest shown.setting.tasks) → IsWilling shown.setting.limits start trace → IsAlone trace
       → Fits Shows (events_of trace) shown.journal dispatched → AreSourcesThere shown.setting.held shown.setting.tasks start)
       → IsDoneWhereWilling Shows HasStatus request_text host port Plans CallFailed shown
