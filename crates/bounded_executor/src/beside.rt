@@ -1,6 +1,5 @@
 //! Both ends of a ring in one thread.
 
-// Both ends of a ring in one thread.
 ghost use Rattle.std.specs.Prelude.{◌≡◌, ◌<◌, ◌≤◌, ◌++◌, ◌∷◌, [], length};
 ghost use Rattle.std.specs.VecDeque.{deque_capacity};
 ghost use Rattle.rtrb.specs.Ring.{sent, received, producer_capacity, IsPair, SameProducer, SameConsumer};
