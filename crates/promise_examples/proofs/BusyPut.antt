@@ -35,7 +35,8 @@ use Rattle.promise_examples.specs.GivenAgain.{put_job, busy, bytes, upload, put,
 use Rattle.promise_examples.proofs.Concrete.{has, at, each, front_of, none_is_some, some_is}
 use Rattle.promise_examples.proofs.Carrying as carrying
 use Rattle.promise_examples.proofs.Fitting as fitting
-use Rattle.promise_examples.proofs.Honest.{IsFaithful, faithful_with, one_bucket_is_faithful, has_bucket, honest}
+use Rattle.promise_examples.proofs.Honest.{one_bucket_is_faithful, has_bucket, honest}
+use Rattle.world_laws.proofs.Faithful.{IsFaithful, faithful_with}
 use Rattle.world_laws.proofs.Maps.{text_exact, get-insert_same}
 use Rattle.promise_examples.proofs.Readings.{names, says_whole}
 use Rattle.promise_examples.proofs.Scheduling as scheduling

@@ -24,7 +24,8 @@ use Rattle.promise_examples.specs.Everything.{bucket, uploaded, source, copied, 
 use Rattle.promise_examples.proofs.Concrete.{at}
 use Rattle.promise_examples.proofs.EventfulJobs.{lost, well, create_sent, copy_sent, part_sent, other_sent, part_again, delete_sent, complete_sent, jobs}
 use Rattle.promise_examples.proofs.Fitting as fitting
-use Rattle.promise_examples.proofs.Honest.{IsFaithful, faithful_with, faithful_without, one_bucket_is_faithful, has_bucket, honest}
+use Rattle.promise_examples.proofs.Honest.{one_bucket_is_faithful, has_bucket, honest}
+use Rattle.world_laws.proofs.Faithful.{IsFaithful, faithful_with, faithful_without}
 use Rattle.world_laws.proofs.Maps.{is_nothing, text_exact, get-insert_same}
 use Rattle.world_laws.proofs.Objects.{object_at-with_object}
 use Rattle.promise_examples.proofs.Readings.{names, same_uncertain}

@@ -44,7 +44,8 @@ use Rattle.promise_examples.proofs.Carrying.{same_again}
 use Rattle.promise_examples.proofs.Concrete.{has, at, each, front_of, none_is_some, pairs, some_is}
 use Rattle.promise_examples.proofs.EventfulJobs.{lost, well, sent_as}
 use Rattle.promise_examples.proofs.Fitting as fitting
-use Rattle.promise_examples.proofs.Honest.{IsFaithful, one_bucket_is_faithful, has_bucket, honest}
+use Rattle.promise_examples.proofs.Honest.{one_bucket_is_faithful, has_bucket, honest}
+use Rattle.world_laws.proofs.Faithful.{IsFaithful}
 use Rattle.world_laws.proofs.Maps.{is_nothing, text_exact, get-insert_same}
 use Rattle.promise_examples.proofs.Readings.{names, same_uncertain, says_whole}
 use Rattle.promise_examples.proofs.Repeats.{all_repeats, no_third, other_job}

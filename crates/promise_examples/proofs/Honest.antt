@@ -1,45 +1,17 @@
 -- A trace in whose states each object's ETag is its content, and in which nobody else writes, is honest.
-use Rattle.std.proofs.Common.{◌≡◌, ◌∙◌, ℕ, List, Option, Some, None, refl, sym, ap, subst, inl, inr, unwrap_or}
+use Rattle.std.proofs.Common.{◌≡◌, ◌∙◌, ℕ, List, Option, Some, None, refl, sym, ap, inl, inr, unwrap_or}
 use Rattle.std.specs.Prelude.{IsSome}
 use Rattle.std.specs.Ordering.{nat_cmp}
 use Rattle.std.specs.Cmp.Lexicographic.{slice_cmp, nat_list_cmp_total}
 use Rattle.std.specs.FinMap.{get, insert, empty}
 use Rattle.s3_model.specs.Maps.{MapOf}
-use Rattle.s3_service.specs.ServiceState.{State, Object, object_at, HasBucket, with_object, without_object}
+use Rattle.s3_service.specs.ServiceState.{State, Object, HasBucket}
 use Rattle.s3_service.specs.Serves.{Writes, Removes}
 use Rattle.run_promise.specs.Traces.{Step, TraceEvent, External, IsHonest, states, events_of}
-use Rattle.promise_examples.specs.Services.{object_of, one_bucket}
+use Rattle.promise_examples.specs.Services.{one_bucket}
 use Rattle.promise_examples.proofs.Concrete.{Each, each}
-use Rattle.world_laws.proofs.Maps.{text_exact, found_in_empty, found_after_insert, not_both, get-insert_same}
-use Rattle.world_laws.proofs.Objects.{place_decided, object_at-with_object, object_at-with_object_other, object_at-without_object, object_at-without_object_other}
-
--- each object's ETag is its content
-abbrev pub IsFaithful : State → Type 0
-IsFaithful t = (bucket key : List ℕ) (object : Object) → object_at t bucket key ≡ Some object → object.etag ≡ object.bytes
-
-some_is : (a b : Object) → Some a ≡ Some b → a ≡ b
-some_is a b e = cc
-
-pub faithful_with : (t : State) (bucket key bytes : List ℕ) → IsFaithful t → IsFaithful (with_object t bucket key (object_of bytes))
-faithful_with t bucket key bytes was b k object e = elim (place_decided bucket key b k) [
-  | inl here ↦
-      let is : object_at (with_object t bucket key (object_of bytes)) b k ≡ Some (object_of bytes) =
-      subst (λ (x : List ℕ). object_at (with_object t bucket key (object_of bytes)) b x ≡ Some (object_of bytes)) here.1
-      (subst (λ (x : List ℕ). object_at (with_object t bucket key (object_of bytes)) x key ≡ Some (object_of bytes)) here.0 (object_at-with_object t bucket key (object_of bytes))) in
-      let same : object_of bytes ≡ object = some_is (object_of bytes) object (sym is ∙ e) in
-      sym (ap (λ (o : Object). o.etag) same) ∙ ap (λ (o : Object). o.bytes) same
-  | inr apart ↦ was b k object (sym (object_at-with_object_other t bucket key (object_of bytes) b k apart) ∙ e)
-]
-
-pub faithful_without : (t : State) (bucket key : List ℕ) → IsFaithful t → IsFaithful (without_object t bucket key)
-faithful_without t bucket key was b k object e = elim (place_decided bucket key b k) [
-  | inl here ↦
-      let is : object_at (without_object t bucket key) b k ≡ None =
-      subst (λ (x : List ℕ). object_at (without_object t bucket key) b x ≡ None) here.1
-      (subst (λ (x : List ℕ). object_at (without_object t bucket key) x key ≡ None) here.0 (object_at-without_object t bucket key)) in
-      absurd (not_both (object_at (without_object t bucket key) b k) object is e)
-  | inr apart ↦ was b k object (sym (object_at-without_object_other t bucket key b k apart) ∙ e)
-]
+use Rattle.world_laws.proofs.Faithful.{IsFaithful}
+use Rattle.world_laws.proofs.Maps.{text_exact, found_in_empty, found_after_insert, get-insert_same}
 
 -- ---- a service with one bucket that is empty
 

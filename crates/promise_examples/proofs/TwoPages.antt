@@ -34,7 +34,8 @@ use Rattle.promise_examples.specs.Pages.{bucket, first_key, last_key, an_object,
 use Rattle.promise_examples.proofs.Concrete.{Has, has, has_middle, at, each, each_has, front_of, none_is_some, some_is}
 use Rattle.promise_examples.proofs.Carrying as carrying
 use Rattle.promise_examples.proofs.Fitting as fitting
-use Rattle.promise_examples.proofs.Honest.{IsFaithful, faithful_with, one_bucket_is_faithful, has_bucket, honest}
+use Rattle.promise_examples.proofs.Honest.{one_bucket_is_faithful, has_bucket, honest}
+use Rattle.world_laws.proofs.Faithful.{IsFaithful, faithful_with}
 use Rattle.world_laws.proofs.Maps.{text_exact, get-insert_same, is_nothing}
 use Rattle.world_laws.proofs.Objects.{objects_in_same}
 use Rattle.promise_examples.proofs.Readings.{names, reads, says_whole}
