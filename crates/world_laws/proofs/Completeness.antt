@@ -42,7 +42,7 @@ use Rattle.run_promise.specs.Schedule.{Setting, IsObject, IsTaskAsk, Known, Targ
 use Rattle.run_promise.specs.Traces.{Step, TraceEvent, Serve, IsWilling, Steps, state_after}
 use Rattle.run_promise.specs.Truthful.{Shown, AreCertain, HasDestBuckets, IsAlone, IsFinished, MayBeFresh, WasTaken}
 use Rattle.world_laws.specs.Completeness.{AreCallsCounted, AreSourcesThere, IsOwed, AreFreshByKind, OrderlyIsDone, WillingIsDone}
-use Rattle.world_laws.specs.Promises.{IsByRequests, IsOrderly}
+use Rattle.world_laws.specs.Promises.{run_of, IsByRequests, IsOrderly}
 use Rattle.world_laws.specs.Tasks.{IsScheduled, IsTraceOf}
 use Rattle.world_laws.proofs.Early as early
 use Rattle.world_laws.proofs.Early.{reached}
@@ -63,7 +63,7 @@ module _ (Shows : Ask → ℕ → Talk → Class → List ℕ → Type 0) (HasSt
     (request_text : Ask → List ℕ → ℕ → List ℕ) (host : List ℕ) (port : ℕ) (shown : Shown) (dispatched coming : List Dispatched)
     (o : IsOrderly Shows HasStatus Plans CallFailed request_text host port shown dispatched coming)
     (certain : AreCertain Shows HasStatus request_text host port Plans CallFailed dispatched) (not_cancelled : shown.setting.cancelled_at ≡ None)
-    (start : State) (trace : List Step) (p : IsTraceOf Shows shown.setting start trace shown.journal dispatched) (willing : IsWilling shown.setting.limits start trace) (alone : IsAlone trace)
+    (start : State) (trace : List Step) (p : IsTraceOf Shows shown.setting (run_of shown dispatched start trace)) (willing : IsWilling shown.setting.limits start trace) (alone : IsAlone trace)
     (buckets : HasDestBuckets shown.setting.tasks start) (sources : AreSourcesThere shown.setting.held shown.setting.tasks start) where
   abbrev s : Setting
   s = shown.setting
@@ -250,9 +250,9 @@ module _ (Shows : Ask → ℕ → Talk → Class → List ℕ → Type 0) (HasSt
 
       none_at_start : (id : List ℕ) (place : ℕ) → IsUpload (Gains place) n id → (etags : List (List ℕ)) → get start.ended id ≡ Some (CompletedBy etags) → ⊥
       none_at_start id place created etags e =
-          let fits = laws.fitting Shows s shown.journal dispatched coming scheduled n task by.bucket by.key is_task by.is_dest start trace p in
-          let at = multi.created_at Shows s.limits start trace dispatched shown.journal by.bucket by.key fits id (tasks.created Shows s shown.journal dispatched coming scheduled n task by.bucket by.key is_task by.is_dest place id created) in
-          let free = multi.free_earlier Shows s.limits start trace dispatched shown.journal by.bucket by.key fits id [] at.front (at.step ∷ at.back) at.is at.free in
+          let fits = laws.fitting Shows s (run_of shown dispatched start trace) coming scheduled n task by.bucket by.key is_task by.is_dest p in
+          let at = multi.created_at Shows s.limits (run_of shown dispatched start trace) by.bucket by.key fits id (tasks.created Shows s shown.journal dispatched coming scheduled n task by.bucket by.key is_task by.is_dest place id created) in
+          let free = multi.free_earlier Shows s.limits (run_of shown dispatched start trace) by.bucket by.key fits id [] at.front (at.step ∷ at.back) at.is at.free in
           not_both (get start.ended id) (CompletedBy etags) free.not_ended e
 
       stays_there : (front back : List Step) → trace ≡ front ++ back → IsKeptBack (state_after start front)

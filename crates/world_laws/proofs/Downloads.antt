@@ -12,12 +12,11 @@ use Rattle.s3_model.specs.Replies.{IsSameReply}
 use Rattle.s3_model.specs.Talks.{Talk}
 use Rattle.s3_service.specs.ServiceState.{State, Object}
 use Rattle.s3_service.specs.Serves.{Replied, Succeeds, IsThere, bytes_within}
-use Rattle.run_promise.specs.Dispatches.{Dispatched}
 use Rattle.run_promise.specs.Traces.{Step, TraceEvent, Serve, Steps, state_after, states, events_of, event_of}
 use Rattle.run_promise.specs.Fits.{request_at}
 use Rattle.s3_model.specs.Parts.{piece_count}
 use Rattle.run_promise.specs.Schedule.{asked_range}
-use Rattle.world_laws.specs.Premises.{IsFitting, HasCome}
+use Rattle.world_laws.specs.Premises.{Run, moments, IsFitting, IsNoPlace, HasCome}
 use Rattle.world_laws.specs.SmallTransfers.{HadContent}
 use Rattle.world_laws.specs.Multipart.{joined}
 use Rattle.world_laws.specs.Downloads.{IsPartial, IsGot, GetTells, RangesTell}
@@ -62,36 +61,35 @@ get_tells limits old bucket key etag range body answered bytes new h = absurd h
 
 module _ (Shows : Ask → ℕ → Talk → Class → List ℕ → Type 0) where
   -- what a Get was told
-  got : (limits : Limits) (start : State) (trace : List Step) (journal : List Event) (dispatched : List Dispatched) (bucket key etag : List ℕ) (range : Option (ℕ × ℕ)) (bytes : List ℕ)
-      → IsFitting Shows limits start trace journal dispatched (λ b k. ⊥) → (is : IsGot Shows dispatched journal bucket key etag range bytes)
-      → (content : List ℕ) × HadContent (states start trace) bucket key etag content × Tells range is.succeeded.reply bytes content
-  got limits start trace journal dispatched bucket key etag range bytes p is =
-      let come : HasCome (filter_map event_of (events_of trace)) is.get = (is.come.0, is.come.1, is.come.2, ap (λ (j : List Event). slice_get j is.come.0) p.fits.moves ∙ is.come.3) in
-      let served = fitting.success_is_served Shows limits start trace dispatched journal p.runs p.fits trace [] (sym (append-nil trace)) is.get is.known come is.succeeded in
-      let at = step_of trace (Serve (request_at is.get is.succeeded.place) (Replied served.0 is.succeeded.bytes)) served.2 in
-      let steps = subst (λ (event : TraceEvent). Steps limits (begun_through [] at.front) (state_after start at.front) event at.step.state) at.is_event
-      (fitting.steps_at Shows limits start trace dispatched journal p.runs p.fits at.front at.step at.back at.is) in
-      let tells = get_tells limits (state_after start at.front) bucket key etag range is.get.body served.0 is.succeeded.bytes at.step.state
-      (subst (λ (asked : Ask). Succeeds limits (state_after start at.front) asked is.get.body served.0 is.succeeded.bytes at.step.state) is.is_get steps.1) in
-      let among = subst (λ (t : List Step). Has (states start t) (state_after start at.front)) (sym at.is) (has_state_after at.front (at.step ∷ at.back) start) in (
+  got : (limits : Limits) (run : Run) (bucket key etag : List ℕ) (range : Option (ℕ × ℕ)) (bytes : List ℕ) → IsFitting Shows limits run IsNoPlace
+      → (is : IsGot Shows run.journal run.dispatched bucket key etag range bytes) → (content : List ℕ) × HadContent (moments run) bucket key etag content × Tells range is.succeeded.reply bytes content
+  got limits run bucket key etag range bytes p is =
+      let come : HasCome (filter_map event_of (events_of run.trace)) is.get = (is.come.0, is.come.1, is.come.2, ap (λ (j : List Event). slice_get j is.come.0) p.fits.moves ∙ is.come.3) in
+      let served = fitting.success_is_served Shows limits run.start run.trace run.dispatched run.journal p.runs p.fits run.trace [] (sym (append-nil run.trace)) is.get is.known come is.succeeded in
+      let at = step_of run.trace (Serve (request_at is.get is.succeeded.place) (Replied served.0 is.succeeded.bytes)) served.2 in
+      let steps = subst (λ (event : TraceEvent). Steps limits (begun_through [] at.front) (state_after run.start at.front) event at.step.state) at.is_event
+      (fitting.steps_at Shows limits run.start run.trace run.dispatched run.journal p.runs p.fits at.front at.step at.back at.is) in
+      let tells = get_tells limits (state_after run.start at.front) bucket key etag range is.get.body served.0 is.succeeded.bytes at.step.state
+      (subst (λ (asked : Ask). Succeeds limits (state_after run.start at.front) asked is.get.body served.0 is.succeeded.bytes at.step.state) is.is_get steps.1) in
+      let among = subst (λ (t : List Step). Has (states run.start t) (state_after run.start at.front)) (sym at.is) (has_state_after at.front (at.step ∷ at.back) run.start) in (
         tells.0.bytes,
-        had (states start trace) (state_after start at.front) bucket key etag tells.0 (contains_of (states start trace) (state_after start at.front) among) tells.1,
+        had (moments run) (state_after run.start at.front) bucket key etag tells.0 (contains_of (moments run) (state_after run.start at.front) among) tells.1,
         subst (λ (b : List ℕ). Tells range is.succeeded.reply b tells.0.bytes) is.is_body (tells_same range is.succeeded.reply served.0 is.succeeded.bytes tells.0.bytes served.1 tells.2),
       )
 
   pub whole_tells : GetTells Shows
-  whole_tells limits start trace journal dispatched bucket key etag bytes p is =
-      let told = got limits start trace journal dispatched bucket key etag None bytes p is in
-      subst (λ (b : List ℕ). HadContent (states start trace) bucket key etag b) (sym told.2) told.1
+  whole_tells limits run bucket key etag bytes p is =
+      let told = got limits run bucket key etag None bytes p is in
+      subst (λ (b : List ℕ). HadContent (moments run) bucket key etag b) (sym told.2) told.1
 
   pub ranges_tell : RangesTell Shows
-  ranges_tell limits start trace journal dispatched bucket key etag size piece bodies p sized some long each = subst (λ (b : List ℕ). HadContent (states start trace) bucket key etag b) (sym all) first.1
+  ranges_tell limits run bucket key etag size piece bodies p sized some long each = subst (λ (b : List ℕ). HadContent (moments run) bucket key etag b) (sym all) first.1
     where
       counted : 1 ≤ piece_count size piece
       counted = some_pieces size piece sized some
 
-      first : (content : List ℕ) × HadContent (states start trace) bucket key etag content × Tells (Some (asked_range size piece 1)) (each 1 (omega arith) counted).0.succeeded.reply (bodies 1) content
-      first = got limits start trace journal dispatched bucket key etag (Some (asked_range size piece 1)) (bodies 1) p (each 1 (omega arith) counted).0
+      first : (content : List ℕ) × HadContent (moments run) bucket key etag content × Tells (Some (asked_range size piece 1)) (each 1 (omega arith) counted).0.succeeded.reply (bodies 1) content
+      first = got limits run bucket key etag (Some (asked_range size piece 1)) (bodies 1) p (each 1 (omega arith) counted).0
 
       content : List ℕ
       content = first.0
@@ -100,8 +98,8 @@ module _ (Shows : Ask → ℕ → Talk → Class → List ℕ → Type 0) where
       of_content : (k : ℕ) → 1 ≤ k → k ≤ piece_count size piece → bodies k ≡ bytes_within (asked_range size piece k) content
       of_content k low high =
           let of = each k low high in
-          let told = got limits start trace journal dispatched bucket key etag (Some (asked_range size piece k)) (bodies k) p of.0 in
-          told.2 of.1 ∙ ap (bytes_within (asked_range size piece k)) (one_content start trace (λ b q. ⊥) p.honest bucket key etag told.0 content told.1 first.1)
+          let told = got limits run bucket key etag (Some (asked_range size piece k)) (bodies k) p of.0 in
+          told.2 of.1 ∙ ap (bytes_within (asked_range size piece k)) (one_content run.start run.trace IsNoPlace p.honest bucket key etag told.0 content told.1 first.1)
 
       size_is : length content ≡ size
       size_is = long content first.1

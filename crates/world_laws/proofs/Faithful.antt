@@ -11,7 +11,7 @@ use Rattle.s3_service.specs.ServiceState.{State, Object, object_at, HasBucket, w
 use Rattle.s3_service.specs.Serves.{ExternalWrite, Writes, Removes}
 use Rattle.run_promise.specs.Traces.{Given, Begin, Serve, External, Came, states, events_of}
 use Rattle.run_promise.specs.Truthful.{IsExternal, HasJournal}
-use Rattle.world_laws.specs.Premises.{IsFitting}
+use Rattle.world_laws.specs.Premises.{Run, IsFitting}
 use Rattle.world_laws.specs.Rounds.{Told, Round, dispatched_from, journal_of, steps_from, AreServed}
 use Rattle.world_laws.proofs.Maps.{text_exact, text_decided, found_after_insert, found_in_empty, not_both, get-insert_same, get-insert_other}
 use Rattle.world_laws.proofs.Members.{Has, has}
@@ -104,6 +104,10 @@ has_bucket_still t bucket inner other there = elim (text_decided other bucket) [
 
 -- ---- rounds
 
+-- a run that makes these rounds
+abbrev pub run_by : State → List Round → Run
+run_by start rounds = record { start = start; trace = steps_from 0 start rounds; journal = journal_of rounds; dispatched = dispatched_from 0 rounds }
+
 -- the states after the rounds are faithful
 abbrev pub AreFaithful : List Round → Type 0
 AreFaithful [] = Unit {0}
@@ -139,7 +143,7 @@ nobody_writes (r ∷ rounds) place old write (inr (inr (inr (inl e)))) = not_cam
 nobody_writes (r ∷ rounds) place old write (inr (inr (inr (inr h)))) = nobody_writes rounds (place + 2) r.after write h
 
 module _ (limits : Limits) (start : State) (rounds : List Round) (served : AreServed limits start rounds) (apart : AreApart rounds) (first : IsFaithful start) (all : AreFaithful rounds) where
-  pub rounds_fitting : (IsKept : List ℕ → List ℕ → Type 0) → IsFitting Told limits start (steps_from 0 start rounds) (journal_of rounds) (dispatched_from 0 rounds) IsKept
+  pub rounds_fitting : (IsKept : List ℕ → List ℕ → Type 0) → IsFitting Told limits (run_by start rounds) IsKept
   rounds_fitting IsKept = record {
     runs = rounds_trace limits rounds 0 [] start served;
     honest = record {

@@ -9,17 +9,18 @@ use Rattle.s3_service.specs.ServiceState.{State, with_object}
 use Rattle.s3_service.specs.Serves.{IsThere, LiesWithin, bytes_within}
 use Rattle.run_promise.specs.Traces.{states}
 use Rattle.run_promise.specs.Schedule.{job_of, asked_range}
-use Rattle.world_laws.specs.SmallTransfers.{HadContent}
-use Rattle.world_laws.specs.Downloads.{IsGot, IsPartial}
+use Rattle.world_laws.specs.SmallTransfers.{HasSize}
+use Rattle.world_laws.specs.Downloads.{AreGotInParts, IsGot, IsPartial}
+use Rattle.world_laws.specs.Sources.{IsFound}
 use Rattle.world_laws.specs.Rounds.{Told, Round, dispatch_at, dispatched_from, journal_of, steps_from, AreServed}
-use Rattle.world_laws.specs.Premises.{IsFitting}
+use Rattle.world_laws.specs.Premises.{Run, IsFitting, IsNoPlace}
 use Rattle.run_promise.specs.Truthful.{IsDest}
 use Rattle.world_laws.proofs.ScheduleWitness.{setting_of, the_limits}
-use Rattle.world_laws.specs.Witnesses.{FoundIsMet, IsFoundMet, removal, IsGetMet, GetIsMet, AreRangesMet, RangesAreMet}
+use Rattle.world_laws.specs.Witnesses.{AreRangesGot, FoundIsMet, removal, IsMet, GetIsMet, RangesAreMet}
 use Rattle.world_laws.proofs.Members.{has}
 use Rattle.world_laws.proofs.Objects.{object_at-with_object}
 use Rattle.world_laws.proofs.Rounds.{AreApart, rounds_come}
-use Rattle.world_laws.proofs.Faithful.{IsFaithful, object_of, bare, bare_is_faithful, faithful_with, states_faithful, rounds_fitting}
+use Rattle.world_laws.proofs.Faithful.{IsFaithful, object_of, bare, bare_is_faithful, faithful_with, run_by, states_faithful, rounds_fitting}
 use Rattle.world_laws.proofs.Witnesses.{round, succeeds}
 
 -- what has bytes has one piece of all its length
@@ -45,22 +46,21 @@ module _ (limits : Limits) (bucket key etag : List ℕ) where
   alone : (r : Round) → AreApart (r ∷ [])
   alone r = (λ other h. absurd h, tt)
 
-  get_met : IsGetMet limits bucket key etag
+  got_all : IsGot Told (journal_of (get_all ∷ [])) (dispatched_from 0 (get_all ∷ [])) bucket key etag None etag
+  got_all = record {
+    get = dispatch_at 0 get_all;
+    known = (0, omega arith, refl);
+    is_get = refl;
+    come = rounds_come (get_all ∷ []) start (alone get_all) (dispatch_at 0 get_all) (inl refl);
+    succeeded = succeeds 0 get_all refl;
+    is_body = refl;
+  }
+
+  get_met : IsMet limits IsNoPlace (λ (run : Run). (bytes : List ℕ) × IsGot Told run.journal run.dispatched bucket key etag None bytes)
   get_met = record {
-    start = start;
-    trace = steps_from 0 start (get_all ∷ []);
-    journal = journal_of (get_all ∷ []);
-    dispatched = dispatched_from 0 (get_all ∷ []);
-    bytes = etag;
-    fitting = rounds_fitting limits start (get_all ∷ []) ((object_of etag, is_there, (refl, refl, refl), refl), tt) (alone get_all) is_faithful (is_faithful, tt) (λ b k. ⊥);
-    got = record {
-      get = dispatch_at 0 get_all;
-      known = (0, omega arith, refl);
-      is_get = refl;
-      come = rounds_come (get_all ∷ []) start (alone get_all) (dispatch_at 0 get_all) (inl refl);
-      succeeded = succeeds 0 get_all refl;
-      is_body = refl;
-    };
+    run = run_by start (get_all ∷ []);
+    fitting = rounds_fitting limits start (get_all ∷ []) ((object_of etag, is_there, (refl, refl, refl), refl), tt) (alone get_all) is_faithful (is_faithful, tt) IsNoPlace;
+    such = (etag, got_all);
   }
 
   module _ (some : 1 ≤ length etag) where
@@ -84,7 +84,7 @@ module _ (limits : Limits) (bucket key etag : List ℕ) where
     range_served : AreServed limits start (get_range ∷ [])
     range_served = ((object_of etag, is_there, (inside, inr (refl, refl, refl, refl)), refl), tt)
 
-    got_range : IsGot Told (dispatched_from 0 (get_range ∷ [])) (journal_of (get_range ∷ [])) bucket key etag (Some range) (bytes_within range etag)
+    got_range : IsGot Told (journal_of (get_range ∷ [])) (dispatched_from 0 (get_range ∷ [])) bucket key etag (Some range) (bytes_within range etag)
     got_range = record {
       get = dispatch_at 0 get_range;
       known = (0, omega arith, refl);
@@ -94,28 +94,26 @@ module _ (limits : Limits) (bucket key etag : List ℕ) where
       is_body = refl;
     }
 
-    size_known : (bytes : List ℕ) → HadContent (states start (steps_from 0 start (get_range ∷ []))) bucket key etag bytes → length bytes ≡ length etag
+    size_known : HasSize (states start (steps_from 0 start (get_range ∷ []))) bucket key etag (length etag)
     size_known bytes had =
         let faithful = states_faithful (get_range ∷ []) 0 start is_faithful (is_faithful, tt) had.0 (has (states start (steps_from 0 start (get_range ∷ []))) had.0 had.2) bucket key had.1 had.3.held in
         ap length (sym had.4 ∙ sym faithful ∙ had.3.etag)
 
     abbrev GotPart : ℕ → Type 0
-    GotPart k = (get : IsGot Told (dispatched_from 0 (get_range ∷ [])) (journal_of (get_range ∷ [])) bucket key etag (Some (asked_range (length etag) (length etag) k)) (bytes_within range etag)) × IsPartial get.succeeded.reply
+    GotPart k = (get : IsGot Told (journal_of (get_range ∷ [])) (dispatched_from 0 (get_range ∷ [])) bucket key etag (Some (asked_range (length etag) (length etag) k)) (bytes_within range etag)) × IsPartial get.succeeded.reply
 
-    ranges_met : AreRangesMet limits bucket key etag
+    each_got : AreGotInParts Told (journal_of (get_range ∷ [])) (dispatched_from 0 (get_range ∷ [])) bucket key etag (length etag) (length etag) (λ k. bytes_within range etag)
     unfolding got_range
+    each_got k low high =
+        let one = one_piece (length etag) some in
+        let first : 1 ≡ k = omega arith in
+        subst GotPart first (got_range, refl)
+
+    ranges_met : IsMet limits IsNoPlace (AreRangesGot bucket key etag (length etag) (length etag))
     ranges_met = record {
-      start = start;
-      trace = steps_from 0 start (get_range ∷ []);
-      journal = journal_of (get_range ∷ []);
-      dispatched = dispatched_from 0 (get_range ∷ []);
-      bodies = λ k. bytes_within range etag;
-      fitting = rounds_fitting limits start (get_range ∷ []) range_served (alone get_range) is_faithful (is_faithful, tt) (λ b k. ⊥);
-      known_size = size_known;
-      got = λ k low high.
-          let one = one_piece (length etag) some in
-          let first : 1 ≡ k = omega arith in
-          subst GotPart first (got_range, refl);
+      run = run_by start (get_range ∷ []);
+      fitting = rounds_fitting limits start (get_range ∷ []) range_served (alone get_range) is_faithful (is_faithful, tt) IsNoPlace;
+      such = (size_known, (λ k. bytes_within range etag, each_got));
     }
 
 -- ---- a Head
@@ -133,31 +131,23 @@ module _ (bucket key etag : List ℕ) where
   holding_is_faithful : IsFaithful holding
   holding_is_faithful = faithful_with (bare (bucket ∷ [])) bucket key etag (bare_is_faithful (bucket ∷ []))
 
-  fits_head : IsFitting Told the_limits holding (steps_from 0 holding (head ∷ [])) (journal_of (head ∷ [])) (dispatched_from 0 (head ∷ [])) (IsDest (removal bucket key ∷ []))
+  fits_head : IsFitting Told the_limits (run_by holding (head ∷ [])) (IsDest (removal bucket key ∷ []))
   fits_head = rounds_fitting the_limits holding (head ∷ []) ((object_of etag, there, refl, refl, refl), tt) ((λ other h. absurd h), tt) holding_is_faithful (holding_is_faithful, tt) (IsDest (removal bucket key ∷ []))
 
-  found_met : IsFoundMet bucket key etag
-  found_met = record {
-    setting = setting_of (removal bucket key);
-    start = holding;
-    trace = steps_from 0 holding (head ∷ []);
-    journal = journal_of (head ∷ []);
-    dispatched = dispatched_from 0 (head ∷ []);
-    size = length etag;
-    traced = record { runs = fits_head.runs; honest = fits_head.honest; fits = fits_head.fits };
-    found = record {
-      head = dispatch_at 0 head;
-      known = (0, omega arith, refl);
-      asks = refl;
-      come = rounds_come (head ∷ []) holding ((λ other h. absurd h), tt) (dispatch_at 0 head) (inl refl);
-      succeeded = succeeds 0 head refl;
-      micros = 0;
-      told = refl;
-    };
+  found : IsFound Told (journal_of (head ∷ [])) (dispatched_from 0 (head ∷ [])) bucket key etag (length etag)
+  found = record {
+    head = dispatch_at 0 head;
+    known = (0, omega arith, refl);
+    asks = refl;
+    come = rounds_come (head ∷ []) holding ((λ other h. absurd h), tt) (dispatch_at 0 head) (inl refl);
+    succeeded = succeeds 0 head refl;
+    micros = 0;
+    told = refl;
   }
 
 pub found_is_met : FoundIsMet
-found_is_met bucket key etag = found_met bucket key etag
+found_is_met bucket key etag =
+    (setting_of (removal bucket key), record { run = run_by (holding bucket key etag) (head bucket key etag ∷ []); fitting = fits_head bucket key etag; such = (length etag, found bucket key etag) })
 
 pub get_is_met : GetIsMet
 get_is_met limits bucket key etag = get_met limits bucket key etag

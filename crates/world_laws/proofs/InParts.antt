@@ -6,14 +6,13 @@ use Rattle.s3_model.specs.declared.requests.Ask.{Ask}
 use Rattle.s3_model.specs.declared.requests.Ask.TheVariants as ask
 use Rattle.s3_model.specs.declared.answers.Reply.TheVariants as reply
 use Rattle.s3_model.specs.declared.answers.Class.{Class}
-use Rattle.s3_model.specs.declared.outcomes.Event.{Event}
 use Rattle.s3_model.specs.declared.settings.Limits.{Limits}
 use Rattle.s3_model.specs.Talks.{Talk}
 use Rattle.s3_service.specs.ServiceState.{State, Object, Aborted, object_at}
 use Rattle.s3_service.specs.Serves.{Succeeds, bytes_within, IsThere}
 use Rattle.run_promise.specs.Dispatches.{Dispatched}
-use Rattle.run_promise.specs.Traces.{Step, TraceEvent, IsTrace, Steps, begun_after, state_after, states}
-use Rattle.world_laws.specs.Premises.{IsFitting, IsPlace}
+use Rattle.run_promise.specs.Traces.{Step, TraceEvent, IsTrace, Steps, begun_after, state_after}
+use Rattle.world_laws.specs.Premises.{Run, moments, IsFitting, IsPlace}
 use Rattle.world_laws.specs.Destinations.{IsNewOnceCome}
 use Rattle.world_laws.specs.SmallTransfers.{HadContent, IsStored}
 use Rattle.world_laws.specs.Multipart.{joined, IsCopiedInParts, AreParts, AreCopiedParts, PartsAreStored, PartsAreWhole, CopiedPartsAreStored, CopiedPartsAreWhole, AbortsAreFinal}
@@ -49,81 +48,81 @@ made_of IsPiece pieces count found known whole = (whole.object, whole.is_found, 
 module _ (Shows : Ask → ℕ → Talk → Class → List ℕ → Type 0) where
   -- ---- parts with their bytes
 
-  module _ (bucket key : List ℕ) (pieces : ℕ → List ℕ) (count : ℕ) (limits : Limits) (start : State) (trace : List Step) (journal : List Event) (dispatched : List Dispatched)
-      (p : IsFitting Shows limits start trace journal dispatched (IsPlace bucket key)) (ours : AreParts Shows bucket key pieces count journal dispatched) where
+  module _ (bucket key : List ℕ) (pieces : ℕ → List ℕ) (count : ℕ) (limits : Limits) (run : Run) (p : IsFitting Shows limits run (IsPlace bucket key))
+      (ours : AreParts Shows bucket key pieces count run.journal run.dispatched) where
     abbrev IsPiece : ℕ → List ℕ → Type 0
     IsPiece n bytes = bytes ≡ pieces n
 
-    stores_piece : (c : Dispatched) (old : State) (id : List ℕ) (number : ℕ) (bytes : List ℕ) → Contains dispatched c → Has (states start trace) old → StoresPart c.ask c.body old bucket key id number bytes → IsPiece number bytes
+    stores_piece : (c : Dispatched) (old : State) (id : List ℕ) (number : ℕ) (bytes : List ℕ) → Contains run.dispatched c → Has (moments run) old → StoresPart c.ask c.body old bucket key id number bytes → IsPiece number bytes
     stores_piece c old id number bytes known among (inl part) = part.1 ∙ ours.parts c id number known part.0
     stores_piece c old id number bytes known among (inr copy) = absurd (ours.no_copies c id number copy.0 copy.1 copy.2 copy.3 known copy.5)
 
-    part_makes_new : dest.MakesNew Shows limits start trace dispatched journal p.runs p.fits bucket key (IsWholeOf IsPiece count)
-    part_makes_new = multi.makes_new Shows limits start trace dispatched journal bucket key p IsPiece count stores_piece ours.completes
+    part_makes_new : dest.MakesNew Shows limits run.start run.trace run.dispatched run.journal p.runs p.fits bucket key (IsWholeOf IsPiece count)
+    part_makes_new = multi.makes_new Shows limits run bucket key p IsPiece count stores_piece ours.completes
 
-    part_writes_new : dest.WritesNew Shows limits start trace dispatched journal p.runs p.fits bucket key (IsWholeOf IsPiece count)
-    part_writes_new = dest.unwritten_is_new Shows limits start trace dispatched journal p.runs p.fits bucket key (IsWholeOf IsPiece count) (unwritten start trace (IsPlace bucket key) p.honest bucket key (refl, refl))
+    part_writes_new : dest.WritesNew Shows limits run.start run.trace run.dispatched run.journal p.runs p.fits bucket key (IsWholeOf IsPiece count)
+    part_writes_new = dest.unwritten_is_new Shows limits run.start run.trace run.dispatched run.journal p.runs p.fits bucket key (IsWholeOf IsPiece count) (unwritten run.start run.trace (IsPlace bucket key) p.honest bucket key (refl, refl))
 
   pub parts_once_come : (bucket key : List ℕ) (pieces : ℕ → List ℕ) (count : ℕ) → IsNewOnceCome Shows bucket key (AreParts Shows bucket key pieces count) (IsStored bucket key (joined pieces 1 count))
-  parts_once_come bucket key pieces count limits start trace part late journal dispatched p ours is c known may come succeeded =
-      made_of (λ n bytes. bytes ≡ pieces n) pieces count (object_at (state_after start part) bucket key) (λ n bytes is. is)
-      (dest.success_makes_new Shows limits start trace dispatched journal p.runs p.fits bucket key (IsWholeOf (λ n bytes. bytes ≡ pieces n) count)
-      (part_makes_new bucket key pieces count limits start trace journal dispatched p ours) (part_writes_new bucket key pieces count limits start trace journal dispatched p ours)
-      part late is c known may come succeeded)
+  parts_once_come bucket key pieces count limits run part p ours begins success =
+      made_of (λ n bytes. bytes ≡ pieces n) pieces count (object_at (state_after run.start part) bucket key) (λ n bytes is. is)
+      (dest.success_makes_new Shows limits run.start run.trace run.dispatched run.journal p.runs p.fits bucket key (IsWholeOf (λ n bytes. bytes ≡ pieces n) count)
+      (part_makes_new bucket key pieces count limits run p ours) (part_writes_new bucket key pieces count limits run p ours)
+      part begins.0 begins.1 success.request success.known success.may success.come success.succeeded)
 
   pub parts_are_stored : PartsAreStored Shows
   parts_are_stored bucket key pieces count = after_success Shows bucket key (AreParts Shows bucket key pieces count) (IsStored bucket key (joined pieces 1 count)) (parts_once_come bucket key pieces count)
 
   pub parts_are_whole : PartsAreWhole Shows
-  parts_are_whole bucket key pieces count limits start trace part late journal dispatched p ours is =
-      elim (dest.old_or_new Shows limits start trace dispatched journal p.runs p.fits bucket key (IsWholeOf (λ n bytes. bytes ≡ pieces n) count)
-      (part_makes_new bucket key pieces count limits start trace journal dispatched p ours) (part_writes_new bucket key pieces count limits start trace journal dispatched p ours) part late is) [
+  parts_are_whole bucket key pieces count limits run part p ours begins =
+      elim (dest.old_or_new Shows limits run.start run.trace run.dispatched run.journal p.runs p.fits bucket key (IsWholeOf (λ n bytes. bytes ≡ pieces n) count)
+      (part_makes_new bucket key pieces count limits run p ours) (part_writes_new bucket key pieces count limits run p ours) part begins.0 begins.1) [
         | inl old ↦ inl old
-        | inr new ↦ inr (made_of (λ n bytes. bytes ≡ pieces n) pieces count (object_at (state_after start part) bucket key) (λ n bytes is. is) new)
+        | inr new ↦ inr (made_of (λ n bytes. bytes ≡ pieces n) pieces count (object_at (state_after run.start part) bucket key) (λ n bytes is. is) new)
       ]
 
   -- ---- parts that are copied
 
-  module _ (bucket key from_bucket from_key etag : List ℕ) (ranges : ℕ → ℕ × ℕ) (count : ℕ) (limits : Limits) (start : State) (trace : List Step) (journal : List Event) (dispatched : List Dispatched)
-      (p : IsFitting Shows limits start trace journal dispatched (IsPlace bucket key)) (ours : AreCopiedParts Shows bucket key from_bucket from_key etag ranges count journal dispatched) where
+  module _ (bucket key from_bucket from_key etag : List ℕ) (ranges : ℕ → ℕ × ℕ) (count : ℕ) (limits : Limits) (run : Run) (p : IsFitting Shows limits run (IsPlace bucket key))
+      (ours : AreCopiedParts Shows bucket key from_bucket from_key etag ranges count run.journal run.dispatched) where
     abbrev IsCopied : ℕ → List ℕ → Type 0
-    IsCopied n bytes = (source : List ℕ) × HadContent (states start trace) from_bucket from_key etag source × (bytes ≡ bytes_within (ranges n) source)
+    IsCopied n bytes = (source : List ℕ) × HadContent (moments run) from_bucket from_key etag source × (bytes ≡ bytes_within (ranges n) source)
 
-    copies_piece : (c : Dispatched) (old : State) (id : List ℕ) (number : ℕ) (bytes : List ℕ) → Contains dispatched c → Has (states start trace) old → StoresPart c.ask c.body old bucket key id number bytes → IsCopied number bytes
+    copies_piece : (c : Dispatched) (old : State) (id : List ℕ) (number : ℕ) (bytes : List ℕ) → Contains run.dispatched c → Has (moments run) old → StoresPart c.ask c.body old bucket key id number bytes → IsCopied number bytes
     copies_piece c old id number bytes known among (inl part) = absurd (ours.no_parts c id number known part.0)
     copies_piece c old id number bytes known among (inr copy) =
         let said = ours.copies c id number copy.0 copy.1 copy.2 copy.3 known copy.5 in
         let there : IsThere old from_bucket from_key etag copy.4 =
         subst (λ (x : List ℕ). IsThere old from_bucket from_key x copy.4) said.2 (subst (λ (x : List ℕ). IsThere old from_bucket x copy.2 copy.4) said.1 (subst (λ (x : List ℕ). IsThere old x copy.1 copy.2 copy.4) said.0 copy.6)) in
-        (copy.4.bytes, (old, copy.4, contains_of (states start trace) old among, there, refl), copy.7 ∙ ap (λ range. bytes_within range copy.4.bytes) said.3)
+        (copy.4.bytes, (old, copy.4, contains_of (moments run) old among, there, refl), copy.7 ∙ ap (λ range. bytes_within range copy.4.bytes) said.3)
 
-    copy_makes_new : dest.MakesNew Shows limits start trace dispatched journal p.runs p.fits bucket key (IsWholeOf IsCopied count)
-    copy_makes_new = multi.makes_new Shows limits start trace dispatched journal bucket key p IsCopied count copies_piece ours.completes
+    copy_makes_new : dest.MakesNew Shows limits run.start run.trace run.dispatched run.journal p.runs p.fits bucket key (IsWholeOf IsCopied count)
+    copy_makes_new = multi.makes_new Shows limits run bucket key p IsCopied count copies_piece ours.completes
 
-    copy_writes_new : dest.WritesNew Shows limits start trace dispatched journal p.runs p.fits bucket key (IsWholeOf IsCopied count)
-    copy_writes_new = dest.unwritten_is_new Shows limits start trace dispatched journal p.runs p.fits bucket key (IsWholeOf IsCopied count) (unwritten start trace (IsPlace bucket key) p.honest bucket key (refl, refl))
+    copy_writes_new : dest.WritesNew Shows limits run.start run.trace run.dispatched run.journal p.runs p.fits bucket key (IsWholeOf IsCopied count)
+    copy_writes_new = dest.unwritten_is_new Shows limits run.start run.trace run.dispatched run.journal p.runs p.fits bucket key (IsWholeOf IsCopied count) (unwritten run.start run.trace (IsPlace bucket key) p.honest bucket key (refl, refl))
 
     -- all its pieces are of one content
     copied_of : (found : Option Object) → IsWholeOf IsCopied count found
-        → (bytes : List ℕ) × HadContent (states start trace) from_bucket from_key etag bytes × ((object : Object) × (found ≡ Some object) × (object.bytes ≡ joined (λ n. bytes_within (ranges n) bytes) 1 count))
+        → (bytes : List ℕ) × HadContent (moments run) from_bucket from_key etag bytes × ((object : Object) × (found ≡ Some object) × (object.bytes ≡ joined (λ n. bytes_within (ranges n) bytes) 1 count))
     copied_of found whole =
         let first = first_of IsCopied whole.pieces whole.some whole.are in
         let source = first.1.0 in (
           source,
           first.1.1,
           made_of IsCopied (λ n. bytes_within (ranges n) source) count found
-              (λ n bytes is. is.2 ∙ ap (bytes_within (ranges n)) (one_content start trace (IsPlace bucket key) p.honest from_bucket from_key etag is.0 source is.1 first.1.1)) whole,
+              (λ n bytes is. is.2 ∙ ap (bytes_within (ranges n)) (one_content run.start run.trace (IsPlace bucket key) p.honest from_bucket from_key etag is.0 source is.1 first.1.1)) whole,
         )
 
   pub copied_parts_once_come : (bucket key from_bucket from_key etag : List ℕ) (ranges : ℕ → ℕ × ℕ) (count : ℕ)
       → IsNewOnceCome Shows bucket key (AreCopiedParts Shows bucket key from_bucket from_key etag ranges count) (IsCopiedInParts bucket key from_bucket from_key etag ranges count)
-  copied_parts_once_come bucket key from_bucket from_key etag ranges count limits start trace part late journal dispatched p ours is c known may come succeeded =
-      copied_of bucket key from_bucket from_key etag ranges count limits start trace journal dispatched p ours (object_at (state_after start part) bucket key)
-      (dest.success_makes_new Shows limits start trace dispatched journal p.runs p.fits bucket key
-      (IsWholeOf (IsCopied bucket key from_bucket from_key etag ranges count limits start trace journal dispatched p ours) count)
-      (copy_makes_new bucket key from_bucket from_key etag ranges count limits start trace journal dispatched p ours)
-      (copy_writes_new bucket key from_bucket from_key etag ranges count limits start trace journal dispatched p ours)
-      part late is c known may come succeeded)
+  copied_parts_once_come bucket key from_bucket from_key etag ranges count limits run part p ours begins success =
+      copied_of bucket key from_bucket from_key etag ranges count limits run p ours (object_at (state_after run.start part) bucket key)
+      (dest.success_makes_new Shows limits run.start run.trace run.dispatched run.journal p.runs p.fits bucket key
+      (IsWholeOf (IsCopied bucket key from_bucket from_key etag ranges count limits run p ours) count)
+      (copy_makes_new bucket key from_bucket from_key etag ranges count limits run p ours)
+      (copy_writes_new bucket key from_bucket from_key etag ranges count limits run p ours)
+      part begins.0 begins.1 success.request success.known success.may success.come success.succeeded)
 
   pub copied_parts_are_stored : CopiedPartsAreStored Shows
   copied_parts_are_stored bucket key from_bucket from_key etag ranges count =
@@ -131,13 +130,13 @@ module _ (Shows : Ask → ℕ → Talk → Class → List ℕ → Type 0) where
       (copied_parts_once_come bucket key from_bucket from_key etag ranges count)
 
   pub copied_parts_are_whole : CopiedPartsAreWhole Shows
-  copied_parts_are_whole bucket key from_bucket from_key etag ranges count limits start trace part late journal dispatched p ours is =
-      elim (dest.old_or_new Shows limits start trace dispatched journal p.runs p.fits bucket key
-      (IsWholeOf (IsCopied bucket key from_bucket from_key etag ranges count limits start trace journal dispatched p ours) count)
-      (copy_makes_new bucket key from_bucket from_key etag ranges count limits start trace journal dispatched p ours)
-      (copy_writes_new bucket key from_bucket from_key etag ranges count limits start trace journal dispatched p ours) part late is) [
+  copied_parts_are_whole bucket key from_bucket from_key etag ranges count limits run part p ours begins =
+      elim (dest.old_or_new Shows limits run.start run.trace run.dispatched run.journal p.runs p.fits bucket key
+      (IsWholeOf (IsCopied bucket key from_bucket from_key etag ranges count limits run p ours) count)
+      (copy_makes_new bucket key from_bucket from_key etag ranges count limits run p ours)
+      (copy_writes_new bucket key from_bucket from_key etag ranges count limits run p ours) part begins.0 begins.1) [
         | inl old ↦ inl old
-        | inr new ↦ inr (copied_of bucket key from_bucket from_key etag ranges count limits start trace journal dispatched p ours (object_at (state_after start part) bucket key) new)
+        | inr new ↦ inr (copied_of bucket key from_bucket from_key etag ranges count limits run p ours (object_at (state_after run.start part) bucket key) new)
       ]
 
 -- ---- aborts

@@ -1,5 +1,5 @@
 -- Moved objects: the source goes only once the destination is new.
-use Rattle.std.proofs.Common.{append_assoc, ◌≡◌, ◌∙◌, ◌⊎◌, ◌++◌, ℕ, List, [], ◌∷◌, Option, None, refl, sym, ap, subst, inl, inr, filter_map, slice_get}
+use Rattle.std.proofs.Common.{append_assoc, ◌≡◌, ◌∙◌, ◌⊎◌, ◌++◌, ℕ, List, [], ◌∷◌, Option, None, refl, sym, ap, subst, inl, inr, Contains, filter_map, slice_get}
 use Rattle.std.proofs.lemmas.List.{map-append}
 use Rattle.std.proofs.lemmas.List.Elements.{filter_map-append}
 use Rattle.s3_model.specs.declared.requests.Ask.{Ask}
@@ -13,15 +13,16 @@ use Rattle.s3_model.specs.declared.settings.Limits.{Limits}
 use Rattle.s3_model.specs.Replies.{IsSameReply}
 use Rattle.s3_model.specs.Talks.{Talk}
 use Rattle.s3_service.specs.ServiceState.{State, Object, object_at}
-use Rattle.s3_service.specs.Serves.{Replied, Succeeds, ExternalWrite, Writes, Removes, after_external}
+use Rattle.s3_service.specs.Serves.{Replied, Succeeds, MayChange, ExternalWrite, Writes, Removes, after_external}
 use Rattle.run_promise.specs.Dispatches.{Dispatched}
-use Rattle.run_promise.specs.Traces.{Request, Step, TraceEvent, Given, Begin, Serve, External, Came, Steps, state_after, states, events_of, event_of}
-use Rattle.run_promise.specs.Fits.{request_at}
+use Rattle.run_promise.specs.Traces.{Request, Step, TraceEvent, Given, Begin, Serve, External, Came, IsTrace, Steps, state_after, events_of, event_of}
+use Rattle.run_promise.specs.Fits.{Fits, request_at}
 use Rattle.run_promise.specs.Endings.{IsDeleted}
-use Rattle.world_laws.specs.Premises.{HasCome}
-use Rattle.world_laws.specs.Destinations.{IsNewOnceCome}
+use Rattle.run_promise.specs.Truthful.{HasJournal}
+use Rattle.world_laws.specs.Premises.{moments, HasCome, HasSucceeded}
+use Rattle.world_laws.specs.Destinations.{AllThatChange, Making, Requests, IsNewOnceCome}
 use Rattle.world_laws.specs.Multipart.{AreCopiedParts, IsCopiedInParts}
-use Rattle.world_laws.specs.SmallTransfers.{AsksCopy, AreAll, IsCopied}
+use Rattle.world_laws.specs.SmallTransfers.{AsksCopy, AsksDelete, AreAll, IsCopied}
 use Rattle.world_laws.specs.Moves.{IsNewOnceBegun, IsWritten, CopyComesFirst, CopiedPartsComeFirst, SourceIsGone}
 use Rattle.world_laws.proofs.Members.{Has, has, contains_of, place_in_front}
 use Rattle.world_laws.proofs.Objects.{object_at-without_object, place_decided}
@@ -51,14 +52,19 @@ module _ (Shows : Ask → ℕ → Talk → Class → List ℕ → Type 0) where
   -- ---- the destination
 
   -- what is new once a success has come is new once a request begins that waits for it
-  pub once_begun : (bucket key : List ℕ) (AreOurs : List Event → List Dispatched → Type 0) (IsNew : List State → State → Type 0) → IsNewOnceCome Shows bucket key AreOurs IsNew → IsNewOnceBegun Shows bucket key AreOurs IsNew
-  once_begun bucket key AreOurs IsNew once limits start trace part late journal dispatched p ours given c known may come succeeded job waits is lane sent begun same =
-      let at = step_of part (Begin lane sent) (has (events_of part) (Begin lane sent) begun) in
-      let in_two : trace ≡ (at.front ++ at.step ∷ at.back) ++ late = is ∙ ap (λ (t : List Step). t ++ late) at.is in
-      let so_far = begins_after Shows limits start trace dispatched journal p.runs p.fits given c job come waits at.front at.step (at.back ++ late) lane sent
-      (in_two ∙ append_assoc at.front (at.step ∷ at.back) late) at.is_event same in
-      subst (λ (t : List Step). IsNew (states start trace) (state_after start t)) (sym at.is)
-      (once limits start trace (at.front ++ at.step ∷ at.back) late journal dispatched p ours in_two c known may (come_later at.front (at.step ∷ at.back) c so_far) succeeded)
+  pub once_begun : (bucket key : List ℕ) (AreOurs : Requests) (IsNew : Making) → IsNewOnceCome Shows bucket key AreOurs IsNew → IsNewOnceBegun Shows bucket key AreOurs IsNew
+  once_begun bucket key AreOurs IsNew once limits run part p ours given success job waits begins begun =
+      let c = success.request in
+      let late = begins.0 in
+      let lane = begun.0 in
+      let sent = begun.1 in
+      let at = step_of part (Begin lane sent) (has (events_of part) (Begin lane sent) begun.2) in
+      let in_two : run.trace ≡ (at.front ++ at.step ∷ at.back) ++ late = begins.1 ∙ ap (λ (t : List Step). t ++ late) at.is in
+      let so_far = begins_after Shows limits run.start run.trace run.dispatched run.journal p.runs p.fits given c job success.come waits at.front at.step (at.back ++ late) lane sent
+      (in_two ∙ append_assoc at.front (at.step ∷ at.back) late) at.is_event begun.3 in
+      subst (λ (t : List Step). IsNew (moments run) (state_after run.start t)) (sym at.is)
+      (once limits run (at.front ++ at.step ∷ at.back) p ours (late, in_two)
+      (small.come_in Shows run.journal (filter_map event_of (events_of (at.front ++ at.step ∷ at.back))) run.dispatched bucket key success (come_later at.front (at.step ∷ at.back) c so_far)))
 
   pub copy_comes_first : CopyComesFirst Shows
   copy_comes_first bucket key from_bucket from_key etag =
@@ -110,8 +116,11 @@ module _ (Shows : Ask → ℕ → Talk → Class → List ℕ → Type 0) where
       subst (λ (x : List ℕ). object_at (after_external (Removes b k) old) bucket x ≡ None) at.1
       (subst (λ (x : List ℕ). object_at (after_external (Removes b k) old) x k ≡ None) at.0 (object_at-without_object old b k))
 
-  pub source_is_gone : SourceIsGone Shows
-  source_is_gone limits start trace part journal dispatched bucket key runs fits ours whole c known may come succeeded = (deleted, gone)
+  gone_after : (limits : Limits) (start : State) (trace part : List Step) (journal : List Event) (dispatched : List Dispatched) (bucket key : List ℕ)
+      → IsTrace limits [] start trace → Fits Shows (events_of trace) journal dispatched → AllThatChange bucket key (AsksDelete bucket key) dispatched
+      → HasJournal journal trace part → (c : Dispatched) → Contains dispatched c → MayChange c.ask bucket key → HasCome journal c → HasSucceeded Shows c
+      → IsDeleted trace bucket key × ((object_at (state_after start part) bucket key ≡ None) ⊎ IsWritten trace bucket key)
+  gone_after limits start trace part journal dispatched bucket key runs fits ours whole c known may come succeeded = (deleted, gone)
     where
       sent : Request
       sent = request_at c succeeded.place
@@ -148,3 +157,7 @@ module _ (Shows : Ask → ℕ → Talk → Class → List ℕ → Type 0) where
             (λ write old happened at. removed_is_none bucket key write old (λ is_write. none (External write) happened is_write) at)
             part whole.0 whole.1 c known may (come_by journal trace part whole c come) succeeded)
       ]
+
+  pub source_is_gone : SourceIsGone Shows
+  source_is_gone limits run part bucket key of ours whole success =
+      gone_after limits run.start run.trace part run.journal run.dispatched bucket key of.runs of.fits ours whole success.request success.known success.may success.come success.succeeded

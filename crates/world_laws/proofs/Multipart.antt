@@ -21,7 +21,7 @@ use Rattle.s3_service.specs.Serves.{Replied, Succeeds, Assembles, Completes, Gai
 use Rattle.run_promise.specs.Dispatches.{Dispatched}
 use Rattle.run_promise.specs.Traces.{Step, TraceEvent, Serve, External, Steps, state_after, states, events_of, event_of}
 use Rattle.run_promise.specs.Fits.{request_at}
-use Rattle.world_laws.specs.Premises.{IsFitting, IsPlace, HasCome}
+use Rattle.world_laws.specs.Premises.{Run, IsFitting, IsPlace, HasCome}
 use Rattle.world_laws.specs.Destinations.{AllThatChange}
 use Rattle.world_laws.specs.Multipart.{IsCreated, CompletesHere}
 use Rattle.world_laws.proofs.Maps.{text_exact, text_decided, not_both, nothing_is, some_is, found_after_insert, found_after_remove, found_in_empty, get-insert_same, get-insert_other, get-remove_other}
@@ -74,8 +74,19 @@ module _ (IsPiece : ℕ → List ℕ → Type 0) where
         | inl now ↦ subst (λ (p : StoredPart). IsPiece n p.bytes) now.1 (subst (λ m. IsPiece m part.bytes) (sym now.0) is_piece)
       ]
 
-module _ (Shows : Ask → ℕ → Talk → Class → List ℕ → Type 0) (limits : Limits) (start : State) (trace : List Step) (dispatched : List Dispatched) (journal : List Event) (bucket key : List ℕ)
-    (p : IsFitting Shows limits start trace journal dispatched (IsPlace bucket key)) where
+module _ (Shows : Ask → ℕ → Talk → Class → List ℕ → Type 0) (limits : Limits) (run : Run) (bucket key : List ℕ) (p : IsFitting Shows limits run (IsPlace bucket key)) where
+  abbrev start : State
+  start = run.start
+
+  abbrev trace : List Step
+  trace = run.trace
+
+  abbrev journal : List Event
+  journal = run.journal
+
+  abbrev dispatched : List Dispatched
+  dispatched = run.dispatched
+
   abbrev HereServed : Dispatched → State → Reply → List ℕ → State → Type 0
   HereServed = IsServed Shows limits start trace dispatched
 

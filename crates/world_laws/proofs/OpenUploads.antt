@@ -266,7 +266,7 @@ pub record IsOpenWith (bucket key id : List ℕ) (IsSuch : Upload → Type 0) (t
   pub such : IsSuch upload
 
 module _ (Shows : Ask → ℕ → Talk → Class → List ℕ → Type 0) (s : Setting) (journal : List Event) (dispatched coming : List Dispatched) (r : IsScheduled Shows s journal dispatched coming)
-    (start : State) (trace : List Step) (p : IsTraceOf Shows s start trace journal dispatched) (n : ℕ) (task : Task) (bucket key : List ℕ) (is_task : slice_get s.tasks n ≡ Some task) (is_dest : task.dest ≡ place.Object bucket key) where
+    (start : State) (trace : List Step) (p : IsTraceOf Shows s (record { start = start; trace = trace; journal = journal; dispatched = dispatched })) (n : ℕ) (task : Task) (bucket key : List ℕ) (is_task : slice_get s.tasks n ≡ Some task) (is_dest : task.dest ≡ place.Object bucket key) where
   abbrev pub HereServed : Dispatched → State → Reply → List ℕ → State → Type 0
   HereServed = IsServed Shows s.limits start trace dispatched
 
@@ -339,7 +339,8 @@ module _ (Shows : Ask → ℕ → Talk → Class → List ℕ → Type 0) (s : S
         let x_event : x.0.step.event ≡ Serve (request_at a.1.0 x.0.place) (Replied (reply.Created id) x.0.bytes) = x.0.is_event ∙ ap (λ (said : Reply). Serve (request_at a.1.0 x.0.place) (Replied said x.0.bytes)) (sym x.1) in
         let y_event : y.0.step.event ≡ Serve (request_at b.0 y.0.place) (Replied (reply.Created id) y.0.bytes) = y.0.is_event ∙ ap (λ (said : Reply). Serve (request_at b.0 y.0.place) (Replied said y.0.bytes)) (sym y.1) in
         let level : x.0.before ≡ y.0.before =
-        ids_are_created_once s.limits start trace x.0.before y.0.before x.0.step y.0.step x.0.after y.0.after (request_at a.1.0 x.0.place) (request_at b.0 y.0.place) id x.0.bytes y.0.bytes p.runs x.0.is y.0.is x_event y_event in
+        ids_are_created_once s.limits start trace x.0.before y.0.before x.0.step y.0.step x.0.after y.0.after id p.runs x.0.is y.0.is
+        (request_at a.1.0 x.0.place, x.0.bytes, x_event) (request_at b.0 y.0.place, y.0.bytes, y_event) in
         let same : x.0.step ≡ y.0.step = same_middle x.0.before x.0.step y.0.step x.0.after y.0.after
         (sym x.0.is ∙ y.0.is ∙ ap (λ (f : List Step). f ++ y.0.step ∷ y.0.after) (sym level)) in
         let request : request_at a.1.0 x.0.place ≡ request_at b.0 y.0.place = same_request _ _ _ _ (sym x_event ∙ ap (λ (t : Step). t.event) same ∙ y_event) in
@@ -526,7 +527,8 @@ module _ (Shows : Ask → ℕ → Talk → Class → List ℕ → Type 0) (s : S
           (fitting.steps_at Shows s.limits start trace dispatched journal p.runs p.fits at.before at.step (at.after ++ back) (in_trace front back is create at)) in
           let succeeds = subst (λ (said : Reply). Succeeds s.limits (state_after start at.before) (ask.Create bucket key row.content) create.body said at.bytes at.step.state) (sym made.1)
           (subst (λ (a : Ask). Succeeds s.limits (state_after start at.before) a create.body at.answered at.bytes at.step.state) asks steps.1) in
-          let opened = multi.opened Shows s.limits start trace dispatched journal bucket key (laws.fitting Shows s journal dispatched coming r n task bucket key is_task is_dest start trace p)
+          let opened = multi.opened Shows s.limits (record { start = start; trace = trace; journal = journal; dispatched = dispatched }) bucket key
+          (laws.fitting Shows s (record { start = start; trace = trace; journal = journal; dispatched = dispatched }) coming r n task bucket key is_task is_dest p)
           (state_after start at.before) id create.body at.bytes row.content at.step.state succeeds in
           stays_open AnyUpload (λ c old answered bytes new served number part stores says upload such. tt) front back is by_then at.before at.step at.after at.is
           (record { upload = opened.1.0; is_open = opened.1.1; such = tt })

@@ -8,7 +8,6 @@ use Rattle.s3_model.specs.declared.requests.Ask.TheVariants as ask
 use Rattle.s3_model.specs.declared.requests.Op.TheVariants as op
 use Rattle.s3_model.specs.declared.answers.Reply.TheVariants as reply
 use Rattle.s3_model.specs.declared.outcomes.JobId.{JobId}
-use Rattle.s3_model.specs.declared.outcomes.Event.{Event}
 use Rattle.s3_model.specs.declared.settings.Limits.{Limits}
 use Rattle.s3_model.specs.Lists.{Reserved}
 use Rattle.s3_service.specs.ServiceState.{State, Upload, StoredPart, CompletedBy, Aborted, objects_in, HasBucket, with_object, without_object, with_upload, with_part, with_ended}
@@ -16,14 +15,15 @@ use Rattle.s3_service.specs.Serves.{Serves, MayChange, IsOpen, IsThere, LiesWith
 use Rattle.run_promise.specs.Dispatches.{Dispatched, op_number}
 use Rattle.run_promise.specs.Schedule.{job_of, IsBefore}
 use Rattle.run_promise.specs.Fits.{request_at}
+use Rattle.world_laws.specs.Destinations.{Requests}
 use Rattle.world_laws.specs.Multipart.{AreParts, AreCopiedParts, CompletesHere, IsCreated}
 use Rattle.world_laws.specs.Uploads.{NamesUpload}
 use Rattle.world_laws.specs.Rounds.{Told, Round, answer_by, dispatch_at, dispatched_from, journal_of, steps_from, AreServed}
-use Rattle.world_laws.specs.Witnesses.{IsMet, IsMoveMet, IsOtherUploadMet, PartsAreMet, CopiedPartsAreMet, CopiedMoveIsMet, AbortIsMet, OtherUploadIsMet}
+use Rattle.world_laws.specs.Witnesses.{IsDestMet, IsMoveMet, IsOtherUploadMet, PartsAreMet, CopiedPartsAreMet, CopiedMoveIsMet, AbortIsMet, OtherUploadIsMet}
 use Rattle.world_laws.proofs.Maps.{is_nothing, not_both, text_exact, get-insert_same, get-insert_other}
 use Rattle.world_laws.proofs.Members.{Has, has}
 use Rattle.world_laws.proofs.Rounds.{AreApart, round_of, rounds_trace, rounds_fit, rounds_come}
-use Rattle.world_laws.proofs.Faithful.{IsFaithful, AreFaithful, object_of, bare, bare_is_faithful, bare_has, bare_uploads, bare_ended, faithful_with, faithful_without, has_bucket_after, has_bucket_still}
+use Rattle.world_laws.proofs.Faithful.{run_by, IsFaithful, AreFaithful, object_of, bare, bare_is_faithful, bare_has, bare_uploads, bare_ended, faithful_with, faithful_without, has_bucket_after, has_bucket_still}
 use Rattle.world_laws.proofs.Witnesses.{false_true, round, succeeds, met, by_op, two_buckets, with_source, source_is_there, bucket_is_there, source_is_faithful}
 
 -- two jobs of one task with other ops, or other numbers, are apart
@@ -218,7 +218,7 @@ module _ (limits : Limits) (bucket key : List ℕ) (start : State) (ready : IsRe
       → limits.min_part ≤ length (pieces 1) → AreServed limits completed (more completed) → AreServed limits start upload
   upload_served one two long rest = (served_create, (one, (two, (served_complete long, rest))))
 
-  upload_met : (AreOurs : List Event → List Dispatched → Type 0) → AreOurs (journal_of upload) (dispatched_from 0 upload) → AreServed limits start upload → IsMet limits bucket key AreOurs
+  upload_met : (AreOurs : Requests) → AreOurs (journal_of upload) (dispatched_from 0 upload) → AreServed limits start upload → IsDestMet limits bucket key AreOurs
   upload_met AreOurs ours served = met limits bucket key AreOurs start upload served upload_apart ready.first all_faithful ours 6 complete refl (inr (inr (inr (inl refl)))) (refl, refl)
 
 -- ---- parts with their bytes
@@ -266,7 +266,7 @@ module _ (limits : Limits) (bucket key : List ℕ) (pieces : ℕ → List ℕ) (
     no_copies = λ c id number b k under range known e. no_copies c known id number b k under range e;
   }
 
-  parts_met : IsMet limits bucket key (AreParts Told bucket key pieces 2)
+  parts_met : IsDestMet limits bucket key (AreParts Told bucket key pieces 2)
   parts_met = upload_met limits bucket key one_bucket one_ready pieces part_of pieces (λ t. []) (none_later bucket key) (AreParts Told bucket key pieces 2) are_parts rounds_served
 
 pub parts_are_met : PartsAreMet
@@ -357,7 +357,7 @@ module _ (limits : Limits) (bucket key from_bucket from_key etag : List ℕ) (ra
       (λ id number b k under range e. absurd (complete_copy e))
       (λ c is id number b k under range e. absurd (delete_copy (sym is ∙ e)))
 
-  copied_met : IsMet limits bucket key (AreCopiedParts Told bucket key from_bucket from_key etag ranges 2)
+  copied_met : IsDestMet limits bucket key (AreCopiedParts Told bucket key from_bucket from_key etag ranges 2)
   copied_met =
       upload_met limits bucket key source_there source_ready range_of copy_of no_body more later (AreCopiedParts Told bucket key from_bucket from_key etag ranges 2)
       (record {
@@ -368,8 +368,8 @@ module _ (limits : Limits) (bucket key from_bucket from_key etag : List ℕ) (ra
       copied_served
 
 pub copied_parts_are_met : CopiedPartsAreMet
-copied_parts_are_met limits bucket key from_bucket from_key etag ranges inside_one inside_two long =
-    copied_met limits bucket key from_bucket from_key etag ranges inside_one inside_two long (λ t. []) (none_later bucket key) (λ t there. tt)
+copied_parts_are_met limits bucket key from_bucket from_key etag ranges two =
+    copied_met limits bucket key from_bucket from_key etag ranges two.0 two.1 two.2 (λ t. []) (none_later bucket key) (λ t there. tt)
 
 -- ---- and whose source is deleted afterwards
 
@@ -411,25 +411,32 @@ module _ (limits : Limits) (bucket key from_bucket from_key etag : List ℕ) (ra
   waits d (inr (inr (inr (inr (inl e))))) same = subst (λ (x : Dispatched). IsBefore (Some 7) x.dispatch.given_at) e (omega arith)
   waits d (inr (inr (inr (inr (inr h))))) same = absurd h
 
+  abbrev done : IsDestMet limits bucket key (AreCopiedParts Told bucket key from_bucket from_key etag ranges 2)
+  done = copied_met limits bucket key from_bucket from_key etag ranges inside_one inside_two long (source_deleted bucket key from_bucket from_key apart) (delete_later bucket key from_bucket from_key apart)
+      (λ t there. ((there, refl), tt))
+
   copied_move : IsMoveMet limits bucket key from_bucket from_key (AreCopiedParts Told bucket key from_bucket from_key etag ranges 2)
   unfolding copied_met upload_met met
   copied_move = record {
-    copy = copied_met limits bucket key from_bucket from_key etag ranges inside_one inside_two long (source_deleted bucket key from_bucket from_key apart) (delete_later bucket key from_bucket from_key apart)
-        (λ t there. ((there, refl), tt));
-    job = job_of 0 op.Delete 0;
-    waits = λ d known same. waits d (has (dispatched_from 0 moved_rounds) d known) same;
-    lane = 0;
-    sent = request_at (dispatch_at 8 (round (job_of 0 op.Delete 0) (ask.Delete from_bucket from_key) [] [] from_start)) 0;
-    begins = (17, omega arith, refl);
-    of_job = refl;
-    deletes = refl;
+    run = done.run;
+    fitting = done.fitting;
+    such = record {
+      copy = done.such;
+      job = job_of 0 op.Delete 0;
+      waits = λ d known same. waits d (has (dispatched_from 0 moved_rounds) d known) same;
+      lane = 0;
+      sent = request_at (dispatch_at 8 (round (job_of 0 op.Delete 0) (ask.Delete from_bucket from_key) [] [] from_start)) 0;
+      begins = (17, omega arith, refl);
+      of_job = refl;
+      deletes = refl;
+    };
   }
     where
       from_start : State
       from_start = with_source limits bucket key from_bucket from_key etag
 
 pub copied_move_is_met : CopiedMoveIsMet
-copied_move_is_met limits bucket key from_bucket from_key etag ranges apart inside_one inside_two long = copied_move limits bucket key from_bucket from_key etag ranges apart inside_one inside_two long
+copied_move_is_met limits bucket key from_bucket from_key etag ranges apart two = copied_move limits bucket key from_bucket from_key etag ranges apart two.0 two.1 two.2
 
 -- ---- an upload that is aborted, and one that stays open
 
@@ -485,13 +492,14 @@ module _ (limits : Limits) (bucket key id : List ℕ) where
 
   stays_open : IsOtherUploadMet limits id
   stays_open = record {
-    start = empty_service;
+    run = run_by empty_service (creates ∷ puts ∷ []);
     front = steps_from 0 empty_service (creates ∷ []);
     rest = steps_from 2 opened (puts ∷ []);
-    journal = journal_of (creates ∷ puts ∷ []);
-    dispatched = dispatched_from 0 (creates ∷ puts ∷ []);
-    runs = rounds_trace limits (creates ∷ puts ∷ []) 0 [] empty_service (served_creates, ((bare_has bucket [], λ never. absurd (false_true never), (object_of [], refl, refl)), tt));
-    fits = rounds_fit (creates ∷ puts ∷ []) empty_service two_apart;
+    is = refl;
+    traced = record {
+      runs = rounds_trace limits (creates ∷ puts ∷ []) 0 [] empty_service (served_creates, ((bare_has bucket [], λ never. absurd (false_true never), (object_of [], refl, refl)), tt));
+      fits = rounds_fit (creates ∷ puts ∷ []) empty_service two_apart;
+    };
     unnamed = λ c known names. unnamed c (has (dispatched_from 0 (creates ∷ puts ∷ [])) c known) names;
     begun = λ free. not_both (get opened.uploads id) new_upload free.not_open is_held;
     goes_on = omega arith;

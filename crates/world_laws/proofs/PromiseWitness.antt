@@ -37,7 +37,7 @@ use Rattle.world_laws.specs.Rounds.{AreNone, AreServed, NeverFailed, Round, Told
 use Rattle.world_laws.specs.Tasks.{AreApart, HasSource, MayBeNew}
 use Rattle.world_laws.specs.Witnesses.{CompleteIsMet, DoneIsMet, FailedIsMet, IsCompleteMet, IsPromiseMet, SkippedIsMet, fresh_upload, moved_copy, removal}
 use Rattle.world_laws.proofs.CarriedWitness.{logs_of, notes_of, rounds_carried}
-use Rattle.world_laws.proofs.Faithful.{IsFaithful, bare, bare_is_faithful, faithful_with, object_of}
+use Rattle.world_laws.proofs.Faithful.{IsFaithful, bare, bare_is_faithful, faithful_with, object_of, run_by}
 use Rattle.world_laws.proofs.Members.{Has, has}
 use Rattle.world_laws.proofs.Objects.{object_at-with_object}
 use Rattle.world_laws.proofs.Rounds.{AreApart as AreOtherJobs, first_attempt, round_of, same_reply}
@@ -174,11 +174,7 @@ module _ (bucket key from_bucket from_key etag : List ℕ) (apart : (from_bucket
         (sched.schedule_of bucket key from_bucket from_key etag apart AreNone refl) done_caused
         (record { bucket = bucket; key = key; is_dest = refl; decided = tt; keeps = λ removes. absurd (no_removal removes) })
         (sched.tasks_apart bucket key from_bucket from_key etag apart) (λ moments may. (from_bucket, from_key, refl)) (λ path moves is_file. no_file path is_file);
-    traced = record {
-      runs = (sched.fitting bucket key from_bucket from_key etag apart).runs;
-      honest = (sched.fitting bucket key from_bucket from_key etag apart).honest;
-      fits = (sched.fitting bucket key from_bucket from_key etag apart).fits;
-    };
+    traced = sched.fitting bucket key from_bucket from_key etag apart;
     whole = ([], sym (append-nil (steps_from 0 start rounds)), (sched.fitting bucket key from_bucket from_key etag apart).fits.moves);
   }
     where
@@ -312,7 +308,7 @@ module _ (task : Task) (stays : task.moves ≡ false) (r : Round) (plain : IsPla
     ended = refl;
     orderly = orderly task how (r ∷ []) start (alone r) one_plain sized shown (sched.one_schedule task stays r plain start faithful served after asked first AreNone refl) caused by_requests
         (sched.one_apart task stays r plain start faithful served after asked first) (λ moments may. absurd (never_new may)) (λ path moves is_file. absurd (clash (sym stays ∙ moves)));
-    traced = record { runs = fitting.runs; honest = fitting.honest; fits = fitting.fits };
+    traced = fitting;
     whole = ([], sym (append-nil (steps_from 0 start (r ∷ []))), fitting.fits.moves);
   }
     where
@@ -326,7 +322,7 @@ module _ (task : Task) (stays : task.moves ≡ false) (r : Round) (plain : IsPla
       sized other (inl e) = sym (ap (λ (x : Round). x.size) e) ∙ size
       sized other (inr h) = absurd h
 
-      fitting : IsFitting Told the_limits start (steps_from 0 start (r ∷ [])) (journal_of (r ∷ [])) one (IsDest (task ∷ []))
+      fitting : IsFitting Told the_limits (run_by start (r ∷ [])) (IsDest (task ∷ []))
       fitting = sched.one_fitting task stays r plain start faithful served after asked first
 
 -- ---- a removal that failed

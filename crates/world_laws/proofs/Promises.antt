@@ -31,8 +31,9 @@ use Rattle.run_promise.specs.Outcomes.{HasDeciding, HasOutcome, IsDecidedAt, IsD
 use Rattle.run_promise.specs.Schedule.{Setting, Gained, IsDecidedBy, IsTaskAsk, gained_before, is_planning, is_small, job_of, planning_of, source_bytes}
 use Rattle.run_promise.specs.Traces.{Step, IsHonest, IsTrace, events_of, state_after}
 use Rattle.run_promise.specs.Truthful.{Shown, AbortsLast, AllEnded, HasJournal, IsDest, MovesAfter, NoneChanged, OthersStay}
-use Rattle.world_laws.specs.Promises.{CarriedIsGiven, IsByRequests, IsFileLeft, IsOrderly, PromiseHolds}
-use Rattle.world_laws.specs.Tasks.{AreQuestions, IsDecidedIn, IsRefusedIn, IsScheduled, IsShown, IsSourceGone, IsTakenIn, IsTraceOf, IsConditional, MayBeNew}
+use Rattle.world_laws.specs.Premises.{Run}
+use Rattle.world_laws.specs.Promises.{run_of, CarriedIsGiven, IsByRequests, IsFileLeft, IsOrderly, PromiseHolds}
+use Rattle.world_laws.specs.Tasks.{AreQuestions, IsDecidedIn, IsRefusedIn, IsRunOf, IsScheduled, IsShown, IsSourceGone, IsTakenIn, IsTraceOf, IsConditional, MayBeNew}
 use Rattle.world_laws.proofs.Carried.{are_given, has_come, is_scheduled}
 use Rattle.world_laws.proofs.Frame.{others_stay}
 use Rattle.world_laws.proofs.InParts.{aborts_are_final}
@@ -285,14 +286,20 @@ module _ (Shows : Ask → ℕ → Talk → Class → List ℕ → Type 0) (HasSt
 
   module _ (start : State) (trace part : List Step) (runs : IsTrace s.limits [] start trace) (honest : IsHonest start trace (IsDest s.tasks)) (fits : Fits Shows (events_of trace) shown.journal dispatched)
       (whole : HasJournal shown.journal trace part) where
-    of_trace : IsTraceOf Shows s start trace shown.journal dispatched
+    abbrev run : Run
+    run = run_of shown dispatched start trace
+
+    of_trace : IsTraceOf Shows s run
     of_trace = record { runs = runs; honest = honest; fits = fits }
+
+    of_plan : IsRunOf Shows s run
+    of_plan = record { coming = coming; scheduled = scheduled; traced = of_trace }
 
     pub all_ended : AllEnded shown start trace part
     all_ended n task how is_task at_how =
         let by = by_requests n task is_task in
         let cause = o.causes n task how is_task at_how in
-        task_ends Shows s shown.excused shown.held_after start trace part shown.journal dispatched coming scheduled of_trace whole n task by.bucket by.key is_task by.is_dest how
+        task_ends Shows s shown.excused shown.held_after run part of_plan whole n task by.bucket by.key is_task by.is_dest how
         (λ may. o.sources start trace of_trace n task how is_task at_how may) (shown_by n task is_task how at_how cause start part)
 
     none_changed : NoneChanged shown start trace part
@@ -305,7 +312,7 @@ module _ (Shows : Ask → ℕ → Talk → Class → List ℕ → Type 0) (HasSt
     ]
 
     others : OthersStay shown start trace part
-    others bucket key = other_objects_stay Shows s start trace part whole.0 shown.journal dispatched coming scheduled of_trace whole.1 bucket key
+    others bucket key = other_objects_stay Shows s run part of_plan (whole.0, whole.1) bucket key
 
     moves_after : MovesAfter shown start trace
     moves_after n task front later step lane sent is_task is_copy split is_event is_delete =
@@ -319,7 +326,7 @@ module _ (Shows : Ask → ℕ → Talk → Class → List ℕ → Type 0) (HasSt
         task.kind (is_small s task) o begun.0.dispatch.job.number begun.0.ask begun.0.body) (ap (λ (j : JobId). j.op) is_job) own.row) (λ removal. not_removal (sym is_copy ∙ removal)) in
         let ended = has_outcome begun.0 n begun.1 (ap (λ (j : JobId). j.task) is_job) in
         let may = new_where_decided n task is_task ended.0 (o.causes n task ended.0 is_task ended.1) (delete_waits n task is_task begun.0 0 begun.1 is_job source.moves) in
-        moved_task_is_new Shows s shown.excused shown.held_after start trace front later step shown.journal dispatched coming scheduled of_trace split n task by.bucket by.key
+        moved_task_is_new Shows s shown.excused shown.held_after run front later step of_plan split n task by.bucket by.key
         (record { is_task = is_task; is_dest = by.is_dest; has_source = o.sources start trace of_trace n task ended.0 is_task ended.1 may }) is_copy lane sent is_event is_delete
       where
         not_removal : kind.Copy ≡ kind.RemoveObject → ⊥

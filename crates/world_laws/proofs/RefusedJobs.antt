@@ -47,7 +47,7 @@ use Rattle.run_promise.specs.Traces.{Step, IsTrace, IsWilling, SaysTaken, state_
 use Rattle.run_promise.specs.Truthful.{Shown, AreCertain, HasDestBuckets, IsAlone, MayBeFresh}
 use Rattle.world_laws.specs.Completeness.{AreSourcesThere}
 use Rattle.world_laws.specs.Premises.{HasCome}
-use Rattle.world_laws.specs.Promises.{IsByRequests, IsOrderly}
+use Rattle.world_laws.specs.Promises.{run_of, IsByRequests, IsOrderly}
 use Rattle.world_laws.specs.Tasks.{IsScheduled, IsTraceOf}
 use Rattle.world_laws.proofs.Buckets.{bucket_is_stable}
 use Rattle.world_laws.proofs.Early as early
@@ -159,7 +159,7 @@ module _ (Shows : Ask → ℕ → Talk → Class → List ℕ → Type 0) (HasSt
     (request_text : Ask → List ℕ → ℕ → List ℕ) (host : List ℕ) (port : ℕ) (shown : Shown) (dispatched coming : List Dispatched)
     (o : IsOrderly Shows HasStatus Plans CallFailed request_text host port shown dispatched coming)
     (certain : AreCertain Shows HasStatus request_text host port Plans CallFailed dispatched) (not_cancelled : shown.setting.cancelled_at ≡ None)
-    (start : State) (trace : List Step) (p : IsTraceOf Shows shown.setting start trace shown.journal dispatched) (willing : IsWilling shown.setting.limits start trace) (alone : IsAlone trace)
+    (start : State) (trace : List Step) (p : IsTraceOf Shows shown.setting (run_of shown dispatched start trace)) (willing : IsWilling shown.setting.limits start trace) (alone : IsAlone trace)
     (buckets : HasDestBuckets shown.setting.tasks start) (sources : AreSourcesThere shown.setting.held shown.setting.tasks start) where
   abbrev pub s : Setting
   s = shown.setting

@@ -27,10 +27,10 @@ use Rattle.run_promise.specs.Schedule.{Setting, limit_of, Target, Origin, IsSche
 use Rattle.world_laws.specs.Premises.{IsFitting, AllRefused}
 use Rattle.world_laws.specs.Rounds.{AreServed, Told, Round, mark_by, dispatch_at, dispatched_from, journal_of, steps_from}
 use Rattle.world_laws.specs.Tasks.{AreApart, AreQuestions, HasSource, IsScheduled}
-use Rattle.world_laws.specs.Witnesses.{moved_copy, removal, IsTaskMet, IsRefusedTaskMet, TaskIsMet, RefusedTaskIsMet}
+use Rattle.world_laws.specs.Witnesses.{moved_copy, removal, IsTaskMet, IsMovedCopy, IsRefusedTask, TaskIsMet, RefusedTaskIsMet}
 use Rattle.world_laws.proofs.Tasks.{planned_none}
 use Rattle.world_laws.proofs.Members.{Has, has, kept, passes, has_at, has_middle, contains_of}
-use Rattle.world_laws.proofs.Faithful.{IsFaithful, bare_is_faithful, faithful_without, rounds_fitting}
+use Rattle.world_laws.proofs.Faithful.{run_by, IsFaithful, bare_is_faithful, faithful_without, rounds_fitting}
 use Rattle.world_laws.proofs.Witnesses.{succeeds, with_source, source_is_faithful, copied, copy, source_gone, move, move_served, move_apart, copied_is_faithful, one_bucket, refused_delete, is_refused, alone}
 use Rattle.world_laws.proofs.Rounds.{AreApart as AreOtherJobs, round_of, rounds_numbered, rounds_given, rounds_come}
 
@@ -340,40 +340,29 @@ module _ (bucket key from_bucket from_key etag : List ℕ) (apart : (from_bucket
     limits = limits_are_valid;
   }
 
-  pub fitting : IsFitting Told the_limits (with_source the_limits bucket key from_bucket from_key etag) (steps_from 0 (with_source the_limits bucket key from_bucket from_key etag) rounds) (journal_of rounds) dispatched (IsDest the_setting.tasks)
+  pub fitting : IsFitting Told the_limits (run_by (with_source the_limits bucket key from_bucket from_key etag) rounds) (IsDest the_setting.tasks)
   fitting =
       rounds_fitting the_limits (with_source the_limits bucket key from_bucket from_key etag) rounds (move_served the_limits bucket key from_bucket from_key etag apart) other_jobs (source_is_faithful the_limits bucket key from_bucket from_key etag) (
         copied_is_faithful the_limits bucket key from_bucket from_key etag apart,
         (faithful_without (copied the_limits bucket key from_bucket from_key etag) from_bucket from_key (copied_is_faithful the_limits bucket key from_bucket from_key etag apart), tt),
       ) (IsDest the_setting.tasks)
 
-  task_met : IsTaskMet bucket key from_bucket from_key
+  task_met : IsTaskMet bucket key (IsMovedCopy from_bucket from_key)
   task_met = record {
     setting = the_setting;
-    start = with_source the_limits bucket key from_bucket from_key etag;
-    trace = steps_from 0 (with_source the_limits bucket key from_bucket from_key etag) rounds;
-    journal = journal_of rounds;
-    dispatched = dispatched;
-    scheduled = scheduled;
-    traced = record { runs = fitting.runs; honest = fitting.honest; fits = fitting.fits };
+    run = run_by (with_source the_limits bucket key from_bucket from_key etag) rounds;
+    of_plan = record { coming = dispatched; scheduled = scheduled; traced = fitting };
     whole = ([], sym (append-nil (steps_from 0 (with_source the_limits bucket key from_bucket from_key etag) rounds)), fitting.fits.moves);
     task = the_task;
     object = record { is_task = refl; is_dest = refl; has_source = (from_bucket, from_key, refl) };
-    is_copy = refl;
-    moves = refl;
-    is_source = refl;
-    copy = dispatch_at 0 copy_round;
-    copy_known = (0, omega arith, refl);
-    copies = refl;
-    copied = succeeds 0 copy_round refl;
-    delete = dispatch_at 2 delete_round;
-    delete_known = (1, omega arith, refl);
-    deletes = refl;
-    deleted = succeeds 2 delete_round refl;
-    lane = 0;
-    sent = request_at (dispatch_at 2 delete_round) 0;
-    begins = (5, omega arith, refl);
-    of_delete = refl;
+    such = record {
+      is_copy = refl;
+      moves = refl;
+      is_source = refl;
+      copied = record { request = dispatch_at 0 copy_round; known = (0, omega arith, refl); decides = refl; succeeded = succeeds 0 copy_round refl };
+      deleted = (dispatch_at 2 delete_round, (1, omega arith, refl), refl, succeeds 2 delete_round refl);
+      begins = (0, request_at (dispatch_at 2 delete_round) 0, (5, omega arith, refl), refl);
+    };
   }
 
 pub task_is_met : TaskIsMet
@@ -438,26 +427,19 @@ module _ (task : Task) (stays : task.moves ≡ false) (r : Round) (plain : IsPla
     limits = limits_are_valid;
   }
 
-  pub one_fitting : IsFitting Told the_limits start (steps_from 0 start (r ∷ [])) (journal_of (r ∷ [])) (request ∷ []) (IsDest (task ∷ []))
+  pub one_fitting : IsFitting Told the_limits (run_by start (r ∷ [])) (IsDest (task ∷ []))
   one_fitting = rounds_fitting the_limits start (r ∷ []) served (alone r) faithful (subst IsFaithful (sym after) faithful, tt) (IsDest (task ∷ []))
 
   pub one_refused_met : (bucket key : List ℕ) → task.dest ≡ place.Object bucket key → HasSource (setting_of task).held (states start (steps_from 0 start (r ∷ []))) task task.kind (is_small (setting_of task) task)
-      → r.job ≡ job_of 0 (deciding task.kind (is_small (setting_of task) task)) 0 → AllRefused Told request → IsRefusedTaskMet bucket key
+      → r.job ≡ job_of 0 (deciding task.kind (is_small (setting_of task) task)) 0 → AllRefused Told request → IsTaskMet bucket key IsRefusedTask
   one_refused_met bucket key is_dest sourced decides refused = record {
     setting = setting_of task;
-    start = start;
-    trace = steps_from 0 start (r ∷ []);
-    journal = journal_of (r ∷ []);
-    dispatched = request ∷ [];
-    scheduled = one_scheduled;
-    traced = record { runs = one_fitting.runs; honest = one_fitting.honest; fits = one_fitting.fits };
+    run = run_by start (r ∷ []);
+    of_plan = record { coming = request ∷ []; scheduled = one_scheduled; traced = one_fitting };
     whole = ([], sym (append-nil (steps_from 0 start (r ∷ []))), one_fitting.fits.moves);
     task = task;
     object = record { is_task = refl; is_dest = is_dest; has_source = sourced };
-    request = request;
-    known = (0, omega arith, refl);
-    decides = decides;
-    refused = λ c known of_job. subst (AllRefused Told) (is_only c known) refused;
+    such = record { request = request; known = (0, omega arith, refl); decides = decides; refused = λ c known of_job. subst (AllRefused Told) (is_only c known) refused };
   }
 
 -- ---- a removal that is refused
@@ -476,7 +458,7 @@ module _ (bucket key : List ℕ) where
   pub removal_is_plain : IsPlainRound the_round
   removal_is_plain = record { task = 0; of_task = refl; no_create = delete_create; no_abort = delete_abort }
 
-  refused_met : IsRefusedTaskMet bucket key
+  refused_met : IsTaskMet bucket key IsRefusedTask
   refused_met =
       one_refused_met (removal bucket key) refl the_round removal_is_plain (one_bucket the_limits bucket key) (bare_is_faithful (bucket ∷ [])) ((refl, tt), tt) refl removes refl
       bucket key refl refl refl (is_refused the_limits bucket key)

@@ -1,5 +1,5 @@
 -- Destinations that a run makes new by one request: a small upload, a small copy, a removal.
-use Rattle.std.proofs.Common.{◌≡◌, ℕ, Bool, List, Option, Some, None, refl, subst}
+use Rattle.std.proofs.Common.{◌≡◌, ℕ, Bool, List, Option, Some, None, refl, subst, filter_map}
 use Rattle.s3_model.specs.declared.requests.Ask.{Ask}
 use Rattle.s3_model.specs.declared.requests.Ask.TheVariants as ask
 use Rattle.s3_model.specs.declared.answers.Reply.{Reply}
@@ -11,9 +11,9 @@ use Rattle.s3_model.specs.Talks.{Talk}
 use Rattle.s3_service.specs.ServiceState.{State, Object, object_at, HasBytes}
 use Rattle.s3_service.specs.Serves.{Succeeds, IsThere}
 use Rattle.run_promise.specs.Dispatches.{Dispatched}
-use Rattle.run_promise.specs.Traces.{Step, states}
-use Rattle.world_laws.specs.Premises.{IsPlace}
-use Rattle.world_laws.specs.Destinations.{AllThatChange, IsNewOnceCome, IsNewAfterSuccess, IsOldOrNew, IsOldAfterRefusals}
+use Rattle.run_promise.specs.Traces.{Step, event_of, events_of, states}
+use Rattle.world_laws.specs.Premises.{moments, HasCome, HasSuccess, IsPlace}
+use Rattle.world_laws.specs.Destinations.{AllThatChange, Making, Requests, IsNewOnceCome, IsNewAfterSuccess, IsOldOrNew, IsOldAfterRefusals}
 use Rattle.world_laws.specs.SmallTransfers.{AsksPut, AsksCopy, AsksDelete, AreAll, HadContent, IsStored, IsCopied, IsRemoved, UploadStores, UploadIsWhole, CopyStores, CopyIsWhole, DeleteRemoves, DeleteIsWhole}
 use Rattle.world_laws.proofs.Members.{contains_of}
 use Rattle.world_laws.proofs.Objects.{object_at-with_object, object_at-without_object}
@@ -42,34 +42,40 @@ delete_removes limits old bucket key body answered bytes new h = absurd h
 
 -- ---- whole traces
 
+-- a success that has come in one journal, and in another
+pub come_in : (Shows : Ask → ℕ → Talk → Class → List ℕ → Type 0) (journal other : List Event) (dispatched : List Dispatched) (bucket key : List ℕ) (success : HasSuccess Shows journal dispatched bucket key) → HasCome other success.request
+    → HasSuccess Shows other dispatched bucket key
+come_in Shows journal other dispatched bucket key success come =
+    record { request = success.request; known = success.known; may = success.may; come = come; succeeded = success.succeeded }
+
 module _ (Shows : Ask → ℕ → Talk → Class → List ℕ → Type 0) where
   -- what has come by the end is a success that has come
-  pub after_success : (bucket key : List ℕ) (AreOurs : List Event → List Dispatched → Type 0) (IsNew : List State → State → Type 0) → IsNewOnceCome Shows bucket key AreOurs IsNew
-      → IsNewAfterSuccess Shows bucket key AreOurs IsNew
-  after_success bucket key AreOurs IsNew once limits start trace part journal dispatched fitting ours whole c known may come succeeded =
-      once limits start trace part whole.0 journal dispatched fitting ours whole.1 c known may (come_by journal trace part whole c come) succeeded
+  pub after_success : (bucket key : List ℕ) (AreOurs : Requests) (IsNew : Making) → IsNewOnceCome Shows bucket key AreOurs IsNew → IsNewAfterSuccess Shows bucket key AreOurs IsNew
+  after_success bucket key AreOurs IsNew once limits run part fitting ours whole success =
+      once limits run part fitting ours (whole.0, whole.1) (come_in Shows run.journal (filter_map event_of (events_of part)) run.dispatched bucket key success (come_by run.journal run.trace part whole success.request success.come))
 
   -- a destination that each request for it makes new
   module _ (bucket key : List ℕ) (IsSuch : Dispatched → Type 0) (IsNew : List State → Option Object → Type 0)
       (makes_new : (limits : Limits) (start : State) (trace : List Step) (dispatched : List Dispatched) (c : Dispatched) (old : State) (answered : Reply) (bytes : List ℕ) (new : State)
       → IsServed Shows limits start trace dispatched c old answered bytes new → IsSuch c → IsNew (states start trace) (object_at new bucket key)) where
     pub new_once_come : IsNewOnceCome Shows bucket key (λ journal dispatched. AllThatChange bucket key IsSuch dispatched) (λ moments t. IsNew moments (object_at t bucket key))
-    new_once_come limits start trace part late journal dispatched fitting ours is c known may come succeeded =
-        dest.success_makes_new Shows limits start trace dispatched journal fitting.runs fitting.fits bucket key (IsNew (states start trace))
-        (λ d old answered bytes new served may. makes_new limits start trace dispatched d old answered bytes new served (ours d served.known may))
-        (dest.unwritten_is_new Shows limits start trace dispatched journal fitting.runs fitting.fits bucket key (IsNew (states start trace)) (unwritten start trace (IsPlace bucket key) fitting.honest bucket key (refl, refl)))
-        part late is c known may come succeeded
+    new_once_come limits run part fitting ours begins success =
+        dest.success_makes_new Shows limits run.start run.trace run.dispatched run.journal fitting.runs fitting.fits bucket key (IsNew (moments run))
+        (λ d old answered bytes new served may. makes_new limits run.start run.trace run.dispatched d old answered bytes new served (ours d served.known may))
+        (dest.unwritten_is_new Shows limits run.start run.trace run.dispatched run.journal fitting.runs fitting.fits bucket key (IsNew (moments run)) (unwritten run.start run.trace (IsPlace bucket key) fitting.honest bucket key (refl, refl)))
+        part begins.0 begins.1 success.request success.known success.may success.come success.succeeded
 
     pub old_or_new : IsOldOrNew Shows bucket key (λ journal dispatched. AllThatChange bucket key IsSuch dispatched) (λ moments t. IsNew moments (object_at t bucket key))
-    old_or_new limits start trace part late journal dispatched fitting ours is =
-        dest.old_or_new Shows limits start trace dispatched journal fitting.runs fitting.fits bucket key (IsNew (states start trace))
-        (λ d old answered bytes new served may. makes_new limits start trace dispatched d old answered bytes new served (ours d served.known may))
-        (dest.unwritten_is_new Shows limits start trace dispatched journal fitting.runs fitting.fits bucket key (IsNew (states start trace)) (unwritten start trace (IsPlace bucket key) fitting.honest bucket key (refl, refl)))
-        part late is
+    old_or_new limits run part fitting ours begins =
+        dest.old_or_new Shows limits run.start run.trace run.dispatched run.journal fitting.runs fitting.fits bucket key (IsNew (moments run))
+        (λ d old answered bytes new served may. makes_new limits run.start run.trace run.dispatched d old answered bytes new served (ours d served.known may))
+        (dest.unwritten_is_new Shows limits run.start run.trace run.dispatched run.journal fitting.runs fitting.fits bucket key (IsNew (moments run)) (unwritten run.start run.trace (IsPlace bucket key) fitting.honest bucket key (refl, refl)))
+        part begins.0 begins.1
 
   pub old_after_refusals : IsOldAfterRefusals Shows
-  old_after_refusals limits start trace part late journal dispatched bucket key fitting refused is =
-      dest.refused_stays Shows limits start trace dispatched journal fitting.runs fitting.fits bucket key (unwritten start trace (IsPlace bucket key) fitting.honest bucket key (refl, refl)) refused part late is
+  old_after_refusals limits run part bucket key fitting refused begins =
+      dest.refused_stays Shows limits run.start run.trace run.dispatched run.journal fitting.runs fitting.fits bucket key (unwritten run.start run.trace (IsPlace bucket key) fitting.honest bucket key (refl, refl)) refused
+      part begins.0 begins.1
 
   -- ---- uploads
 

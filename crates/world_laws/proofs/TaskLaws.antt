@@ -1,5 +1,5 @@
 -- A task whose destination is an object is new after a success, as before after refusals, and else one or the other.
-use Rattle.std.proofs.Common.{◌≡◌, ◌∙◌, ◌⊎◌, ◌++◌, ◌≤◌, ℕ, Bool, true, false, List, Option, Some, None, refl, sym, ap, subst, inl, inr, Contains, length, filter_map, slice_get, arith}
+use Rattle.std.proofs.Common.{◌≡◌, ◌∙◌, ◌⊎◌, ◌≤◌, ℕ, Bool, true, false, List, Option, Some, None, refl, sym, ap, subst, inl, inr, Contains, length, filter_map, slice_get, arith}
 use Rattle.std.specs.FinMap.{get}
 use Rattle.s3_model.specs.declared.requests.Ask.{Ask}
 use Rattle.s3_model.specs.declared.requests.Op.{Op}
@@ -18,15 +18,15 @@ use Rattle.s3_model.specs.Parts.{HasPieces, IsTransfer, piece_of, piece_count}
 use Rattle.s3_service.specs.Serves.{MayChange, bytes_within}
 use Rattle.s3_service.specs.ServiceState.{State, object_at, HasBytes}
 use Rattle.run_promise.specs.Dispatches.{Dispatched}
-use Rattle.run_promise.specs.Traces.{Step, states, state_after, events_of, event_of}
+use Rattle.run_promise.specs.Traces.{Step, state_after, events_of, event_of}
 use Rattle.run_promise.specs.Schedule.{Setting, IsTaskAsk, is_small, job_of, source_bytes, bytes_of, gained_before, asked_range}
 use Rattle.run_promise.specs.Endings.{Excused, Scene, HasContent, Holds, IsAbsent, IsNew}
 use Rattle.run_promise.specs.Truthful.{IsDest}
-use Rattle.world_laws.specs.Premises.{IsFitting, IsPlace, HasCome, HasSucceeded, AllRefused}
-use Rattle.world_laws.specs.Destinations.{AllThatChange, IsNewOnceCome, IsOldOrNew}
+use Rattle.world_laws.specs.Premises.{Run, moments, BeginsWith, IsOldAfter, IsFitting, IsPlace, HasCome, HasSucceeded}
+use Rattle.world_laws.specs.Destinations.{AllThatChange, Making, Requests, IsNewOnceCome, IsOldOrNew}
 use Rattle.world_laws.specs.SmallTransfers.{AsksPut, AsksCopy, AsksDelete, HadContent, IsStored, IsCopied, IsRemoved}
 use Rattle.world_laws.specs.Multipart.{AreParts, AreCopiedParts, IsCopiedInParts, joined}
-use Rattle.world_laws.specs.Tasks.{HasSource, IsScheduled, IsTraceOf, TaskIsNew, TaskIsOld, TaskIsWhole}
+use Rattle.world_laws.specs.Tasks.{HasSource, IsRefusedIn, IsScheduled, IsTaskNew, IsTraceOf, TaskIsNew, TaskIsOld, TaskIsWhole}
 use Rattle.run_promise.specs.Outcomes.{deciding}
 use Rattle.world_laws.proofs.Members.{has_at, contains_of}
 use Rattle.world_laws.proofs.Frame.{asked_decided}
@@ -39,11 +39,17 @@ use Rattle.world_laws.proofs.InParts as parts
 use Rattle.world_laws.proofs.Rows as rows
 use Rattle.world_laws.proofs.Tasks as tasks
 
-module _ (Shows : Ask → ℕ → Talk → Class → List ℕ → Type 0) (s : Setting) (journal : List Event) (dispatched coming : List Dispatched) (r : IsScheduled Shows s journal dispatched coming)
+module _ (Shows : Ask → ℕ → Talk → Class → List ℕ → Type 0) (s : Setting) (run : Run) (coming : List Dispatched) (r : IsScheduled Shows s run.journal run.dispatched coming)
     (n : ℕ) (task : Task) (bucket key : List ℕ) (is_task : slice_get s.tasks n ≡ Some task) (is_dest : task.dest ≡ place.Object bucket key) where
+  abbrev journal : List Event
+  journal = run.journal
+
+  abbrev dispatched : List Dispatched
+  dispatched = run.dispatched
+
   -- ---- a destination that is new
 
-  module _ (excused : Excused) (held : MapOf HeldFile) (moments : List State) where
+  module _ (excused : Excused) (held : MapOf HeldFile) (seen : List State) where
     abbrev scene : State → Scene
     scene t = record { state = t; held = held; others = s.others }
 
@@ -53,33 +59,33 @@ module _ (Shows : Ask → ℕ → Talk → Class → List ℕ → Type 0) (s : S
     abbrev source : List ℕ
     source = source_bytes s.held task.source
 
-    uploaded : (path : List ℕ) (file : HeldFile) → task.source ≡ Some (place.File path) → get s.held path ≡ Some file → (t : State) → HasBytes t bucket key source → IsNew excused s.held moments (scene t) task kind.Upload
+    uploaded : (path : List ℕ) (file : HeldFile) → task.source ≡ Some (place.File path) → get s.held path ≡ Some file → (t : State) → HasBytes t bucket key source → IsNew excused s.held seen (scene t) task kind.Upload
     uploaded path file is_source at t has =
         let same : source ≡ file.bytes = ap (source_bytes s.held) is_source ∙ ap bytes_of at in
-        (source, subst (λ (o : Option Place). HasContent s.held moments task.etag o source) (sym is_source) (file, at, sym same), holds t source has)
+        (source, subst (λ (o : Option Place). HasContent s.held seen task.etag o source) (sym is_source) (file, at, sym same), holds t source has)
 
-    copied : (from_bucket from_key : List ℕ) → task.source ≡ Some (place.Object from_bucket from_key) → (t : State) (bytes : List ℕ) → HadContent moments from_bucket from_key task.etag bytes → HasBytes t bucket key bytes
-        → IsNew excused s.held moments (scene t) task kind.Copy
+    copied : (from_bucket from_key : List ℕ) → task.source ≡ Some (place.Object from_bucket from_key) → (t : State) (bytes : List ℕ) → HadContent seen from_bucket from_key task.etag bytes → HasBytes t bucket key bytes
+        → IsNew excused s.held seen (scene t) task kind.Copy
     copied from_bucket from_key is_source t bytes had has =
-        (bytes, subst (λ (o : Option Place). HasContent s.held moments task.etag o bytes) (sym is_source) had, holds t bytes has)
+        (bytes, subst (λ (o : Option Place). HasContent s.held seen task.etag o bytes) (sym is_source) had, holds t bytes has)
 
-    removed : (t : State) → object_at t bucket key ≡ None → IsNew excused s.held moments (scene t) task kind.RemoveObject
+    removed : (t : State) → object_at t bucket key ≡ None → IsNew excused s.held seen (scene t) task kind.RemoveObject
     removed t gone = subst (λ (p : Place). IsAbsent excused (scene t) p) (sym is_dest) gone
 
     -- ---- the law of a destination
 
     -- which requests are for it, how they make it, and what is known of both
     pub record HasLaw : Type 1 where
-      pub AreOurs : List Event → List Dispatched → Type 0
-      pub IsMade : List State → State → Type 0
+      pub AreOurs : Requests
+      pub IsMade : Making
       pub once_come : IsNewOnceCome Shows bucket key AreOurs IsMade
       pub whole : IsOldOrNew Shows bucket key AreOurs IsMade
       pub ours : AreOurs journal dispatched
-      pub is_new : (t : State) → IsMade moments t → IsNew excused s.held moments (scene t) task task.kind
+      pub is_new : (t : State) → IsMade seen t → IsNew excused s.held seen (scene t) task task.kind
 
     -- as the kind is known
-    as_kind : (of_kind : Kind) → task.kind ≡ of_kind → (t : State) → IsNew excused s.held moments (scene t) task of_kind → IsNew excused s.held moments (scene t) task task.kind
-    as_kind of_kind is_kind t is_new = subst (λ (k : Kind). IsNew excused s.held moments (scene t) task k) (sym is_kind) is_new
+    as_kind : (of_kind : Kind) → task.kind ≡ of_kind → (t : State) → IsNew excused s.held seen (scene t) task of_kind → IsNew excused s.held seen (scene t) task task.kind
+    as_kind of_kind is_kind t is_new = subst (λ (k : Kind). IsNew excused s.held seen (scene t) task k) (sym is_kind) is_new
 
     module _ (piece count : ℕ) (pieces : HasPieces s.config s.limits task.kind task.size piece count) where
       -- from the threshold on
@@ -106,7 +112,7 @@ module _ (Shows : Ask → ℕ → Talk → Class → List ℕ → Type 0) (s : S
           ap (joined (λ k. bytes_within (asked_range task.size piece k) bytes) 1) (facts.1 ∙ ap (λ (k : ℕ). piece_count k piece) (sym long))
           ∙ ap (λ (size : ℕ). joined (λ k. bytes_within (asked_range size piece k) bytes) 1 (piece_count (length bytes) piece)) (sym long) ∙ ranges_make_whole bytes piece facts.0 some
 
-      law_by : (of_kind : Kind) (size_is_small : Bool) → task.kind ≡ of_kind → is_small s task ≡ size_is_small → HasSource s.held moments task of_kind size_is_small → HasLaw
+      law_by : (of_kind : Kind) (size_is_small : Bool) → task.kind ≡ of_kind → is_small s task ≡ size_is_small → HasSource s.held seen task of_kind size_is_small → HasLaw
       law_by kind.Upload true is_kind is_size has = record {
         AreOurs = λ j d. AllThatChange bucket key (AsksPut bucket key source) d;
         IsMade = IsStored bucket key source;
@@ -150,79 +156,76 @@ module _ (Shows : Ask → ℕ → Talk → Class → List ℕ → Type 0) (s : S
       law_by kind.Download size_is_small is_kind is_size has = absurd has
       law_by kind.RemoveFile size_is_small is_kind is_size has = absurd has
 
-    pub law : (piece count : ℕ) → HasPieces s.config s.limits task.kind task.size piece count → HasSource s.held moments task task.kind (is_small s task) → HasLaw
+    pub law : (piece count : ℕ) → HasPieces s.config s.limits task.kind task.size piece count → HasSource s.held seen task task.kind (is_small s task) → HasLaw
     law piece count pieces has = law_by piece count pieces task.kind (is_small s task) refl refl has
 
   -- ---- the trace
 
-  pub fitting : (start : State) (trace : List Step) → IsTraceOf Shows s start trace journal dispatched → IsFitting Shows s.limits start trace journal dispatched (IsPlace bucket key)
-  fitting start trace p = record {
+  pub fitting : IsTraceOf Shows s run → IsFitting Shows s.limits run (IsPlace bucket key)
+  fitting p = record {
     runs = p.runs;
-    honest = kept_at start trace (IsDest s.tasks) p.honest bucket key (task, contains_of s.tasks task (has_at s.tasks n task is_task), is_dest);
+    honest = kept_at run.start run.trace (IsDest s.tasks) p.honest bucket key (task, contains_of s.tasks task (has_at s.tasks n task is_task), is_dest);
     fits = p.fits;
   }
 
   -- a dispatch of the deciding job may change the destination
-  decides : (moments : List State) → HasSource s.held moments task task.kind (is_small s task) → (c : Dispatched) → Contains dispatched c → c.dispatch.job ≡ job_of n (deciding task.kind (is_small s task)) 0 → MayChange c.ask bucket key
-  decides moments has c known is_job =
+  decides : (seen : List State) → HasSource s.held seen task task.kind (is_small s task) → (c : Dispatched) → Contains dispatched c → c.dispatch.job ≡ job_of n (deciding task.kind (is_small s task)) 0 → MayChange c.ask bucket key
+  decides seen has c known is_job =
       let own = tasks.row_of_job Shows s journal dispatched coming r n task bucket key is_task is_dest c (deciding task.kind (is_small s task)) 0 known is_job in
       elim (rows.row_decides (gained_before Shows dispatched c.dispatch.given_at) task (record { number = n; bytes = source_bytes s.held task.source; piece = own.piece; count = own.count })
       task.kind (is_small s task) c.dispatch.job.number c.ask c.body
       (subst (λ (o : Op). IsTaskAsk (gained_before Shows dispatched c.dispatch.given_at) task (record { number = n; bytes = source_bytes s.held task.source; piece = own.piece; count = own.count })
       task.kind (is_small s task) o c.dispatch.job.number c.ask c.body) (ap (λ (j : JobId). j.op) is_job) own.row)) [
-        | inr download ↦ absurd (no_download (is_small s task) (subst (λ (k : Kind). HasSource s.held moments task k (is_small s task)) download has))
+        | inr download ↦ absurd (no_download (is_small s task) (subst (λ (k : Kind). HasSource s.held seen task k (is_small s task)) download has))
         | inl at ↦
             let same = rows.same_place task.dest at.0.bucket at.0.key bucket key at.0.is_dest (tasks.here Shows s journal dispatched coming r n task bucket key is_task is_dest) in
             subst (λ (k : List ℕ). MayChange c.ask bucket k) same.1 (subst (λ (b : List ℕ). MayChange c.ask b at.0.key) same.0 at.1)
       ]
     where
-      no_download : (size_is_small : Bool) → HasSource s.held moments task kind.Download size_is_small → ⊥
+      no_download : (size_is_small : Bool) → HasSource s.held seen task kind.Download size_is_small → ⊥
       no_download true h = h
       no_download false h = h
 
   -- once the deciding request has come with success
-  pub new_once_come : (excused : Excused) (held : MapOf HeldFile) (start : State) (trace part late : List Step) → IsTraceOf Shows s start trace journal dispatched → trace ≡ part ++ late
-      → HasSource s.held (states start trace) task task.kind (is_small s task) → (c : Dispatched) → Contains dispatched c → c.dispatch.job ≡ job_of n (deciding task.kind (is_small s task)) 0
-      → HasCome (filter_map event_of (events_of part)) c → HasSucceeded Shows c → IsNew excused s.held (states start trace) (record { state = state_after start part; held = held; others = s.others }) task task.kind
-  new_once_come excused held start trace part late p is has c known is_job come succeeded =
-      let may = decides (states start trace) has c known is_job in
+  pub new_once_come : (excused : Excused) (held : MapOf HeldFile) (part : List Step) → IsTraceOf Shows s run → BeginsWith run part
+      → HasSource s.held (moments run) task task.kind (is_small s task) → (c : Dispatched) → Contains dispatched c → c.dispatch.job ≡ job_of n (deciding task.kind (is_small s task)) 0
+      → HasCome (filter_map event_of (events_of part)) c → HasSucceeded Shows c → IsTaskNew s excused held (moments run) task (state_after run.start part)
+  new_once_come excused held part p begins has c known is_job come succeeded =
+      let may = decides (moments run) has c known is_job in
       let own = (tasks.changes Shows s journal dispatched coming r n task bucket key is_task is_dest c known may).row in
-      let here = law excused held (states start trace) own.piece own.count own.pieces has in
-      here.is_new (state_after start part) (here.once_come s.limits start trace part late journal dispatched (fitting start trace p) here.ours is c known may come succeeded)
+      let here = law excused held (moments run) own.piece own.count own.pieces has in
+      here.is_new (state_after run.start part) (here.once_come s.limits run part (fitting p) here.ours begins (record { request = c; known = known; may = may; come = come; succeeded = succeeded }))
 
-  pub whole_always : (excused : Excused) (held : MapOf HeldFile) (start : State) (trace part late : List Step) → IsTraceOf Shows s start trace journal dispatched → trace ≡ part ++ late
-      → HasSource s.held (states start trace) task task.kind (is_small s task)
-      → (object_at (state_after start part) bucket key ≡ object_at start bucket key) ⊎ IsNew excused s.held (states start trace) (record { state = state_after start part; held = held; others = s.others }) task task.kind
-  whole_always excused held start trace part late p is has = elim (asked_decided dispatched bucket key) [
-    | inr unasked ↦ inl (small.old_after_refusals Shows s.limits start trace part late journal dispatched bucket key (fitting start trace p) (λ c known may. absurd (unasked (c, known, may))) is)
+  pub whole_always : (excused : Excused) (held : MapOf HeldFile) (part : List Step) → IsTraceOf Shows s run → BeginsWith run part → HasSource s.held (moments run) task task.kind (is_small s task)
+      → IsOldAfter run part bucket key ⊎ IsTaskNew s excused held (moments run) task (state_after run.start part)
+  whole_always excused held part p begins has = elim (asked_decided dispatched bucket key) [
+    | inr unasked ↦ inl (small.old_after_refusals Shows s.limits run part bucket key (fitting p) (λ c known may. absurd (unasked (c, known, may))) begins)
     | inl asked ↦
         let own = (tasks.changes Shows s journal dispatched coming r n task bucket key is_task is_dest asked.0 asked.1 asked.2).row in
-        let here = law excused held (states start trace) own.piece own.count own.pieces has in
-        elim (here.whole s.limits start trace part late journal dispatched (fitting start trace p) here.ours is) [
+        let here = law excused held (moments run) own.piece own.count own.pieces has in
+        elim (here.whole s.limits run part (fitting p) here.ours begins) [
           | inl old ↦ inl old
-          | inr made ↦ inr (here.is_new (state_after start part) made)
+          | inr made ↦ inr (here.is_new (state_after run.start part) made)
         ]
   ]
 
-  pub old_where_refused : (start : State) (trace part late : List Step) → IsTraceOf Shows s start trace journal dispatched → trace ≡ part ++ late
-      → ((c : Dispatched) → Contains dispatched c → c.dispatch.job ≡ job_of n (deciding task.kind (is_small s task)) 0 → AllRefused Shows c)
-      → object_at (state_after start part) bucket key ≡ object_at start bucket key
-  old_where_refused start trace part late p is refused =
-      small.old_after_refusals Shows s.limits start trace part late journal dispatched bucket key (fitting start trace p)
-      (λ c known may. refused c known (tasks.changes Shows s journal dispatched coming r n task bucket key is_task is_dest c known may).is_job) is
+  pub old_where_refused : (part : List Step) → IsTraceOf Shows s run → BeginsWith run part → IsRefusedIn Shows s dispatched n task → IsOldAfter run part bucket key
+  old_where_refused part p begins refused =
+      small.old_after_refusals Shows s.limits run part bucket key (fitting p)
+      (λ c known may. refused c known (tasks.changes Shows s journal dispatched coming r n task bucket key is_task is_dest c known may).is_job) begins
 
 -- ---- the laws
 
 module _ (Shows : Ask → ℕ → Talk → Class → List ℕ → Type 0) where
   pub task_is_new : TaskIsNew Shows
-  task_is_new s excused held start trace part journal dispatched coming r p whole n task bucket key is c known is_job succeeded =
-      new_once_come Shows s journal dispatched coming r n task bucket key is.is_task is.is_dest excused held start trace part whole.0 p whole.1 is.has_source c known is_job
-      (come_by journal trace part whole c (r.come c known)) succeeded
+  task_is_new s excused held run part of whole n task bucket key is decided =
+      new_once_come Shows s run of.coming of.scheduled n task bucket key is.is_task is.is_dest excused held part of.traced (whole.0, whole.1) is.has_source decided.request decided.known decided.decides
+      (come_by run.journal run.trace part whole decided.request (of.scheduled.come decided.request decided.known)) decided.succeeded
 
   pub task_is_old : TaskIsOld Shows
-  task_is_old s start trace part late journal dispatched coming r p split n task bucket key is_task is_dest refused =
-      old_where_refused Shows s journal dispatched coming r n task bucket key is_task is_dest start trace part late p split refused
+  task_is_old s run part of begins n task bucket key is_task is_dest refused =
+      old_where_refused Shows s run of.coming of.scheduled n task bucket key is_task is_dest part of.traced begins refused
 
   pub task_is_whole : TaskIsWhole Shows
-  task_is_whole s excused held start trace part late journal dispatched coming r p split n task bucket key is =
-      whole_always Shows s journal dispatched coming r n task bucket key is.is_task is.is_dest excused held start trace part late p split is.has_source
+  task_is_whole s excused held run part of begins n task bucket key is =
+      whole_always Shows s run of.coming of.scheduled n task bucket key is.is_task is.is_dest excused held part of.traced begins is.has_source

@@ -56,16 +56,16 @@ begun_still old new id same begun free = begun (record { not_open = sym same.0 �
 -- ---- whole traces
 
 pub other_uploads_stay : (Shows : Ask → ℕ → Talk → Class → List ℕ → Type 0) → OtherUploadsStay Shows
-other_uploads_stay Shows limits start trace front rest late journal dispatched id runs fits unnamed is begun =
-    fitting.holds_from Shows limits start trace dispatched journal runs fits (λ (t : State). IsSameUpload (state_after start front) t id)
+other_uploads_stay Shows limits run front rest id of unnamed begins begun =
+    fitting.holds_from Shows limits run.start run.trace run.dispatched run.journal of.runs of.fits (λ (t : State). IsSameUpload (state_after run.start front) t id)
     (record {
       served = λ c old answered bytes new served same.
-          let one = unnamed_stays c.ask c.body answered old new id (up.success_changes limits old c.ask c.body answered bytes new served.succeeds) (unnamed c served.known) (begun_still (state_after start front) old id same begun) in
+          let one = unnamed_stays c.ask c.body answered old new id (up.success_changes limits old c.ask c.body answered bytes new served.succeeds) (unnamed c served.known) (begun_still (state_after run.start front) old id same begun) in
           (one.0 ∙ same.0, one.1 ∙ same.1);
       written = λ write old happened there same.
           (ap (λ uploads. get uploads id) (up.external_uploads write old) ∙ same.0, ap (λ all. get all id) (up.external_ended write old) ∙ same.1);
     })
-    rest front late is (refl, refl)
+    rest front begins.0 (begins.1 ∙ append_assoc front rest begins.0) (refl, refl)
 
 free_is_stable : (limits : Limits) (id : List ℕ) (from : State) → IsStable limits (λ (t : State). IsFree t id → IsFree from id)
 free_is_stable limits id from = record {
@@ -120,6 +120,6 @@ both_ways xs ys on back = go on.0 on.1
         absurd (omega arith)
 
 pub ids_are_created_once : IdsAreCreatedOnce
-ids_are_created_once limits start trace front front' step step' back back' sent sent' id bytes bytes' runs is is' is_event is_event' =
-    both_ways front front' (once limits start trace id runs front step back sent bytes front' step' back' sent' bytes' is is' is_event is_event')
-    (once limits start trace id runs front' step' back' sent' bytes' front step back sent bytes is' is is_event' is_event)
+ids_are_created_once limits start trace front front' step step' back back' id runs is is' by by' =
+    both_ways front front' (once limits start trace id runs front step back by.0 by.1 front' step' back' by'.0 by'.1 is is' by.2 by'.2)
+    (once limits start trace id runs front' step' back' by'.0 by'.1 front step back by.0 by.1 is' is by'.2 by.2)

@@ -5,22 +5,22 @@ use Rattle.s3_model.specs.declared.requests.Ask.{Ask}
 use Rattle.s3_model.specs.declared.requests.Ask.TheVariants as ask
 use Rattle.s3_model.specs.declared.requests.Op.TheVariants as op
 use Rattle.s3_model.specs.declared.outcomes.JobId.{JobId}
-use Rattle.s3_model.specs.declared.outcomes.Event.{Event}
 use Rattle.s3_model.specs.declared.settings.Limits.{Limits}
 use Rattle.s3_service.specs.ServiceState.{State, objects_in, HasBucket, with_object, without_object}
 use Rattle.s3_service.specs.Serves.{MayChange, IsThere}
 use Rattle.run_promise.specs.Dispatches.{Attempt, Dispatched, op_number}
 use Rattle.run_promise.specs.Schedule.{job_of, IsBefore}
 use Rattle.run_promise.specs.Fits.{request_at}
-use Rattle.world_laws.specs.Premises.{HasSucceeded, AllRefused}
-use Rattle.world_laws.specs.Destinations.{AllThatChange}
+use Rattle.world_laws.specs.Premises.{Run, HasSucceeded, IsPlace, AllRefused}
+use Rattle.world_laws.specs.Destinations.{AllThatChange, Requests}
+use Rattle.world_laws.specs.Frame.{IsAskedOf}
 use Rattle.world_laws.specs.SmallTransfers.{AsksPut, AsksCopy, AsksDelete}
-use Rattle.world_laws.specs.Rounds.{Told, Round, reply_to, body_by, class_by, ending_by, attempt_of, dispatch_at, dispatched_from, journal_of, steps_from, AreServed}
-use Rattle.world_laws.specs.Witnesses.{IsMet, UploadIsMet, CopyIsMet, DeleteIsMet, RefusalIsMet, IsRefusalMet, IsMoveMet, FrameIsMet, MoveIsMet}
+use Rattle.world_laws.specs.Rounds.{Told, Round, reply_to, body_by, class_by, ending_by, attempt_of, dispatch_at, dispatched_from, journal_of, AreServed}
+use Rattle.world_laws.specs.Witnesses.{IsMet, IsDestMet, UploadIsMet, CopyIsMet, DeleteIsMet, RefusalIsMet, IsMoveMet, FrameIsMet, MoveIsMet}
 use Rattle.world_laws.proofs.Members.{Has, has, contains_of}
 use Rattle.world_laws.proofs.Objects.{object_at-with_object}
 use Rattle.world_laws.proofs.Rounds.{AreApart, rounds_given, rounds_come}
-use Rattle.world_laws.proofs.Faithful.{IsFaithful, AreFaithful, object_of, bare, bare_is_faithful, bare_has, faithful_with, faithful_without, has_bucket_after, has_bucket_still, rounds_fitting, rounds_whole, rounds_unwritten}
+use Rattle.world_laws.proofs.Faithful.{IsFaithful, AreFaithful, object_of, bare, bare_is_faithful, bare_has, faithful_with, faithful_without, run_by, has_bucket_after, has_bucket_still, rounds_fitting, rounds_whole, rounds_unwritten}
 
 -- a request that is answered with success
 abbrev pub round : JobId → Ask → List ℕ → List ℕ → State → Round
@@ -36,22 +36,24 @@ succeeds place r not_refused = record {
   shows = (sym (ap (λ refused. class_by (ending_by refused) r.ask r.got r.size) not_refused), refl);
 }
 
-unfoldable pub met : (limits : Limits) (bucket key : List ℕ) (AreOurs : List Event → List Dispatched → Type 0) (start : State) (rounds : List Round) → AreServed limits start rounds → AreApart rounds → IsFaithful start → AreFaithful rounds
-    → AreOurs (journal_of rounds) (dispatched_from 0 rounds) → (place : ℕ) (r : Round) → r.refused ≡ false → Has (dispatched_from 0 rounds) (dispatch_at place r) → MayChange r.ask bucket key → IsMet limits bucket key AreOurs
+unfoldable pub met : (limits : Limits) (bucket key : List ℕ) (AreOurs : Requests) (start : State) (rounds : List Round) → AreServed limits start rounds → AreApart rounds → IsFaithful start → AreFaithful rounds
+    → AreOurs (journal_of rounds) (dispatched_from 0 rounds) → (place : ℕ) (r : Round) → r.refused ≡ false → Has (dispatched_from 0 rounds) (dispatch_at place r) → MayChange r.ask bucket key
+    → IsDestMet limits bucket key AreOurs
 met limits bucket key AreOurs start rounds served apart first all ours place r not_refused known may = record {
-  start = start;
-  trace = steps_from 0 start rounds;
-  journal = journal_of rounds;
-  dispatched = dispatched_from 0 rounds;
-  fitting = rounds_fitting limits start rounds served apart first all (λ b k. (b ≡ bucket) × (k ≡ key));
-  given = rounds_given rounds start apart;
-  whole = rounds_whole limits start rounds served apart first all;
-  ours = ours;
-  request = dispatch_at place r;
-  known = contains_of (dispatched_from 0 rounds) (dispatch_at place r) known;
-  may = may;
-  come = rounds_come rounds start apart (dispatch_at place r) known;
-  succeeded = succeeds place r not_refused;
+  run = run_by start rounds;
+  fitting = rounds_fitting limits start rounds served apart first all (IsPlace bucket key);
+  such = record {
+    given = rounds_given rounds start apart;
+    whole = rounds_whole limits start rounds served apart first all;
+    ours = ours;
+    success = record {
+      request = dispatch_at place r;
+      known = contains_of (dispatched_from 0 rounds) (dispatch_at place r) known;
+      may = may;
+      come = rounds_come rounds start apart (dispatch_at place r) known;
+      succeeded = succeeds place r not_refused;
+    };
+  };
 }
 
 pub false_true : false ≡ true → ⊥
@@ -75,7 +77,7 @@ module _ (limits : Limits) (bucket key body : List ℕ) where
   abbrev put : Round
   put = round (job_of 0 op.Put 0) (ask.Put bucket key None false) body [] (with_object (bare (bucket ∷ [])) bucket key (object_of body))
 
-  put_is_met : IsMet limits bucket key (λ journal dispatched. AllThatChange bucket key (AsksPut bucket key body) dispatched)
+  put_is_met : IsDestMet limits bucket key (λ journal dispatched. AllThatChange bucket key (AsksPut bucket key body) dispatched)
   put_is_met =
       met limits bucket key (λ journal dispatched. AllThatChange bucket key (AsksPut bucket key body) dispatched) (bare (bucket ∷ [])) (put ∷ []) ((bare_has bucket [], λ never. absurd (false_true never), (object_of body, refl, refl)), tt) (alone put)
       (bare_is_faithful (bucket ∷ [])) (faithful_with (bare (bucket ∷ [])) bucket key body (bare_is_faithful (bucket ∷ [])), tt)
@@ -107,7 +109,7 @@ module _ (limits : Limits) (bucket key from_bucket from_key etag : List ℕ) whe
   abbrev pub copy : Round
   copy = round (job_of 0 op.Copy 0) (ask.Copy bucket key from_bucket from_key etag) [] [] copied
 
-  copy_is_met : IsMet limits bucket key (λ journal dispatched. AllThatChange bucket key (AsksCopy bucket key from_bucket from_key etag) dispatched)
+  copy_is_met : IsDestMet limits bucket key (λ journal dispatched. AllThatChange bucket key (AsksCopy bucket key from_bucket from_key etag) dispatched)
   copy_is_met =
       met limits bucket key (λ journal dispatched. AllThatChange bucket key (AsksCopy bucket key from_bucket from_key etag) dispatched) with_source (copy ∷ [])
       ((object_of etag, source_is_there, bucket_is_there, (object_of etag, refl, refl)), tt) (alone copy)
@@ -123,7 +125,7 @@ module _ (limits : Limits) (bucket key : List ℕ) where
   abbrev delete : Round
   delete = round (job_of 0 op.Delete 0) (ask.Delete bucket key) [] [] (without_object one_bucket bucket key)
 
-  deletes : IsMet limits bucket key (λ journal dispatched. AllThatChange bucket key (AsksDelete bucket key) dispatched)
+  deletes : IsDestMet limits bucket key (λ journal dispatched. AllThatChange bucket key (AsksDelete bucket key) dispatched)
   deletes =
       met limits bucket key (λ journal dispatched. AllThatChange bucket key (AsksDelete bucket key) dispatched) one_bucket (delete ∷ []) ((bare_has bucket [], refl), tt) (alone delete) (bare_is_faithful (bucket ∷ []))
       (faithful_without one_bucket bucket key (bare_is_faithful (bucket ∷ [])), tt) (of_one bucket key (AsksDelete bucket key) (dispatch_at 0 delete) refl) 0 delete refl (inl refl) (refl, refl)
@@ -146,15 +148,11 @@ module _ (limits : Limits) (bucket key : List ℕ) where
       none_is : (a : Attempt) → ◌≡◌ {A = Option Attempt} None (Some a) → ⊥
       none_is a e = cc
 
-  refused : IsRefusalMet limits bucket key
+  refused : IsMet limits (IsPlace bucket key) (λ (run : Run). AllThatChange bucket key (AllRefused Told) run.dispatched × IsAskedOf run.dispatched bucket key)
   refused = record {
-    start = one_bucket;
-    trace = steps_from 0 one_bucket (refused_delete ∷ []);
-    journal = journal_of (refused_delete ∷ []);
-    dispatched = dispatched_from 0 (refused_delete ∷ []);
-    fitting = rounds_fitting limits one_bucket (refused_delete ∷ []) ((refl, tt), tt) (alone refused_delete) (bare_is_faithful (bucket ∷ [])) (bare_is_faithful (bucket ∷ []), tt) (λ b k. (b ≡ bucket) × (k ≡ key));
-    refused = of_one bucket key (AllRefused Told) (dispatch_at 0 refused_delete) is_refused;
-    asked = (dispatch_at 0 refused_delete, (0, omega arith, refl), (refl, refl));
+    run = run_by one_bucket (refused_delete ∷ []);
+    fitting = rounds_fitting limits one_bucket (refused_delete ∷ []) ((refl, tt), tt) (alone refused_delete) (bare_is_faithful (bucket ∷ [])) (bare_is_faithful (bucket ∷ []), tt) (IsPlace bucket key);
+    such = (of_one bucket key (AllRefused Told) (dispatch_at 0 refused_delete) is_refused, (dispatch_at 0 refused_delete, (0, omega arith, refl), (refl, refl)));
   }
 
 pub delete_is_met : DeleteIsMet
@@ -167,17 +165,16 @@ refusal_is_met limits bucket key = refused limits bucket key
 
 pub frame_is_met : FrameIsMet
 frame_is_met limits bucket key other apart = record {
-  start = bare (bucket ∷ []);
-  trace = steps_from 0 (bare (bucket ∷ [])) (put limits bucket other [] ∷ []);
-  journal = journal_of (put limits bucket other [] ∷ []);
-  dispatched = dispatched_from 0 (put limits bucket other [] ∷ []);
+  run = run_by (bare (bucket ∷ [])) (put limits bucket other [] ∷ []);
   fitting = rounds_fitting limits (bare (bucket ∷ [])) (put limits bucket other [] ∷ []) ((bare_has bucket [], λ never. absurd (false_true never), (object_of [], refl, refl)), tt) (alone (put limits bucket other [])) (bare_is_faithful (bucket ∷ []))
-      (faithful_with (bare (bucket ∷ [])) bucket other [] (bare_is_faithful (bucket ∷ [])), tt) (λ b k. (b ≡ bucket) × (k ≡ key));
-  request = dispatch_at 0 (put limits bucket other []);
-  known = (0, omega arith, refl);
-  unasked = λ asked. elsewhere asked.0 (has (dispatched_from 0 (put limits bucket other [] ∷ [])) asked.0 asked.1) asked.2;
-  unwritten = rounds_unwritten limits (bare (bucket ∷ [])) (put limits bucket other [] ∷ []) ((bare_has bucket [], λ never. absurd (false_true never), (object_of [], refl, refl)), tt) (alone (put limits bucket other [])) (bare_is_faithful (bucket ∷ []))
-      (faithful_with (bare (bucket ∷ [])) bucket other [] (bare_is_faithful (bucket ∷ [])), tt) bucket key;
+      (faithful_with (bare (bucket ∷ [])) bucket other [] (bare_is_faithful (bucket ∷ [])), tt) (IsPlace bucket key);
+  such = record {
+    request = dispatch_at 0 (put limits bucket other []);
+    known = (0, omega arith, refl);
+    unasked = λ asked. elsewhere asked.0 (has (dispatched_from 0 (put limits bucket other [] ∷ [])) asked.0 asked.1) asked.2;
+    unwritten = rounds_unwritten limits (bare (bucket ∷ [])) (put limits bucket other [] ∷ []) ((bare_has bucket [], λ never. absurd (false_true never), (object_of [], refl, refl)), tt) (alone (put limits bucket other [])) (bare_is_faithful (bucket ∷ []))
+        (faithful_with (bare (bucket ∷ [])) bucket other [] (bare_is_faithful (bucket ∷ [])), tt) bucket key;
+  };
 }
   where
     elsewhere : (c : Dispatched) → Has (dispatched_from 0 (put limits bucket other [] ∷ [])) c → MayChange c.ask bucket key → ⊥
@@ -233,19 +230,26 @@ module _ (limits : Limits) (bucket key from_bucket from_key etag : List ℕ) (ap
   pub copied_is_faithful : IsFaithful (copied limits bucket key from_bucket from_key etag)
   copied_is_faithful = faithful_with (with_source limits bucket key from_bucket from_key etag) bucket key etag (source_is_faithful limits bucket key from_bucket from_key etag)
 
+  abbrev done : IsDestMet limits bucket key (λ journal dispatched. AllThatChange bucket key (AsksCopy bucket key from_bucket from_key etag) dispatched)
+  done = met limits bucket key (λ journal dispatched. AllThatChange bucket key (AsksCopy bucket key from_bucket from_key etag) dispatched) (with_source limits bucket key from_bucket from_key etag) move move_served move_apart
+      (source_is_faithful limits bucket key from_bucket from_key etag) (copied_is_faithful, (faithful_without (copied limits bucket key from_bucket from_key etag) from_bucket from_key copied_is_faithful, tt)) copy_alone
+      0 (copy limits bucket key from_bucket from_key etag) refl (inl refl) (refl, refl)
+
   moves : IsMoveMet limits bucket key from_bucket from_key (λ journal dispatched. AllThatChange bucket key (AsksCopy bucket key from_bucket from_key etag) dispatched)
   unfolding met
   moves = record {
-    copy = met limits bucket key (λ journal dispatched. AllThatChange bucket key (AsksCopy bucket key from_bucket from_key etag) dispatched) (with_source limits bucket key from_bucket from_key etag) move move_served move_apart
-        (source_is_faithful limits bucket key from_bucket from_key etag) (copied_is_faithful, (faithful_without (copied limits bucket key from_bucket from_key etag) from_bucket from_key copied_is_faithful, tt)) copy_alone
-        0 (copy limits bucket key from_bucket from_key etag) refl (inl refl) (refl, refl);
-    job = job_of 0 op.Delete 0;
-    waits = λ d known same. later d (has (dispatched_from 0 move) d known) same;
-    lane = 0;
-    sent = request_at (dispatch_at 2 source_gone) 0;
-    begins = (5, omega arith, refl);
-    of_job = refl;
-    deletes = refl;
+    run = done.run;
+    fitting = done.fitting;
+    such = record {
+      copy = done.such;
+      job = job_of 0 op.Delete 0;
+      waits = λ d known same. later d (has (dispatched_from 0 move) d known) same;
+      lane = 0;
+      sent = request_at (dispatch_at 2 source_gone) 0;
+      begins = (5, omega arith, refl);
+      of_job = refl;
+      deletes = refl;
+    };
   }
     where
       later : (d : Dispatched) → Has (dispatched_from 0 move) d → d.dispatch.job ≡ job_of 0 op.Delete 0 → IsBefore (Some 1) d.dispatch.given_at

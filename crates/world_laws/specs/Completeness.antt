@@ -1,4 +1,5 @@
--- What a service that does what it may owes to a run: each task is done, but one whose file call failed or for which memory ran out.
+-- What a service that does what it may owes to a run: each task is done, but one whose file call failed or for which
+-- memory ran out.
 use Rattle.std.specs.Prelude.{◌≡◌, ◌⊎◌, ℕ, true, List, [], Some, None, length, slice_get}
 use Rattle.s3_model.specs.declared.requests.Ask.{Ask}
 use Rattle.s3_model.specs.declared.answers.Class.{Class}
@@ -18,18 +19,22 @@ use Rattle.run_promise.specs.Fits.{Fits}
 use Rattle.run_promise.specs.Schedule.{IsObject, IsSource, IsSchedule}
 use Rattle.run_promise.specs.Traces.{Step, IsTrace, IsHonest, IsWilling, events_of}
 use Rattle.run_promise.specs.Truthful.{Shown, AreCertain, IsAlone, HasDestBuckets, IsDest, IsDoneWhereWilling, IsFinished, MayBeFresh, WasTaken}
-use Rattle.world_laws.specs.Promises.{IsOrderly}
+use Rattle.world_laws.specs.Promises.{IsOrderly, run_of}
 use Rattle.world_laws.specs.Tasks.{HasSourceFile, IsTraceOf}
 
--- What planning made sure of: the source of each copy is there when the run begins, under the planned ETag and with the planned size,
--- is no destination of the run, and goes only by its own copy's move; and each uploaded file has the planned size.
+-- What planning made sure of: the source of each copy is there when the run begins, under the planned ETag and with the
+-- planned size, is no destination of the run, and goes only by its own copy's move; and each uploaded file has the
+-- planned size.
 pub record AreSourcesThere (held : MapOf HeldFile) (tasks : List Task) (start : State) : Type 0 where
   pub files : (n : ℕ) (task : Task) → slice_get tasks n ≡ Some task → task.kind ≡ kind.Upload → HasSourceFile held task
-  pub there : (n : ℕ) (task : Task) (bucket key : List ℕ) → slice_get tasks n ≡ Some task → task.kind ≡ kind.Copy → IsSource task.source bucket key
+  pub there : (n : ℕ) (task : Task) (bucket key : List ℕ) → slice_get tasks n ≡ Some task → task.kind ≡ kind.Copy
+      → IsSource task.source bucket key
       → (object : Object) × IsThere start bucket key task.etag object × (length object.bytes ≡ task.size)
-  pub no_dest : (m n : ℕ) (a b : Task) (bucket key : List ℕ) → slice_get tasks m ≡ Some a → slice_get tasks n ≡ Some b → a.kind ≡ kind.Copy → IsSource a.source bucket key → IsObject b.dest bucket key → ⊥
-  pub moved_once : (m n : ℕ) (a b : Task) (bucket key : List ℕ) → slice_get tasks m ≡ Some a → slice_get tasks n ≡ Some b → a.kind ≡ kind.Copy → IsSource a.source bucket key
-      → b.moves ≡ true → IsSource b.source bucket key → m ≡ n
+  pub no_dest : (m n : ℕ) (a b : Task) (bucket key : List ℕ) → slice_get tasks m ≡ Some a → slice_get tasks n ≡ Some b
+      → a.kind ≡ kind.Copy → IsSource a.source bucket key → IsObject b.dest bucket key → ⊥
+  pub moved_once : (m n : ℕ) (a b : Task) (bucket key : List ℕ) → slice_get tasks m ≡ Some a
+      → slice_get tasks n ≡ Some b
+      → a.kind ≡ kind.Copy → IsSource a.source bucket key → b.moves ≡ true → IsSource b.source bucket key → m ≡ n
 
 -- only an upload or a download may be told not to replace
 abbrev pub AreFreshByKind : List Task → Type 0
@@ -38,35 +43,49 @@ AreFreshByKind tasks = (n : ℕ) (task : Task) → slice_get tasks n ≡ Some ta
 -- what is owed to a task
 abbrev pub IsOwed : Shown → State → ℕ → Outcome → Type 0
 IsOwed shown start n how =
-    IsFinished shown.setting.dryrun (WasTaken shown start n) how ⊎ (shown.setting.file_failed n ≡ true) ⊎ (shown.setting.wanted_memory (Some n) ≡ true)
+    IsFinished shown.setting.dryrun (WasTaken shown start n) how ⊎ (shown.setting.file_failed n ≡ true)
+    ⊎ (shown.setting.wanted_memory (Some n) ≡ true)
 
 -- `Shows ask limit talk class bytes`: the talk has that class for the ask, and its answer that body;
 -- `HasStatus ask limit talk status`: the talk's answer has that HTTP status;
 -- `Plans`: the planning jobs, in order, are those that the command needs;
 -- `CallFailed n why`: the calls on files show that one of task n failed so
-module _ (Shows : Ask → ℕ → Talk → Class → List ℕ → Type 0) (HasStatus : Ask → ℕ → Talk → ℕ → Type 0) (Plans : List Dispatched → Type 0) (CallFailed : ℕ → Cause → Type 0) where
+module _ (Shows : Ask → ℕ → Talk → Class → List ℕ → Type 0) (HasStatus : Ask → ℕ → Talk → ℕ → Type 0)
+    (Plans : List Dispatched → Type 0) (CallFailed : ℕ → Cause → Type 0) where
   -- a task that failed by a call on files counts as one whose file call failed
   abbrev pub AreCallsCounted : Shown → Type 0
-  AreCallsCounted shown = (n : ℕ) (why : Cause) → slice_get shown.outcomes n ≡ Some (outcome.Failed why) → CallFailed n why → shown.setting.file_failed n ≡ true
+  AreCallsCounted shown = (n : ℕ) (why : Cause) → slice_get shown.outcomes n ≡ Some (outcome.Failed why)
+      → CallFailed n why
+      → shown.setting.file_failed n ≡ true
 
-  -- Over a willing service, with each answer certain, nobody else writing, the buckets and the sources there, and no cancel, an orderly run owes nothing.
+  -- Over a willing service, with each answer certain, nobody else writing, the buckets and the sources there, and no
+  -- cancel, an orderly run owes nothing.
   abbrev pub WillingIsDone : Type 0
-  WillingIsDone = (request_text : Ask → List ℕ → ℕ → List ℕ) (host : List ℕ) (port : ℕ) (shown : Shown) (dispatched coming : List Dispatched) (start : State) (trace : List Step)
-      → IsOrderly Shows HasStatus Plans CallFailed request_text host port shown dispatched coming → AreCallsCounted shown → AreFreshByKind shown.setting.tasks
-      → IsTraceOf Shows shown.setting start trace shown.journal dispatched → IsWilling shown.setting.limits start trace
-      → AreCertain Shows HasStatus request_text host port Plans CallFailed dispatched → IsAlone trace → HasDestBuckets shown.setting.tasks start → AreSourcesThere shown.setting.held shown.setting.tasks start
+  WillingIsDone = (request_text : Ask → List ℕ → ℕ → List ℕ) (host : List ℕ) (port : ℕ) (shown : Shown)
+      (dispatched coming : List Dispatched) (start : State) (trace : List Step)
+      → IsOrderly Shows HasStatus Plans CallFailed request_text host port shown dispatched coming
+      → AreCallsCounted shown
+      → AreFreshByKind shown.setting.tasks → IsTraceOf Shows shown.setting (run_of shown dispatched start trace)
+      → IsWilling shown.setting.limits start trace
+      → AreCertain Shows HasStatus request_text host port Plans CallFailed dispatched → IsAlone trace
+      → HasDestBuckets shown.setting.tasks start → AreSourcesThere shown.setting.held shown.setting.tasks start
       → shown.setting.cancelled_at ≡ None
       → (n : ℕ) (how : Outcome) → slice_get shown.outcomes n ≡ Some how → IsOwed shown start n how
 
-  -- So a run that is orderly however its jobs are read is done where the service is willing. That the sources were there is asked only where
-  -- nobody else writes, since there what planning found was so from the start.
+  -- So a run that is orderly however its jobs are read is done where the service is willing. That the sources were
+  -- there is asked only where nobody else writes, since there what planning found was so from the start.
   abbrev pub OrderlyIsDone : Type 0
-  OrderlyIsDone = (request_text : Ask → List ℕ → ℕ → List ℕ) (host : List ℕ) (port : ℕ) (shown : Shown) → AreCallsCounted shown → AreFreshByKind shown.setting.tasks
+  OrderlyIsDone = (request_text : Ask → List ℕ → ℕ → List ℕ) (host : List ℕ) (port : ℕ) (shown : Shown)
+      → AreCallsCounted shown
+      → AreFreshByKind shown.setting.tasks
       → ((dispatched coming : List Dispatched) → IsSchedule Shows shown.setting Plans dispatched coming
       → IsCarried Shows request_text host port shown.setting shown.journal shown.logs shown.notes dispatched coming
       → IsOrderly Shows HasStatus Plans CallFailed request_text host port shown dispatched coming)
-      → ((dispatched coming : List Dispatched) (start : State) (trace : List Step) → IsSchedule Shows shown.setting Plans dispatched coming
+      → ((dispatched coming : List Dispatched) (start : State) (trace : List Step)
+      → IsSchedule Shows shown.setting Plans dispatched coming
       → IsCarried Shows request_text host port shown.setting shown.journal shown.logs shown.notes dispatched coming
-      → IsTrace shown.setting.limits [] start trace → IsHonest start trace (IsDest shown.setting.tasks) → IsWilling shown.setting.limits start trace → IsAlone trace
-      → Fits Shows (events_of trace) shown.journal dispatched → AreSourcesThere shown.setting.held shown.setting.tasks start)
+      → IsTrace shown.setting.limits [] start trace → IsHonest start trace (IsDest shown.setting.tasks)
+      → IsWilling shown.setting.limits start trace → IsAlone trace
+      → Fits Shows (events_of trace) shown.journal dispatched
+      → AreSourcesThere shown.setting.held shown.setting.tasks start)
       → IsDoneWhereWilling Shows HasStatus request_text host port Plans CallFailed shown

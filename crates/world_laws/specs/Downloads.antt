@@ -1,5 +1,5 @@
 -- What a Get that came with success tells of the object: what it had under the asked ETag at some moment.
-use Rattle.std.specs.Prelude.{◌≡◌, ◌≤◌, ℕ, List, Option, Some, None, Contains, length}
+use Rattle.std.specs.Prelude.{◌≡◌, ◌≤◌, ℕ, List, Option, Some, None, Contains}
 use Rattle.s3_model.specs.declared.requests.Ask.{Ask}
 use Rattle.s3_model.specs.declared.requests.Ask.TheVariants as ask
 use Rattle.s3_model.specs.declared.answers.Reply.{Reply}
@@ -8,13 +8,11 @@ use Rattle.s3_model.specs.declared.answers.Class.{Class}
 use Rattle.s3_model.specs.declared.outcomes.Event.{Event}
 use Rattle.s3_model.specs.declared.settings.Limits.{Limits}
 use Rattle.s3_model.specs.Talks.{Talk}
-use Rattle.s3_service.specs.ServiceState.{State}
 use Rattle.run_promise.specs.Dispatches.{Dispatched}
-use Rattle.run_promise.specs.Traces.{Step, states}
 use Rattle.s3_model.specs.Parts.{piece_count}
 use Rattle.run_promise.specs.Schedule.{asked_range}
-use Rattle.world_laws.specs.Premises.{IsFitting, HasCome, HasSucceeded}
-use Rattle.world_laws.specs.SmallTransfers.{HadContent}
+use Rattle.world_laws.specs.Premises.{Run, moments, IsFitting, IsNoPlace, HasCome, HasSucceeded}
+use Rattle.world_laws.specs.SmallTransfers.{HadContent, HasSize}
 use Rattle.world_laws.specs.Multipart.{joined}
 
 -- the reply has the status of a part of the object
@@ -25,7 +23,9 @@ IsPartial answered = ⊥
 -- `Shows ask limit talk class bytes`: the talk has that class for the ask, and its answer that body
 module _ (Shows : Ask → ℕ → Talk → Class → List ℕ → Type 0) where
   -- a Get of that range came with success, and its body is these bytes
-  pub record IsGot (dispatched : List Dispatched) (journal : List Event) (bucket key etag : List ℕ) (range : Option (ℕ × ℕ)) (bytes : List ℕ) : Type 0 where
+  pub record IsGot (journal : List Event) (dispatched : List Dispatched) (bucket key etag : List ℕ)
+      (range : Option (ℕ × ℕ))
+      (bytes : List ℕ) : Type 0 where
     pub get : Dispatched
     pub known : Contains dispatched get
     pub is_get : get.ask ≡ ask.Get bucket key etag range
@@ -35,12 +35,19 @@ module _ (Shows : Ask → ℕ → Talk → Class → List ℕ → Type 0) where
 
   -- A Get of the whole tells what the object had.
   abbrev pub GetTells : Type 0
-  GetTells = (limits : Limits) (start : State) (trace : List Step) (journal : List Event) (dispatched : List Dispatched) (bucket key etag bytes : List ℕ)
-      → IsFitting Shows limits start trace journal dispatched (λ b k. ⊥) → IsGot dispatched journal bucket key etag None bytes → HadContent (states start trace) bucket key etag bytes
+  GetTells = (limits : Limits) (run : Run) (bucket key etag bytes : List ℕ) → IsFitting Shows limits run IsNoPlace
+      → IsGot run.journal run.dispatched bucket key etag None bytes → HadContent (moments run) bucket key etag bytes
 
-  -- The ranges of an object of a known size, each asked for and answered as a part, make what it had, in order.
+  -- each range of an object of that size was asked for, and answered as a part
+  abbrev pub AreGotInParts : List Event → List Dispatched → (bucket key etag : List ℕ) → (size piece : ℕ)
+      → (bodies : ℕ → List ℕ) → Type 0
+  AreGotInParts journal dispatched bucket key etag size piece bodies = (k : ℕ) → 1 ≤ k → k ≤ piece_count size piece
+      → (got : IsGot journal dispatched bucket key etag (Some (asked_range size piece k)) (bodies k))
+      × IsPartial got.succeeded.reply
+
+  -- The ranges of an object of a known size make what it had, in order.
   abbrev pub RangesTell : Type 0
-  RangesTell = (limits : Limits) (start : State) (trace : List Step) (journal : List Event) (dispatched : List Dispatched) (bucket key etag : List ℕ) (size piece : ℕ) (bodies : ℕ → List ℕ)
-      → IsFitting Shows limits start trace journal dispatched (λ b k. ⊥) → 1 ≤ size → 1 ≤ piece → ((bytes : List ℕ) → HadContent (states start trace) bucket key etag bytes → length bytes ≡ size)
-      → ((k : ℕ) → 1 ≤ k → k ≤ piece_count size piece → (got : IsGot dispatched journal bucket key etag (Some (asked_range size piece k)) (bodies k)) × IsPartial got.succeeded.reply)
-      → HadContent (states start trace) bucket key etag (joined bodies 1 (piece_count size piece))
+  RangesTell = (limits : Limits) (run : Run) (bucket key etag : List ℕ) (size piece : ℕ) (bodies : ℕ → List ℕ)
+      → IsFitting Shows limits run IsNoPlace → 1 ≤ size → 1 ≤ piece → HasSize (moments run) bucket key etag size
+      → AreGotInParts run.journal run.dispatched bucket key etag size piece bodies
+      → HadContent (moments run) bucket key etag (joined bodies 1 (piece_count size piece))

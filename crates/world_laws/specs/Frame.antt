@@ -1,16 +1,14 @@
 -- What no request of a run may change, and nobody else writes, stays as it was.
-use Rattle.std.specs.Prelude.{◌≡◌, ◌++◌, ◌⊎◌, ℕ, List, [], Contains}
+use Rattle.std.specs.Prelude.{◌⊎◌, ℕ, List, Contains}
 use Rattle.s3_model.specs.declared.requests.Ask.{Ask}
 use Rattle.s3_model.specs.declared.answers.Class.{Class}
-use Rattle.s3_model.specs.declared.outcomes.Event.{Event}
 use Rattle.s3_model.specs.declared.settings.Limits.{Limits}
 use Rattle.s3_model.specs.Talks.{Talk}
-use Rattle.s3_service.specs.ServiceState.{State, object_at}
 use Rattle.s3_service.specs.Serves.{MayChange}
 use Rattle.run_promise.specs.Dispatches.{Dispatched}
-use Rattle.run_promise.specs.Traces.{Step, IsTrace, state_after, events_of}
-use Rattle.run_promise.specs.Fits.{Fits}
+use Rattle.run_promise.specs.Traces.{Step}
 use Rattle.run_promise.specs.Truthful.{IsExternal}
+use Rattle.world_laws.specs.Premises.{Run, BeginsWith, HasTrace, IsOldAfter}
 
 -- some dispatched request may change the object
 abbrev pub IsAskedOf : List Dispatched → List ℕ → List ℕ → Type 0
@@ -20,6 +18,6 @@ IsAskedOf dispatched bucket key = (c : Dispatched) × Contains dispatched c × M
 module _ (Shows : Ask → ℕ → Talk → Class → List ℕ → Type 0) where
   -- Some request may change the object, somebody else wrote it, or it is as it was, after each beginning of a trace.
   abbrev pub OthersStay : Type 0
-  OthersStay = (limits : Limits) (start : State) (trace part late : List Step) (journal : List Event) (dispatched : List Dispatched) (bucket key : List ℕ)
-      → IsTrace limits [] start trace → Fits Shows (events_of trace) journal dispatched → trace ≡ part ++ late
-      → IsAskedOf dispatched bucket key ⊎ IsExternal trace bucket key ⊎ (object_at (state_after start part) bucket key ≡ object_at start bucket key)
+  OthersStay = (limits : Limits) (run : Run) (part : List Step) (bucket key : List ℕ) → HasTrace Shows limits run
+      → BeginsWith run part
+      → IsAskedOf run.dispatched bucket key ⊎ IsExternal run.trace bucket key ⊎ IsOldAfter run part bucket key

@@ -25,12 +25,14 @@ joined pieces at (suc n) = pieces at ++ joined pieces (at + 1) n
 -- it has the ranges, 1 to count, of what the source had under the ETag
 abbrev pub IsCopiedInParts : List ℕ → List ℕ → List ℕ → List ℕ → List ℕ → (ℕ → ℕ × ℕ) → ℕ → List State → State → Type 0
 IsCopiedInParts bucket key from_bucket from_key etag ranges count moments t =
-    (bytes : List ℕ) × HadContent moments from_bucket from_key etag bytes × HasBytes t bucket key (joined (λ n. bytes_within (ranges n) bytes) 1 count)
+    (bytes : List ℕ) × HadContent moments from_bucket from_key etag bytes
+    × HasBytes t bucket key (joined (λ n. bytes_within (ranges n) bytes) 1 count)
 
 -- `Shows ask limit talk class bytes`: the talk has that class for the ask, and its answer that body
 module _ (Shows : Ask → ℕ → Talk → Class → List ℕ → Type 0) where
   -- a Create for the object came with success and named the id
-  pub record IsCreated (bucket key : List ℕ) (journal : List Event) (dispatched : List Dispatched) (id : List ℕ) : Type 0 where
+  pub record IsCreated (bucket key : List ℕ) (journal : List Event) (dispatched : List Dispatched)
+      (id : List ℕ) : Type 0 where
     pub create : Dispatched
     pub known : Contains dispatched create
     pub content : Option (List ℕ)
@@ -40,7 +42,8 @@ module _ (Shows : Ask → ℕ → Talk → Class → List ℕ → Type 0) where
     pub names : succeeded.reply ≡ reply.Created id
 
   -- the request completes an upload for the object that this run created, with so many parts
-  pub record CompletesHere (bucket key : List ℕ) (count : ℕ) (journal : List Event) (dispatched : List Dispatched) (c : Dispatched) : Type 0 where
+  pub record CompletesHere (bucket key : List ℕ) (count : ℕ) (journal : List Event) (dispatched : List Dispatched)
+      (c : Dispatched) : Type 0 where
     pub id : List ℕ
     pub etags : Reserved (List ℕ)
     pub fresh : Bool
@@ -49,34 +52,50 @@ module _ (Shows : Ask → ℕ → Talk → Class → List ℕ → Type 0) where
     pub created : IsCreated bucket key journal dispatched id
 
   -- what changes the object completes such an upload, and each part for the object carries its piece
-  pub record AreParts (bucket key : List ℕ) (pieces : ℕ → List ℕ) (count : ℕ) (journal : List Event) (dispatched : List Dispatched) : Type 0 where
+  pub record AreParts (bucket key : List ℕ) (pieces : ℕ → List ℕ) (count : ℕ) (journal : List Event)
+      (dispatched : List Dispatched) : Type 0 where
     pub completes : AllThatChange bucket key (CompletesHere bucket key count journal dispatched) dispatched
-    pub parts : (c : Dispatched) (id : List ℕ) (number : ℕ) → Contains dispatched c → c.ask ≡ ask.Part bucket key id number → c.body ≡ pieces number
-    pub no_copies : (c : Dispatched) (id : List ℕ) (number : ℕ) (b k under : List ℕ) (range : ℕ × ℕ) → Contains dispatched c → c.ask ≡ ask.PartCopy bucket key id number b k under range → ⊥
+    pub parts : (c : Dispatched) (id : List ℕ) (number : ℕ) → Contains dispatched c
+        → c.ask ≡ ask.Part bucket key id number
+        → c.body ≡ pieces number
+    pub no_copies : (c : Dispatched) (id : List ℕ) (number : ℕ) (b k under : List ℕ) (range : ℕ × ℕ)
+        → Contains dispatched c
+        → c.ask ≡ ask.PartCopy bucket key id number b k under range → ⊥
 
   -- what changes the object completes such an upload, and each part for the object copies its range of the source
-  pub record AreCopiedParts (bucket key from_bucket from_key etag : List ℕ) (ranges : ℕ → ℕ × ℕ) (count : ℕ) (journal : List Event) (dispatched : List Dispatched) : Type 0 where
+  pub record AreCopiedParts (bucket key from_bucket from_key etag : List ℕ) (ranges : ℕ → ℕ × ℕ) (count : ℕ)
+      (journal : List Event)
+      (dispatched : List Dispatched) : Type 0 where
     pub completes : AllThatChange bucket key (CompletesHere bucket key count journal dispatched) dispatched
-    pub no_parts : (c : Dispatched) (id : List ℕ) (number : ℕ) → Contains dispatched c → c.ask ≡ ask.Part bucket key id number → ⊥
-    pub copies : (c : Dispatched) (id : List ℕ) (number : ℕ) (b k under : List ℕ) (range : ℕ × ℕ) → Contains dispatched c → c.ask ≡ ask.PartCopy bucket key id number b k under range
+    pub no_parts : (c : Dispatched) (id : List ℕ) (number : ℕ) → Contains dispatched c
+        → c.ask ≡ ask.Part bucket key id number → ⊥
+    pub copies : (c : Dispatched) (id : List ℕ) (number : ℕ) (b k under : List ℕ) (range : ℕ × ℕ)
+        → Contains dispatched c
+        → c.ask ≡ ask.PartCopy bucket key id number b k under range
         → (b ≡ from_bucket) × (k ≡ from_key) × (under ≡ etag) × (range ≡ ranges number)
 
   -- ---- the laws
 
   abbrev pub PartsAreStored : Type 0
-  PartsAreStored = (bucket key : List ℕ) (pieces : ℕ → List ℕ) (count : ℕ) → IsNewAfterSuccess Shows bucket key (AreParts bucket key pieces count) (IsStored bucket key (joined pieces 1 count))
+  PartsAreStored = (bucket key : List ℕ) (pieces : ℕ → List ℕ) (count : ℕ)
+      → IsNewAfterSuccess Shows bucket key (AreParts bucket key pieces count)
+      (IsStored bucket key (joined pieces 1 count))
 
   abbrev pub PartsAreWhole : Type 0
-  PartsAreWhole = (bucket key : List ℕ) (pieces : ℕ → List ℕ) (count : ℕ) → IsOldOrNew Shows bucket key (AreParts bucket key pieces count) (IsStored bucket key (joined pieces 1 count))
+  PartsAreWhole = (bucket key : List ℕ) (pieces : ℕ → List ℕ) (count : ℕ)
+      → IsOldOrNew Shows bucket key (AreParts bucket key pieces count) (IsStored bucket key (joined pieces 1 count))
 
   abbrev pub CopiedPartsAreStored : Type 0
   CopiedPartsAreStored = (bucket key from_bucket from_key etag : List ℕ) (ranges : ℕ → ℕ × ℕ) (count : ℕ)
-      → IsNewAfterSuccess Shows bucket key (AreCopiedParts bucket key from_bucket from_key etag ranges count) (IsCopiedInParts bucket key from_bucket from_key etag ranges count)
+      → IsNewAfterSuccess Shows bucket key (AreCopiedParts bucket key from_bucket from_key etag ranges count)
+      (IsCopiedInParts bucket key from_bucket from_key etag ranges count)
 
   abbrev pub CopiedPartsAreWhole : Type 0
   CopiedPartsAreWhole = (bucket key from_bucket from_key etag : List ℕ) (ranges : ℕ → ℕ × ℕ) (count : ℕ)
-      → IsOldOrNew Shows bucket key (AreCopiedParts bucket key from_bucket from_key etag ranges count) (IsCopiedInParts bucket key from_bucket from_key etag ranges count)
+      → IsOldOrNew Shows bucket key (AreCopiedParts bucket key from_bucket from_key etag ranges count)
+      (IsCopiedInParts bucket key from_bucket from_key etag ranges count)
 
 -- An upload whose Abort was answered with success is open at no later moment.
 abbrev pub AbortsAreFinal : Type 0
-AbortsAreFinal = (limits : Limits) (start : State) (trace : List Step) → IsTrace limits [] start trace → AbortsLast trace
+AbortsAreFinal = (limits : Limits) (start : State) (trace : List Step) → IsTrace limits [] start trace
+    → AbortsLast trace

@@ -1,5 +1,6 @@
--- What laws over traces take from a run: which of its dispatches came, and how their attempts went.
-use Rattle.std.specs.Prelude.{◌≡◌, ◌<◌, ℕ, List, [], Some, slice_get, Contains}
+-- A run with a trace of a service, and what laws take from it: which of its dispatches came, and how their attempts
+-- went.
+use Rattle.std.specs.Prelude.{◌≡◌, ◌<◌, ◌++◌, ℕ, List, [], Some, slice_get, Contains}
 use Rattle.s3_model.specs.declared.requests.Ask.{Ask}
 use Rattle.s3_model.specs.declared.answers.Reply.{Reply}
 use Rattle.s3_model.specs.declared.answers.Class.{Class}
@@ -10,34 +11,83 @@ use Rattle.s3_model.specs.declared.outcomes.Event.TheVariants as entry
 use Rattle.s3_model.specs.declared.settings.Limits.{Limits}
 use Rattle.s3_model.specs.declared.tries.Mark.{Mark}
 use Rattle.s3_model.specs.Talks.{Talk}
-use Rattle.s3_service.specs.ServiceState.{State}
+use Rattle.s3_service.specs.ServiceState.{State, object_at}
+use Rattle.s3_service.specs.Serves.{MayChange}
 use Rattle.run_promise.specs.Dispatches.{Attempt, Dispatched}
-use Rattle.run_promise.specs.Traces.{Step, IsTrace, IsHonest, events_of}
+use Rattle.run_promise.specs.Traces.{Request, Step, Begin, IsTrace, IsHonest, events_of, state_after, states}
 use Rattle.run_promise.specs.Fits.{Fits}
+use Rattle.run_promise.specs.Truthful.{HasJournal}
+
+-- ---- a run
+
+-- A run: its journal and its dispatched requests, with a trace of a service, the state that this starts from and its
+-- steps.
+pub record Run : Type 0 where
+  pub start : State
+  pub trace : List Step
+  pub journal : List Event
+  pub dispatched : List Dispatched
+
+-- the states of the service, at the start and after each step
+abbrev pub moments : Run → List State
+moments run = states run.start run.trace
+
+-- the trace begins so
+abbrev pub BeginsWith : Run → List Step → Type 0
+BeginsWith run part = (late : List Step) × (run.trace ≡ part ++ late)
+
+-- the trace begins so, and all of the journal happened by then
+abbrev pub HasEndedBy : Run → List Step → Type 0
+HasEndedBy run part = HasJournal run.journal run.trace part
+
+-- the object is then as it was at the start
+abbrev pub IsOldAfter : Run → List Step → List ℕ → List ℕ → Type 0
+IsOldAfter run part bucket key = object_at (state_after run.start part) bucket key ≡ object_at run.start bucket key
+
+-- a request of the job begins there
+abbrev pub HasBegun : List Step → JobId → Type 0
+HasBegun part job = (lane : ℕ) × (sent : Request) × Contains (events_of part) (Begin lane sent) × (sent.job ≡ job)
+
+-- ---- its jobs
 
 -- the dispatch came, at its place in the journal
 abbrev pub HasCome : List Event → Dispatched → Type 0
-HasCome journal c = (place : ℕ) × (tries : List Mark) × (c.dispatch.came_at ≡ Some place) × (slice_get journal place ≡ Some (entry.Came c.dispatch.job c.dispatch.lane tries))
+HasCome journal c =
+    (place : ℕ) × (tries : List Mark) × (c.dispatch.came_at ≡ Some place)
+    × (slice_get journal place ≡ Some (entry.Came c.dispatch.job c.dispatch.lane tries))
 
 -- Each dispatch was given at its place in the journal and came after it, and nothing else was given or came.
 pub record AreGiven (journal : List Event) (dispatched : List Dispatched) : Type 0 where
-  pub given : (c : Dispatched) → Contains dispatched c → slice_get journal c.dispatch.given_at ≡ Some (entry.Given c.dispatch.job c.dispatch.lane)
-  pub in_order : (c : Dispatched) (place : ℕ) → Contains dispatched c → c.dispatch.came_at ≡ Some place → c.dispatch.given_at < place
-  pub each_given : (place lane : ℕ) (job : JobId) → slice_get journal place ≡ Some (entry.Given job lane) → (c : Dispatched) × Contains dispatched c × (c.dispatch.job ≡ job) × (c.dispatch.given_at ≡ place)
-  pub each_came : (place lane : ℕ) (job : JobId) (tries : List Mark) → slice_get journal place ≡ Some (entry.Came job lane tries)
+  pub given : (c : Dispatched) → Contains dispatched c
+      → slice_get journal c.dispatch.given_at ≡ Some (entry.Given c.dispatch.job c.dispatch.lane)
+  pub in_order : (c : Dispatched) (place : ℕ) → Contains dispatched c → c.dispatch.came_at ≡ Some place
+      → c.dispatch.given_at < place
+  pub each_given : (place lane : ℕ) (job : JobId) → slice_get journal place ≡ Some (entry.Given job lane)
+      → (c : Dispatched) × Contains dispatched c × (c.dispatch.job ≡ job) × (c.dispatch.given_at ≡ place)
+  pub each_came : (place lane : ℕ) (job : JobId) (tries : List Mark)
+      → slice_get journal place ≡ Some (entry.Came job lane tries)
       → (c : Dispatched) × Contains dispatched c × (c.dispatch.job ≡ job) × (c.dispatch.came_at ≡ Some place)
 
 -- this place and no other
 abbrev pub IsPlace : List ℕ → List ℕ → List ℕ → List ℕ → Type 0
 IsPlace bucket key b k = (b ≡ bucket) × (k ≡ key)
 
+-- no place
+abbrev pub IsNoPlace : List ℕ → List ℕ → Type 0
+IsNoPlace b k = ⊥
+
 -- `Shows ask limit talk class bytes`: the talk has that class for the ask, and its answer that body
 module _ (Shows : Ask → ℕ → Talk → Class → List ℕ → Type 0) where
+  -- the trace is one of a service, and it fits
+  pub record HasTrace (limits : Limits) (run : Run) : Type 0 where
+    pub runs : IsTrace limits [] run.start run.trace
+    pub fits : Fits Shows (events_of run.trace) run.journal run.dispatched
+
   -- an honest trace that fits, in which nobody else writes the kept places
-  pub record IsFitting (limits : Limits) (start : State) (trace : List Step) (journal : List Event) (dispatched : List Dispatched) (IsKept : List ℕ → List ℕ → Type 0) : Type 0 where
-    pub runs : IsTrace limits [] start trace
-    pub honest : IsHonest start trace IsKept
-    pub fits : Fits Shows (events_of trace) journal dispatched
+  pub record IsFitting (limits : Limits) (run : Run) (IsKept : List ℕ → List ℕ → Type 0) : Type 0 where
+    pub runs : IsTrace limits [] run.start run.trace
+    pub honest : IsHonest run.start run.trace IsKept
+    pub fits : Fits Shows (events_of run.trace) run.journal run.dispatched
 
   -- some attempt was answered with success, and with this reply
   pub record HasSucceeded (c : Dispatched) : Type 0 where
@@ -48,7 +98,16 @@ module _ (Shows : Ask → ℕ → Talk → Class → List ℕ → Type 0) where
     pub is_attempt : slice_get c.dispatch.attempts place ≡ Some attempt
     pub shows : Shows c.ask c.limit attempt.talk (class.Success reply) bytes
 
+  -- a request that may change the object came with success
+  pub record HasSuccess (journal : List Event) (dispatched : List Dispatched) (bucket key : List ℕ) : Type 0 where
+    pub request : Dispatched
+    pub known : Contains dispatched request
+    pub may : MayChange request.ask bucket key
+    pub come : HasCome journal request
+    pub succeeded : HasSucceeded request
+
   -- each attempt was refused
   abbrev pub AllRefused : Dispatched → Type 0
   AllRefused c = (place : ℕ) (attempt : Attempt) → slice_get c.dispatch.attempts place ≡ Some attempt
-      → (code : List ℕ) × (message : List ℕ) × (bytes : List ℕ) × Shows c.ask c.limit attempt.talk (class.Refusal code message) bytes
+      → (code : List ℕ) × (message : List ℕ) × (bytes : List ℕ)
+      × Shows c.ask c.limit attempt.talk (class.Refusal code message) bytes

@@ -20,7 +20,7 @@ use Rattle.run_promise.specs.Outcomes.{HasOutcome, IsDecidedByRequest}
 use Rattle.run_promise.specs.Schedule.{Setting, IsSchedule, is_small}
 use Rattle.run_promise.specs.Traces.{Step, states}
 use Rattle.run_promise.specs.Truthful.{Shown, HasOutcomes, HoldsOver}
-use Rattle.world_laws.specs.Premises.{AreGiven, HasCome}
+use Rattle.world_laws.specs.Premises.{Run, AreGiven, HasCome}
 use Rattle.world_laws.specs.Tasks.{AreApart, HasSource, IsPlanning, IsTraceOf, MayBeNew}
 
 -- a task that requests decide: its destination is an object, and a removal moves nothing
@@ -37,36 +37,53 @@ IsFileLeft outcome.Done gone stays = gone
 IsFileLeft how gone stays = stays
 
 abbrev pub AreFilesLeft : Shown → Type 0
-AreFilesLeft shown = (n : ℕ) (task : Task) (how : Outcome) (path : List ℕ) → slice_get shown.setting.tasks n ≡ Some task → slice_get shown.outcomes n ≡ Some how
-    → task.moves ≡ true → task.source ≡ Some (place.File path) → IsFileLeft how (get shown.held_after path ≡ None) (get shown.held_after path ≡ get shown.setting.held path)
+AreFilesLeft shown = (n : ℕ) (task : Task) (how : Outcome) (path : List ℕ) → slice_get shown.setting.tasks n ≡ Some task
+    → slice_get shown.outcomes n ≡ Some how → task.moves ≡ true → task.source ≡ Some (place.File path)
+    → IsFileLeft how (get shown.held_after path ≡ None) (get shown.held_after path ≡ get shown.setting.held path)
+
+-- what is shown, with a trace
+abbrev pub run_of : Shown → List Dispatched → State → List Step → Run
+run_of shown dispatched start trace =
+    record { start = start; trace = trace; journal = shown.journal; dispatched = dispatched }
 
 -- `Shows ask limit talk class bytes`: the talk has that class for the ask, and its answer that body
 module _ (Shows : Ask → ℕ → Talk → Class → List ℕ → Type 0) where
   -- what is carried was given and came as the journal says
   abbrev pub CarriedIsGiven : Type 0
-  CarriedIsGiven = (request_text : Ask → List ℕ → ℕ → List ℕ) (host : List ℕ) (port : ℕ) (s : Setting) (journal : List Event) (logs : ℕ → List Talk) (notes : ℕ → List Note) (dispatched coming : List Dispatched)
-      → IsCarried Shows request_text host port s journal logs notes dispatched coming → AreGiven journal dispatched × ((c : Dispatched) → Contains dispatched c → HasCome journal c)
+  CarriedIsGiven = (request_text : Ask → List ℕ → ℕ → List ℕ) (host : List ℕ) (port : ℕ) (s : Setting)
+      (journal : List Event)
+      (logs : ℕ → List Talk) (notes : ℕ → List Note) (dispatched coming : List Dispatched)
+      → IsCarried Shows request_text host port s journal logs notes dispatched coming
+      → AreGiven journal dispatched × ((c : Dispatched) → Contains dispatched c → HasCome journal c)
 
   -- a talk shows one class
   abbrev pub ShowsOneClass : Type 0
-  ShowsOneClass = (asked : Ask) (limit : ℕ) (talk : Talk) (one same : Class) (bytes others : List ℕ) → Shows asked limit talk one bytes → Shows asked limit talk same others → IsSameClass one same
+  ShowsOneClass = (asked : Ask) (limit : ℕ) (talk : Talk) (one same : Class) (bytes others : List ℕ)
+      → Shows asked limit talk one bytes → Shows asked limit talk same others → IsSameClass one same
 
   -- over every honest trace that fits, a task's source is as planned where its destination may be new
   abbrev pub AreSourced : Shown → List Dispatched → Type 0
-  AreSourced shown dispatched = (start : State) (trace : List Step) → IsTraceOf Shows shown.setting start trace shown.journal dispatched
-      → (n : ℕ) (task : Task) (how : Outcome) → slice_get shown.setting.tasks n ≡ Some task → slice_get shown.outcomes n ≡ Some how → MayBeNew how
+  AreSourced shown dispatched = (start : State) (trace : List Step)
+      → IsTraceOf Shows shown.setting (run_of shown dispatched start trace)
+      → (n : ℕ) (task : Task) (how : Outcome) → slice_get shown.setting.tasks n ≡ Some task
+      → slice_get shown.outcomes n ≡ Some how → MayBeNew how
       → HasSource shown.setting.held (states start trace) task task.kind (is_small shown.setting task)
 
   -- `HasStatus ask limit talk status`: the talk's answer has that HTTP status;
   -- `Plans`: the planning jobs, in order, are those that the command needs;
   -- `CallFailed n why`: the calls on files show that one of task n failed so
-  module _ (HasStatus : Ask → ℕ → Talk → ℕ → Type 0) (Plans : List Dispatched → Type 0) (CallFailed : ℕ → Cause → Type 0) where
-    -- The jobs are those of the plan, the wires carried them and nothing else, and each task has its outcome with the cause that the talks show.
-    pub record IsOrderly (request_text : Ask → List ℕ → ℕ → List ℕ) (host : List ℕ) (port : ℕ) (shown : Shown) (dispatched coming : List Dispatched) : Type 0 where
+  module _ (HasStatus : Ask → ℕ → Talk → ℕ → Type 0) (Plans : List Dispatched → Type 0)
+      (CallFailed : ℕ → Cause → Type 0) where
+    -- The jobs are those of the plan, the wires carried them and nothing else, and each task has its outcome with the
+    -- cause that the talks show.
+    pub record IsOrderly (request_text : Ask → List ℕ → ℕ → List ℕ) (host : List ℕ) (port : ℕ) (shown : Shown)
+        (dispatched coming : List Dispatched) : Type 0 where
       pub schedule : IsSchedule Shows shown.setting Plans dispatched coming
-      pub carried : IsCarried Shows request_text host port shown.setting shown.journal shown.logs shown.notes dispatched coming
+      pub carried : IsCarried Shows request_text host port shown.setting shown.journal shown.logs shown.notes
+          dispatched coming
       pub outcomes : HasOutcomes shown dispatched
-      pub causes : (n : ℕ) (task : Task) (how : Outcome) → slice_get shown.setting.tasks n ≡ Some task → slice_get shown.outcomes n ≡ Some how
+      pub causes : (n : ℕ) (task : Task) (how : Outcome) → slice_get shown.setting.tasks n ≡ Some task
+          → slice_get shown.outcomes n ≡ Some how
           → HasOutcome Shows HasStatus CallFailed shown.setting dispatched coming n task how
       -- planning only asks
       pub questions : (c : Dispatched) → Contains dispatched c → c.dispatch.job.task ≡ None → IsPlanning c.ask
@@ -75,11 +92,13 @@ module _ (Shows : Ask → ℕ → Talk → Class → List ℕ → Type 0) where
       pub sources : AreSourced shown dispatched
       pub files : AreFilesLeft shown
       -- needed only where a task is not to replace
-      pub one_class : (n : ℕ) (task : Task) → slice_get shown.setting.tasks n ≡ Some task → task.fresh ≡ true → ShowsOneClass
+      pub one_class : (n : ℕ) (task : Task) → slice_get shown.setting.tasks n ≡ Some task → task.fresh ≡ true
+          → ShowsOneClass
       pub config : IsValidConfig shown.setting.config
       pub limits : IsValidLimits shown.setting.limits
 
     -- What such a run shows is true, over every honest service and whatever is lost, refused or late.
     abbrev pub PromiseHolds : Type 0
-    PromiseHolds = (request_text : Ask → List ℕ → ℕ → List ℕ) (host : List ℕ) (port : ℕ) (shown : Shown) (dispatched coming : List Dispatched)
-        → IsOrderly request_text host port shown dispatched coming → HoldsOver Shows HasStatus request_text host port Plans CallFailed shown dispatched
+    PromiseHolds = (request_text : Ask → List ℕ → ℕ → List ℕ) (host : List ℕ) (port : ℕ) (shown : Shown)
+        (dispatched coming : List Dispatched) → IsOrderly request_text host port shown dispatched coming
+        → HoldsOver Shows HasStatus request_text host port Plans CallFailed shown dispatched

@@ -24,7 +24,8 @@ use Rattle.run_promise.specs.Schedule.{most_body}
 
 -- ---- a reading of talks
 
--- the reply to a request, where an id, an ETag or the bytes of an object are the text that came back; `size` is that of the whole object
+-- the reply to a request, where an id, an ETag or the bytes of an object are the text that came back; `size` is that of
+-- the whole object
 abbrev pub reply_to : Ask → List ℕ → ℕ → Reply
 reply_to (ask.Get bucket key etag None) got size = reply.Got 200 None (length got)
 reply_to (ask.Get bucket key etag (Some range)) got size = reply.Got 206 (Some (range.0, range.1, size)) (length got)
@@ -43,14 +44,16 @@ abbrev pub body_by : Ask → List ℕ → List ℕ
 body_by (ask.Get bucket key etag range) got = got
 body_by asked got = []
 
--- a talk that finished is a success, one that the other side closed a refusal, and one that failed is lost; its port stands for the size
+-- a talk that finished is a success, one that the other side closed a refusal, and one that failed is lost; its port
+-- stands for the size
 abbrev pub class_by : Ending → Ask → List ℕ → ℕ → Class
 class_by Finished asked got size = class.Success (reply_to asked got size)
 class_by Closed asked got size = class.Refusal got []
 class_by Failed asked got size = class.Uncertain why.WireFailed
 
 abbrev pub Told : Ask → ℕ → Talk → Class → List ℕ → Type 0
-Told asked limit talk shown bytes = (shown ≡ class_by talk.ending asked talk.got talk.port) × (bytes ≡ body_by asked talk.got)
+Told asked limit talk shown bytes = (shown ≡ class_by talk.ending asked talk.got talk.port)
+    × (bytes ≡ body_by asked talk.got)
 
 abbrev pub status_by : Ending → ℕ
 status_by Finished = 200
@@ -70,7 +73,8 @@ no_text asked body moment = []
 
 -- ---- rounds
 
--- a job with its request, whether it was refused, the text that came back, the size of the object that a Get is of, and the state after it
+-- a job with its request, whether it was refused, the text that came back, the size of the object that a Get is of, and
+-- the state after it
 pub record Round : Type 0 where
   pub job : JobId
   pub ask : Ask
@@ -93,12 +97,29 @@ mark_by true = mark.Refusal
 mark_by false = mark.Success
 
 abbrev pub attempt_of : Round → Attempt
-attempt_of r = record { mark = mark_by r.refused; talk = record { host = []; port = r.size; sent = []; got = r.got; ending = ending_by r.refused } }
+attempt_of r =
+    record {
+      mark =
+          mark_by r.refused;
+      talk =
+          record { host = []; port = r.size; sent = []; got = r.got; ending = ending_by r.refused };
+    }
 
 -- the dispatch of a round, given at a place of the journal
 abbrev pub dispatch_at : ℕ → Round → Dispatched
 dispatch_at place r = record {
-  dispatch = record { job = r.job; lane = 0; given_at = place; came_at = Some (place + 1); earlier = 0; is_second = false; attempts = attempt_of r ∷ [] };
+  dispatch =
+      record {
+        job =
+            r.job;
+        lane = 0;
+        given_at = place;
+        came_at = Some
+            (place + 1);
+        earlier = 0;
+        is_second = false;
+        attempts = attempt_of r ∷ [];
+      };
   ask = r.ask;
   body = r.body;
   limit = most_body;
@@ -117,14 +138,20 @@ journal_of (r ∷ rounds) = entry.Given r.job 0 ∷ entry.Came r.job 0 (mark_by 
 abbrev pub steps_from : ℕ → State → List Round → List Step
 steps_from place old [] = []
 steps_from place old (r ∷ rounds) =
-    record { event = Given r.job 0; state = old } ∷ record { event = Begin 0 (request_at (dispatch_at place r) 0); state = old }
-    ∷ record { event = Serve (request_at (dispatch_at place r) 0) (answer_by r.refused r.ask r.got r.size); state = r.after }
+    record { event = Given r.job 0; state = old }
+    ∷ record { event = Begin 0 (request_at (dispatch_at place r) 0); state = old }
+    ∷ record {
+      event =
+          Serve (request_at (dispatch_at place r) 0) (answer_by r.refused r.ask r.got r.size);
+      state = r.after;
+    }
     ∷ record { event = Came r.job 0 (mark_by r.refused ∷ []); state = r.after } ∷ steps_from (place + 2) r.after rounds
 
 -- each is served as it says
 abbrev pub AreServed : Limits → State → List Round → Type 0
 AreServed limits old [] = Unit {0}
-AreServed limits old (r ∷ rounds) = Serves limits old r.ask r.body (answer_by r.refused r.ask r.got r.size) r.after × AreServed limits r.after rounds
+AreServed limits old (r ∷ rounds) = Serves limits old r.ask r.body (answer_by r.refused r.ask r.got r.size) r.after
+    × AreServed limits r.after rounds
 
 -- no call on files failed
 abbrev pub NeverFailed : ℕ → Cause → Type 0

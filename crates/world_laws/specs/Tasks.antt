@@ -1,5 +1,5 @@
 -- What a run that keeps to the clauses on given and carried jobs leaves of each task whose destination is an object.
-use Rattle.std.specs.Prelude.{◌≡◌, ◌≢◌, ◌++◌, ◌⊎◌, ℕ, Bool, true, false, List, [], ◌∷◌, Option, Some, None, Contains, length, slice_get}
+use Rattle.std.specs.Prelude.{◌≡◌, ◌≢◌, ◌++◌, ◌⊎◌, ℕ, Bool, true, false, List, ◌∷◌, Option, Some, None, Contains, length, slice_get}
 use Rattle.std.specs.Bool.{OnTrue}
 use Rattle.std.specs.FinMap.{get}
 use Rattle.s3_model.specs.declared.requests.Ask.{Ask}
@@ -19,22 +19,24 @@ use Rattle.s3_model.specs.Maps.{MapOf}
 use Rattle.s3_model.specs.Talks.{Talk}
 use Rattle.s3_model.specs.Validity.{IsValidConfig, IsValidLimits}
 use Rattle.s3_model.specs.Files.{HeldFile, is_listed}
-use Rattle.s3_service.specs.ServiceState.{State, object_at}
+use Rattle.s3_service.specs.ServiceState.{State}
 use Rattle.s3_service.specs.Serves.{taken_codes}
 use Rattle.run_promise.specs.Dispatches.{Attempt, Dispatched}
-use Rattle.run_promise.specs.Traces.{Request, Step, Begin, IsTrace, IsHonest, state_after, states, events_of}
-use Rattle.run_promise.specs.Fits.{Fits}
+use Rattle.run_promise.specs.Traces.{Request, Step, Begin, state_after}
 use Rattle.run_promise.specs.Schedule.{Setting, IsObject, IsSource, IsSchedule, is_small, job_of}
 use Rattle.run_promise.specs.Outcomes.{deciding}
-use Rattle.run_promise.specs.Endings.{Excused, IsNew, IsGone, IsGoneOrThere, IsSpared, IsEnded}
-use Rattle.run_promise.specs.Truthful.{IsDest, IsMovedSource, IsExternal, HasJournal}
-use Rattle.world_laws.specs.Premises.{AreGiven, HasCome, HasSucceeded, AllRefused}
-use Rattle.world_laws.specs.SmallTransfers.{HadContent}
+use Rattle.run_promise.specs.Endings.{Excused, Scene, IsNew, IsGone, IsGoneOrThere, IsSpared, IsEnded}
+use Rattle.run_promise.specs.Truthful.{IsDest, IsMovedSource, IsExternal}
+use Rattle.world_laws.specs.Premises.{Run, moments, BeginsWith, HasEndedBy, IsOldAfter, IsFitting, AreGiven, HasCome, HasSucceeded, AllRefused}
+use Rattle.world_laws.specs.SmallTransfers.{HasSize}
 
 -- no two tasks have one destination, and no destination is the source of a move
 pub record AreApart (tasks : List Task) : Type 0 where
-  pub destinations : (m n : ℕ) (a b : Task) (bucket key : List ℕ) → slice_get tasks m ≡ Some a → slice_get tasks n ≡ Some b → IsObject a.dest bucket key → IsObject b.dest bucket key → m ≡ n
-  pub sources : (m n : ℕ) (a b : Task) (bucket key : List ℕ) → slice_get tasks m ≡ Some a → slice_get tasks n ≡ Some b → a.moves ≡ true → IsSource a.source bucket key → IsObject b.dest bucket key → ⊥
+  pub destinations : (m n : ℕ) (a b : Task) (bucket key : List ℕ) → slice_get tasks m ≡ Some a
+      → slice_get tasks n ≡ Some b
+      → IsObject a.dest bucket key → IsObject b.dest bucket key → m ≡ n
+  pub sources : (m n : ℕ) (a b : Task) (bucket key : List ℕ) → slice_get tasks m ≡ Some a → slice_get tasks n ≡ Some b
+      → a.moves ≡ true → IsSource a.source bucket key → IsObject b.dest bucket key → ⊥
 
 -- planning asks for heads, pages and buckets
 abbrev pub IsPlanning : Ask → Type 0
@@ -49,17 +51,21 @@ AreQuestions jobs = (c : Dispatched) → Contains jobs c → IsPlanning c.ask
 
 -- an uploaded file is there, with the size that was planned
 abbrev pub HasSourceFile : MapOf HeldFile → Task → Type 0
-HasSourceFile held task = (path : List ℕ) × (file : HeldFile) × (task.source ≡ Some (place.File path)) × (get held path ≡ Some file) × (length file.bytes ≡ task.size)
+HasSourceFile held task =
+    (path : List ℕ) × (file : HeldFile) × (task.source ≡ Some (place.File path)) × (get held path ≡ Some file)
+    × (length file.bytes ≡ task.size)
 
 -- a copied object has the size that was planned, under the planned ETag
 abbrev pub HasSourceObject : List State → Task → Type 0
-HasSourceObject moments task = (bucket : List ℕ) × (key : List ℕ) × (task.source ≡ Some (place.Object bucket key))
-    × ((bytes : List ℕ) → HadContent moments bucket key task.etag bytes → length bytes ≡ task.size)
+HasSourceObject moments task =
+    (bucket : List ℕ) × (key : List ℕ) × (task.source ≡ Some (place.Object bucket key))
+    × HasSize moments bucket key task.etag task.size
 
 -- what planning made sure of, by the kinds whose destination is an object
 abbrev pub HasSource : MapOf HeldFile → List State → Task → Kind → Bool → Type 0
 HasSource held moments task kind.Upload small = HasSourceFile held task
-HasSource held moments task kind.Copy true = (bucket : List ℕ) × (key : List ℕ) × (task.source ≡ Some (place.Object bucket key))
+HasSource held moments task kind.Copy true = (bucket : List ℕ) × (key : List ℕ)
+    × (task.source ≡ Some (place.Object bucket key))
 HasSource held moments task kind.Copy false = HasSourceObject moments task
 HasSource held moments task kind.RemoveObject small = task.moves ≡ false
 HasSource held moments task of_kind small = ⊥
@@ -70,8 +76,16 @@ pub record IsObjectTask (s : Setting) (moments : List State) (n : ℕ) (task : T
   pub is_dest : task.dest ≡ place.Object bucket key
   pub has_source : HasSource s.held moments task task.kind (is_small s task)
 
+-- how things were when the run began, and how they are after a beginning of its trace
+abbrev pub scene_before : Setting → Run → Scene
+scene_before s run = record { state = run.start; held = s.held; others = s.others }
+
+abbrev pub scene_after : Setting → MapOf HeldFile → Run → List Step → Scene
+scene_after s held run part = record { state = state_after run.start part; held = held; others = s.others }
+
 abbrev pub IsTaskNew : Setting → Excused → MapOf HeldFile → List State → Task → State → Type 0
-IsTaskNew s excused held moments task t = IsNew excused s.held moments (record { state = t; held = held; others = s.others }) task task.kind
+IsTaskNew s excused held moments task t =
+    IsNew excused s.held moments (record { state = t; held = held; others = s.others }) task task.kind
 
 -- the outcomes after which the destination may be new
 abbrev pub MayBeNew : Outcome → Type 0
@@ -97,6 +111,8 @@ IsShown outcome.Skipped decided refused taken gone left spared = refused × take
 
 -- `Shows ask limit talk class bytes`: the talk has that class for the ask, and its answer that body
 module _ (Shows : Ask → ℕ → Talk → Class → List ℕ → Type 0) where
+  -- ---- a run of a plan
+
   -- the clauses on given jobs, and what the clauses on carried jobs add to them
   pub record IsScheduled (s : Setting) (journal : List Event) (dispatched coming : List Dispatched) : Type 0 where
     pub schedule : IsSchedule Shows s AreQuestions dispatched coming
@@ -107,61 +123,18 @@ module _ (Shows : Ask → ℕ → Talk → Class → List ℕ → Type 0) where
     pub limits : IsValidLimits s.limits
 
   -- an honest trace that fits, in which nobody else writes a destination
-  pub record IsTraceOf (s : Setting) (start : State) (trace : List Step) (journal : List Event) (dispatched : List Dispatched) : Type 0 where
-    pub runs : IsTrace s.limits [] start trace
-    pub honest : IsHonest start trace (IsDest s.tasks)
-    pub fits : Fits Shows (events_of trace) journal dispatched
+  abbrev pub IsTraceOf : Setting → Run → Type 0
+  IsTraceOf s run = IsFitting Shows s.limits run (IsDest s.tasks)
 
-  -- ---- the laws
+  -- such a run, with such a trace
+  pub record IsRunOf (s : Setting) (run : Run) : Type 0 where
+    pub coming : List Dispatched
+    pub scheduled : IsScheduled s run.journal run.dispatched coming
+    pub traced : IsTraceOf s run
 
-  -- Where the deciding request came with success, the destination is new at the end and at every later moment.
-  abbrev pub TaskIsNew : Type 0
-  TaskIsNew = (s : Setting) (excused : Excused) (held : MapOf HeldFile) (start : State) (trace part : List Step) (journal : List Event) (dispatched coming : List Dispatched)
-      → IsScheduled s journal dispatched coming → IsTraceOf s start trace journal dispatched → HasJournal journal trace part
-      → (n : ℕ) (task : Task) (bucket key : List ℕ) → IsObjectTask s (states start trace) n task bucket key
-      → (c : Dispatched) → Contains dispatched c → c.dispatch.job ≡ job_of n (deciding task.kind (is_small s task)) 0 → HasSucceeded Shows c
-      → IsTaskNew s excused held (states start trace) task (state_after start part)
+  -- ---- how its requests went
 
-  -- Where each attempt of it was refused, or it was never given, the destination is as before, at every moment.
-  abbrev pub TaskIsOld : Type 0
-  TaskIsOld = (s : Setting) (start : State) (trace part late : List Step) (journal : List Event) (dispatched coming : List Dispatched)
-      → IsScheduled s journal dispatched coming → IsTraceOf s start trace journal dispatched → trace ≡ part ++ late
-      → (n : ℕ) (task : Task) (bucket key : List ℕ) → slice_get s.tasks n ≡ Some task → task.dest ≡ place.Object bucket key
-      → ((c : Dispatched) → Contains dispatched c → c.dispatch.job ≡ job_of n (deciding task.kind (is_small s task)) 0 → AllRefused Shows c)
-      → object_at (state_after start part) bucket key ≡ object_at start bucket key
-
-  -- Whatever was answered, it is as before or new, at every moment.
-  abbrev pub TaskIsWhole : Type 0
-  TaskIsWhole = (s : Setting) (excused : Excused) (held : MapOf HeldFile) (start : State) (trace part late : List Step) (journal : List Event) (dispatched coming : List Dispatched)
-      → IsScheduled s journal dispatched coming → IsTraceOf s start trace journal dispatched → trace ≡ part ++ late
-      → (n : ℕ) (task : Task) (bucket key : List ℕ) → IsObjectTask s (states start trace) n task bucket key
-      → (object_at (state_after start part) bucket key ≡ object_at start bucket key) ⊎ IsTaskNew s excused held (states start trace) task (state_after start part)
-
-  -- Of a copy that is moved, the destination is new from the time that the Delete of its source begins.
-  abbrev pub MovedTaskIsNew : Type 0
-  MovedTaskIsNew = (s : Setting) (excused : Excused) (held : MapOf HeldFile) (start : State) (trace front later : List Step) (step : Step) (journal : List Event) (dispatched coming : List Dispatched)
-      → IsScheduled s journal dispatched coming → IsTraceOf s start trace journal dispatched → trace ≡ front ++ step ∷ later
-      → (n : ℕ) (task : Task) (bucket key : List ℕ) → IsObjectTask s (states start trace) n task bucket key → task.kind ≡ kind.Copy
-      → (lane : ℕ) (sent : Request) → step.event ≡ Begin lane sent → sent.job ≡ job_of n op.Delete 0
-      → IsTaskNew s excused held (states start trace) task step.state
-
-  -- After the Delete of a moved source came with success the source is gone, at the end and at every later moment.
-  abbrev pub MovedSourceIsGone : Type 0
-  MovedSourceIsGone = (s : Setting) (held : MapOf HeldFile) (start : State) (trace part : List Step) (journal : List Event) (dispatched coming : List Dispatched)
-      → IsScheduled s journal dispatched coming → IsTraceOf s start trace journal dispatched → HasJournal journal trace part
-      → (n : ℕ) (task : Task) (bucket key : List ℕ) → slice_get s.tasks n ≡ Some task → task.moves ≡ true → task.source ≡ Some (place.Object bucket key)
-      → (c : Dispatched) → Contains dispatched c → c.dispatch.job ≡ job_of n op.Delete 0 → task.kind ≢ kind.RemoveObject → HasSucceeded Shows c
-      → IsGone trace (record { state = state_after start part; held = held; others = s.others }) task.source
-
-  -- Nothing else is changed: every object is a destination, a moved source, written by somebody else, or as before.
-  abbrev pub OtherObjectsStay : Type 0
-  OtherObjectsStay = (s : Setting) (start : State) (trace part late : List Step) (journal : List Event) (dispatched coming : List Dispatched)
-      → IsScheduled s journal dispatched coming → IsTraceOf s start trace journal dispatched → trace ≡ part ++ late → (bucket key : List ℕ)
-      → IsDest s.tasks bucket key ⊎ IsMovedSource s.tasks bucket key ⊎ IsExternal trace bucket key ⊎ (object_at (state_after start part) bucket key ≡ object_at start bucket key)
-
-  -- ---- how a task ended
-
-  -- the deciding request came with success
+  -- the deciding request of the task came with success
   pub record IsDecidedIn (s : Setting) (dispatched : List Dispatched) (n : ℕ) (task : Task) : Type 0 where
     pub request : Dispatched
     pub known : Contains dispatched request
@@ -170,7 +143,8 @@ module _ (Shows : Ask → ℕ → Talk → Class → List ℕ → Type 0) where
 
   -- each attempt of it was refused, or none was made
   abbrev pub IsRefusedIn : Setting → List Dispatched → ℕ → Task → Type 0
-  IsRefusedIn s dispatched n task = (c : Dispatched) → Contains dispatched c → c.dispatch.job ≡ job_of n (deciding task.kind (is_small s task)) 0 → AllRefused Shows c
+  IsRefusedIn s dispatched n task = (c : Dispatched) → Contains dispatched c
+      → c.dispatch.job ≡ job_of n (deciding task.kind (is_small s task)) 0 → AllRefused Shows c
 
   -- it was not to replace, and an attempt of it was refused since the object was there
   pub record IsTakenIn (s : Setting) (dispatched : List Dispatched) (n : ℕ) (task : Task) : Type 0 where
@@ -188,19 +162,83 @@ module _ (Shows : Ask → ℕ → Talk → Class → List ℕ → Type 0) where
     pub refused : Shows request.ask request.limit attempt.talk (class.Refusal code message) bytes
     pub says_taken : is_listed taken_codes code ≡ true
 
+  -- the Delete of the task came with success
+  abbrev pub HasDeleted : List Dispatched → ℕ → Type 0
+  HasDeleted dispatched n =
+      (c : Dispatched) × Contains dispatched c × (c.dispatch.job ≡ job_of n op.Delete 0) × HasSucceeded Shows c
+
   -- the source of a move: its Delete came with success, or the file is no more
   abbrev pub IsSourceGone : List Dispatched → MapOf HeldFile → ℕ → Option Place → Type 0
   IsSourceGone dispatched held n None = Unit {0}
-  IsSourceGone dispatched held n (Some (place.Object bucket key)) = (c : Dispatched) × Contains dispatched c × (c.dispatch.job ≡ job_of n op.Delete 0) × HasSucceeded Shows c
+  IsSourceGone dispatched held n (Some (place.Object bucket key)) = HasDeleted dispatched n
   IsSourceGone dispatched held n (Some (place.File path)) = get held path ≡ None
 
-  -- A task ended as its outcome says, over every honest trace. Its source is to be as planned only where its destination may be new.
+  -- ---- the laws
+
+  -- Where the deciding request came with success, the destination is new at the end and at every later moment.
+  abbrev pub TaskIsNew : Type 0
+  TaskIsNew = (s : Setting) (excused : Excused) (held : MapOf HeldFile) (run : Run) (part : List Step)
+      → IsRunOf s run → HasEndedBy run part
+      → (n : ℕ) (task : Task) (bucket key : List ℕ) → IsObjectTask s (moments run) n task bucket key
+      → IsDecidedIn s run.dispatched n task → IsTaskNew s excused held (moments run) task (state_after run.start part)
+
+  -- Where each attempt of it was refused, or it was never given, the destination is as before, at every moment.
+  abbrev pub TaskIsOld : Type 0
+  TaskIsOld = (s : Setting) (run : Run) (part : List Step) → IsRunOf s run → BeginsWith run part
+      → (n : ℕ) (task : Task) (bucket key : List ℕ) → slice_get s.tasks n ≡ Some task
+      → task.dest ≡ place.Object bucket key
+      → IsRefusedIn s run.dispatched n task → IsOldAfter run part bucket key
+
+  -- Whatever was answered, it is as before or new, at every moment.
+  abbrev pub TaskIsWhole : Type 0
+  TaskIsWhole = (s : Setting) (excused : Excused) (held : MapOf HeldFile) (run : Run) (part : List Step)
+      → IsRunOf s run → BeginsWith run part
+      → (n : ℕ) (task : Task) (bucket key : List ℕ) → IsObjectTask s (moments run) n task bucket key
+      → IsOldAfter run part bucket key ⊎ IsTaskNew s excused held (moments run) task (state_after run.start part)
+
+  -- Of a copy that is moved, the destination is new from the time that the Delete of its source begins.
+  abbrev pub MovedTaskIsNew : Type 0
+  MovedTaskIsNew = (s : Setting) (excused : Excused) (held : MapOf HeldFile) (run : Run) (front later : List Step)
+      (step : Step)
+      → IsRunOf s run → run.trace ≡ front ++ step ∷ later
+      → (n : ℕ) (task : Task) (bucket key : List ℕ) → IsObjectTask s (moments run) n task bucket key
+      → task.kind ≡ kind.Copy
+      → (lane : ℕ) (sent : Request) → step.event ≡ Begin lane sent → sent.job ≡ job_of n op.Delete 0
+      → IsTaskNew s excused held (moments run) task step.state
+
+  -- After the Delete of a moved source came with success the source is gone, at the end and at every later moment.
+  abbrev pub MovedSourceIsGone : Type 0
+  MovedSourceIsGone = (s : Setting) (held : MapOf HeldFile) (run : Run) (part : List Step) → IsRunOf s run
+      → HasEndedBy run part
+      → (n : ℕ) (task : Task) (bucket key : List ℕ) → slice_get s.tasks n ≡ Some task → task.moves ≡ true
+      → task.source ≡ Some (place.Object bucket key) → task.kind ≢ kind.RemoveObject → HasDeleted run.dispatched n
+      → IsGone run.trace (scene_after s held run part) task.source
+
+  -- Nothing else is changed: every object is a destination, a moved source, written by somebody else, or as before.
+  abbrev pub OtherObjectsStay : Type 0
+  OtherObjectsStay = (s : Setting) (run : Run) (part : List Step) → IsRunOf s run → BeginsWith run part
+      → (bucket key : List ℕ)
+      → IsDest s.tasks bucket key ⊎ IsMovedSource s.tasks bucket key ⊎ IsExternal run.trace bucket key
+      ⊎ IsOldAfter run part bucket key
+
+  -- ---- how a task ended
+
+  -- the run shows of the task what its outcome asks for
+  abbrev pub IsShownIn : Setting → MapOf HeldFile → Run → List Step → ℕ → Task → Outcome → Type 0
+  IsShownIn s held run part n task how =
+      IsShown how (IsDecidedIn s run.dispatched n task) (IsRefusedIn s run.dispatched n task)
+      (IsTakenIn s run.dispatched n task)
+      (OnTrue task.moves (IsSourceGone run.dispatched held n task.source))
+      (OnTrue task.moves (IsGoneOrThere (scene_before s run) (scene_after s held run part) task.source))
+      (OnTrue task.moves (IsSpared n run.journal (scene_before s run) (scene_after s held run part) task.source))
+
+  -- A task ended as its outcome says, over every honest trace. Its source is to be as planned only where its
+  -- destination may be new.
   abbrev pub TaskEnds : Type 0
-  TaskEnds = (s : Setting) (excused : Excused) (held : MapOf HeldFile) (start : State) (trace part : List Step) (journal : List Event) (dispatched coming : List Dispatched)
-      → IsScheduled s journal dispatched coming → IsTraceOf s start trace journal dispatched → HasJournal journal trace part
-      → (n : ℕ) (task : Task) (bucket key : List ℕ) → slice_get s.tasks n ≡ Some task → task.dest ≡ place.Object bucket key → (how : Outcome)
-      → (MayBeNew how → HasSource s.held (states start trace) task task.kind (is_small s task))
-      → IsShown how (IsDecidedIn s dispatched n task) (IsRefusedIn s dispatched n task) (IsTakenIn s dispatched n task) (OnTrue task.moves (IsSourceGone dispatched held n task.source))
-      (OnTrue task.moves (IsGoneOrThere (record { state = start; held = s.held; others = s.others }) (record { state = state_after start part; held = held; others = s.others }) task.source))
-      (OnTrue task.moves (IsSpared n journal (record { state = start; held = s.held; others = s.others }) (record { state = state_after start part; held = held; others = s.others }) task.source))
-      → IsEnded excused journal start trace (record { state = start; held = s.held; others = s.others }) (record { state = state_after start part; held = held; others = s.others }) n task how
+  TaskEnds = (s : Setting) (excused : Excused) (held : MapOf HeldFile) (run : Run) (part : List Step)
+      → IsRunOf s run → HasEndedBy run part
+      → (n : ℕ) (task : Task) (bucket key : List ℕ) → slice_get s.tasks n ≡ Some task
+      → task.dest ≡ place.Object bucket key
+      → (how : Outcome) → (MayBeNew how → HasSource s.held (moments run) task task.kind (is_small s task))
+      → IsShownIn s held run part n task how
+      → IsEnded excused run.journal run.start run.trace (scene_before s run) (scene_after s held run part) n task how

@@ -5,14 +5,13 @@ use Rattle.s3_model.specs.declared.requests.Ask.{Ask}
 use Rattle.s3_model.specs.declared.requests.Ask.TheVariants as ask
 use Rattle.s3_model.specs.declared.answers.Reply.TheVariants as reply
 use Rattle.s3_model.specs.declared.answers.Class.{Class}
-use Rattle.s3_model.specs.declared.outcomes.Event.{Event}
 use Rattle.s3_model.specs.declared.settings.Limits.{Limits}
 use Rattle.s3_model.specs.Talks.{Talk}
 use Rattle.s3_service.specs.ServiceState.{State}
 use Rattle.s3_service.specs.Serves.{Replied}
 use Rattle.run_promise.specs.Dispatches.{Dispatched}
-use Rattle.run_promise.specs.Traces.{Request, Step, Serve, IsTrace, state_after, events_of}
-use Rattle.run_promise.specs.Fits.{Fits}
+use Rattle.run_promise.specs.Traces.{Request, Step, Serve, IsTrace, state_after}
+use Rattle.world_laws.specs.Premises.{Run, BeginsWith, HasTrace}
 
 -- the id is neither open nor ended
 pub record IsFree (t : State) (id : List ℕ) : Type 0 where
@@ -35,12 +34,18 @@ IsSameUpload old new id = (get new.uploads id ≡ get old.uploads id) × (get ne
 module _ (Shows : Ask → ℕ → Talk → Class → List ℕ → Type 0) where
   -- An upload that was begun, and that no dispatched request names, stays as it is.
   abbrev pub OtherUploadsStay : Type 0
-  OtherUploadsStay = (limits : Limits) (start : State) (trace front rest late : List Step) (journal : List Event) (dispatched : List Dispatched) (id : List ℕ)
-      → IsTrace limits [] start trace → Fits Shows (events_of trace) journal dispatched → ((c : Dispatched) → Contains dispatched c → NamesUpload c.ask id → ⊥)
-      → trace ≡ front ++ (rest ++ late) → (IsFree (state_after start front) id → ⊥) → IsSameUpload (state_after start front) (state_after start (front ++ rest)) id
+  OtherUploadsStay = (limits : Limits) (run : Run) (front rest : List Step) (id : List ℕ) → HasTrace Shows limits run
+      → ((c : Dispatched) → Contains run.dispatched c → NamesUpload c.ask id → ⊥) → BeginsWith run (front ++ rest)
+      → (IsFree (state_after run.start front) id → ⊥)
+      → IsSameUpload (state_after run.start front) (state_after run.start (front ++ rest)) id
+
+-- that step answers a Create with the id
+abbrev pub IsCreatedBy : Step → List ℕ → Type 0
+IsCreatedBy step id = (sent : Request) × (bytes : List ℕ) × (step.event ≡ Serve sent (Replied (reply.Created id) bytes))
 
 -- An id is named by one Create alone.
 abbrev pub IdsAreCreatedOnce : Type 0
-IdsAreCreatedOnce = (limits : Limits) (start : State) (trace front front' : List Step) (step step' : Step) (back back' : List Step) (sent sent' : Request) (id bytes bytes' : List ℕ)
-    → IsTrace limits [] start trace → trace ≡ front ++ step ∷ back → trace ≡ front' ++ step' ∷ back'
-    → step.event ≡ Serve sent (Replied (reply.Created id) bytes) → step'.event ≡ Serve sent' (Replied (reply.Created id) bytes') → front ≡ front'
+IdsAreCreatedOnce = (limits : Limits) (start : State) (trace front front' : List Step) (step step' : Step)
+    (back back' : List Step)
+    (id : List ℕ) → IsTrace limits [] start trace → trace ≡ front ++ step ∷ back → trace ≡ front' ++ step' ∷ back'
+    → IsCreatedBy step id → IsCreatedBy step' id → front ≡ front'

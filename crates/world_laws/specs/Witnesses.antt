@@ -4,7 +4,6 @@ use Rattle.s3_model.specs.declared.requests.Ask.TheVariants as ask
 use Rattle.s3_model.specs.declared.requests.Op.TheVariants as op
 use Rattle.s3_model.specs.declared.answers.Reply.TheVariants as reply
 use Rattle.s3_model.specs.declared.outcomes.JobId.{JobId}
-use Rattle.s3_model.specs.declared.outcomes.Event.{Event}
 use Rattle.s3_model.specs.declared.outcomes.Cause.TheVariants as cause
 use Rattle.s3_model.specs.declared.outcomes.Outcome.{Outcome}
 use Rattle.s3_model.specs.declared.outcomes.Outcome.TheVariants as outcome
@@ -13,128 +12,158 @@ use Rattle.s3_model.specs.declared.settings.Limits.{Limits}
 use Rattle.s3_model.specs.declared.tasks.Kind.TheVariants as kind
 use Rattle.s3_model.specs.declared.tasks.Task.{Task}
 use Rattle.s3_service.specs.ServiceState.{State}
-use Rattle.s3_service.specs.Serves.{Replied, MayChange, LiesWithin, bytes_within}
+use Rattle.s3_service.specs.Serves.{Replied, LiesWithin, bytes_within}
 use Rattle.run_promise.specs.Dispatches.{Dispatched}
-use Rattle.run_promise.specs.Traces.{Request, Step, Begin, Serve, IsTrace, IsWilling, state_after, states, events_of}
-use Rattle.run_promise.specs.Fits.{Fits}
-use Rattle.s3_model.specs.Parts.{piece_count}
-use Rattle.run_promise.specs.Schedule.{Setting, is_small, job_of, asked_range}
-use Rattle.run_promise.specs.Truthful.{Shown, AreCertain, HasDestBuckets, HasJournal, IsAlone, IsExternal}
-use Rattle.world_laws.specs.Premises.{IsFitting, IsPlace, AreGiven, HasCome, HasSucceeded, AllRefused}
+use Rattle.run_promise.specs.Traces.{Request, Step, Begin, Serve, IsTrace, IsWilling, state_after, events_of}
+use Rattle.run_promise.specs.Schedule.{Setting, is_small, job_of}
+use Rattle.run_promise.specs.Truthful.{Shown, AreCertain, HasDestBuckets, HasJournal, IsAlone, IsDest, IsExternal}
+use Rattle.world_laws.specs.Premises.{Run, moments, HasBegun, HasEndedBy, HasTrace, IsFitting, IsPlace, IsNoPlace, AreGiven, HasSuccess, AllRefused}
 use Rattle.world_laws.specs.Completeness.{AreCallsCounted, AreFreshByKind, AreSourcesThere}
-use Rattle.world_laws.specs.Destinations.{AllThatChange}
+use Rattle.world_laws.specs.Destinations.{AllThatChange, Requests}
 use Rattle.world_laws.specs.Frame.{IsAskedOf}
-use Rattle.world_laws.specs.SmallTransfers.{AsksPut, AsksCopy, AsksDelete, AreAll, HadContent}
-use Rattle.world_laws.specs.Downloads.{IsGot, IsPartial}
+use Rattle.world_laws.specs.SmallTransfers.{AsksPut, AsksCopy, AsksDelete, AreAll, HasSize}
+use Rattle.world_laws.specs.Downloads.{AreGotInParts, IsGot}
 use Rattle.world_laws.specs.Multipart.{AreParts, AreCopiedParts}
 use Rattle.world_laws.specs.Moves.{IsGivenAfter}
 use Rattle.world_laws.specs.Sources.{IsFound}
 use Rattle.world_laws.specs.Uploads.{NamesUpload, IsFree}
-use Rattle.world_laws.specs.Tasks.{IsScheduled, IsTraceOf, IsObjectTask, IsRefusedIn}
+use Rattle.world_laws.specs.Tasks.{HasDeleted, IsDecidedIn, IsObjectTask, IsRefusedIn, IsRunOf, IsTraceOf}
 use Rattle.run_promise.specs.Outcomes.{deciding}
-use Rattle.world_laws.specs.Promises.{IsOrderly}
+use Rattle.world_laws.specs.Promises.{IsOrderly, run_of}
 use Rattle.world_laws.specs.Rounds.{AreNone, NeverFailed, Told, ToldStatus, no_text}
 
--- a run that meets what a law on a destination asks, with a request for it that came with success
-pub record IsMet (limits : Limits) (bucket key : List ℕ) (AreOurs : List Event → List Dispatched → Type 0) : Type 0 where
-  pub start : State
-  pub trace : List Step
-  pub journal : List Event
-  pub dispatched : List Dispatched
-  pub fitting : IsFitting Told limits start trace journal dispatched (IsPlace bucket key)
-  pub given : AreGiven journal dispatched
-  pub whole : HasJournal journal trace trace
-  pub ours : AreOurs journal dispatched
-  pub request : Dispatched
-  pub known : Contains dispatched request
-  pub may : MayChange request.ask bucket key
-  pub come : HasCome journal request
-  pub succeeded : HasSucceeded Told request
+-- A run with an honest trace that fits, in which nobody else writes the kept places, and of which that is so.
+pub record IsMet (limits : Limits) (IsKept : List ℕ → List ℕ → Type 0) (IsSuch : Run → Type 0) : Type 0 where
+  pub run : Run
+  pub fitting : IsFitting Told limits run IsKept
+  pub such : IsSuch run
+
+-- ---- destinations
+
+-- it meets what a law on a destination asks, with a request for it that came with success
+pub record IsDone (bucket key : List ℕ) (AreOurs : Requests) (run : Run) : Type 0 where
+  pub given : AreGiven run.journal run.dispatched
+  pub whole : HasEndedBy run run.trace
+  pub ours : AreOurs run.journal run.dispatched
+  pub success : HasSuccess Told run.journal run.dispatched bucket key
+
+abbrev pub IsDestMet : Limits → List ℕ → List ℕ → Requests → Type 0
+IsDestMet limits bucket key AreOurs = IsMet limits (IsPlace bucket key) (IsDone bucket key AreOurs)
 
 abbrev pub UploadIsMet : Type 0
-UploadIsMet = (limits : Limits) (bucket key body : List ℕ) → IsMet limits bucket key (AreAll bucket key (AsksPut bucket key body))
+UploadIsMet = (limits : Limits) (bucket key body : List ℕ)
+    → IsDestMet limits bucket key (AreAll bucket key (AsksPut bucket key body))
 
 abbrev pub CopyIsMet : Type 0
-CopyIsMet = (limits : Limits) (bucket key from_bucket from_key etag : List ℕ) → IsMet limits bucket key (AreAll bucket key (AsksCopy bucket key from_bucket from_key etag))
+CopyIsMet = (limits : Limits) (bucket key from_bucket from_key etag : List ℕ)
+    → IsDestMet limits bucket key (AreAll bucket key (AsksCopy bucket key from_bucket from_key etag))
 
 abbrev pub DeleteIsMet : Type 0
-DeleteIsMet = (limits : Limits) (bucket key : List ℕ) → IsMet limits bucket key (AreAll bucket key (AsksDelete bucket key))
+DeleteIsMet = (limits : Limits) (bucket key : List ℕ)
+    → IsDestMet limits bucket key (AreAll bucket key (AsksDelete bucket key))
 
 -- two parts, the first of them long enough
 abbrev pub PartsAreMet : Type 0
-PartsAreMet = (limits : Limits) (bucket key : List ℕ) (pieces : ℕ → List ℕ) → limits.min_part ≤ length (pieces 1) → IsMet limits bucket key (AreParts Told bucket key pieces 2)
+PartsAreMet = (limits : Limits) (bucket key : List ℕ) (pieces : ℕ → List ℕ) → limits.min_part ≤ length (pieces 1)
+    → IsDestMet limits bucket key (AreParts Told bucket key pieces 2)
+
+-- two ranges of a source, the first of them long enough
+abbrev pub AreTwoRanges : Limits → List ℕ → (ℕ → ℕ × ℕ) → Type 0
+AreTwoRanges limits source ranges =
+    LiesWithin (ranges 1) source × LiesWithin (ranges 2) source
+    × (limits.min_part ≤ length (bytes_within (ranges 1) source))
 
 abbrev pub CopiedPartsAreMet : Type 0
-CopiedPartsAreMet = (limits : Limits) (bucket key from_bucket from_key etag : List ℕ) (ranges : ℕ → ℕ × ℕ) → LiesWithin (ranges 1) etag → LiesWithin (ranges 2) etag
-    → limits.min_part ≤ length (bytes_within (ranges 1) etag) → IsMet limits bucket key (AreCopiedParts Told bucket key from_bucket from_key etag ranges 2)
+CopiedPartsAreMet = (limits : Limits) (bucket key from_bucket from_key etag : List ℕ) (ranges : ℕ → ℕ × ℕ)
+    → AreTwoRanges limits etag ranges
+    → IsDestMet limits bucket key (AreCopiedParts Told bucket key from_bucket from_key etag ranges 2)
 
 -- a request for the object, and all of them are refused
-pub record IsRefusalMet (limits : Limits) (bucket key : List ℕ) : Type 0 where
-  pub start : State
-  pub trace : List Step
-  pub journal : List Event
-  pub dispatched : List Dispatched
-  pub fitting : IsFitting Told limits start trace journal dispatched (IsPlace bucket key)
-  pub refused : AllThatChange bucket key (AllRefused Told) dispatched
-  pub asked : IsAskedOf dispatched bucket key
-
 abbrev pub RefusalIsMet : Type 0
-RefusalIsMet = (limits : Limits) (bucket key : List ℕ) → IsRefusalMet limits bucket key
+RefusalIsMet = (limits : Limits) (bucket key : List ℕ) → IsMet limits (IsPlace bucket key)
+    (λ (run : Run). AllThatChange bucket key (AllRefused Told) run.dispatched × IsAskedOf run.dispatched bucket key)
 
--- a run with a request, of an object that none may change and nobody else writes
-pub record IsFrameMet (limits : Limits) (bucket key : List ℕ) : Type 0 where
-  pub start : State
-  pub trace : List Step
-  pub journal : List Event
-  pub dispatched : List Dispatched
-  pub fitting : IsFitting Told limits start trace journal dispatched (IsPlace bucket key)
+-- a request, and an object that none may change and nobody else writes
+pub record IsApart (bucket key : List ℕ) (run : Run) : Type 0 where
   pub request : Dispatched
-  pub known : Contains dispatched request
-  pub unasked : IsAskedOf dispatched bucket key → ⊥
-  pub unwritten : IsExternal trace bucket key → ⊥
+  pub known : Contains run.dispatched request
+  pub unasked : IsAskedOf run.dispatched bucket key → ⊥
+  pub unwritten : IsExternal run.trace bucket key → ⊥
 
 abbrev pub FrameIsMet : Type 0
-FrameIsMet = (limits : Limits) (bucket key other : List ℕ) → (other ≡ key → ⊥) → IsFrameMet limits bucket key
+FrameIsMet = (limits : Limits) (bucket key other : List ℕ) → (other ≡ key → ⊥)
+    → IsMet limits (IsPlace bucket key) (IsApart bucket key)
 
 -- a copy with a later job that begins, the Delete of its source
-pub record IsMoveMet (limits : Limits) (bucket key from_bucket from_key : List ℕ) (AreOurs : List Event → List Dispatched → Type 0) : Type 0 where
-  pub copy : IsMet limits bucket key AreOurs
+pub record IsMoved (bucket key from_bucket from_key : List ℕ) (AreOurs : Requests) (run : Run) : Type 0 where
+  pub copy : IsDone bucket key AreOurs run
   pub job : JobId
-  pub waits : IsGivenAfter copy.request job copy.dispatched
+  pub waits : IsGivenAfter copy.success.request job run.dispatched
   pub lane : ℕ
   pub sent : Request
-  pub begins : Contains (events_of copy.trace) (Begin lane sent)
+  pub begins : Contains (events_of run.trace) (Begin lane sent)
   pub of_job : sent.job ≡ job
   pub deletes : sent.ask ≡ ask.Delete from_bucket from_key
 
+abbrev pub IsMoveMet : Limits → (bucket key from_bucket from_key : List ℕ) → Requests → Type 0
+IsMoveMet limits bucket key from_bucket from_key AreOurs =
+    IsMet limits (IsPlace bucket key) (IsMoved bucket key from_bucket from_key AreOurs)
+
 abbrev pub MoveIsMet : Type 0
-MoveIsMet = (limits : Limits) (bucket key from_bucket from_key etag : List ℕ) → (IsPlace bucket key from_bucket from_key → ⊥)
-    → IsMoveMet limits bucket key from_bucket from_key (AreAll bucket key (AsksCopy bucket key from_bucket from_key etag))
+MoveIsMet = (limits : Limits) (bucket key from_bucket from_key etag : List ℕ)
+    → (IsPlace bucket key from_bucket from_key → ⊥)
+    → IsMoveMet limits bucket key from_bucket from_key
+    (AreAll bucket key (AsksCopy bucket key from_bucket from_key etag))
 
 abbrev pub CopiedMoveIsMet : Type 0
-CopiedMoveIsMet = (limits : Limits) (bucket key from_bucket from_key etag : List ℕ) (ranges : ℕ → ℕ × ℕ) → (IsPlace bucket key from_bucket from_key → ⊥) → LiesWithin (ranges 1) etag → LiesWithin (ranges 2) etag
-    → limits.min_part ≤ length (bytes_within (ranges 1) etag) → IsMoveMet limits bucket key from_bucket from_key (AreCopiedParts Told bucket key from_bucket from_key etag ranges 2)
+CopiedMoveIsMet = (limits : Limits) (bucket key from_bucket from_key etag : List ℕ) (ranges : ℕ → ℕ × ℕ)
+    → (IsPlace bucket key from_bucket from_key → ⊥) → AreTwoRanges limits etag ranges
+    → IsMoveMet limits bucket key from_bucket from_key
+    (AreCopiedParts Told bucket key from_bucket from_key etag ranges 2)
+
+-- ---- uploads
 
 -- an Abort that is served with success
 abbrev pub AbortIsMet : Type 0
-AbortIsMet = (limits : Limits) (bucket key id : List ℕ) → (start : State) × (trace : List Step) × (sent : Request) × IsTrace limits [] start trace
-    × (sent.ask ≡ ask.Abort bucket key id) × Contains (events_of trace) (Serve sent (Replied reply.Gone []))
+AbortIsMet = (limits : Limits) (bucket key id : List ℕ) → (start : State) × (trace : List Step) × (sent : Request)
+    × IsTrace limits [] start trace × (sent.ask ≡ ask.Abort bucket key id)
+    × Contains (events_of trace) (Serve sent (Replied reply.Gone []))
 
 -- an upload that was begun, and that no request names while others are served
 pub record IsOtherUploadMet (limits : Limits) (id : List ℕ) : Type 0 where
-  pub start : State
+  pub run : Run
   pub front : List Step
   pub rest : List Step
-  pub journal : List Event
-  pub dispatched : List Dispatched
-  pub runs : IsTrace limits [] start (front ++ rest)
-  pub fits : Fits Told (events_of (front ++ rest)) journal dispatched
-  pub unnamed : (c : Dispatched) → Contains dispatched c → NamesUpload c.ask id → ⊥
-  pub begun : IsFree (state_after start front) id → ⊥
+  pub traced : HasTrace Told limits run
+  pub is : run.trace ≡ front ++ rest
+  pub unnamed : (c : Dispatched) → Contains run.dispatched c → NamesUpload c.ask id → ⊥
+  pub begun : IsFree (state_after run.start front) id → ⊥
   pub goes_on : 1 ≤ length rest
 
 abbrev pub OtherUploadIsMet : Type 0
 OtherUploadIsMet = (limits : Limits) (id : List ℕ) → IsOtherUploadMet limits id
+
+-- ---- what is read
+
+-- a Get of the whole that came with success
+abbrev pub GetIsMet : Type 0
+GetIsMet = (limits : Limits) (bucket key etag : List ℕ) → IsMet limits IsNoPlace
+    (λ (run : Run). (bytes : List ℕ) × IsGot Told run.journal run.dispatched bucket key etag None bytes)
+
+-- Gets of the ranges of an object of that size, each of one piece, that came with success
+abbrev pub AreRangesGot : (bucket key etag : List ℕ) → (size piece : ℕ) → Run → Type 0
+AreRangesGot bucket key etag size piece run =
+    HasSize (moments run) bucket key etag size
+    × ((bodies : ℕ → List ℕ) × AreGotInParts Told run.journal run.dispatched bucket key etag size piece bodies)
+
+abbrev pub RangesAreMet : Type 0
+RangesAreMet = (limits : Limits) (bucket key etag : List ℕ) → 1 ≤ length etag
+    → IsMet limits IsNoPlace (AreRangesGot bucket key etag (length etag) (length etag))
+
+-- a Head that came with success
+abbrev pub FoundIsMet : Type 0
+FoundIsMet = (bucket key etag : List ℕ) → (setting : Setting) × IsMet setting.limits (IsDest setting.tasks)
+    (λ (run : Run). (size : ℕ) × IsFound Told run.journal run.dispatched bucket key etag size)
 
 -- ---- tasks
 
@@ -179,56 +208,38 @@ fresh_upload bucket key path = record {
   fresh = true;
 }
 
--- a small copy that is moved, as a task of a run that keeps to the clauses on jobs, with its copy and its Delete
-pub record IsTaskMet (bucket key from_bucket from_key : List ℕ) : Type 0 where
+-- A run of a plan with a task whose destination is that object, and of which that is so.
+pub record IsTaskMet (bucket key : List ℕ) (IsSuch : Setting → Run → Task → Type 0) : Type 0 where
   pub setting : Setting
-  pub start : State
-  pub trace : List Step
-  pub journal : List Event
-  pub dispatched : List Dispatched
-  pub scheduled : IsScheduled Told setting journal dispatched dispatched
-  pub traced : IsTraceOf Told setting start trace journal dispatched
-  pub whole : HasJournal journal trace trace
+  pub run : Run
+  pub of_plan : IsRunOf Told setting run
+  pub whole : HasEndedBy run run.trace
   pub task : Task
-  pub object : IsObjectTask setting (states start trace) 0 task bucket key
+  pub object : IsObjectTask setting (moments run) 0 task bucket key
+  pub such : IsSuch setting run task
+
+-- a small copy that is moved, with its copy and its Delete
+pub record IsMovedCopy (from_bucket from_key : List ℕ) (setting : Setting) (run : Run) (task : Task) : Type 0 where
   pub is_copy : task.kind ≡ kind.Copy
   pub moves : task.moves ≡ true
   pub is_source : task.source ≡ Some (place.Object from_bucket from_key)
-  pub copy : Dispatched
-  pub copy_known : Contains dispatched copy
-  pub copies : copy.dispatch.job ≡ job_of 0 (deciding task.kind (is_small setting task)) 0
-  pub copied : HasSucceeded Told copy
-  pub delete : Dispatched
-  pub delete_known : Contains dispatched delete
-  pub deletes : delete.dispatch.job ≡ job_of 0 op.Delete 0
-  pub deleted : HasSucceeded Told delete
-  pub lane : ℕ
-  pub sent : Request
-  pub begins : Contains (events_of trace) (Begin lane sent)
-  pub of_delete : sent.job ≡ job_of 0 op.Delete 0
+  pub copied : IsDecidedIn Told setting run.dispatched 0 task
+  pub deleted : HasDeleted Told run.dispatched 0
+  pub begins : HasBegun run.trace (job_of 0 op.Delete 0)
 
 abbrev pub TaskIsMet : Type 0
-TaskIsMet = (bucket key from_bucket from_key etag : List ℕ) → (IsPlace bucket key from_bucket from_key → ⊥) → IsTaskMet bucket key from_bucket from_key
+TaskIsMet = (bucket key from_bucket from_key etag : List ℕ) → (IsPlace bucket key from_bucket from_key → ⊥)
+    → IsTaskMet bucket key (IsMovedCopy from_bucket from_key)
 
--- a task of such a run whose deciding request was made, and refused
-pub record IsRefusedTaskMet (bucket key : List ℕ) : Type 0 where
-  pub setting : Setting
-  pub start : State
-  pub trace : List Step
-  pub journal : List Event
-  pub dispatched : List Dispatched
-  pub scheduled : IsScheduled Told setting journal dispatched dispatched
-  pub traced : IsTraceOf Told setting start trace journal dispatched
-  pub whole : HasJournal journal trace trace
-  pub task : Task
-  pub object : IsObjectTask setting (states start trace) 0 task bucket key
+-- a task whose deciding request was made, and refused
+pub record IsRefusedTask (setting : Setting) (run : Run) (task : Task) : Type 0 where
   pub request : Dispatched
-  pub known : Contains dispatched request
+  pub known : Contains run.dispatched request
   pub decides : request.dispatch.job ≡ job_of 0 (deciding task.kind (is_small setting task)) 0
-  pub refused : IsRefusedIn Told setting dispatched 0 task
+  pub refused : IsRefusedIn Told setting run.dispatched 0 task
 
 abbrev pub RefusedTaskIsMet : Type 0
-RefusedTaskIsMet = (bucket key : List ℕ) → IsRefusedTaskMet bucket key
+RefusedTaskIsMet = (bucket key : List ℕ) → IsTaskMet bucket key IsRefusedTask
 
 -- an orderly run of one task with that outcome, with an honest trace that fits
 pub record IsPromiseMet (task : Task) (how : Outcome) : Type 0 where
@@ -239,12 +250,13 @@ pub record IsPromiseMet (task : Task) (how : Outcome) : Type 0 where
   pub planned : shown.setting.tasks ≡ task ∷ []
   pub ended : shown.outcomes ≡ how ∷ []
   pub orderly : IsOrderly Told ToldStatus AreNone NeverFailed no_text [] 0 shown dispatched dispatched
-  pub traced : IsTraceOf Told shown.setting start trace shown.journal dispatched
+  pub traced : IsTraceOf Told shown.setting (run_of shown dispatched start trace)
   pub whole : HasJournal shown.journal trace trace
 
 -- a moved copy that is done, a removal that failed, and an upload that was skipped
 abbrev pub DoneIsMet : Type 0
-DoneIsMet = (bucket key from_bucket from_key etag : List ℕ) → (IsPlace bucket key from_bucket from_key → ⊥) → IsPromiseMet (moved_copy bucket key from_bucket from_key etag) outcome.Done
+DoneIsMet = (bucket key from_bucket from_key etag : List ℕ) → (IsPlace bucket key from_bucket from_key → ⊥)
+    → IsPromiseMet (moved_copy bucket key from_bucket from_key etag) outcome.Done
 
 abbrev pub FailedIsMet : Type 0
 FailedIsMet = (bucket key : List ℕ) → IsPromiseMet (removal bucket key) (outcome.Failed (cause.Service op.Delete [] []))
@@ -266,46 +278,5 @@ pub record IsCompleteMet (task : Task) (how : Outcome) : Type 0 where
 
 -- a moved copy of an empty object
 abbrev pub CompleteIsMet : Type 0
-CompleteIsMet = (bucket key from_bucket from_key : List ℕ) → (IsPlace bucket key from_bucket from_key → ⊥) → IsCompleteMet (moved_copy bucket key from_bucket from_key []) outcome.Done
-
--- a Head that came with success
-pub record IsFoundMet (bucket key etag : List ℕ) : Type 0 where
-  pub setting : Setting
-  pub start : State
-  pub trace : List Step
-  pub journal : List Event
-  pub dispatched : List Dispatched
-  pub size : ℕ
-  pub traced : IsTraceOf Told setting start trace journal dispatched
-  pub found : IsFound Told journal dispatched bucket key etag size
-
-abbrev pub FoundIsMet : Type 0
-FoundIsMet = (bucket key etag : List ℕ) → IsFoundMet bucket key etag
-
--- a Get of the whole that came with success
-pub record IsGetMet (limits : Limits) (bucket key etag : List ℕ) : Type 0 where
-  pub start : State
-  pub trace : List Step
-  pub journal : List Event
-  pub dispatched : List Dispatched
-  pub bytes : List ℕ
-  pub fitting : IsFitting Told limits start trace journal dispatched (λ b k. ⊥)
-  pub got : IsGot Told dispatched journal bucket key etag None bytes
-
-abbrev pub GetIsMet : Type 0
-GetIsMet = (limits : Limits) (bucket key etag : List ℕ) → IsGetMet limits bucket key etag
-
--- a Get of a range that came with success
-pub record AreRangesMet (limits : Limits) (bucket key etag : List ℕ) : Type 0 where
-  pub start : State
-  pub trace : List Step
-  pub journal : List Event
-  pub dispatched : List Dispatched
-  pub bodies : ℕ → List ℕ
-  pub fitting : IsFitting Told limits start trace journal dispatched (λ b k. ⊥)
-  pub known_size : (bytes : List ℕ) → HadContent (states start trace) bucket key etag bytes → length bytes ≡ length etag
-  pub got : (k : ℕ) → 1 ≤ k → k ≤ piece_count (length etag) (length etag)
-      → (get : IsGot Told dispatched journal bucket key etag (Some (asked_range (length etag) (length etag) k)) (bodies k)) × IsPartial get.succeeded.reply
-
-abbrev pub RangesAreMet : Type 0
-RangesAreMet = (limits : Limits) (bucket key etag : List ℕ) → 1 ≤ length etag → AreRangesMet limits bucket key etag
+CompleteIsMet = (bucket key from_bucket from_key : List ℕ) → (IsPlace bucket key from_bucket from_key → ⊥)
+    → IsCompleteMet (moved_copy bucket key from_bucket from_key []) outcome.Done
