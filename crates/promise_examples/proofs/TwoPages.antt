@@ -1,10 +1,10 @@
 -- A listing in two pages fits, whatever room the lists of its reader have.
-use Rattle.std.proofs.Common.{◌≡◌, ◌∙◌, ◌==◌, ◌<◌, ◌≤◌, ℕ, zero, suc, true, false, List, [], ◌∷◌, Option, Some, None, refl, sym, ap, subst, inl, inr, length, filter, filter_map, map, take, unwrap_or, Contains, arith}
+use Rattle.std.proofs.Common.{◌≡◌, ◌∙◌, ◌==◌, ◌<◌, ◌≤◌, ℕ, zero, suc, true, false, List, [], ◌∷◌, Option, Some, None, refl, sym, ap, subst, inl, inr, filter, filter_map, map, take, unwrap_or, Contains, arith}
 use Rattle.std.specs.Prelude.{flat_map, nat_eq, IsNone, IsSome}
 use Rattle.std.specs.List.{starts_with}
 use Rattle.std.specs.Ordering.{nat_cmp}
 use Rattle.std.specs.Cmp.Lexicographic.{slice_cmp, nat_list_cmp_total}
-use Rattle.std.specs.FinMap.{get, insert, empty, entries, entries-insert, len-empty, len-entries, get-empty}
+use Rattle.std.specs.FinMap.{get, insert, empty, entries, entries-insert, get-empty}
 use Rattle.std.specs.FinMap.Entries.{put}
 use Rattle.std.proofs.lemmas.List.Sorted.{IsPermutation-refl}
 use Rattle.s3_model.specs.declared.answers.Class.{Class}
@@ -36,20 +36,13 @@ use Rattle.promise_examples.proofs.Carrying as carrying
 use Rattle.promise_examples.proofs.Fitting as fitting
 use Rattle.promise_examples.proofs.Honest.{one_bucket_is_faithful, has_bucket, honest}
 use Rattle.world_laws.proofs.Faithful.{IsFaithful, faithful_with}
-use Rattle.world_laws.proofs.Maps.{text_exact, get-insert_same, is_nothing}
+use Rattle.world_laws.proofs.Maps.{entries-empty, text_exact, get-insert_same, is_nothing}
 use Rattle.world_laws.proofs.Objects.{objects_in_same}
 use Rattle.promise_examples.proofs.Readings.{names, reads, says_whole}
 use Rattle.promise_examples.proofs.Repeats.{other_job}
 use Rattle.promise_examples.proofs.Scheduling as scheduling
 
 -- ---- what is in the bucket
-
-none_held : (es : List (List ℕ × Object)) → length es ≡ 0 → es ≡ []
-none_held [] e = refl
-none_held (x ∷ es) e = absurd (omega arith)
-
-entries-empty : entries (empty {X = Object} {R = slice_cmp nat_cmp}) ≡ []
-entries-empty = none_held _ (sym (len-entries (empty {X = Object} {R = slice_cmp nat_cmp})) ∙ len-empty (slice_cmp nat_cmp) Object)
 
 objects_are : objects_in full bucket ≡ insert (insert empty last_key an_object) first_key an_object
 objects_are =
@@ -66,7 +59,7 @@ objects_are =
 
 entries_are : entries (objects_in full bucket) ≡ (first_key, an_object) ∷ (last_key, an_object) ∷ []
 entries_are = ap entries objects_are ∙ entries-insert nat_list_cmp_total (insert empty last_key an_object) first_key an_object
-    ∙ ap (put (slice_cmp nat_cmp) first_key an_object) (entries-insert nat_list_cmp_total empty last_key an_object ∙ ap (put (slice_cmp nat_cmp) last_key an_object) entries-empty)
+    ∙ ap (put (slice_cmp nat_cmp) first_key an_object) (entries-insert nat_list_cmp_total empty last_key an_object ∙ ap (put (slice_cmp nat_cmp) last_key an_object) (entries-empty (slice_cmp nat_cmp)))
 
 -- the names of a bucket with these entries
 abbrev names_of : List (List ℕ × Object) → List Name

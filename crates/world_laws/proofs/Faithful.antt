@@ -7,7 +7,7 @@ use Rattle.std.specs.Cmp.Lexicographic.{slice_cmp, nat_list_cmp_total}
 use Rattle.std.specs.FinMap.{get, insert, empty, get-empty}
 use Rattle.s3_model.specs.declared.settings.Limits.{Limits}
 use Rattle.s3_model.specs.Maps.{MapOf}
-use Rattle.s3_service.specs.ServiceState.{State, Object, object_at, HasBucket, with_object, without_object}
+use Rattle.s3_service.specs.ServiceState.{objects_in, State, Object, object_at, HasBucket, with_object, without_object}
 use Rattle.s3_service.specs.Serves.{ExternalWrite, Writes, Removes}
 use Rattle.run_promise.specs.Traces.{Given, Begin, Serve, External, Came, states, events_of}
 use Rattle.run_promise.specs.Truthful.{IsExternal, HasJournal}
@@ -67,6 +67,10 @@ all_empty (b ∷ buckets) bucket inner e = elim (found_after_insert nat_list_cmp
   | inl now ↦ sym now.1
   | inr before ↦ all_empty buckets bucket inner before
 ]
+
+pub bare_objects : (bucket : List ℕ) (buckets : List (List ℕ)) → objects_in (bare (bucket ∷ buckets)) bucket ≡ empty
+unfolding bare buckets_of
+bare_objects bucket buckets = ap (λ (found : Option (MapOf Object)). unwrap_or found empty) (get-insert_same nat_list_cmp_total text_exact (buckets_of buckets) bucket empty)
 
 pub bare_is_faithful : (buckets : List (List ℕ)) → IsFaithful (bare buckets)
 unfolding bare

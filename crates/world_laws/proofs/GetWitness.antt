@@ -1,26 +1,40 @@
--- Runs with a Get: of the whole, and of a range that is all there is.
-use Rattle.std.proofs.Common.{◌≡◌, ◌∙◌, ◌+◌, ◌-◌, ◌*◌, ◌/◌, ◌<◌, ◌≤◌, ℕ, false, List, [], ◌∷◌, Some, None, refl, sym, ap, subst, inl, inr, length, arith}
+-- Runs with a Get, of the whole and of a range that is all there is; and runs whose planning is told of an object.
+use Rattle.std.proofs.Common.{true, cond, filter, map, nat_eq, ◌≡◌, ◌∙◌, ◌+◌, ◌-◌, ◌*◌, ◌/◌, ◌<◌, ◌≤◌, ℕ, false, List, [], ◌∷◌, Some, None, refl, sym, ap, subst, inl, inr, length, arith}
 use Rattle.std.proofs.lemmas.Nat.{div-mul-add}
 use Rattle.s3_model.specs.declared.requests.Ask.TheVariants as ask
 use Rattle.s3_model.specs.declared.requests.Op.TheVariants as op
 use Rattle.s3_model.specs.declared.settings.Limits.{Limits}
 use Rattle.s3_model.specs.Parts.{piece_count}
-use Rattle.s3_service.specs.ServiceState.{State, with_object}
-use Rattle.s3_service.specs.Serves.{IsThere, LiesWithin, bytes_within}
+use Rattle.s3_service.specs.ServiceState.{HasBucket, Object, objects_in, State, with_object}
+use Rattle.s3_service.specs.Serves.{Succeeds, IsThere, LiesWithin, bytes_within}
 use Rattle.run_promise.specs.Traces.{states}
 use Rattle.run_promise.specs.Schedule.{job_of, asked_range}
+use Rattle.std.specs.List.{starts_with}
+use Rattle.std.specs.Ordering.{nat_cmp}
+use Rattle.std.specs.Cmp.Lexicographic.{slice_cmp, nat_list_cmp_total}
+use Rattle.std.specs.FinMap.{insert, empty, entries, entries-insert}
+use Rattle.std.specs.FinMap.Entries.{put}
+use Rattle.std.proofs.lemmas.Bool.Decides.{Decides-eqb}
+use Rattle.std.proofs.lemmas.Slice.Eq.{starts_is}
+use Rattle.std.proofs.lemmas.List.{append-nil}
+use Rattle.s3_model.specs.declared.requests.Ask.{Ask}
+use Rattle.s3_model.specs.declared.requests.Op.{Op}
+use Rattle.s3_model.specs.declared.outcomes.JobId.{JobId}
+use Rattle.s3_model.specs.Maps.{MapOf}
+use Rattle.s3_service.specs.Listing.{Name, Key, IsPage, listing, name_of, once}
+use Rattle.world_laws.proofs.Maps.{entries-empty}
 use Rattle.world_laws.specs.SmallTransfers.{HasSize}
 use Rattle.world_laws.specs.Downloads.{AreGotInParts, IsGot, IsPartial}
-use Rattle.world_laws.specs.Sources.{IsFound}
-use Rattle.world_laws.specs.Rounds.{Told, Round, dispatch_at, dispatched_from, journal_of, steps_from, AreServed}
-use Rattle.world_laws.specs.Premises.{Run, IsFitting, IsNoPlace}
+use Rattle.world_laws.specs.Sources.{TellsOf, IsFound}
+use Rattle.world_laws.specs.Rounds.{body_by, page_of, reply_to, Told, Round, dispatch_at, dispatched_from, journal_of, steps_from, AreServed}
+use Rattle.world_laws.specs.Premises.{Run, IsNoPlace}
 use Rattle.run_promise.specs.Truthful.{IsDest}
 use Rattle.world_laws.proofs.ScheduleWitness.{setting_of, the_limits}
-use Rattle.world_laws.specs.Witnesses.{AreRangesGot, FoundIsMet, removal, IsMet, GetIsMet, RangesAreMet}
+use Rattle.world_laws.specs.Witnesses.{HeadIsMet, IsFoundMet, PageIsMet, AreRangesGot, removal, IsMet, GetIsMet, RangesAreMet}
 use Rattle.world_laws.proofs.Members.{has}
-use Rattle.world_laws.proofs.Objects.{object_at-with_object}
+use Rattle.world_laws.proofs.Objects.{objects_in_same, object_at-with_object}
 use Rattle.world_laws.proofs.Rounds.{AreApart, rounds_come}
-use Rattle.world_laws.proofs.Faithful.{IsFaithful, object_of, bare, bare_is_faithful, faithful_with, run_by, states_faithful, rounds_fitting}
+use Rattle.world_laws.proofs.Faithful.{bare_objects, has_bucket_after, IsFaithful, object_of, bare, bare_is_faithful, faithful_with, run_by, states_faithful, rounds_fitting}
 use Rattle.world_laws.proofs.Witnesses.{round, succeeds}
 
 -- what has bytes has one piece of all its length
@@ -116,14 +130,18 @@ module _ (limits : Limits) (bucket key etag : List ℕ) where
       such = (size_known, (λ k. bytes_within range etag, each_got));
     }
 
--- ---- a Head
+-- ---- what planning is told
+
+planning_job : Op → JobId
+planning_job of_op = record { task = None; op = of_op; number = 0 }
+
+-- the names of a bucket with these entries
+abbrev names_of : List ℕ → List (List ℕ × Object) → List Name
+names_of prefix es = once (map (name_of prefix false) (filter (λ (entry : List ℕ × Object). starts_with nat_eq entry.0 prefix) es))
 
 module _ (bucket key etag : List ℕ) where
   abbrev holding : State
   holding = with_object (bare (bucket ∷ [])) bucket key (object_of etag)
-
-  abbrev head : Round
-  head = round (record { task = None; op = op.Head; number = 0 }) (ask.Head bucket key) [] etag holding
 
   there : IsThere holding bucket key etag (object_of etag)
   there = record { held = object_at-with_object (bare (bucket ∷ [])) bucket key (object_of etag); etag = refl }
@@ -131,23 +149,53 @@ module _ (bucket key etag : List ℕ) where
   holding_is_faithful : IsFaithful holding
   holding_is_faithful = faithful_with (bare (bucket ∷ [])) bucket key etag (bare_is_faithful (bucket ∷ []))
 
-  fits_head : IsFitting Told the_limits (run_by holding (head ∷ [])) (IsDest (removal bucket key ∷ []))
-  fits_head = rounds_fitting the_limits holding (head ∷ []) ((object_of etag, there, refl, refl, refl), tt) ((λ other h. absurd h), tt) holding_is_faithful (holding_is_faithful, tt) (IsDest (removal bucket key ∷ []))
+  -- a question that tells of it
+  found_met : (asked : Ask) (of_op : Op) (size : ℕ) → Succeeds the_limits holding asked [] (reply_to asked etag 0) (body_by asked etag) holding
+      → TellsOf asked (reply_to asked etag 0) bucket key etag size → IsFoundMet bucket key etag asked
+  found_met asked of_op size answered tells = (
+    setting_of (removal bucket key),
+    record {
+      run = run_by holding (question ∷ []);
+      fitting = rounds_fitting the_limits holding (question ∷ []) (answered, tt) ((λ other h. absurd h), tt) holding_is_faithful (holding_is_faithful, tt) (IsDest (removal bucket key ∷ []));
+      such = (size, (found, refl));
+    },
+  )
+    where
+      question : Round
+      question = round (planning_job of_op) asked [] etag holding
 
-  found : IsFound Told (journal_of (head ∷ [])) (dispatched_from 0 (head ∷ [])) bucket key etag (length etag)
-  found = record {
-    head = dispatch_at 0 head;
-    known = (0, omega arith, refl);
-    asks = refl;
-    come = rounds_come (head ∷ []) holding ((λ other h. absurd h), tt) (dispatch_at 0 head) (inl refl);
-    succeeded = succeeds 0 head refl;
-    micros = 0;
-    told = refl;
-  }
+      found : IsFound Told (journal_of (question ∷ [])) (dispatched_from 0 (question ∷ [])) bucket key etag size
+      found = record {
+        request = dispatch_at 0 question;
+        known = (0, omega arith, refl);
+        come = rounds_come (question ∷ []) holding ((λ other h. absurd h), tt) (dispatch_at 0 question) (inl refl);
+        succeeded = succeeds 0 question refl;
+        tells = tells;
+      }
 
-pub found_is_met : FoundIsMet
-found_is_met bucket key etag =
-    (setting_of (removal bucket key), record { run = run_by (holding bucket key etag) (head bucket key etag ∷ []); fitting = fits_head bucket key etag; such = (length etag, found bucket key etag) })
+  entries_are : entries (objects_in holding bucket) ≡ (key, object_of etag) ∷ []
+  entries_are = ap entries (objects_in_same (bare (bucket ∷ [])) bucket (insert (objects_in (bare (bucket ∷ [])) bucket) key (object_of etag)) ∙ ap (λ (m : MapOf Object). insert m key (object_of etag)) (bare_objects bucket []))
+      ∙ entries-insert nat_list_cmp_total empty key (object_of etag) ∙ ap (put (slice_cmp nat_cmp) key (object_of etag)) (entries-empty (slice_cmp nat_cmp))
+
+  -- its listing, under its own key
+  names_are : listing holding bucket key false ≡ Key key (object_of etag) ∷ []
+  names_are = ap (names_of key) entries_are ∙ ap (λ b. once (map (name_of key false) (cond b ((key, object_of etag) ∷ []) []))) starts
+    where
+      starts : starts_with nat_eq key key ≡ true
+      starts = (starts_is Decides-eqb key key (starts_with nat_eq key key) refl).1 [] (sym (append-nil key))
+
+  its_page : IsPage holding bucket key false None (page_of key etag) holding
+  its_page = (None, Key key (object_of etag) ∷ [], [], refl, sym names_are, omega arith, (λ none. refl), ((refl, refl, refl, refl), (refl, refl)), (refl, refl))
+
+pub head_is_met : HeadIsMet
+head_is_met bucket key etag = found_met bucket key etag (ask.Head bucket key) op.Head (length etag) (object_of etag, there bucket key etag, refl, refl, refl) (refl, refl, refl, refl)
+
+pub page_is_met : PageIsMet
+page_is_met bucket key etag =
+    found_met bucket key etag (ask.List bucket key false None) op.List (length etag) (there_is_bucket, its_page bucket key etag) (_, (0, omega arith, refl), refl, refl, refl, refl)
+  where
+    there_is_bucket : HasBucket (holding bucket key etag) bucket
+    there_is_bucket = has_bucket_after (bare (bucket ∷ [])) bucket (insert (objects_in (bare (bucket ∷ [])) bucket) key (object_of etag))
 
 pub get_is_met : GetIsMet
 get_is_met limits bucket key etag = get_met limits bucket key etag

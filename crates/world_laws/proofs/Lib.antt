@@ -15,6 +15,7 @@ pub mod Given
 pub mod InParts
 pub mod Jobs
 pub mod Kept
+pub mod Listings
 pub mod Maps
 pub mod Marks
 pub mod Members

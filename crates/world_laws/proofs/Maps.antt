@@ -1,12 +1,12 @@
 -- Maps at one key: what is there after a change.
-use Rattle.std.proofs.Common.{◌≡◌, ◌∙◌, ◌⊎◌, ℕ, Bool, true, false, cond, List, Option, Some, None, refl, sym, ap, inl, inr}
+use Rattle.std.proofs.Common.{[], ◌∷◌, length, arith, ◌≡◌, ◌∙◌, ◌⊎◌, ℕ, Bool, true, false, cond, List, Option, Some, None, refl, sym, ap, inl, inr}
 use Rattle.std.specs.Prelude.{IsNone}
 use Rattle.std.specs.Ordering.{eq_by_cmp, is_eq, nat_cmp}
 use Rattle.std.specs.declared.cmp.Ordering.{Ordering}
 use Rattle.std.specs.declared.cmp.Ordering.TheVariants.{Less, Equal, Greater}
 use Rattle.std.specs.Cmp.{IsTotalOrder, eq_by_cmp_equiv}
 use Rattle.std.specs.Cmp.Lexicographic.{slice_cmp, nat_list_cmp_total}
-use Rattle.std.specs.FinMap.{FinMap, get, insert, remove, empty, get-insert, get-remove, get-empty, IsAntisymmetric, slice_cmp-IsAntisymmetric, nat_cmp-IsAntisymmetric}
+use Rattle.std.specs.FinMap.{entries, len-entries, len-empty, FinMap, get, insert, remove, empty, get-insert, get-remove, get-empty, IsAntisymmetric, slice_cmp-IsAntisymmetric, nat_cmp-IsAntisymmetric}
 
 either_way : (b : Bool) → (b ≡ true) ⊎ (b ≡ false)
 either_way true = inl refl
@@ -37,6 +37,13 @@ is_nothing (Some w) e = absurd (none_is_some w (sym e))
 
 pub found_in_empty : {K V : Type 0} (R : K → K → Ordering) (q : K) (w : V) → get (empty {X = V} {R = R}) q ≡ Some w → ⊥
 found_in_empty R q w e = none_is_some w (sym (get-empty R q) ∙ e)
+
+none_held : {A : Type 0} (xs : List A) → length xs ≡ 0 → xs ≡ []
+none_held [] e = refl
+none_held (x ∷ xs) e = absurd (omega arith)
+
+pub entries-empty : {K V : Type 0} (R : K → K → Ordering) → entries (empty {X = V} {R = R}) ≡ []
+entries-empty {K} {V} R = none_held _ (sym (len-entries (empty {X = V} {R = R})) ∙ len-empty R V)
 
 module _ {K : Type 0} {R : K → K → Ordering} (total : IsTotalOrder R) (exact : IsAntisymmetric R) where
   -- two keys are one or differ

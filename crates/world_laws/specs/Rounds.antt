@@ -2,6 +2,7 @@
 use Rattle.std.specs.Prelude.{◌≡◌, ◌+◌, ℕ, Bool, true, false, List, [], ◌∷◌, Some, None, length}
 use Rattle.s3_model.specs.declared.requests.Ask.{Ask}
 use Rattle.s3_model.specs.declared.requests.Ask.TheVariants as ask
+use Rattle.s3_model.specs.declared.answers.Listed.{Listed}
 use Rattle.s3_model.specs.declared.answers.Reply.{Reply}
 use Rattle.s3_model.specs.declared.answers.Reply.TheVariants as reply
 use Rattle.s3_model.specs.declared.answers.Class.{Class}
@@ -24,6 +25,15 @@ use Rattle.run_promise.specs.Schedule.{most_body}
 
 -- ---- a reading of talks
 
+-- a page of one object, whose bytes are its ETag
+abbrev pub page_of : List ℕ → List ℕ → Listed
+page_of key bytes = record {
+  entries = record { items = record { key = key; size = length bytes; etag = bytes; micros = 0 } ∷ []; spare = 0 };
+  prefixes = record { items = []; spare = 0 };
+  more = false;
+  token = None;
+}
+
 -- the reply to a request, where an id, an ETag or the bytes of an object are the text that came back; `size` is that of
 -- the whole object
 abbrev pub reply_to : Ask → List ℕ → ℕ → Reply
@@ -37,6 +47,7 @@ reply_to (ask.Part bucket key upload number) got size = reply.PartStored got
 reply_to (ask.PartCopy bucket key upload number from_bucket from_key etag range) got size = reply.PartStored got
 reply_to (ask.Complete bucket key upload etags fresh) got size = reply.Completed
 reply_to (ask.Abort bucket key upload) got size = reply.Gone
+reply_to (ask.List bucket prefix delimited token) got size = reply.Listed (page_of prefix got)
 reply_to asked got size = reply.Stored
 
 -- the body of an answer, where a Get's is told

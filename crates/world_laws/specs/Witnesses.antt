@@ -1,5 +1,6 @@
 -- That the premises of the laws can be met: for each law there is a run.
 use Rattle.std.specs.Prelude.{◌≡◌, ◌≤◌, ◌++◌, ℕ, true, false, List, [], ◌∷◌, Some, None, Contains, length}
+use Rattle.s3_model.specs.declared.requests.Ask.{Ask}
 use Rattle.s3_model.specs.declared.requests.Ask.TheVariants as ask
 use Rattle.s3_model.specs.declared.requests.Op.TheVariants as op
 use Rattle.s3_model.specs.declared.answers.Reply.TheVariants as reply
@@ -160,10 +161,19 @@ abbrev pub RangesAreMet : Type 0
 RangesAreMet = (limits : Limits) (bucket key etag : List ℕ) → 1 ≤ length etag
     → IsMet limits IsNoPlace (AreRangesGot bucket key etag (length etag) (length etag))
 
--- a Head that came with success
-abbrev pub FoundIsMet : Type 0
-FoundIsMet = (bucket key etag : List ℕ) → (setting : Setting) × IsMet setting.limits (IsDest setting.tasks)
-    (λ (run : Run). (size : ℕ) × IsFound Told run.journal run.dispatched bucket key etag size)
+-- a request that came with success and told of the object
+abbrev pub IsFoundMet : (bucket key etag : List ℕ) → (asked : Ask) → Type 0
+IsFoundMet bucket key etag asked =
+    (setting : Setting) × IsMet setting.limits (IsDest setting.tasks) (λ (run : Run). (size : ℕ)
+    × ((found : IsFound Told run.journal run.dispatched bucket key etag size) × (found.request.ask ≡ asked)))
+
+-- a Head
+abbrev pub HeadIsMet : Type 0
+HeadIsMet = (bucket key etag : List ℕ) → IsFoundMet bucket key etag (ask.Head bucket key)
+
+-- a List, of which there is one page
+abbrev pub PageIsMet : Type 0
+PageIsMet = (bucket key etag : List ℕ) → IsFoundMet bucket key etag (ask.List bucket key false None)
 
 -- ---- tasks
 

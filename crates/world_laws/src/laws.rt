@@ -18,7 +18,7 @@ ghost use Rattle.world_laws.specs.SmallTransfers.{CopyIsWhole, CopyStores, Delet
 ghost use Rattle.world_laws.specs.Sources.{FoundHasSize, FoundIsSource};
 ghost use Rattle.world_laws.specs.Tasks.{MovedSourceIsGone, MovedTaskIsNew, OtherObjectsStay, TaskEnds, TaskIsNew, TaskIsOld, TaskIsWhole};
 ghost use Rattle.world_laws.specs.Uploads.{IdsAreCreatedOnce, OtherUploadsStay};
-ghost use Rattle.world_laws.specs.Witnesses.{AbortIsMet, CompleteIsMet, CopiedMoveIsMet, CopiedPartsAreMet, CopyIsMet, DeleteIsMet, DoneIsMet, FailedIsMet, FoundIsMet, FrameIsMet, GetIsMet, MoveIsMet, OtherUploadIsMet, PartsAreMet, RangesAreMet, RefusalIsMet, RefusedTaskIsMet, SkippedIsMet, TaskIsMet, UploadIsMet};
+ghost use Rattle.world_laws.specs.Witnesses.{AbortIsMet, CompleteIsMet, CopiedMoveIsMet, CopiedPartsAreMet, CopyIsMet, DeleteIsMet, DoneIsMet, FailedIsMet, FrameIsMet, GetIsMet, HeadIsMet, MoveIsMet, OtherUploadIsMet, PageIsMet, PartsAreMet, RangesAreMet, RefusalIsMet, RefusedTaskIsMet, SkippedIsMet, TaskIsMet, UploadIsMet};
 
 /// How talks are read: `shows ask limit talk class bytes` says that the talk has that class for the ask, and its
 /// answer that body.
@@ -124,12 +124,13 @@ pub fn download<R: Reading>()
     ensures met_in_ranges { RangesAreMet }
 {}
 
-/// What a Head told of an object is so at every moment of the run, whoever rewrites the object: whatever it had under
-/// that ETag has that size. So a copy that is planned from it has its source.
+/// What a Head, or an entry of a page of a listing, told of an object is so at every moment of the run, whoever rewrites
+/// the object: whatever it had under that ETag has that size. So a copy that is planned from it has its source.
 pub fn found_source<R: Reading>()
     ensures size { FoundHasSize R.shows }
     ensures source { FoundIsSource R.shows }
-    ensures met { FoundIsMet }
+    ensures met_head { HeadIsMet }
+    ensures met_page { PageIsMet }
 {}
 
 /// What the clauses on given and on carried jobs make of the objects, over every honest trace that fits. A task whose
