@@ -13,11 +13,13 @@ use Rattle.run_promise.specs.Carried.{AreNoted, IsCarried, IsSaid, Numbered, Say
 use Rattle.run_promise.specs.Dispatches.{Attempt, Dispatched, dispatches}
 use Rattle.run_promise.specs.Schedule.{IsBefore, IsBeforeAny}
 use Rattle.s3_service.specs.ServiceState.{State}
+use Rattle.s3_model.specs.Maps.{MapOf}
+use Rattle.s3_model.specs.Files.{HeldFile}
 use Rattle.world_laws.specs.Rounds.{Round, Told, attempt_of, body_by, class_by, dispatch_at, dispatched_from, ending_by, journal_of, mark_by, no_text, reply_to}
 use Rattle.world_laws.proofs.Jobs.{either_way}
 use Rattle.world_laws.proofs.Members.{Has, has}
 use Rattle.world_laws.proofs.Rounds.{AreApart as AreOtherJobs, first_attempt, round_of, rounds_given, stands_at}
-use Rattle.world_laws.proofs.ScheduleWitness.{AllPlain, in_order, same_place, setting_of}
+use Rattle.world_laws.proofs.ScheduleWitness.{AllPlain, in_order, same_place, setting_with}
 
 abbrev pub logs_of : List Dispatched → ℕ → List Talk
 logs_of dispatched lane = flat_map talks_of (in_lane lane dispatched)
@@ -38,19 +40,19 @@ no_notes = []
 none_began : Contains no_notes Began → ⊥
 none_began h = has no_notes Began h
 
-says_all : (shown : Class) → SaysAll Told no_text [] 0 shown [] []
-says_all (class.Success reply) = refl
-says_all (class.Refusal code message) = refl
-says_all (class.Uncertain why) = ([], refl)
+says_all : (port : ℕ) (shown : Class) → SaysAll Told no_text [] port shown [] []
+says_all port (class.Success reply) = refl
+says_all port (class.Refusal code message) = refl
+says_all port (class.Uncertain why) = ([], refl)
 
-said : (place : ℕ) (r : Round) → r.size ≡ 0 → IsSaid Told no_text [] 0 (record { of = dispatch_at place r; number = 1; attempt = attempt_of r }) 0
-said place r size = record { to_host = refl; to_port = size; text = λ shown bytes told. says_all shown; beginning = ([], refl) }
+said : (port place : ℕ) (r : Round) → r.size ≡ port → IsSaid Told no_text [] port (record { of = dispatch_at place r; number = 1; attempt = attempt_of r }) 0
+said port place r size = record { to_host = refl; to_port = size; text = λ shown bytes told. says_all port shown; beginning = ([], refl) }
 
-all_noted : (rounds : List Round) (place : ℕ) → ((r : Round) → Has rounds r → r.size ≡ 0)
-    → AreNoted Told no_text [] 0 0 (flat_map numbered (dispatched_from place rounds)) (flat_map notes_at (dispatched_from place rounds))
-all_noted [] place sized = (none_began, inl refl)
-all_noted (r ∷ rounds) place sized =
-    ([], 0, flat_map notes_at (dispatched_from (place + 2) rounds), [], refl, none_began, refl, inl refl, said place r (sized r (inl refl)), all_noted rounds (place + 2) (λ other h. sized other (inr h)))
+all_noted : (port : ℕ) (rounds : List Round) (place : ℕ) → ((r : Round) → Has rounds r → r.size ≡ port)
+    → AreNoted Told no_text [] port 0 (flat_map numbered (dispatched_from place rounds)) (flat_map notes_at (dispatched_from place rounds))
+all_noted port [] place sized = (none_began, inl refl)
+all_noted port (r ∷ rounds) place sized =
+    ([], 0, flat_map notes_at (dispatched_from (place + 2) rounds), [], refl, none_began, refl, inl refl, said port place r (sized r (inl refl)), all_noted port rounds (place + 2) (λ other h. sized other (inr h)))
 
 -- all are in the first lane
 all_in : (lane : ℕ) → (0 == lane) ≡ true → (rounds : List Round) (place : ℕ) → in_lane lane (dispatched_from place rounds) ≡ dispatched_from place rounds
@@ -85,7 +87,8 @@ one_none attempt e = cc
 false_true : false ≡ true → ⊥
 false_true e = cc
 
-module _ (task : Task) (rounds : List Round) (start : State) (apart : AreOtherJobs rounds) (plain : AllPlain rounds) (sized : (r : Round) → Has rounds r → r.size ≡ 0) where
+module _ (held : MapOf HeldFile) (task : Task) (rounds : List Round) (start : State) (apart : AreOtherJobs rounds) (plain : AllPlain rounds) (port : ℕ)
+    (sized : (r : Round) → Has rounds r → r.size ≡ port) where
   abbrev all : List Dispatched
   all = dispatched_from 0 rounds
 
@@ -106,11 +109,11 @@ module _ (task : Task) (rounds : List Round) (start : State) (apart : AreOtherJo
   ]
 
   abbrev Noted : List Dispatched → Type 0
-  Noted xs = AreNoted Told no_text [] 0 0 (flat_map numbered xs) (flat_map notes_at xs)
+  Noted xs = AreNoted Told no_text [] port 0 (flat_map numbered xs) (flat_map notes_at xs)
 
   noted : (lane : ℕ) → Noted (in_lane lane all)
   noted lane = elim (either_way (0 == lane)) [
-    | inl here ↦ subst Noted (sym (all_in lane here rounds 0)) (all_noted rounds 0 sized)
+    | inl here ↦ subst Noted (sym (all_in lane here rounds 0)) (all_noted port rounds 0 sized)
     | inr other ↦ subst Noted (sym (none_in lane other rounds 0)) (none_began, inl refl)
   ]
 
@@ -126,7 +129,7 @@ module _ (task : Task) (rounds : List Round) (start : State) (apart : AreOtherJo
 
   -- in the journal and the logs they are these dispatches
   module _ (shown : map (λ (c : Dispatched). c.dispatch) all ≡ dispatches (journal_of rounds) (logs_of all)) where
-    pub rounds_carried : IsCarried Told no_text [] 0 (setting_of task) (journal_of rounds) (logs_of all) (notes_of all) all all
+    pub rounds_carried : IsCarried Told no_text [] port (setting_with held task) (journal_of rounds) (logs_of all) (notes_of all) all all
     rounds_carried = record {
       shown = shown;
       comes = λ c known. let at = stands_at rounds 0 [] c refl (has all c known) in (c.dispatch.given_at + 1, at.tries, at.comes, at.came, at.counted);
@@ -139,7 +142,7 @@ module _ (task : Task) (rounds : List Round) (start : State) (apart : AreOtherJo
       marks = λ c k attempt known at. let is = each Marked marked c known k attempt at in inl (is.0, is.1, is.2, is.3, λ wanting. absurd (is.4 wanting));
       again = λ c k attempt known at before. let one = each (λ (d : Dispatched). length d.dispatch.attempts ≡ 1) (λ place r. refl) c known in absurd (omega arith);
       given_again = λ i j d before inside same attempt last.
-          absurd (same_place (setting_of task) rounds apart plain i j (get_or all i d) (get_or all j d) before (slice_get-get_or all i d (omega arith)) (slice_get-get_or all j d inside) same);
+          absurd (same_place (setting_with held task) rounds apart plain i j (get_or all i d) (get_or all j d) before (slice_get-get_or all i d (omega arith)) (slice_get-get_or all j d inside) same);
       at_most = λ c known. each (λ (d : Dispatched). d.dispatch.earlier + length d.dispatch.attempts ≤ 1) (λ place r. omega arith) c known;
       to_the_end = λ c attempt known last goes_on. inl (each (λ (d : Dispatched). d.dispatch.earlier + length d.dispatch.attempts ≡ 1) (λ place r. refl) c known);
       silent = λ c known none. absurd (each (λ (d : Dispatched). d.dispatch.attempts ≡ [] → ⊥) (λ place r. one_none (attempt_of r)) c known none);

@@ -126,7 +126,7 @@ states_faithful (r ∷ rounds) place old first all t (inr (inr (inr (inl e)))) =
 states_faithful (r ∷ rounds) place old first all t (inr (inr (inr (inr (inl e))))) = subst IsFaithful e all.0
 states_faithful (r ∷ rounds) place old first all t (inr (inr (inr (inr (inr h))))) = states_faithful rounds (place + 2) r.after all.0 all.1 t (inr h)
 
-nobody_writes : (rounds : List Round) (place : ℕ) (old : State) (write : ExternalWrite) → Has (events_of (steps_from place old rounds)) (External write) → ⊥
+pub nobody_writes : (rounds : List Round) (place : ℕ) (old : State) (write : ExternalWrite) → Has (events_of (steps_from place old rounds)) (External write) → ⊥
 nobody_writes [] place old write h = h
 nobody_writes (r ∷ rounds) place old write (inl e) = not_given e
   where

@@ -44,6 +44,7 @@ pub mod TaskLaws
 pub mod Tasks
 pub mod Traces
 pub mod UploadIds
+pub mod UploadWitness
 pub mod Uploads
 pub mod Willing
 pub mod Witnesses

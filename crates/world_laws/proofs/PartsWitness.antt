@@ -15,6 +15,7 @@ use Rattle.s3_service.specs.Serves.{Serves, MayChange, IsOpen, IsThere, LiesWith
 use Rattle.run_promise.specs.Dispatches.{Dispatched, op_number}
 use Rattle.run_promise.specs.Schedule.{job_of, IsBefore}
 use Rattle.run_promise.specs.Fits.{request_at}
+use Rattle.s3_model.specs.Documents.{document_of}
 use Rattle.world_laws.specs.Destinations.{Requests}
 use Rattle.world_laws.specs.Multipart.{AreParts, AreCopiedParts, CompletesHere, IsCreated}
 use Rattle.world_laws.specs.Uploads.{NamesUpload}
@@ -67,6 +68,10 @@ pub record IsReady (start : State) (bucket : List ℕ) : Type 0 where
   pub not_ended : get start.ended [] ≡ None
   pub first : IsFaithful start
 
+pub bucket_is_ready : (bucket : List ℕ) → IsReady (bare (bucket ∷ [])) bucket
+bucket_is_ready bucket =
+    record { is_there = bare_has bucket []; not_open = bare_uploads (bucket ∷ []) []; not_ended = bare_ended (bucket ∷ []) []; first = bare_is_faithful (bucket ∷ []) }
+
 -- what may follow a Complete: at most a Delete of another object
 pub record AreLater (bucket key : List ℕ) (more : State → List Round) : Type 0 where
   pub is_job : (t : State) (r : Round) → Has (more t) r → r.job ≡ job_of 0 op.Delete 0
@@ -90,28 +95,28 @@ none_later bucket key = record {
     longer e = absurd (omega arith)
 
 module _ (limits : Limits) (bucket key : List ℕ) (start : State) (ready : IsReady start bucket) (pieces : ℕ → List ℕ) (part_ask : ℕ → Ask) (part_body : ℕ → List ℕ)
-    (more : State → List Round) (later : AreLater bucket key more) where
+    (more : State → List Round) (later : AreLater bucket key more) (size : ℕ) where
   -- ---- the states
 
-  abbrev begun : Upload
+  abbrev pub begun : Upload
   begun = record { bucket = bucket; key = key; parts = empty }
 
   abbrev part : ℕ → StoredPart
   part n = record { bytes = pieces n; etag = [] }
 
-  abbrev created : State
+  abbrev pub created : State
   created = with_upload start [] begun
 
-  abbrev one_part : Upload
+  abbrev pub one_part : Upload
   one_part = record begun { parts = insert begun.parts 1 (part 1) }
 
-  abbrev after_one : State
+  abbrev pub after_one : State
   after_one = with_part created [] begun 1 (part 1)
 
   abbrev two_parts : Upload
   two_parts = record one_part { parts = insert one_part.parts 2 (part 2) }
 
-  abbrev after_two : State
+  abbrev pub after_two : State
   after_two = with_part after_one [] one_part 2 (part 2)
 
   abbrev whole : List ℕ
@@ -120,7 +125,7 @@ module _ (limits : Limits) (bucket key : List ℕ) (start : State) (ready : IsRe
   abbrev stored : State
   stored = with_object after_two bucket key (object_of whole)
 
-  abbrev etags : Reserved (List ℕ)
+  abbrev pub etags : Reserved (List ℕ)
   etags = record { items = [] ∷ [] ∷ []; spare = 0 }
 
   abbrev completed : State
@@ -128,22 +133,29 @@ module _ (limits : Limits) (bucket key : List ℕ) (start : State) (ready : IsRe
 
   -- ---- the rounds
 
-  abbrev create : Round
-  create = round (job_of 0 op.Create 0) (ask.Create bucket key None) [] [] created
+  -- a request of a task whose source has that size
+  abbrev pub sized_round : JobId → Ask → List ℕ → State → Round
+  sized_round job asked body after = record (round job asked body [] after) { size = size }
 
-  abbrev part_round : ℕ → State → Round
-  part_round n after = round (job_of 0 op.Part n) (part_ask n) (part_body n) [] after
+  abbrev pub create : Round
+  create = sized_round (job_of 0 op.Create 0) (ask.Create bucket key None) [] created
 
-  abbrev complete : Round
-  complete = round (job_of 0 op.Complete 0) (ask.Complete bucket key [] etags false) [] [] completed
+  abbrev pub part_round : ℕ → State → Round
+  part_round n after = sized_round (job_of 0 op.Part n) (part_ask n) (part_body n) after
 
-  abbrev upload : List Round
+  abbrev pub completing : Ask
+  completing = ask.Complete bucket key [] etags false
+
+  abbrev pub complete : Round
+  complete = sized_round (job_of 0 op.Complete 0) completing (document_of completing) completed
+
+  abbrev pub upload : List Round
   upload = create ∷ part_round 1 after_one ∷ part_round 2 after_two ∷ complete ∷ more completed
 
-  open_created : IsOpen created [] bucket key begun
+  pub open_created : IsOpen created [] bucket key begun
   open_created = record { held = get-insert_same nat_list_cmp_total text_exact start.uploads [] begun; bucket = refl; key = refl }
 
-  open_one : IsOpen after_one [] bucket key one_part
+  pub open_one : IsOpen after_one [] bucket key one_part
   open_one = record { held = get-insert_same nat_list_cmp_total text_exact created.uploads [] one_part; bucket = refl; key = refl }
 
   open_two : IsOpen after_two [] bucket key two_parts
@@ -158,18 +170,18 @@ module _ (limits : Limits) (bucket key : List ℕ) (start : State) (ready : IsRe
   served_create : Succeeds limits start (ask.Create bucket key None) [] (reply.Created []) [] created
   served_create = (ready.is_there, is_nothing (get start.uploads []) ready.not_open, is_nothing (get start.ended []) ready.not_ended, begun, record { bucket = refl; key = refl; parts = refl }, refl)
 
-  served_complete : limits.min_part ≤ length (pieces 1) → Succeeds limits after_two (ask.Complete bucket key [] etags false) [] reply.Completed [] completed
+  served_complete : limits.min_part ≤ length (pieces 1) → Succeeds limits after_two completing (document_of completing) reply.Completed [] completed
   served_complete long =
       inl (two_parts, whole, stored, open_two, λ never. absurd (false_true never), (pieces 1 ∷ pieces 2 ∷ [], (one_is_there, (two_is_there, refl)), (long, tt), omega arith, refl), (object_of whole, refl, refl), refl)
 
-  all_faithful : AreFaithful upload
+  pub all_faithful : AreFaithful upload
   all_faithful = (ready.first, (ready.first, (ready.first, (faithful_with after_two bucket key whole ready.first, later.faithful completed (faithful_with after_two bucket key whole ready.first)))))
 
   -- a Delete is apart from the others
   from_later : (job : JobId) → (op_number job.op ≡ 4 → ⊥) → (other : Round) → Has (more completed) other → job ≡ other.job → ⊥
   from_later job apart other h same = apart (ap (λ (j : JobId). op_number j.op) (same ∙ later.is_job completed other h))
 
-  upload_apart : AreApart upload
+  pub upload_apart : AreApart upload
   upload_apart = ((λ other h. from_create other h), ((λ other h. from_one other h), ((λ other h. from_two other h), ((λ other h. from_later (job_of 0 op.Complete 0) (λ e. absurd (omega arith)) other h), later.apart completed))))
     where
       from_create : (other : Round) → Has (part_round 1 after_one ∷ part_round 2 after_two ∷ complete ∷ more completed) other → job_of 0 op.Create 0 ≡ other.job → ⊥
@@ -214,7 +226,7 @@ module _ (limits : Limits) (bucket key : List ℕ) (start : State) (ready : IsRe
   completes_here : CompletesHere Told bucket key 2 (journal_of upload) (dispatched_from 0 upload) (dispatch_at 6 complete)
   completes_here = record { id = []; etags = etags; fresh = false; is_complete = refl; counted = refl; created = is_created }
 
-  upload_served : Serves limits created (part_ask 1) (part_body 1) (answer_by false (part_ask 1) [] 0) after_one → Serves limits after_one (part_ask 2) (part_body 2) (answer_by false (part_ask 2) [] 0) after_two
+  pub upload_served : Serves limits created (part_ask 1) (part_body 1) (answer_by false (part_ask 1) [] size) after_one → Serves limits after_one (part_ask 2) (part_body 2) (answer_by false (part_ask 2) [] size) after_two
       → limits.min_part ≤ length (pieces 1) → AreServed limits completed (more completed) → AreServed limits start upload
   upload_served one two long rest = (served_create, (one, (two, (served_complete long, rest))))
 
@@ -231,31 +243,31 @@ module _ (limits : Limits) (bucket key : List ℕ) (pieces : ℕ → List ℕ) (
   part_of n = ask.Part bucket key [] n
 
   one_ready : IsReady one_bucket bucket
-  one_ready = record { is_there = bare_has bucket []; not_open = bare_uploads (bucket ∷ []) []; not_ended = bare_ended (bucket ∷ []) []; first = bare_is_faithful (bucket ∷ []) }
+  one_ready = bucket_is_ready bucket
 
   abbrev rounds : List Round
-  rounds = upload limits bucket key one_bucket one_ready pieces part_of pieces (λ t. []) (none_later bucket key)
+  rounds = upload limits bucket key one_bucket one_ready pieces part_of pieces (λ t. []) (none_later bucket key) 0
 
   rounds_served : AreServed limits one_bucket rounds
   rounds_served =
-      upload_served limits bucket key one_bucket one_ready pieces part_of pieces (λ t. []) (none_later bucket key)
-      (begun limits bucket key one_bucket one_ready pieces part_of pieces (λ t. []) (none_later bucket key), open_created limits bucket key one_bucket one_ready pieces part_of pieces (λ t. []) (none_later bucket key), refl)
-      (one_part limits bucket key one_bucket one_ready pieces part_of pieces (λ t. []) (none_later bucket key), open_one limits bucket key one_bucket one_ready pieces part_of pieces (λ t. []) (none_later bucket key), refl) long tt
+      upload_served limits bucket key one_bucket one_ready pieces part_of pieces (λ t. []) (none_later bucket key) 0
+      (begun limits bucket key one_bucket one_ready pieces part_of pieces (λ t. []) (none_later bucket key) 0, open_created limits bucket key one_bucket one_ready pieces part_of pieces (λ t. []) (none_later bucket key) 0, refl)
+      (one_part limits bucket key one_bucket one_ready pieces part_of pieces (λ t. []) (none_later bucket key) 0, open_one limits bucket key one_bucket one_ready pieces part_of pieces (λ t. []) (none_later bucket key) 0, refl) long tt
 
   only_completes : (c : Dispatched) → Contains (dispatched_from 0 rounds) c → MayChange c.ask bucket key → CompletesHere Told bucket key 2 (journal_of rounds) (dispatched_from 0 rounds) c
   only_completes =
-      each_of limits bucket key one_bucket one_ready pieces part_of pieces (λ t. []) (none_later bucket key) (λ (c : Dispatched). MayChange c.ask bucket key → CompletesHere Told bucket key 2 (journal_of rounds) (dispatched_from 0 rounds) c)
-      (λ may. absurd may) (λ may. absurd may) (λ may. absurd may) (λ may. completes_here limits bucket key one_bucket one_ready pieces part_of pieces (λ t. []) (none_later bucket key))
+      each_of limits bucket key one_bucket one_ready pieces part_of pieces (λ t. []) (none_later bucket key) 0 (λ (c : Dispatched). MayChange c.ask bucket key → CompletesHere Told bucket key 2 (journal_of rounds) (dispatched_from 0 rounds) c)
+      (λ may. absurd may) (λ may. absurd may) (λ may. absurd may) (λ may. completes_here limits bucket key one_bucket one_ready pieces part_of pieces (λ t. []) (none_later bucket key) 0)
       (λ c is may. absurd ((none_later bucket key).elsewhere (subst (λ (a : Ask). MayChange a bucket key) is may)))
 
   has_piece : (c : Dispatched) → Contains (dispatched_from 0 rounds) c → (id : List ℕ) (number : ℕ) → c.ask ≡ ask.Part bucket key id number → c.body ≡ pieces number
   has_piece =
-      each_of limits bucket key one_bucket one_ready pieces part_of pieces (λ t. []) (none_later bucket key) (λ (c : Dispatched). (id : List ℕ) (number : ℕ) → c.ask ≡ ask.Part bucket key id number → c.body ≡ pieces number)
+      each_of limits bucket key one_bucket one_ready pieces part_of pieces (λ t. []) (none_later bucket key) 0 (λ (c : Dispatched). (id : List ℕ) (number : ℕ) → c.ask ≡ ask.Part bucket key id number → c.body ≡ pieces number)
       (λ id number e. absurd (create_part e)) (λ id number e. ap pieces (part_number e)) (λ id number e. ap pieces (part_number e)) (λ id number e. absurd (complete_part e)) (λ c is id number e. absurd (delete_part (sym is ∙ e)))
 
   no_copies : (c : Dispatched) → Contains (dispatched_from 0 rounds) c → (id : List ℕ) (number : ℕ) (b k under : List ℕ) (range : ℕ × ℕ) → c.ask ≡ ask.PartCopy bucket key id number b k under range → ⊥
   no_copies =
-      each_of limits bucket key one_bucket one_ready pieces part_of pieces (λ t. []) (none_later bucket key) (λ (c : Dispatched). (id : List ℕ) (number : ℕ) (b k under : List ℕ) (range : ℕ × ℕ) → c.ask ≡ ask.PartCopy bucket key id number b k under range → ⊥)
+      each_of limits bucket key one_bucket one_ready pieces part_of pieces (λ t. []) (none_later bucket key) 0 (λ (c : Dispatched). (id : List ℕ) (number : ℕ) (b k under : List ℕ) (range : ℕ × ℕ) → c.ask ≡ ask.PartCopy bucket key id number b k under range → ⊥)
       (λ id number b k under range e. create_copy e) (λ id number b k under range e. part_copy e) (λ id number b k under range e. part_copy e) (λ id number b k under range e. complete_copy e)
       (λ c is id number b k under range e. delete_copy (sym is ∙ e))
 
@@ -267,7 +279,7 @@ module _ (limits : Limits) (bucket key : List ℕ) (pieces : ℕ → List ℕ) (
   }
 
   parts_met : IsDestMet limits bucket key (AreParts Told bucket key pieces 2)
-  parts_met = upload_met limits bucket key one_bucket one_ready pieces part_of pieces (λ t. []) (none_later bucket key) (AreParts Told bucket key pieces 2) are_parts rounds_served
+  parts_met = upload_met limits bucket key one_bucket one_ready pieces part_of pieces (λ t. []) (none_later bucket key) 0 (AreParts Told bucket key pieces 2) are_parts rounds_served
 
 pub parts_are_met : PartsAreMet
 parts_are_met limits bucket key pieces long = parts_met limits bucket key pieces long
@@ -298,50 +310,50 @@ module _ (limits : Limits) (bucket key from_bucket from_key etag : List ℕ) (ra
   }
 
   abbrev copied_rounds : List Round
-  copied_rounds = upload limits bucket key source_there source_ready range_of copy_of no_body more later
+  copied_rounds = upload limits bucket key source_there source_ready range_of copy_of no_body more later 0
 
   copied_served : AreServed limits source_there copied_rounds
   copied_served =
-      upload_served limits bucket key source_there source_ready range_of copy_of no_body more later (
-        begun limits bucket key source_there source_ready range_of copy_of no_body more later,
+      upload_served limits bucket key source_there source_ready range_of copy_of no_body more later 0 (
+        begun limits bucket key source_there source_ready range_of copy_of no_body more later 0,
         object_of etag,
-        open_created limits bucket key source_there source_ready range_of copy_of no_body more later,
+        open_created limits bucket key source_there source_ready range_of copy_of no_body more later 0,
         source_there_still,
         inside_one,
         refl,
       ) (
-        one_part limits bucket key source_there source_ready range_of copy_of no_body more later,
+        one_part limits bucket key source_there source_ready range_of copy_of no_body more later 0,
         object_of etag,
-        open_one limits bucket key source_there source_ready range_of copy_of no_body more later,
+        open_one limits bucket key source_there source_ready range_of copy_of no_body more later 0,
         source_there_again,
         inside_two,
         refl,
-      ) long (rest_served (completed limits bucket key source_there source_ready range_of copy_of no_body more later) still_there)
+      ) long (rest_served (completed limits bucket key source_there source_ready range_of copy_of no_body more later 0) still_there)
     where
-      still_there : HasBucket (completed limits bucket key source_there source_ready range_of copy_of no_body more later) from_bucket
+      still_there : HasBucket (completed limits bucket key source_there source_ready range_of copy_of no_body more later 0) from_bucket
       still_there =
-          has_bucket_still (after_two limits bucket key source_there source_ready range_of copy_of no_body more later) bucket
-          (insert (objects_in (after_two limits bucket key source_there source_ready range_of copy_of no_body more later) bucket) key (object_of (whole limits bucket key source_there source_ready range_of copy_of no_body more later)))
+          has_bucket_still (after_two limits bucket key source_there source_ready range_of copy_of no_body more later 0) bucket
+          (insert (objects_in (after_two limits bucket key source_there source_ready range_of copy_of no_body more later 0) bucket) key (object_of (whole limits bucket key source_there source_ready range_of copy_of no_body more later 0)))
           from_bucket (has_bucket_after (two_buckets limits bucket key from_bucket from_key etag) from_bucket (insert (objects_in (two_buckets limits bucket key from_bucket from_key etag) from_bucket) from_key (object_of etag)))
 
       is_source : IsThere source_there from_bucket from_key etag (object_of etag)
       is_source = source_is_there limits bucket key from_bucket from_key etag
 
-      source_there_still : IsThere (created limits bucket key source_there source_ready range_of copy_of no_body more later) from_bucket from_key etag (object_of etag)
+      source_there_still : IsThere (created limits bucket key source_there source_ready range_of copy_of no_body more later 0) from_bucket from_key etag (object_of etag)
       source_there_still = record { held = is_source.held; etag = refl }
 
-      source_there_again : IsThere (after_one limits bucket key source_there source_ready range_of copy_of no_body more later) from_bucket from_key etag (object_of etag)
+      source_there_again : IsThere (after_one limits bucket key source_there source_ready range_of copy_of no_body more later 0) from_bucket from_key etag (object_of etag)
       source_there_again = record { held = is_source.held; etag = refl }
 
   copied_completes : (c : Dispatched) → Contains (dispatched_from 0 copied_rounds) c → MayChange c.ask bucket key → CompletesHere Told bucket key 2 (journal_of copied_rounds) (dispatched_from 0 copied_rounds) c
   copied_completes =
-      each_of limits bucket key source_there source_ready range_of copy_of no_body more later (λ (c : Dispatched). MayChange c.ask bucket key → CompletesHere Told bucket key 2 (journal_of copied_rounds) (dispatched_from 0 copied_rounds) c)
-      (λ may. absurd may) (λ may. absurd may) (λ may. absurd may) (λ may. completes_here limits bucket key source_there source_ready range_of copy_of no_body more later)
+      each_of limits bucket key source_there source_ready range_of copy_of no_body more later 0 (λ (c : Dispatched). MayChange c.ask bucket key → CompletesHere Told bucket key 2 (journal_of copied_rounds) (dispatched_from 0 copied_rounds) c)
+      (λ may. absurd may) (λ may. absurd may) (λ may. absurd may) (λ may. completes_here limits bucket key source_there source_ready range_of copy_of no_body more later 0)
       (λ c is may. absurd (later.elsewhere (subst (λ (a : Ask). MayChange a bucket key) is may)))
 
   no_parts : (c : Dispatched) → Contains (dispatched_from 0 copied_rounds) c → (id : List ℕ) (number : ℕ) → c.ask ≡ ask.Part bucket key id number → ⊥
   no_parts =
-      each_of limits bucket key source_there source_ready range_of copy_of no_body more later (λ (c : Dispatched). (id : List ℕ) (number : ℕ) → c.ask ≡ ask.Part bucket key id number → ⊥)
+      each_of limits bucket key source_there source_ready range_of copy_of no_body more later 0 (λ (c : Dispatched). (id : List ℕ) (number : ℕ) → c.ask ≡ ask.Part bucket key id number → ⊥)
       (λ id number e. create_part e) (λ id number e. part_copy (sym e)) (λ id number e. part_copy (sym e)) (λ id number e. complete_part e) (λ c is id number e. delete_part (sym is ∙ e))
 
   abbrev IsOfSource : Dispatched → Type 0
@@ -350,7 +362,7 @@ module _ (limits : Limits) (bucket key from_bucket from_key etag : List ℕ) (ra
 
   of_source : (c : Dispatched) → Contains (dispatched_from 0 copied_rounds) c → IsOfSource c
   of_source =
-      each_of limits bucket key source_there source_ready range_of copy_of no_body more later IsOfSource
+      each_of limits bucket key source_there source_ready range_of copy_of no_body more later 0 IsOfSource
       (λ id number b k under range e. absurd (create_copy e))
       (λ id number b k under range e. let is = copy_is e in (is.0, is.1, is.2, is.3 ∙ ap ranges is.4))
       (λ id number b k under range e. let is = copy_is e in (is.0, is.1, is.2, is.3 ∙ ap ranges is.4))
@@ -359,7 +371,7 @@ module _ (limits : Limits) (bucket key from_bucket from_key etag : List ℕ) (ra
 
   copied_met : IsDestMet limits bucket key (AreCopiedParts Told bucket key from_bucket from_key etag ranges 2)
   copied_met =
-      upload_met limits bucket key source_there source_ready range_of copy_of no_body more later (AreCopiedParts Told bucket key from_bucket from_key etag ranges 2)
+      upload_met limits bucket key source_there source_ready range_of copy_of no_body more later 0 (AreCopiedParts Told bucket key from_bucket from_key etag ranges 2)
       (record {
         completes = copied_completes;
         no_parts = λ c id number known e. no_parts c known id number e;

@@ -1,5 +1,5 @@
 -- Orderly runs of one task: a moved copy that is done, a removal that failed, and an upload that was skipped.
-use Rattle.std.proofs.Common.{◌≡◌, ◌∙◌, ◌+◌, ℕ, Bool, true, false, List, [], ◌∷◌, Option, Some, None, refl, sym, ap, subst, inl, inr, Contains, length, map, slice_get, arith}
+use Rattle.std.proofs.Common.{◌≡◌, ◌∙◌, ℕ, Bool, true, false, List, [], ◌∷◌, Option, Some, None, refl, sym, ap, subst, inl, inr, Contains, length, map, slice_get, arith}
 use Rattle.std.specs.Prelude.{IsSome, codes}
 use Rattle.std.specs.FinMap.{empty}
 use Rattle.std.proofs.lemmas.List.{append-nil}
@@ -7,7 +7,6 @@ use Rattle.s3_model.specs.declared.answers.Class.{Class}
 use Rattle.s3_model.specs.declared.answers.Class.TheVariants as class
 use Rattle.s3_model.specs.declared.answers.Reply.TheVariants as reply
 use Rattle.s3_model.specs.declared.answers.Why.{Why}
-use Rattle.s3_model.specs.declared.outcomes.JobId.{JobId}
 use Rattle.s3_model.specs.declared.requests.Ask.{Ask}
 use Rattle.s3_model.specs.declared.places.Place.{Place}
 use Rattle.s3_model.specs.Talks.{Ending}
@@ -23,26 +22,27 @@ use Rattle.s3_model.specs.declared.tries.Mark.{Mark}
 use Rattle.s3_model.specs.declared.tries.Mark.TheVariants as mark
 use Rattle.s3_model.specs.Replies.{IsSameClass}
 use Rattle.s3_service.specs.ServiceState.{State, Object, HasBucket, with_object}
-use Rattle.s3_service.specs.Serves.{Answer, ExternalWrite, IsThere}
-use Rattle.run_promise.specs.Fits.{request_at}
+use Rattle.s3_service.specs.Serves.{IsThere}
 use Rattle.run_promise.specs.Dispatches.{Attempt, Dispatched, IsCut, dispatches, op_number}
 use Rattle.run_promise.specs.Outcomes.{HasMark, HasOutcome, IsFirstFailure}
 use Rattle.run_promise.specs.Schedule.{IsFailed, IsObject, IsSchedule, IsSource, Target, is_small, job_of, source_bytes}
-use Rattle.run_promise.specs.Traces.{Request, Given, Begin, Serve, External, Came, IsWilling, events_of, states}
+use Rattle.run_promise.specs.Traces.{External, IsWilling, events_of, states}
 use Rattle.run_promise.specs.Truthful.{AreCertain, HasDestBuckets, IsAlone, IsDest, Shown}
+use Rattle.s3_model.specs.Maps.{MapOf}
+use Rattle.s3_model.specs.Files.{HeldFile}
 use Rattle.world_laws.specs.Completeness.{AreSourcesThere}
 use Rattle.world_laws.specs.Premises.{IsFitting}
 use Rattle.world_laws.specs.Promises.{IsByRequests, IsOrderly, ShowsOneClass}
-use Rattle.world_laws.specs.Rounds.{AreNone, AreServed, NeverFailed, Round, Told, ToldStatus, answer_by, attempt_of, class_by, dispatch_at, ending_by, dispatched_from, journal_of, mark_by, no_text, steps_from}
+use Rattle.world_laws.specs.Rounds.{AreNone, AreServed, NeverFailed, Round, Told, ToldStatus, attempt_of, class_by, dispatch_at, ending_by, dispatched_from, journal_of, mark_by, no_text, steps_from}
 use Rattle.world_laws.specs.Tasks.{AreApart, HasSource, MayBeNew}
-use Rattle.world_laws.specs.Witnesses.{CompleteIsMet, DoneIsMet, FailedIsMet, IsCompleteMet, IsPromiseMet, SkippedIsMet, fresh_upload, moved_copy, removal}
+use Rattle.world_laws.specs.Witnesses.{CompleteIsMet, DoneIsMet, FailedIsMet, IsCompleteMet, IsPromiseMet, SkippedIsMet, upload, moved_copy, removal}
 use Rattle.world_laws.proofs.CarriedWitness.{logs_of, notes_of, rounds_carried}
-use Rattle.world_laws.proofs.Faithful.{IsFaithful, bare, bare_is_faithful, faithful_with, object_of, run_by}
+use Rattle.world_laws.proofs.Faithful.{nobody_writes, IsFaithful, bare, bare_is_faithful, faithful_with, object_of, run_by}
 use Rattle.world_laws.proofs.Members.{Has, has}
 use Rattle.world_laws.proofs.Objects.{object_at-with_object}
 use Rattle.world_laws.proofs.Rounds.{AreApart as AreOtherJobs, first_attempt, round_of, same_reply}
 use Rattle.world_laws.proofs.ScheduleWitness as sched
-use Rattle.world_laws.proofs.ScheduleWitness.{AllPlain, AsksOf, IsPlainRound, setting_of, config_is_valid, limits_are_valid, one_task, the_limits}
+use Rattle.world_laws.proofs.ScheduleWitness.{AllPlain, AsksOf, IsPlainRound, setting_of, setting_with, config_is_valid, limits_are_valid, one_task, the_limits}
 use Rattle.world_laws.proofs.Witnesses.{alone, bucket_is_there, one_bucket, source_is_there, with_source}
 
 -- ---- one reading
@@ -52,7 +52,7 @@ same_class (class.Success answered) = same_reply answered
 same_class (class.Refusal code message) = refl
 same_class (class.Uncertain why) = refl
 
-told_one_class : ShowsOneClass Told
+pub told_one_class : ShowsOneClass Told
 told_one_class asked limit talk one same bytes others told told_too = subst (IsSameClass one) (told.0 ∙ sym told_too.0) (same_class one)
 
 same_outcome : (a b : Outcome) → Some a ≡ Some b → a ≡ b
@@ -67,56 +67,45 @@ no_upload e = cc
 no_fresh : false ≡ true → ⊥
 no_fresh e = cc
 
-given_external : (job : JobId) (lane : ℕ) (write : ExternalWrite) → Given job lane ≡ External write → ⊥
-given_external job lane write e = cc
-
-begin_external : (lane : ℕ) (sent : Request) (write : ExternalWrite) → Begin lane sent ≡ External write → ⊥
-begin_external lane sent write e = cc
-
-serve_external : (sent : Request) (answer : Answer) (write : ExternalWrite) → Serve sent answer ≡ External write → ⊥
-serve_external sent answer write e = cc
-
-came_external : (job : JobId) (lane : ℕ) (tries : List Mark) (write : ExternalWrite) → Came job lane tries ≡ External write → ⊥
-came_external job lane tries write e = cc
-
 -- ---- an orderly run of one task
 
-module _ (task : Task) (how : Outcome) (rounds : List Round) (start : State) (apart : AreOtherJobs rounds) (plain : AllPlain rounds) (sized : (r : Round) → Has rounds r → r.size ≡ 0)
+module _ (held : MapOf HeldFile) (task : Task) (how : Outcome) (rounds : List Round) (start : State) (apart : AreOtherJobs rounds) (plain : AllPlain rounds)
+    (sized : (r : Round) → Has rounds r → r.size ≡ task.size)
     (shown : map (λ (c : Dispatched). c.dispatch) (dispatched_from 0 rounds) ≡ dispatches (journal_of rounds) (logs_of (dispatched_from 0 rounds))) where
   abbrev all : List Dispatched
   all = dispatched_from 0 rounds
 
-  abbrev run : Shown
+  abbrev pub run : Shown
   run = record {
-    setting = setting_of task;
+    setting = setting_with held task;
     status = 0;
     outcomes = how ∷ [];
     journal = journal_of rounds;
     logs = logs_of all;
     notes = notes_of all;
-    held_after = empty;
+    held_after = held;
     excused = record { left = []; untimed = []; wanted_memory = false };
   }
 
-  orderly : IsSchedule Told (setting_of task) AreNone all all → HasOutcome Told ToldStatus NeverFailed (setting_of task) all all 0 task how → IsByRequests task → AreApart (task ∷ [])
-      → ((moments : List State) → MayBeNew how → HasSource (setting_of task).held moments task task.kind (is_small (setting_of task) task)) → ((path : List ℕ) → task.moves ≡ true → task.source ≡ Some (place.File path) → ⊥)
-      → IsOrderly Told ToldStatus AreNone NeverFailed no_text [] 0 run all all
+  pub orderly : IsSchedule Told (setting_with held task) AreNone all all → HasOutcome Told ToldStatus NeverFailed (setting_with held task) all all 0 task how → IsByRequests task → AreApart (task ∷ [])
+      → ((moments : List State) → MayBeNew how → HasSource (setting_with held task).held moments task task.kind (is_small (setting_with held task) task)) → ((path : List ℕ) → task.moves ≡ true → task.source ≡ Some (place.File path) → ⊥)
+      → IsOrderly Told ToldStatus AreNone NeverFailed no_text [] task.size run all all
   orderly schedule caused by_requests tasks_apart sourced no_file = record {
     schedule = schedule;
-    carried = rounds_carried task rounds start apart plain sized shown;
+    carried = rounds_carried held task rounds start apart plain task.size sized shown;
     outcomes = inl refl;
     causes = λ n other ended is_task at_how.
         let one = one_task task n other is_task in
         let level : how ≡ ended = same_outcome how ended (ap (slice_get (how ∷ [])) (sym one.0) ∙ at_how) in
-        subst (λ (k : ℕ). HasOutcome Told ToldStatus NeverFailed (setting_of task) all all k other ended) (sym one.0)
-        (subst (λ (t : Task). HasOutcome Told ToldStatus NeverFailed (setting_of task) all all 0 t ended) (sym one.1) (subst (λ (h : Outcome). HasOutcome Told ToldStatus NeverFailed (setting_of task) all all 0 task h) level caused));
+        subst (λ (k : ℕ). HasOutcome Told ToldStatus NeverFailed (setting_with held task) all all k other ended) (sym one.0)
+        (subst (λ (t : Task). HasOutcome Told ToldStatus NeverFailed (setting_with held task) all all 0 t ended) (sym one.1) (subst (λ (h : Outcome). HasOutcome Told ToldStatus NeverFailed (setting_with held task) all all 0 task h) level caused));
     questions = λ c known none. absurd (planned c known none);
     tasks = λ n other is_task. subst (λ (t : Task). IsByRequests t) (sym (one_task task n other is_task).1) by_requests;
     apart = tasks_apart;
     sources = λ first trace traced n other ended is_task at_how may.
         let one = one_task task n other is_task in
         let level : how ≡ ended = same_outcome how ended (ap (slice_get (how ∷ [])) (sym one.0) ∙ at_how) in
-        subst (λ (t : Task). HasSource (setting_of task).held (states first trace) t t.kind (is_small (setting_of task) t)) (sym one.1) (sourced (states first trace) (subst MayBeNew (sym level) may));
+        subst (λ (t : Task). HasSource (setting_with held task).held (states first trace) t t.kind (is_small (setting_with held task) t)) (sym one.1) (sourced (states first trace) (subst MayBeNew (sym level) may));
     files = λ n other ended path is_task at_how moves is_source.
         let one = one_task task n other is_task in
         absurd (no_file path (ap (λ (t : Task). t.moves) (sym one.1) ∙ moves) (ap (λ (t : Task). t.source) (sym one.1) ∙ is_source));
@@ -133,6 +122,35 @@ module _ (task : Task) (how : Outcome) (rounds : List Round) (start : State) (ap
           let found = round_of rounds 0 c (has all c known) in
           let is = plain found.0 found.2 in
           none_some is.task (sym none ∙ sym (ap (λ (d : Dispatched). d.dispatch.job.task) found.3) ∙ is.of_task)
+
+-- ---- what a willing service owes
+
+module _ (rounds : List Round) (start : State) where
+  pub certain_at : (port : ℕ) → AreCertain Told ToldStatus no_text [] port AreNone NeverFailed (dispatched_from 0 rounds)
+  certain_at port c at attempt why bytes known slot told =
+      let found = round_of rounds 0 c (has (dispatched_from 0 rounds) c known) in
+      let here : slice_get (attempt_of found.0 ∷ []) at ≡ Some attempt = subst (λ (d : Dispatched). slice_get d.dispatch.attempts at ≡ Some attempt) (sym found.3) slot in
+      let only : attempt_of found.0 ≡ attempt = some_attempt (attempt_of found.0) attempt (ap (slice_get (attempt_of found.0 ∷ [])) (sym (first_attempt found.0 at attempt here)) ∙ here) in
+      came found.0.refused c.ask attempt.talk.got attempt.talk.port why
+      (told.0 ∙ ap (λ (e : Ending). class_by e c.ask attempt.talk.got attempt.talk.port) (sym (ap (λ (a : Attempt). a.talk.ending) only)))
+    where
+      came : (refused : Bool) (asked : Ask) (got : List ℕ) (size : ℕ) (why : Why) → class.Uncertain why ≡ class_by (ending_by refused) asked got size → ⊥
+      came true asked got size why e = cc
+      came false asked got size why e = cc
+
+  pub alone_trace : IsAlone (steps_from 0 start rounds)
+  alone_trace write written = nobody_writes rounds 0 start write (has (events_of (steps_from 0 start rounds)) (External write) written)
+
+-- the bucket of the only destination
+pub bucket_of : (start : State) (task : Task) (bucket key : List ℕ) → task.dest ≡ place.Object bucket key → HasBucket start bucket → HasDestBuckets (task ∷ []) start
+bucket_of start task bucket key is_task there b k is_dest =
+    let only : task ≡ is_dest.0 = one_of is_dest.0 (has (task ∷ []) is_dest.0 is_dest.1) in
+    let same : (bucket ≡ b) × (key ≡ k) = subst (λ (d : Place). IsObject d b k) (ap (λ (t : Task). t.dest) (sym only) ∙ is_task) (subst (λ (d : Place). IsObject d b k) (sym is_dest.2) (refl, refl)) in
+    subst (λ (x : List ℕ). HasBucket start x) same.0 there
+  where
+    one_of : (t : Task) → Has (task ∷ []) t → task ≡ t
+    one_of t (inl e) = e
+    one_of t (inr h) = absurd h
 
 -- ---- a moved copy that is done
 
@@ -164,13 +182,13 @@ module _ (bucket key from_bucket from_key etag : List ℕ) (apart : (from_bucket
 
   done_met : IsPromiseMet copy_task outcome.Done
   done_met = record {
-    shown = run copy_task outcome.Done rounds start (sched.other_jobs bucket key from_bucket from_key etag apart) (sched.all_plain bucket key from_bucket from_key etag apart) rounds_sized refl;
+    shown = run empty copy_task outcome.Done rounds start (sched.other_jobs bucket key from_bucket from_key etag apart) (sched.all_plain bucket key from_bucket from_key etag apart) rounds_sized refl;
     dispatched = dispatched_from 0 rounds;
     start = start;
     trace = steps_from 0 start rounds;
     planned = refl;
     ended = refl;
-    orderly = orderly copy_task outcome.Done rounds start (sched.other_jobs bucket key from_bucket from_key etag apart) (sched.all_plain bucket key from_bucket from_key etag apart) rounds_sized refl
+    orderly = orderly empty copy_task outcome.Done rounds start (sched.other_jobs bucket key from_bucket from_key etag apart) (sched.all_plain bucket key from_bucket from_key etag apart) rounds_sized refl
         (sched.schedule_of bucket key from_bucket from_key etag apart AreNone refl) done_caused
         (record { bucket = bucket; key = key; is_dest = refl; decided = tt; keeps = λ removes. absurd (no_removal removes) })
         (sched.tasks_apart bucket key from_bucket from_key etag apart) (λ moments may. (from_bucket, from_key, refl)) (λ path moves is_file. no_file path is_file);
@@ -189,41 +207,8 @@ module _ (bucket key from_bucket from_key etag : List ℕ) (apart : (from_bucket
 
   -- ---- over a service that does what it may
 
-  all_certain : AreCertain Told ToldStatus no_text [] 0 AreNone NeverFailed (dispatched_from 0 rounds)
-  all_certain c at attempt why bytes known slot told =
-      let found = round_of rounds 0 c (has (dispatched_from 0 rounds) c known) in
-      let here : slice_get (attempt_of found.0 ∷ []) at ≡ Some attempt = subst (λ (d : Dispatched). slice_get d.dispatch.attempts at ≡ Some attempt) (sym found.3) slot in
-      let only : attempt_of found.0 ≡ attempt = some_attempt (attempt_of found.0) attempt (ap (slice_get (attempt_of found.0 ∷ [])) (sym (first_attempt found.0 at attempt here)) ∙ here) in
-      came found.0.refused c.ask attempt.talk.got attempt.talk.port why
-      (told.0 ∙ ap (λ (e : Ending). class_by e c.ask attempt.talk.got attempt.talk.port) (sym (ap (λ (a : Attempt). a.talk.ending) only)))
-    where
-      came : (refused : Bool) (asked : Ask) (got : List ℕ) (size : ℕ) (why : Why) → class.Uncertain why ≡ class_by (ending_by refused) asked got size → ⊥
-      came true asked got size why e = cc
-      came false asked got size why e = cc
-
   willing_trace : IsWilling the_limits start (steps_from 0 start rounds)
   willing_trace = (tt, (tt, (λ ranged. absurd ranged, (tt, (tt, (tt, (λ ranged. absurd ranged, (tt, tt))))))))
-
-  alone_trace : IsAlone (steps_from 0 start rounds)
-  alone_trace write written = none rounds 0 start (has (events_of (steps_from 0 start rounds)) (External write) written)
-    where
-      none : (all : List Round) (at : ℕ) (old : State) → Has (events_of (steps_from at old all)) (External write) → ⊥
-      none [] at old h = h
-      none (r ∷ all) at old (inl e) = given_external r.job 0 write e
-      none (r ∷ all) at old (inr (inl e)) = begin_external 0 (request_at (dispatch_at at r) 0) write e
-      none (r ∷ all) at old (inr (inr (inl e))) = serve_external (request_at (dispatch_at at r) 0) (answer_by r.refused r.ask r.got r.size) write e
-      none (r ∷ all) at old (inr (inr (inr (inl e)))) = came_external r.job 0 (mark_by r.refused ∷ []) write e
-      none (r ∷ all) at old (inr (inr (inr (inr h)))) = none all (at + 2) r.after h
-
-  bucket_of : HasDestBuckets (copy_task ∷ []) start
-  bucket_of b k is_dest =
-      let only : copy_task ≡ is_dest.0 = one_of is_dest.0 (has (copy_task ∷ []) is_dest.0 is_dest.1) in
-      let same : (bucket ≡ b) × (key ≡ k) = subst (λ (d : Place). IsObject d b k) (ap (λ (t : Task). t.dest) (sym only) ∙ refl) (subst (λ (d : Place). IsObject d b k) (sym is_dest.2) (refl, refl)) in
-      subst (λ (x : List ℕ). HasBucket start x) same.0 (bucket_is_there the_limits bucket key from_bucket from_key etag)
-    where
-      one_of : (t : Task) → Has (copy_task ∷ []) t → copy_task ≡ t
-      one_of t (inl e) = e
-      one_of t (inr h) = absurd h
 
   module _ (is_empty : etag ≡ []) where
     sources_there : AreSourcesThere empty (copy_task ∷ []) start
@@ -248,9 +233,9 @@ module _ (bucket key from_bucket from_key etag : List ℕ) (apart : (from_bucket
       met = done_met;
       counted = λ n why ended never. absurd never;
       willing = willing_trace;
-      certain = all_certain;
-      alone = alone_trace;
-      buckets = bucket_of;
+      certain = certain_at rounds start 0;
+      alone = alone_trace rounds start;
+      buckets = bucket_of start copy_task bucket key refl (bucket_is_there the_limits bucket key from_bucket from_key etag);
       sources = sources_there;
       fresh = λ n task is_task fresh. absurd (no_fresh (ap (λ (t : Task). t.fresh) (sym (one_task copy_task n task is_task).1) ∙ fresh));
       not_cancelled = refl;
@@ -271,7 +256,7 @@ refusal_uncertain : mark.Refusal ≡ mark.Uncertain → ⊥
 refusal_uncertain e = cc
 
 module _ (task : Task) (stays : task.moves ≡ false) (r : Round) (plain : IsPlainRound r) (start : State) (faithful : IsFaithful start) (served : AreServed the_limits start (r ∷ [])) (after : r.after ≡ start)
-    (asked : AsksOf task (dispatch_at 0 r ∷ []) (dispatch_at 0 r) 0) (first : r.job.task ≡ Some 0) (refused : r.refused ≡ true) where
+    (asked : AsksOf task (dispatch_at 0 r ∷ []) (dispatch_at 0 r) 0) (first : r.job.task ≡ Some 0) (no_create : r.job.op ≡ op.Create → ⊥) (refused : r.refused ≡ true) where
   abbrev request : Dispatched
   request = dispatch_at 0 r
 
@@ -279,7 +264,7 @@ module _ (task : Task) (stays : task.moves ≡ false) (r : Round) (plain : IsPla
   one = request ∷ []
 
   is_only : (c : Dispatched) → Contains one c → request ≡ c
-  is_only = sched.is_only task stays r plain start faithful served after asked first
+  is_only = sched.is_only task stays r plain start faithful served after asked first no_create
 
   marked_refused : (c : Dispatched) (of_mark : Mark) → Contains one c → HasMark c of_mark → mark.Refusal ≡ of_mark
   marked_refused c of_mark known marked =
@@ -295,19 +280,19 @@ module _ (task : Task) (stays : task.moves ≡ false) (r : Round) (plain : IsPla
   is_failed = ([], [], refl, λ cut. not_cut _ cut, λ well. refusal_success (sym (ap mark_by refused) ∙ well.0))
 
   first_failure : IsFirstFailure Told ToldStatus NeverFailed (setting_of task) one one 0 request
-  first_failure = ((is_failed, first), λ other failing. inl (sym (ap (λ (c : Dispatched). c.dispatch) (sched.failed_is task stays r plain start faithful served after asked first other failing.0))))
+  first_failure = ((is_failed, first), λ other failing. inl (sym (ap (λ (c : Dispatched). c.dispatch) (sched.failed_is task stays r plain start faithful served after asked first no_create other failing.0))))
 
-  met_by : (how : Outcome) → r.size ≡ 0 → map (λ (c : Dispatched). c.dispatch) one ≡ dispatches (journal_of (r ∷ [])) (logs_of one) → HasOutcome Told ToldStatus NeverFailed (setting_of task) one one 0 task how
+  met_by : (how : Outcome) → r.size ≡ task.size → map (λ (c : Dispatched). c.dispatch) one ≡ dispatches (journal_of (r ∷ [])) (logs_of one) → HasOutcome Told ToldStatus NeverFailed (setting_of task) one one 0 task how
       → IsByRequests task → (MayBeNew how → ⊥) → IsPromiseMet task how
   met_by how size shown caused by_requests never_new = record {
-    shown = run task how (r ∷ []) start (alone r) one_plain sized shown;
+    shown = run empty task how (r ∷ []) start (alone r) one_plain sized shown;
     dispatched = one;
     start = start;
     trace = steps_from 0 start (r ∷ []);
     planned = refl;
     ended = refl;
-    orderly = orderly task how (r ∷ []) start (alone r) one_plain sized shown (sched.one_schedule task stays r plain start faithful served after asked first AreNone refl) caused by_requests
-        (sched.one_apart task stays r plain start faithful served after asked first) (λ moments may. absurd (never_new may)) (λ path moves is_file. absurd (clash (sym stays ∙ moves)));
+    orderly = orderly empty task how (r ∷ []) start (alone r) one_plain sized shown (sched.one_schedule task stays r plain start faithful served after asked first no_create AreNone refl) caused by_requests
+        (sched.one_apart task stays r plain start faithful served after asked first no_create) (λ moments may. absurd (never_new may)) (λ path moves is_file. absurd (clash (sym stays ∙ moves)));
     traced = fitting;
     whole = ([], sym (append-nil (steps_from 0 start (r ∷ []))), fitting.fits.moves);
   }
@@ -316,14 +301,14 @@ module _ (task : Task) (stays : task.moves ≡ false) (r : Round) (plain : IsPla
       clash e = cc
 
       one_plain : AllPlain (r ∷ [])
-      one_plain = sched.one_plain task stays r plain start faithful served after asked first
+      one_plain = sched.one_plain task stays r plain start faithful served after asked first no_create
 
-      sized : (other : Round) → Has (r ∷ []) other → other.size ≡ 0
+      sized : (other : Round) → Has (r ∷ []) other → other.size ≡ task.size
       sized other (inl e) = sym (ap (λ (x : Round). x.size) e) ∙ size
       sized other (inr h) = absurd h
 
       fitting : IsFitting Told the_limits (run_by start (r ∷ [])) (IsDest (task ∷ []))
-      fitting = sched.one_fitting task stays r plain start faithful served after asked first
+      fitting = sched.one_fitting task stays r plain start faithful served after asked first no_create
 
 -- ---- a removal that failed
 
@@ -336,14 +321,14 @@ module _ (bucket key : List ℕ) where
 
   failed_met : IsPromiseMet gone_task (outcome.Failed (cause.Service op.Delete [] []))
   failed_met =
-      met_by gone_task refl gone_round (sched.removal_is_plain bucket key) (one_bucket the_limits bucket key) (bare_is_faithful (bucket ∷ [])) ((refl, tt), tt) refl (sched.removes bucket key) refl refl
+      met_by gone_task refl gone_round (sched.removal_is_plain bucket key) (one_bucket the_limits bucket key) (bare_is_faithful (bucket ∷ [])) ((refl, tt), tt) refl (sched.removes bucket key) refl sched.delete_create refl
       (outcome.Failed (cause.Service op.Delete [] [])) refl refl (
         λ d. refusal_success (marked d.0 mark.Success d.1 d.3),
         λ left. refusal_uncertain (marked left.0.0 mark.Uncertain left.0.1 left.0.3),
         (
           (
             dispatch_at 0 gone_round,
-            first_failure gone_task refl gone_round (sched.removal_is_plain bucket key) (one_bucket the_limits bucket key) (bare_is_faithful (bucket ∷ [])) ((refl, tt), tt) refl (sched.removes bucket key) refl refl,
+            first_failure gone_task refl gone_round (sched.removal_is_plain bucket key) (one_bucket the_limits bucket key) (bare_is_faithful (bucket ∷ [])) ((refl, tt), tt) refl (sched.removes bucket key) refl sched.delete_create refl,
             (refl, ([], (refl, refl)), λ changed. changed.0),
           ),
           λ skipped. absurd (no_fresh skipped.0),
@@ -355,7 +340,7 @@ module _ (bucket key : List ℕ) where
       no_fresh e = cc
 
       marked : (c : Dispatched) (of_mark : Mark) → Contains (dispatch_at 0 gone_round ∷ []) c → HasMark c of_mark → mark.Refusal ≡ of_mark
-      marked = marked_refused gone_task refl gone_round (sched.removal_is_plain bucket key) (one_bucket the_limits bucket key) (bare_is_faithful (bucket ∷ [])) ((refl, tt), tt) refl (sched.removes bucket key) refl refl
+      marked = marked_refused gone_task refl gone_round (sched.removal_is_plain bucket key) (one_bucket the_limits bucket key) (bare_is_faithful (bucket ∷ [])) ((refl, tt), tt) refl (sched.removes bucket key) refl sched.delete_create refl
 
 pub failed_is_met : FailedIsMet
 failed_is_met bucket key = failed_met bucket key
@@ -364,7 +349,7 @@ failed_is_met bucket key = failed_met bucket key
 
 module _ (bucket key path : List ℕ) where
   abbrev skip_task : Task
-  skip_task = fresh_upload bucket key path
+  skip_task = upload bucket key path 0 true
 
   -- the object that is there
   abbrev taken : State
@@ -388,7 +373,7 @@ module _ (bucket key path : List ℕ) where
   put_abort e = let level : ◌≡◌ {A = ℕ} 2 9 = ap op_number e in absurd (omega arith)
 
   skip_plain : IsPlainRound skip_round
-  skip_plain = record { task = 0; of_task = refl; no_create = put_create; no_abort = put_abort }
+  skip_plain = record { task = 0; of_task = refl; no_abort = put_abort }
 
   to : Target skip_task
   to = record { bucket = bucket; key = key; is_dest = (refl, refl) }
@@ -405,18 +390,18 @@ module _ (bucket key path : List ℕ) where
 
   skipped_met : IsPromiseMet skip_task outcome.Skipped
   skipped_met =
-      met_by skip_task refl skip_round skip_plain taken skip_faithful skip_served refl skip_asks refl refl
+      met_by skip_task refl skip_round skip_plain taken skip_faithful skip_served refl skip_asks refl put_create refl
       outcome.Skipped refl refl (
         refl,
         inl (
           refl,
           refl,
-          λ d. refusal_uncertain (marked_refused skip_task refl skip_round skip_plain taken skip_faithful skip_served refl skip_asks refl refl d.0 mark.Uncertain d.1 d.3),
+          λ d. refusal_uncertain (marked_refused skip_task refl skip_round skip_plain taken skip_faithful skip_served refl skip_asks refl put_create refl d.0 mark.Uncertain d.1 d.3),
           (
             dispatch_at 0 skip_round,
             (0, omega arith, refl),
             (tt, refl),
-            first_failure skip_task refl skip_round skip_plain taken skip_faithful skip_served refl skip_asks refl refl,
+            first_failure skip_task refl skip_round skip_plain taken skip_faithful skip_served refl skip_asks refl put_create refl,
             (codes "PreconditionFailed", [], [], (refl, refl), refl),
           ),
         ),

@@ -23,7 +23,9 @@ use Rattle.run_promise.specs.Traces.{states}
 use Rattle.s3_service.specs.ServiceState.{State}
 use Rattle.run_promise.specs.Truthful.{IsDest}
 use Rattle.s3_model.specs.Validity.{IsValidConfig, IsValidLimits}
-use Rattle.run_promise.specs.Schedule.{Setting, limit_of, Target, Origin, IsSchedule, IsTaskAsk, IsBefore, IsBeforeAny, IsDecided, IsObject, IsSource, IsFailed, gained_before, is_planning, planning_of, is_small, job_of, source_bytes}
+use Rattle.run_promise.specs.Schedule.{IsUpload, Setting, limit_of, Target, Origin, IsSchedule, IsTaskAsk, IsBefore, IsBeforeAny, IsDecided, IsObject, IsSource, IsFailed, gained_before, is_planning, planning_of, is_small, job_of, source_bytes}
+use Rattle.s3_model.specs.Maps.{MapOf}
+use Rattle.s3_model.specs.Files.{HeldFile}
 use Rattle.world_laws.specs.Premises.{IsFitting, AllRefused}
 use Rattle.world_laws.specs.Rounds.{AreServed, Told, Round, mark_by, dispatch_at, dispatched_from, journal_of, steps_from}
 use Rattle.world_laws.specs.Tasks.{AreApart, AreQuestions, HasSource, IsScheduled}
@@ -34,11 +36,10 @@ use Rattle.world_laws.proofs.Faithful.{run_by, IsFaithful, bare_is_faithful, fai
 use Rattle.world_laws.proofs.Witnesses.{succeeds, with_source, source_is_faithful, copied, copy, source_gone, move, move_served, move_apart, copied_is_faithful, one_bucket, refused_delete, is_refused, alone}
 use Rattle.world_laws.proofs.Rounds.{AreApart as AreOtherJobs, round_of, rounds_numbered, rounds_given, rounds_come}
 
--- what is asked of each round: it is of a task, and neither creates nor aborts
+-- what is asked of each round: it is of a task, and aborts no upload
 pub record IsPlainRound (r : Round) : Type 0 where
   pub task : ℕ
   pub of_task : r.job.task ≡ Some task
-  pub no_create : r.job.op ≢ op.Create
   pub no_abort : r.job.op ≢ op.Abort
 
 -- and it came with what it asked for
@@ -110,14 +111,24 @@ module _ (s : Setting) (rounds : List Round) (apart : AreOtherJobs rounds) (plai
   abbrev pub NoneAfterFailed : Type 0
   NoneAfterFailed = (failed c : Dispatched) → IsFailed Told s all failed → Contains all c → IsBefore failed.dispatch.came_at c.dispatch.given_at → ⊥
 
-  pub rounds_schedule : (Plans : List Dispatched → Type 0) → Plans [] → s.dryrun ≡ false → NoneAfterFailed → ((c : Dispatched) (n : ℕ) → Contains all c → c.dispatch.job.task ≡ Some n
+  -- each upload that was created was completed
+  abbrev pub AllCompleted : Type 0
+  AllCompleted = (n : ℕ) (id : List ℕ) (end : ℕ) → ((c : Dispatched) → Contains all c → IsBefore c.dispatch.came_at end) → IsUpload (gained_before Told all end) n id
+      → gained_before Told all end (job_of n op.Complete 0) reply.Completed
+
+  pub none_created : ((r : Round) → Has rounds r → r.job.op ≡ op.Create → ⊥) → AllCompleted
+  none_created never n id end all_come gained =
+      let found = round_of rounds 0 gained.0 (has all gained.0 gained.1) in
+      absurd (never found.0 found.2 (ap (λ (d : Dispatched). d.dispatch.job.op) found.3 ∙ ap (λ (j : JobId). j.op) gained.2))
+
+  pub rounds_schedule : (Plans : List Dispatched → Type 0) → Plans [] → s.dryrun ≡ false → NoneAfterFailed → AllCompleted → ((c : Dispatched) (n : ℕ) → Contains all c → c.dispatch.job.task ≡ Some n
       → (task : Task) × (piece : ℕ) × (count : ℕ) × (slice_get s.tasks n ≡ Some task) × HasPieces s.config s.limits task.kind task.size piece count × (c.size ≡ task.size)
       × (c.limit ≡ limit_of task.size piece c.dispatch.job.number c.ask) × IsTaskAsk (gained_before Told all c.dispatch.given_at) task (record { number = n; bytes = source_bytes s.held task.source; piece = piece; count = count })
       task.kind (is_small s task) c.dispatch.job.op c.dispatch.job.number c.ask c.body)
       → ((c : Dispatched) (n : ℕ) (task : Task) → Contains all c → c.dispatch.job.task ≡ Some n → slice_get s.tasks n ≡ Some task → task.moves ≡ true → c.dispatch.job.op ≡ op.Delete
       → IsDecided s task n (gained_before Told all c.dispatch.given_at))
       → IsSchedule Told s Plans all all
-  rounds_schedule Plans no_plans carried_out none_after asks moves_last = record {
+  rounds_schedule Plans no_plans carried_out none_after completed asks moves_last = record {
     is_coming = IsPermutation-refl all;
     in_order = in_order rounds 0;
     asks = asks;
@@ -130,7 +141,7 @@ module _ (s : Setting) (rounds : List Round) (apart : AreOtherJobs rounds) (plai
     no_third = λ a b c i j k before after at_i at_j at_k first second. same_place i j a b before at_i at_j first;
     stops = λ failed c is_failed of_task no_abort known same before. absurd (none_after failed c is_failed known before);
     abort_last = λ a c known_a known_c is_abort same other. absurd (op_of_round a known_a op.Abort (λ r p. p.no_abort) is_abort);
-    aborts = λ n id end all_come gained. absurd (op_of_round gained.0 gained.1 op.Create (λ r p. p.no_create) (ap (λ (j : JobId). j.op) gained.2));
+    aborts = λ n id end all_come gained. inl (completed n id end all_come gained);
     completed_stays = λ n end a known is gained. op_of_round a known op.Abort (λ r p. p.no_abort) (ap (λ (j : JobId). j.op) is);
     moves_last = moves_last;
   }
@@ -170,21 +181,25 @@ abbrev pub the_limits : Limits
 the_limits = record { min_part = 1; max_part = 64; max_parts = 4; max_object = 64 }
 
 abbrev pub the_config : Config
-the_config = record { threshold = 8; chunk = 8; lanes = 1; queue = 1; buffers = 1; attempts = 1 }
+the_config = record { threshold = 1; chunk = 1; lanes = 1; queue = 1; buffers = 1; attempts = 1 }
 
-abbrev pub setting_of : Task → Setting
-setting_of task = record {
+abbrev pub setting_with : MapOf HeldFile → Task → Setting
+setting_with held task = record {
   config = the_config;
   limits = the_limits;
   lanes = 1;
   tasks = task ∷ [];
   dryrun = false;
-  held = empty;
+  held = held;
   others = [];
   file_failed = λ n. false;
   cancelled_at = None;
   wanted_memory = λ t. false;
 }
+
+-- without files
+abbrev pub setting_of : Task → Setting
+setting_of task = setting_with empty task
 
 pub config_is_valid : IsValidConfig the_config
 config_is_valid = record {
@@ -218,10 +233,13 @@ one_task task (suc m) a e = absurd (nothing a e)
     nothing t e = cc
 
 -- what is asked of a dispatch of task n, in a run of one task
-abbrev pub AsksOf : Task → List Dispatched → Dispatched → ℕ → Type 0
-AsksOf the_task dispatched c n = (task : Task) × (piece : ℕ) × (count : ℕ) × (slice_get (the_task ∷ []) n ≡ Some task) × HasPieces the_config the_limits task.kind task.size piece count × (c.size ≡ task.size)
-    × (c.limit ≡ limit_of task.size piece c.dispatch.job.number c.ask) × IsTaskAsk (gained_before Told dispatched c.dispatch.given_at) task (record { number = n; bytes = source_bytes (setting_of the_task).held task.source; piece = piece; count = count })
+abbrev pub AsksWith : MapOf HeldFile → Task → List Dispatched → Dispatched → ℕ → Type 0
+AsksWith held the_task dispatched c n = (task : Task) × (piece : ℕ) × (count : ℕ) × (slice_get (the_task ∷ []) n ≡ Some task) × HasPieces the_config the_limits task.kind task.size piece count × (c.size ≡ task.size)
+    × (c.limit ≡ limit_of task.size piece c.dispatch.job.number c.ask) × IsTaskAsk (gained_before Told dispatched c.dispatch.given_at) task (record { number = n; bytes = source_bytes held task.source; piece = piece; count = count })
     task.kind (is_small (setting_of the_task) task) c.dispatch.job.op c.dispatch.job.number c.ask c.body
+
+abbrev pub AsksOf : Task → List Dispatched → Dispatched → ℕ → Type 0
+AsksOf = AsksWith empty
 
 -- ---- a small copy that is moved
 
@@ -237,7 +255,7 @@ copy_create e = let level : ◌≡◌ {A = ℕ} 3 5 = ap op_number e in absurd (
 copy_abort : op.Copy ≡ op.Abort → ⊥
 copy_abort e = let level : ◌≡◌ {A = ℕ} 3 9 = ap op_number e in absurd (omega arith)
 
-delete_create : op.Delete ≡ op.Create → ⊥
+pub delete_create : op.Delete ≡ op.Create → ⊥
 delete_create e = let level : ◌≡◌ {A = ℕ} 4 5 = ap op_number e in absurd (omega arith)
 
 delete_abort : op.Delete ≡ op.Abort → ⊥
@@ -266,9 +284,14 @@ module _ (bucket key from_bucket from_key etag : List ℕ) (apart : (from_bucket
   other_jobs = move_apart the_limits bucket key from_bucket from_key etag apart
 
   pub all_plain : AllPlain rounds
-  all_plain r (inl e) = subst IsPlainRound e (record { task = 0; of_task = refl; no_create = copy_create; no_abort = copy_abort })
-  all_plain r (inr (inl e)) = subst IsPlainRound e (record { task = 0; of_task = refl; no_create = delete_create; no_abort = delete_abort })
+  all_plain r (inl e) = subst IsPlainRound e (record { task = 0; of_task = refl; no_abort = copy_abort })
+  all_plain r (inr (inl e)) = subst IsPlainRound e (record { task = 0; of_task = refl; no_abort = delete_abort })
   all_plain r (inr (inr h)) = absurd h
+
+  creates_nothing : (r : Round) → Has rounds r → r.job.op ≡ op.Create → ⊥
+  creates_nothing r (inl e) is = copy_create (ap (λ (x : Round). x.job.op) e ∙ is)
+  creates_nothing r (inr (inl e)) is = delete_create (ap (λ (x : Round). x.job.op) e ∙ is)
+  creates_nothing r (inr (inr h)) is = absurd h
 
   pub all_well : (r : Round) → Has rounds r → CameWell r
   all_well r (inl e) = subst CameWell e (record { not_refused = refl; fits_ask = λ place shown. tt })
@@ -328,7 +351,8 @@ module _ (bucket key from_bucket from_key etag : List ℕ) (apart : (from_bucket
   }
 
   pub schedule_of : (Plans : List Dispatched → Type 0) → Plans [] → IsSchedule Told the_setting Plans dispatched dispatched
-  schedule_of Plans no_plans = rounds_schedule the_setting rounds other_jobs all_plain Plans no_plans refl (λ failed c is_failed known before. not_failed the_setting rounds all_well failed is_failed) asks moves_last
+  schedule_of Plans no_plans = rounds_schedule the_setting rounds other_jobs all_plain Plans no_plans refl (λ failed c is_failed known before. not_failed the_setting rounds all_well failed is_failed)
+      (none_created the_setting rounds other_jobs all_plain creates_nothing) asks moves_last
 
   pub scheduled : IsScheduled Told the_setting (journal_of rounds) dispatched dispatched
   scheduled = record {
@@ -371,7 +395,7 @@ task_is_met bucket key from_bucket from_key etag apart = task_met bucket key fro
 -- ---- one request, which is refused
 
 module _ (task : Task) (stays : task.moves ≡ false) (r : Round) (plain : IsPlainRound r) (start : State) (faithful : IsFaithful start) (served : AreServed the_limits start (r ∷ [])) (after : r.after ≡ start)
-    (asked : AsksOf task (dispatch_at 0 r ∷ []) (dispatch_at 0 r) 0) (first : r.job.task ≡ Some 0) where
+    (asked : AsksOf task (dispatch_at 0 r ∷ []) (dispatch_at 0 r) 0) (first : r.job.task ≡ Some 0) (no_create : r.job.op ≡ op.Create → ⊥) where
   abbrev pub request : Dispatched
   request = dispatch_at 0 r
 
@@ -407,9 +431,14 @@ module _ (task : Task) (stays : task.moves ≡ false) (r : Round) (plain : IsPla
       let late : 1 < 0 = subst (λ (d : Dispatched). IsBefore (Some 1) d.dispatch.given_at) (sym only) (subst (λ (d : Dispatched). IsBefore d.dispatch.came_at c.dispatch.given_at) (sym (failed_is failed is_failed)) before) in
       absurd (omega arith)
 
+  one_creates : (other : Round) → Has (r ∷ []) other → other.job.op ≡ op.Create → ⊥
+  one_creates other (inl e) is = no_create (ap (λ (x : Round). x.job.op) e ∙ is)
+  one_creates other (inr h) is = absurd h
+
   pub one_schedule : (Plans : List Dispatched → Type 0) → Plans [] → IsSchedule Told (setting_of task) Plans (request ∷ []) (request ∷ [])
   one_schedule Plans no_plans =
-      rounds_schedule (setting_of task) (r ∷ []) (alone r) one_plain Plans no_plans refl none_after asks_all (λ c n other known of_task at moved is_op. absurd (never_moves other n at moved))
+      rounds_schedule (setting_of task) (r ∷ []) (alone r) one_plain Plans no_plans refl none_after
+      (none_created (setting_of task) (r ∷ []) (alone r) one_plain one_creates) asks_all (λ c n other known of_task at moved is_op. absurd (never_moves other n at moved))
 
   pub one_apart : AreApart (task ∷ [])
   one_apart = record {
@@ -456,11 +485,11 @@ module _ (bucket key : List ℕ) where
   removes = (removal bucket key, 0, 1, refl, (refl, refl), refl, refl, (ends, refl, refl, refl))
 
   pub removal_is_plain : IsPlainRound the_round
-  removal_is_plain = record { task = 0; of_task = refl; no_create = delete_create; no_abort = delete_abort }
+  removal_is_plain = record { task = 0; of_task = refl; no_abort = delete_abort }
 
   refused_met : IsTaskMet bucket key IsRefusedTask
   refused_met =
-      one_refused_met (removal bucket key) refl the_round removal_is_plain (one_bucket the_limits bucket key) (bare_is_faithful (bucket ∷ [])) ((refl, tt), tt) refl removes refl
+      one_refused_met (removal bucket key) refl the_round removal_is_plain (one_bucket the_limits bucket key) (bare_is_faithful (bucket ∷ [])) ((refl, tt), tt) refl removes refl delete_create
       bucket key refl refl refl (is_refused the_limits bucket key)
 
 pub refused_task_is_met : RefusedTaskIsMet

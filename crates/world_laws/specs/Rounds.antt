@@ -84,8 +84,8 @@ no_text asked body moment = []
 
 -- ---- rounds
 
--- a job with its request, whether it was refused, the text that came back, the size of the object that a Get is of, and
--- the state after it
+-- a job with its request, whether it was refused, the text that came back, the size of the source of its task, and the
+-- state after it
 pub record Round : Type 0 where
   pub job : JobId
   pub ask : Ask
@@ -134,7 +134,7 @@ dispatch_at place r = record {
   ask = r.ask;
   body = r.body;
   limit = most_body;
-  size = 0;
+  size = r.size;
 }
 
 abbrev pub dispatched_from : ℕ → List Round → List Dispatched

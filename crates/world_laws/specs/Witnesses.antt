@@ -1,5 +1,5 @@
 -- That the premises of the laws can be met: for each law there is a run.
-use Rattle.std.specs.Prelude.{◌≡◌, ◌≤◌, ◌++◌, ℕ, true, false, List, [], ◌∷◌, Some, None, Contains, length}
+use Rattle.std.specs.Prelude.{Bool, ◌≡◌, ◌≤◌, ◌++◌, ℕ, true, false, List, [], ◌∷◌, Some, None, Contains, length}
 use Rattle.s3_model.specs.declared.requests.Ask.{Ask}
 use Rattle.s3_model.specs.declared.requests.Ask.TheVariants as ask
 use Rattle.s3_model.specs.declared.requests.Op.TheVariants as op
@@ -18,6 +18,7 @@ use Rattle.run_promise.specs.Dispatches.{Dispatched}
 use Rattle.run_promise.specs.Traces.{Request, Step, Begin, Serve, IsTrace, IsWilling, state_after, events_of}
 use Rattle.run_promise.specs.Schedule.{Setting, is_small, job_of}
 use Rattle.run_promise.specs.Truthful.{Shown, AreCertain, HasDestBuckets, HasJournal, IsAlone, IsDest, IsExternal}
+use Rattle.s3_model.specs.Parts.{HasPieces}
 use Rattle.world_laws.specs.Premises.{Run, moments, HasBegun, HasEndedBy, HasTrace, IsFitting, IsPlace, IsNoPlace, AreGiven, HasSuccess, AllRefused}
 use Rattle.world_laws.specs.Completeness.{AreCallsCounted, AreFreshByKind, AreSourcesThere}
 use Rattle.world_laws.specs.Destinations.{AllThatChange, Requests}
@@ -204,18 +205,17 @@ removal bucket key = record {
   fresh = false;
 }
 
--- a small upload that is not to replace
-abbrev pub fresh_upload : (bucket key path : List ℕ) → Task
-fresh_upload bucket key path = record {
+abbrev pub upload : (bucket key path : List ℕ) → (size : ℕ) → (fresh : Bool) → Task
+upload bucket key path size fresh = record {
   kind = kind.Upload;
   moves = false;
   source = Some (place.File path);
   dest = place.Object bucket key;
-  size = 0;
+  size = size;
   etag = [];
   micros = 0;
   content = None;
-  fresh = true;
+  fresh = fresh;
 }
 
 -- A run of a plan with a task whose destination is that object, and of which that is so.
@@ -259,11 +259,11 @@ pub record IsPromiseMet (task : Task) (how : Outcome) : Type 0 where
   pub trace : List Step
   pub planned : shown.setting.tasks ≡ task ∷ []
   pub ended : shown.outcomes ≡ how ∷ []
-  pub orderly : IsOrderly Told ToldStatus AreNone NeverFailed no_text [] 0 shown dispatched dispatched
+  pub orderly : IsOrderly Told ToldStatus AreNone NeverFailed no_text [] task.size shown dispatched dispatched
   pub traced : IsTraceOf Told shown.setting (run_of shown dispatched start trace)
   pub whole : HasJournal shown.journal trace trace
 
--- a moved copy that is done, a removal that failed, and an upload that was skipped
+-- a moved copy that is done, a removal that failed, and an upload that is not to replace and was skipped
 abbrev pub DoneIsMet : Type 0
 DoneIsMet = (bucket key from_bucket from_key etag : List ℕ) → (IsPlace bucket key from_bucket from_key → ⊥)
     → IsPromiseMet (moved_copy bucket key from_bucket from_key etag) outcome.Done
@@ -272,14 +272,14 @@ abbrev pub FailedIsMet : Type 0
 FailedIsMet = (bucket key : List ℕ) → IsPromiseMet (removal bucket key) (outcome.Failed (cause.Service op.Delete [] []))
 
 abbrev pub SkippedIsMet : Type 0
-SkippedIsMet = (bucket key path : List ℕ) → IsPromiseMet (fresh_upload bucket key path) outcome.Skipped
+SkippedIsMet = (bucket key path : List ℕ) → IsPromiseMet (upload bucket key path 0 true) outcome.Skipped
 
 -- such a run over a service that does what it may, with all that is asked of it
 pub record IsCompleteMet (task : Task) (how : Outcome) : Type 0 where
   pub met : IsPromiseMet task how
   pub counted : AreCallsCounted Told ToldStatus AreNone NeverFailed met.shown
   pub willing : IsWilling met.shown.setting.limits met.start met.trace
-  pub certain : AreCertain Told ToldStatus no_text [] 0 AreNone NeverFailed met.dispatched
+  pub certain : AreCertain Told ToldStatus no_text [] task.size AreNone NeverFailed met.dispatched
   pub alone : IsAlone met.trace
   pub buckets : HasDestBuckets met.shown.setting.tasks met.start
   pub sources : AreSourcesThere met.shown.setting.held met.shown.setting.tasks met.start
@@ -290,3 +290,11 @@ pub record IsCompleteMet (task : Task) (how : Outcome) : Type 0 where
 abbrev pub CompleteIsMet : Type 0
 CompleteIsMet = (bucket key from_bucket from_key : List ℕ) → (IsPlace bucket key from_bucket from_key → ⊥)
     → IsCompleteMet (moved_copy bucket key from_bucket from_key []) outcome.Done
+
+-- an upload of two bytes, in two parts
+pub record IsUploadMet (bucket key path : List ℕ) : Type 0 where
+  pub done : IsCompleteMet (upload bucket key path 2 false) outcome.Done
+  pub in_parts : HasPieces done.met.shown.setting.config done.met.shown.setting.limits kind.Upload 2 1 2
+
+abbrev pub UploadIsComplete : Type 0
+UploadIsComplete = (bucket key path : List ℕ) → IsUploadMet bucket key path

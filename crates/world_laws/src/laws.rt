@@ -18,7 +18,7 @@ ghost use Rattle.world_laws.specs.SmallTransfers.{CopyIsWhole, CopyStores, Delet
 ghost use Rattle.world_laws.specs.Sources.{FoundHasSize, FoundIsSource};
 ghost use Rattle.world_laws.specs.Tasks.{MovedSourceIsGone, MovedTaskIsNew, OtherObjectsStay, TaskEnds, TaskIsNew, TaskIsOld, TaskIsWhole};
 ghost use Rattle.world_laws.specs.Uploads.{IdsAreCreatedOnce, OtherUploadsStay};
-ghost use Rattle.world_laws.specs.Witnesses.{AbortIsMet, CompleteIsMet, CopiedMoveIsMet, CopiedPartsAreMet, CopyIsMet, DeleteIsMet, DoneIsMet, FailedIsMet, FrameIsMet, GetIsMet, HeadIsMet, MoveIsMet, OtherUploadIsMet, PageIsMet, PartsAreMet, RangesAreMet, RefusalIsMet, RefusedTaskIsMet, SkippedIsMet, TaskIsMet, UploadIsMet};
+ghost use Rattle.world_laws.specs.Witnesses.{AbortIsMet, CompleteIsMet, CopiedMoveIsMet, CopiedPartsAreMet, CopyIsMet, DeleteIsMet, DoneIsMet, FailedIsMet, FrameIsMet, GetIsMet, HeadIsMet, MoveIsMet, OtherUploadIsMet, PageIsMet, PartsAreMet, RangesAreMet, RefusalIsMet, RefusedTaskIsMet, SkippedIsMet, TaskIsMet, UploadIsComplete, UploadIsMet};
 
 /// How talks are read: `shows ask limit talk class bytes` says that the talk has that class for the ask, and its
 /// answer that body.
@@ -174,6 +174,7 @@ pub fn complete<C: Command>()
     ensures done { WillingIsDone C.shows C.has_status C.plans C.call_failed }
     ensures however_read { OrderlyIsDone C.shows C.has_status C.plans C.call_failed }
     ensures met { CompleteIsMet }
+    ensures met_in_parts { UploadIsComplete }
 {}
 
 #[cfg(test)]
