@@ -9,6 +9,7 @@ pub mod EventfulWires
 pub mod FailedUpload
 pub mod Fitting
 pub mod Honest
+pub mod IdleRun
 pub mod Lies
 pub mod Misfits
 pub mod OneClass

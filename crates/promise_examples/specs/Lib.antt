@@ -1,6 +1,7 @@
 pub mod Everything
 pub mod FailedUpload
 pub mod GivenAgain
+pub mod Idleness
 pub mod Lies
 pub mod Misfits
 pub mod Orders

@@ -4,7 +4,9 @@
 mod changes;
 mod classes;
 mod runs;
+mod untried;
 
 pub use changes::refused;
 pub use classes::{Documents, one_class};
 pub use runs::{Reading, everything, failed_upload, given_again, two_pages};
+pub use untried::idleness;

@@ -18,7 +18,8 @@ use Rattle.s3_model.specs.Talks.{Talk, Failed}
 use Rattle.run_promise.specs.Carried.{IsPrefixOf, SaysAll}
 use Rattle.http_exchange.specs.Answer.{IsAnswer, HasNoAnswer, HasCoding, IsOfTalk}
 use Rattle.http_exchange.specs.Exchange.{Request, IsExchange, IfBroken}
-use Rattle.one_put.specs.OnePut.{IsJudged, stored, refused, open_ended, unread, most_body}
+use Rattle.run_promise.specs.Schedule.{most_body}
+use Rattle.s3_main.specs.Puts.{IsJudged, stored, refused, open_ended, unread}
 use Rattle.s3_main.specs.declared.carry.Ending.{Ending}
 use Rattle.s3_main.specs.declared.carry.Ending.TheVariants as ending
 use Rattle.s3_main.specs.Carrying.{Shows, JudgesAs, ReadsNoError, ReadsNoReply, mark_of_ending, outcome_of}

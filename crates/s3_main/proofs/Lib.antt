@@ -1,12 +1,16 @@
 pub mod CarryLemmas
 pub mod CourseLemmas
 pub mod GainLemmas
+pub mod JobLemmas
 pub mod JudgeLemmas
 pub mod KeysLemmas
+pub mod LawLemmas
+pub mod OutcomeLemmas
 pub mod OutputLemmas
 pub mod PromiseLemmas
 pub mod SourceLemmas
 pub mod StartLemmas
 pub mod TopLemmas
 pub mod UploadLemmas
+pub mod WireLemmas
 pub mod WordsLemmas

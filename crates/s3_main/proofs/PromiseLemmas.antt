@@ -1,48 +1,55 @@
--- A run that was planned and carried is truthful.
-use Rattle.std.proofs.Common.{◌≡◌, ◌∙◌, ◌⊎◌, ◌==◌, ℕ, zero, suc, Bool, true, false, List, [], ◌∷◌, Option, Some, None, refl, sym, ap, subst, inl, inr, length, slice_get, filter_map, if◌then◌else◌, arith}
+-- A run of today's command is truthful: it was planned and carried, or it ended before its task.
+use Rattle.std.proofs.Common.{◌≡◌, ◌∙◌, ◌==◌, ◌<◌, ℕ, Bool, true, false, List, [], ◌∷◌, Option, Some, None, refl, sym, ap, subst, inl, inr, Contains, length, slice_get, filter_map, if◌then◌else◌, arith}
 use Rattle.std.specs.FinMap.{get}
 use Rattle.std.proofs.lemmas.List.{take_all}
 use Rattle.s3_model.specs.declared.requests.Ask.{Ask}
 use Rattle.s3_model.specs.declared.answers.Why.{Why}
 use Rattle.s3_model.specs.declared.answers.Why.TheVariants as why
-use Rattle.s3_model.specs.declared.outcomes.Event.{Event}
-use Rattle.s3_model.specs.declared.places.Endpoint.{Endpoint}
+use Rattle.s3_model.specs.declared.answers.Class.{Class}
 use Rattle.s3_model.specs.declared.outcomes.Cause.{Cause}
+use Rattle.s3_model.specs.declared.outcomes.Cause.TheVariants as cause
+use Rattle.s3_model.specs.declared.outcomes.Event.{Event}
+use Rattle.s3_model.specs.declared.outcomes.FileCall.TheVariants as call
 use Rattle.s3_model.specs.declared.outcomes.Outcome.{Outcome}
 use Rattle.s3_model.specs.declared.outcomes.Outcome.TheVariants as outcome
+use Rattle.s3_model.specs.declared.outcomes.Reason.{Reason}
+use Rattle.s3_model.specs.declared.places.Endpoint.{Endpoint}
 use Rattle.s3_model.specs.declared.settings.Keys.{Keys}
 use Rattle.s3_model.specs.declared.settings.Limits.{Limits}
+use Rattle.s3_model.specs.declared.tasks.Kind.TheVariants as kind
 use Rattle.s3_model.specs.declared.tasks.Task.{Task}
+use Rattle.s3_model.specs.declared.tasks.Warning.{Warning}
 use Rattle.s3_model.specs.declared.tries.Mark.{Mark}
 use Rattle.s3_model.specs.Files.{FileStore, HeldFile, is_folder, is_listed}
-use Rattle.s3_model.specs.Talks.{Talk, Note}
-use Rattle.run_promise.specs.Truthful.{Shown}
-use Rattle.s3_outside.specs.Env.{SeenEnv}
-use Rattle.s3_outside.specs.Files.{SeenFiles, shape_at, shape_of}
-use Rattle.s3_outside.specs.declared.files.Shape.TheVariants as shape
-use Rattle.one_put.specs.OnePut.{AreIdle, HasFailed, IsJudged, IsOnePutRun, PlansNothing, IsUnsentCause, IsSilent, IsTalked, IsUnsent, IsStoppedWhereUnsent, stored, refused, open_ended, unread, put_job, in_first, tells_file_failed}
-use Rattle.one_put.proofs.Law.{one_put_truthful}
-use Rattle.one_put.proofs.Willing.{always_done, one_put_done}
-use Rattle.s3_model.specs.declared.outcomes.FileCall.TheVariants as call
-use Rattle.one_put.proofs.Idle.{idle_truthful}
-use Rattle.one_put.proofs.Settled.{IsPutAlone, files_by_outcomes}
-use Rattle.run_promise.specs.Settled.{IsSettingOf, cause_of, is_memory, is_dry, left_by, untimed_by}
-use Rattle.s3_model.specs.declared.outcomes.Reason.{Reason}
-use Rattle.s3_model.specs.declared.tasks.Warning.{Warning}
+use Rattle.s3_model.specs.Talks.{Talk, Note, Moment, Began}
+use Rattle.s3_model.specs.Validity.{IsValidConfig, IsValidLimits}
+use Rattle.run_promise.specs.Buffers.{KeepsBuffers}
+use Rattle.run_promise.specs.Carried.{IsCarried, SaysAll, IsPrefixOf}
+use Rattle.run_promise.specs.Dispatches.{Attempt, Dispatched}
+use Rattle.run_promise.specs.Outcomes.{HasOutcome, ReadsSource}
+use Rattle.run_promise.specs.Schedule.{IsSchedule, bytes_of, is_small, most_body, source_bytes}
+use Rattle.run_promise.specs.Settled.{HasFileFailed, IsSettingOf, NoneSaysChanged, cause_of, is_memory, is_dry, left_by, untimed_by}
+use Rattle.run_promise.specs.Truthful.{Shown, IsTruthful, IsDoneWhereWilling}
+use Rattle.world_laws.specs.Promises.{IsByRequests}
+use Rattle.world_laws.specs.Tasks.{HasSource, HasSourceFile}
 use Rattle.world_laws.proofs.Maps.{none_is_some}
-use Rattle.one_put.proofs.Single.{first_only, none_idle}
-use Rattle.one_put.specs.Idle.{IsUndone}
-use Rattle.s3_model.specs.declared.outcomes.Event.TheVariants as entry
-use Rattle.s3_model.specs.declared.outcomes.Cause.TheVariants as cause
+use Rattle.s3_outside.specs.Env.{SeenEnv}
+use Rattle.s3_outside.specs.Files.{SeenFiles, shape_of}
+use Rattle.s3_outside.specs.declared.files.Shape.TheVariants as shape
 use Rattle.s3_main.specs.declared.carry.Ending.{Ending}
 use Rattle.s3_main.specs.declared.carry.Ending.TheVariants as ending
 use Rattle.s3_main.specs.declared.run.Run.{Run}
 use Rattle.s3_main.specs.Carrying.{CarriesAs, HasStatus, IsOneTalk, Shows, lost_cause, mark_of_ending, outcome_of, request_text}
-use Rattle.s3_main.specs.Sources.{AreFirstBytes, LooksAt}
+use Rattle.s3_main.specs.Puts.{AreIdle, IsJudged, stored, refused, open_ended, unread}
+use Rattle.s3_main.specs.Sources.{AreFirstBytes, LooksAt, first_large}
 use Rattle.s3_main.specs.Executed.{GoesAs}
-use Rattle.s3_main.specs.Uploading.{IsReadCause, Uploads, marks_of, put_journal, upload_ask, upload_task}
-use Rattle.s3_main.specs.Runs.{CallFailed, IfSeen, IsPlanned, IsTrue, IsUnplanned, bucket_word, endpoint_of, key_word, shown_of, wanted_by}
+use Rattle.s3_main.specs.Uploading.{IsReadCause, Uploads, put_events, put_journal, upload_ask, upload_task}
+use Rattle.s3_main.specs.Runs.{CallFailed, IfSeen, IsPlanned, IsTrue, IsUnplanned, PlansNothing, bucket_word, default_config, endpoint_of, in_first, key_word, shown_by, tells_file_failed}
 use Rattle.s3_main.specs.Words.{path_word}
+use Rattle.s3_main.proofs.JobLemmas.{Planned, each, first_only, in_none, no_buffers, no_jobs, no_schedule, put_alone, put_buffers, put_schedule, put_with, setting_of}
+use Rattle.s3_main.proofs.LawLemmas.{AreAlone, IsOrdered, done_where_willing, truthful}
+use Rattle.s3_main.proofs.OutcomeLemmas.{judged_for, silent_for, tells, unread_for}
+use Rattle.s3_main.proofs.WireLemmas.{none_carried, none_idle, silent_carried, talked_carried}
 
 -- ---- the file
 
@@ -120,23 +127,7 @@ upload_ordinary endpoint keys asked told path size before after journal how talk
     subst (λ (any : Outcome). IsOrdinary any) (sym u.failed) (read_ordinary told path size before after u.why u.reason)
 upload_ordinary endpoint keys asked told path size before after journal how talks notes (inr g) = subst (λ (any : Outcome). IsOrdinary any) (sym g.judged) (ending_ordinary g.of_ending)
 
--- ---- nothing
-
-same_if : {A : Type 0} (b : Bool) → ◌≡◌ {A = List A} (if b then [] else []) []
-same_if true = refl
-same_if false = refl
-
-none_in : {A : Type 0} (lane : ℕ) → in_first {A = A} [] lane ≡ []
-none_in lane = same_if (lane == 0)
-
-nothing_at : (n : ℕ) (how : Outcome) → ◌≡◌ {A = Option Outcome} (slice_get [] n) (Some how) → ⊥
-nothing_at zero how e = cc
-nothing_at (suc n) how e = cc
-
-given_is_none : (of_ending : Ending) → put_journal of_ending ≡ [] → ⊥
-given_is_none of_ending e = cc
-
--- ---- the outcome
+-- ---- the setting
 
 -- what a talk shows does not depend on how it is said that memory ran out
 judged_as : (asked : Ask) (talk : Talk) (A B : Type 0) → (A → B) → (of_mark : Mark) (how : Outcome) → IsJudged Shows asked talk A of_mark how → IsJudged Shows asked talk B of_mark how
@@ -145,205 +136,327 @@ judged_as asked talk A B so of_mark how (refused code message body h) = refused 
 judged_as asked talk A B so of_mark how (open_ended reason body no_memory h) = open_ended reason body no_memory h
 judged_as asked talk A B so of_mark how (unread wanting) = unread (so wanting)
 
-module _ (limits : Limits) (run : Run) (talks : List Talk) (notes : List Note) (was now : SeenFiles) (same : now.store ≡ was.store) (words : List (List ℕ)) where
-  abbrev shown : Shown
-  shown = shown_of limits run talks notes was now
+status_is : (n : ℕ) → (n == 70) ≡ true → n ≡ 70
+status_is n e = grind arith
 
+-- the outcomes alone say whose file calls failed, since no job reads an object
+told : (dispatched : List Dispatched) (n : ℕ) → NoneSaysChanged Shows HasStatus PlansNothing dispatched n → (how : Option Outcome)
+    → (tells_file_failed how ≡ true → HasFileFailed Shows HasStatus PlansNothing dispatched n how) × (HasFileFailed Shows HasStatus PlansNothing dispatched n how → tells_file_failed how ≡ true)
+told dispatched n none (Some (outcome.Failed (cause.Files of_call))) = ((λ e. tt), (λ h. refl))
+told dispatched n none (Some (outcome.Failed (cause.Blocked length))) = ((λ e. tt), (λ h. refl))
+told dispatched n none (Some (outcome.Failed cause.Memory)) = ((λ e. tt), (λ h. refl))
+told dispatched n none (Some (outcome.Failed cause.Changed)) = ((λ e. none), (λ h. refl))
+told dispatched n none how = ((λ e. absurd (false_is_true e)), (λ h. absurd h))
+
+upload_is_no_copy : kind.Upload ≡ kind.Copy → ⊥
+upload_is_no_copy e = cc
+
+default_valid : IsValidConfig default_config
+default_valid = record {
+  threshold = record { least = omega arith; most = omega arith };
+  chunk = record { least = omega arith; most = omega arith };
+  lanes = record { least = omega arith; most = omega arith };
+  queue = record { least = omega arith; most = omega arith };
+  buffers = record { least = omega arith; most = omega arith };
+  attempts = record { least = omega arith; most = omega arith };
+}
+
+module _ (words : List (List ℕ)) (keys : Keys) (before after : ℕ) (limits : Limits) (valid : IsValidLimits limits) (status : ℕ) (was now : SeenFiles) (same : now.store ≡ was.store)
+    (warnings : List Warning) (no_warnings : warnings ≡ []) where
   abbrev host : List ℕ
   host = (endpoint_of words).host
 
   abbrev port : ℕ
   port = (endpoint_of words).port
 
-  -- the outcome of the only task wants memory
-  wanting : (how : Outcome) → run.outcomes.items ≡ how ∷ [] → is_memory (cause_of (Some how)) ≡ true → wanted_by run (Some 0) ≡ true
-  wanting how one wants = ap (λ (all : List Outcome). is_memory (cause_of (slice_get all 0))) one ∙ wants
+  abbrev path : List ℕ
+  path = path_word words
 
-  module _ (keys : Keys) (size micros : ℕ) (how : Outcome) (one_task : run.plan.tasks.items ≡ upload_task (path_word words) (bucket_word words) (key_word words) size micros ∷ [])
-      (one_outcome : run.outcomes.items ≡ how ∷ []) where
+  abbrev asked : Ask
+  asked = upload_ask path (bucket_word words) (key_word words)
+
+  abbrev Fails : List Task → ℕ → Cause → Type 0
+  Fails tasks = CallFailed path now before after tasks
+
+  -- what is to be shown of a run
+  abbrev Keeps : List Task → List Outcome → List Event → List Talk → List Note → Type 0
+  Keeps tasks outcomes journal talks notes =
+      IsTruthful Shows HasStatus (request_text (endpoint_of words) keys) host port PlansNothing (Fails tasks) (shown_by limits status tasks outcomes journal talks notes was now)
+      × IsDoneWhereWilling Shows HasStatus (request_text (endpoint_of words) keys) host port PlansNothing (Fails tasks) (shown_by limits status tasks outcomes journal talks notes was now)
+      × IsSettingOf Shows HasStatus PlansNothing (shown_by limits status tasks outcomes journal talks notes was now) warnings ⊥ ⊥
+
+  module _ (tasks : List Task) (outcomes : List Outcome) (journal : List Event) (talks : List Talk) (notes : List Note) (jobs : List Dispatched) where
+    abbrev shown : Shown
+    shown = shown_by limits status tasks outcomes journal talks notes was now
+
+    abbrev Alone : Type 0
+    Alone = AreAlone Shows HasStatus (request_text (endpoint_of words) keys) host port PlansNothing (Fails tasks) shown jobs
+
+    abbrev Ordered : Type 0
+    Ordered = IsOrdered Shows HasStatus (request_text (endpoint_of words) keys) host port PlansNothing (Fails tasks) shown jobs
+
+    abbrev ReadNothing : Type 0
+    ReadNothing = (c : Dispatched) → Contains jobs c → ReadsSource c.dispatch.job.op → ⊥
+
+    settles : Alone → ReadNothing → ((n : ℕ) (how : Outcome) → slice_get outcomes n ≡ Some how → IsOrdinary how) → IsSettingOf Shows HasStatus PlansNothing shown warnings ⊥ ⊥
+    settles alone reads ordinary = record {
+      memory = λ n. refl;
+      lanes = omega arith;
+      planning_memory = λ e. status_is status e;
+      warning_memory = λ e. status_is status e;
+      left = sym (ap (λ (all : List Warning). filter_map left_by all) no_warnings);
+      untimed = sym (ap (λ (all : List Warning). filter_map untimed_by all) no_warnings);
+      files = λ dispatched coming scheduled are n.
+          told dispatched n (λ c place attempt known of_task slot says. reads c (subst (λ (all : List Dispatched). Contains all c) (alone dispatched coming scheduled are).0 known) says.0) (slice_get outcomes n);
+      cancelled = λ e. absurd (false_is_true e);
+      cancels = λ n reason e. absurd (none_cancelled (slice_get outcomes n) (ordinary n) reason e);
+      dry = λ n how at_n. (ordinary n how at_n).1;
+    }
+      where
+        none_cancelled : (found : Option Outcome) → ((how : Outcome) → found ≡ Some how → IsOrdinary how) → (reason : Reason) → cause_of found ≡ Some (cause.Cancelled reason) → ⊥
+        none_cancelled None is reason e = none_is_some (cause.Cancelled reason) e
+        none_cancelled (Some how) is reason e = (is how refl).0 reason e
+
+    keeps : Ordered → ReadNothing → ((n : ℕ) (how : Outcome) → slice_get outcomes n ≡ Some how → IsOrdinary how) → Keeps tasks outcomes journal talks notes
+    keeps o reads ordinary = (
+      truthful Shows HasStatus (request_text (endpoint_of words) keys) host port PlansNothing (Fails tasks) shown jobs o,
+      done_where_willing Shows HasStatus (request_text (endpoint_of words) keys) host port PlansNothing (Fails tasks) shown jobs o,
+      settles o.alone reads ordinary,
+    )
+
+    -- a failed call is told by the outcome
+    counted : (n : ℕ) (of_cause : Cause) → slice_get outcomes n ≡ Some (outcome.Failed of_cause) → Fails tasks n of_cause → tells_file_failed (slice_get outcomes n) ≡ true
+    counted n of_cause at_n fails = ap tells_file_failed at_n ∙ tells now path fails.0.size before after of_cause fails.2
+
+  stay : (any : List ℕ) → get now.store.held any ≡ get was.store.held any
+  stay any = ap (λ (s : FileStore). get s.held any) same
+
+  -- ---- a run that ended before its task
+
+  unplanned : Keeps [] [] [] [] []
+  unplanned =
+      keeps [] [] [] [] [] []
+      (record {
+        schedule = no_schedule Shows PlansNothing (shown [] [] [] [] [] []).setting refl;
+        carried = none_carried Shows (request_text (endpoint_of words) keys) host port (shown [] [] [] [] [] []).setting [] none_idle (omega arith);
+        alone = no_jobs Shows PlansNothing (shown [] [] [] [] [] []).setting;
+        buffers = no_buffers 10;
+        as_many = refl;
+        causes = λ n task how at_task at_how. absurd (none_is_some task at_task);
+        questions = λ c known of_none. absurd (in_none c known);
+        tasks = λ n task at_task. absurd (none_is_some task at_task);
+        apart = record { destinations = λ m n a b bucket key at_m at_n of_a of_b. absurd (none_is_some a at_m); sources = λ m n a b bucket key at_m at_n moves of_a of_b. none_is_some a at_m };
+        sources = λ moments n task at_task. absurd (none_is_some task at_task);
+        there = λ start. record {
+          files = λ n task at_task uploads. absurd (none_is_some task at_task);
+          there = λ n task bucket key at_task copies from. absurd (none_is_some task at_task);
+          no_dest = λ m n a b bucket key at_a at_b copies from to. none_is_some a at_a;
+          moved_once = λ m n a b bucket key at_a at_b copies from moves of_b. absurd (none_is_some a at_a);
+        };
+        left = λ n task how at at_task at_how moves from. absurd (none_is_some task at_task);
+        stay = stay;
+        replaces = λ n task at_task is_fresh. none_is_some task at_task;
+        counted = counted [] [] [] [] [] [];
+        config = default_valid;
+        limits = valid;
+      })
+      (λ c known reads. in_none c known) (λ n how at_n. absurd (none_is_some how at_n))
+
+  -- ---- a run that was planned
+
+  module _ (size micros : ℕ) (is_below : size < first_large) (file : HeldFile) (held : get was.store.held path ≡ Some file) (long : length file.bytes ≡ size) where
+    abbrev upload : Outcome → Planned
+    upload how = record {
+      limits = limits;
+      status = status;
+      bucket = bucket_word words;
+      key = key_word words;
+      path = path;
+      size = size;
+      micros = micros;
+      is_below = is_below;
+      how = how;
+      was = was;
+    }
+
     abbrev task : Task
-    task = upload_task (path_word words) (bucket_word words) (key_word words) size micros
+    task = upload_task path (bucket_word words) (key_word words) size micros
 
-    abbrev asked : Ask
-    asked = upload_ask (path_word words) (bucket_word words) (key_word words)
+    the_task : (n : ℕ) (t : Task) → slice_get (task ∷ []) n ≡ Some t → task ≡ t
+    the_task n t at_n = (first_only task n t at_n).1
 
-    abbrev Went : (before after : ℕ) → Type 0
-    Went before after = (HasFailed (CallFailed (path_word words) now before after run) shown.setting task how × IsUnsent shown.journal talks notes)
-        ⊎ ((how ≡ outcome.Failed cause.Memory) × IsSilent shown.setting shown.journal talks notes)
-        ⊎ IsTalked Shows (request_text (endpoint_of words) keys) host port shown.setting task (bucket_word words) (key_word words) (path_word words) shown.journal talks notes how
+    at_first : (n : ℕ) (t : Task) → slice_get (task ∷ []) n ≡ Some t → n ≡ 0
+    at_first n t at_n = (first_only task n t at_n).0
+
+    -- what is so of the task is so of each
+    of_each : (P : Task → Type 0) → P task → (n : ℕ) (t : Task) → slice_get (task ∷ []) n ≡ Some t → P t
+    of_each P p n t at_n = subst P (the_task n t at_n) p
+
+    keeps_source : (n : ℕ) (t : Task) → slice_get (task ∷ []) n ≡ Some t → t.moves ≡ true → ⊥
+    keeps_source = of_each (λ (t : Task). t.moves ≡ true → ⊥) false_is_true
+
+    no_copy : (n : ℕ) (t : Task) → slice_get (task ∷ []) n ≡ Some t → t.kind ≡ kind.Copy → ⊥
+    no_copy = of_each (λ (t : Task). t.kind ≡ kind.Copy → ⊥) upload_is_no_copy
+
+    has_file : HasSourceFile was.store.held task
+    has_file = (path, file, refl, held, long)
+
+    module _ (how : Outcome) (journal : List Event) (talks : List Talk) (notes : List Note) (jobs : List Dispatched) where
+      abbrev shows : Shown
+      shows = shown (task ∷ []) (how ∷ []) journal talks notes jobs
+
+      planned : IsSchedule Shows shows.setting PlansNothing jobs jobs → IsCarried Shows (request_text (endpoint_of words) keys) host port shows.setting journal (in_first talks) (in_first notes) jobs jobs
+          → Alone (task ∷ []) (how ∷ []) journal talks notes jobs → KeepsBuffers 10 journal → HasOutcome Shows HasStatus (Fails (task ∷ [])) shows.setting jobs jobs 0 task how
+          → ((c : Dispatched) → Contains jobs c → c.dispatch.job.task ≡ None → ⊥) → ReadNothing (task ∷ []) (how ∷ []) journal talks notes jobs → IsOrdinary how
+          → Keeps (task ∷ []) (how ∷ []) journal talks notes
+      planned schedule carried alone buffers has of_task reads ordinary =
+          keeps (task ∷ []) (how ∷ []) journal talks notes jobs
+          (record {
+            schedule = schedule;
+            carried = carried;
+            alone = alone;
+            buffers = buffers;
+            as_many = refl;
+            causes = λ n t of_how at_task at_how.
+                subst (λ (k : ℕ). HasOutcome Shows HasStatus (Fails (task ∷ [])) shows.setting jobs jobs k t of_how) (sym (at_first n t at_task))
+                (subst (λ (any : Task). HasOutcome Shows HasStatus (Fails (task ∷ [])) shows.setting jobs jobs 0 any of_how) (the_task n t at_task)
+                (subst (λ (any : Outcome). HasOutcome Shows HasStatus (Fails (task ∷ [])) shows.setting jobs jobs 0 task any) (first_only how n of_how at_how).1 has));
+            questions = λ c known of_none. absurd (of_task c known of_none);
+            tasks = of_each IsByRequests (record { bucket = bucket_word words; key = key_word words; is_dest = refl; decided = tt; keeps = λ removes. refl });
+            apart = record {
+              destinations = λ m n a b bucket key at_m at_n of_a of_b. at_first m a at_m ∙ sym (at_first n b at_n);
+              sources = λ m n a b bucket key at_m at_n moves of_a of_b. keeps_source m a at_m moves;
+            };
+            sources = λ moments. of_each (λ (t : Task). HasSource was.store.held moments t t.kind (is_small shows.setting t)) has_file;
+            there = λ start. record {
+              files = λ n t at_task uploads. of_each (HasSourceFile was.store.held) has_file n t at_task;
+              there = λ n t bucket key at_task copies from. absurd (no_copy n t at_task copies);
+              no_dest = λ m n a b bucket key at_a at_b copies from to. no_copy m a at_a copies;
+              moved_once = λ m n a b bucket key at_a at_b copies from moves of_b. absurd (no_copy m a at_a copies);
+            };
+            left = λ n t of_how at at_task at_how moves from. absurd (keeps_source n t at_task moves);
+            stay = stay;
+            replaces = of_each (λ (t : Task). t.fresh ≡ true → ⊥) false_is_true;
+            counted = counted (task ∷ []) (how ∷ []) journal talks notes jobs;
+            config = default_valid;
+            limits = valid;
+          })
+          reads (λ n of_how at_n. subst IsOrdinary (first_only how n of_how at_n).1 ordinary)
+
+    -- the bytes of the file did not come
+    unread_run : (of_cause : Cause) → IsReadCause (Some now) path size before after of_cause → Keeps (task ∷ []) (outcome.Failed of_cause ∷ []) [] [] []
+    unread_run of_cause h =
+        let how = outcome.Failed of_cause in
+        planned how [] [] [] [] (no_schedule Shows PlansNothing (shows how [] [] [] []).setting refl)
+        (none_carried Shows (request_text (endpoint_of words) keys) host port (shows how [] [] [] []).setting [] none_idle (omega arith)) (no_jobs Shows PlansNothing (shows how [] [] [] []).setting) (no_buffers 10)
+        (unread_for Shows HasStatus (Fails (task ∷ [])) (upload how) now before after of_cause (λ reason. (task, refl, reason)) refl h) (λ c known of_none. in_none c known) (λ c known reads. in_none c known)
+        (read_ordinary (Some now) path size before after of_cause h)
+
+    -- the job was given: with these attempts, marks, talks and notes
+    given_run : (how : Outcome) (tries : List Mark) (attempts : List Attempt) (talks : List Talk) (notes : List Note)
+        → IsCarried Shows (request_text (endpoint_of words) keys) host port (setting_of (upload how)) (put_events tries) (in_first talks) (in_first notes) (put_with (upload how) attempts ∷ []) (put_with (upload how) attempts ∷ [])
+        → HasOutcome Shows HasStatus (Fails (task ∷ [])) (setting_of (upload how)) (put_with (upload how) attempts ∷ []) (put_with (upload how) attempts ∷ []) 0 task how → IsOrdinary how
+        → Keeps (task ∷ []) (how ∷ []) (put_events tries) talks notes
+    given_run how tries attempts talks notes carried has ordinary =
+        let put : Dispatched = put_with (upload how) attempts in
+        planned how (put_events tries) talks notes (put ∷ []) (put_schedule Shows PlansNothing (upload how) refl attempts) carried
+        (λ dispatched coming scheduled are. put_alone Shows PlansNothing (upload how) dispatched coming attempts scheduled (are ∙ sym carried.shown)) (put_buffers 10 tries (omega arith)) has
+        (each (λ (c : Dispatched). c.dispatch.job.task ≡ None → ⊥) put (λ e. none_is_some 0 (sym e))) (each (λ (c : Dispatched). ReadsSource c.dispatch.job.op → ⊥) put (λ reads. reads)) ordinary
 
     -- one talk for the bytes of the file
-    talked : (file : HeldFile) → get was.store.held (path_word words) ≡ Some file → (of_ending : Ending) → how ≡ outcome_of of_ending
-        → run.journal.items ≡ entry.Given put_job 0 ∷ entry.Came put_job 0 (mark_of_ending of_ending ∷ []) ∷ []
-        → (of_ending ≡ ending.Uncertain why.Memory → wanted_by run (Some 0) ≡ true)
-        → IsOneTalk (endpoint_of words) keys asked file.bytes of_ending talks notes → (before after : ℕ) → Went before after
-    talked file held of_ending judged journals wants one before after = inr (inr (record {
-      talk = one.talk;
-      mark = mark_of_ending of_ending;
-      file = file;
-      front = [];
-      seconds = one.seconds;
-      came = journals;
-      one_talk = one.one_talk;
-      noted = one.noted;
-      idle = none_idle;
-      held = held;
-      to_host = one.to_host;
-      to_port = one.to_port;
-      text = one.text;
-      beginning = one.beginning;
-      judged = subst (IsJudged Shows asked one.talk (wanted_by run (Some 0) ≡ true) (mark_of_ending of_ending)) (sym judged)
-          (judged_as asked one.talk (of_ending ≡ ending.Uncertain why.Memory) (wanted_by run (Some 0) ≡ true) wants (mark_of_ending of_ending) (outcome_of of_ending) one.judged);
-    }))
-
-    lost_wants : (of_ending : Ending) → how ≡ outcome_of of_ending → of_ending ≡ ending.Uncertain why.Memory → wanted_by run (Some 0) ≡ true
-    lost_wants of_ending judged e = wanting how one_outcome (ap (λ (any : Outcome). is_memory (cause_of (Some any))) (judged ∙ ap outcome_of e))
-
-    given : (file : HeldFile) → get was.store.held (path_word words) ≡ Some file → (of_ending : Ending) → how ≡ outcome_of of_ending → run.journal.items ≡ put_journal of_ending
-        → CarriesAs (endpoint_of words) keys asked file.bytes of_ending talks notes → (before after : ℕ) → Went before after
-    given file held ending.Memory judged journals silent before after = inr (inl (
-      judged,
-      record {
-        came = journals;
-        no_talks = silent.no_talk;
-        idle = silent.idle;
-        wanting = wanting how one_outcome (ap (λ (any : Outcome). is_memory (cause_of (Some any))) judged);
-      },
-    ))
-    given file held ending.Stored judged journals one before after = talked file held ending.Stored judged journals (lost_wants ending.Stored judged) one before after
-    given file held (ending.Refused code message) judged journals one before after = talked file held (ending.Refused code message) judged journals (lost_wants (ending.Refused code message) judged) one before after
-    given file held (ending.Uncertain reason) judged journals one before after = talked file held (ending.Uncertain reason) judged journals (lost_wants (ending.Uncertain reason) judged) one before after
-
-    -- why the bytes did not come is a cause for which nothing is sent
-    unsent_cause : (before after : ℕ) (why : Cause) → how ≡ outcome.Failed why → IsReadCause (Some now) (path_word words) size before after why
-        → IsUnsentCause (CallFailed (path_word words) now before after run) shown.setting 0 task why
-    unsent_cause before after cause.Memory failed h = wanting how one_outcome (ap (λ (any : Outcome). is_memory (cause_of (Some any))) failed)
-    unsent_cause before after (cause.Files call.Read) failed h = (tt, (task, ap (λ (all : List Task). slice_get all 0) one_task, h))
-    unsent_cause before after cause.Changed failed h = (refl, (task, ap (λ (all : List Task). slice_get all 0) one_task, h))
-    unsent_cause before after (cause.Files call.Create) failed h = absurd h
-    unsent_cause before after (cause.Files call.Write) failed h = absurd h
-    unsent_cause before after (cause.Files call.Rename) failed h = absurd h
-    unsent_cause before after (cause.Files call.Remove) failed h = absurd h
-    unsent_cause before after (cause.Service of_op code message) failed h = absurd h
-    unsent_cause before after (cause.Lost of_op reason) failed h = absurd h
-    unsent_cause before after (cause.BadReply of_op) failed h = absurd h
-    unsent_cause before after (cause.Blocked length) failed h = absurd h
-    unsent_cause before after (cause.Cancelled reason) failed h = absurd h
-
-    went : shape_at was.store (path_word words) ≡ shape.File size micros → (before after : ℕ)
-        → Uploads (endpoint_of words) keys asked (Some now) (path_word words) size before after run.journal.items how talks notes → Went before after
-    went stands before after (inl u) =
-        inl ((u.why, u.failed, unsent_cause before after u.why u.failed u.reason), record { no_job = u.no_job; no_talks = u.no_talk; idle = subst AreIdle (sym u.no_note) none_idle })
-    went stands before after (inr g) =
-        let found = shape_file was.store (path_word words) (get was.store.held (path_word words)) size micros stands in
-        let file = found.0 in
-        let read : AreFirstBytes was.store (path_word words) g.bytes = subst (λ (s : FileStore). AreFirstBytes s (path_word words) g.bytes) same g.read in
-        let whole : g.bytes ≡ file.bytes = whole_file was.store (path_word words) g.bytes file found.1 read (g.size_is ∙ sym found.2) in
-        given file found.1 g.of_ending g.judged g.journals (subst (λ (bytes : List ℕ). CarriesAs (endpoint_of words) keys asked bytes g.of_ending talks notes) whole g.carries) before after
-
-  -- where no job was given, the bytes of the file did not come
-  tells : (seen : Option SeenFiles) (path : List ℕ) (size before after : ℕ) (cause : Cause) → IsReadCause seen path size before after cause → tells_file_failed (Some (outcome.Failed cause)) ≡ true
-  tells seen path size before after cause.Memory h = refl
-  tells seen path size before after (cause.Files call.Read) h = refl
-  tells seen path size before after (cause.Files call.Create) h = absurd h
-  tells seen path size before after (cause.Files call.Write) h = absurd h
-  tells seen path size before after (cause.Files call.Rename) h = absurd h
-  tells seen path size before after (cause.Files call.Remove) h = absurd h
-  tells seen path size before after cause.Changed h = refl
-  tells seen path size before after (cause.Service of_op code message) h = absurd h
-  tells seen path size before after (cause.Lost of_op reason) h = absurd h
-  tells seen path size before after (cause.BadReply of_op) h = absurd h
-  tells seen path size before after (cause.Blocked length) h = absurd h
-  tells seen path size before after (cause.Cancelled reason) h = absurd h
-
-  unsent_stopped : (keys : Keys) (size : ℕ) (how : Outcome) → run.outcomes.items ≡ how ∷ [] → (before after : ℕ)
-      → Uploads (endpoint_of words) keys (upload_ask (path_word words) (bucket_word words) (key_word words)) (Some now) (path_word words) size before after run.journal.items how talks notes
-      → IsStoppedWhereUnsent shown.setting shown.journal
-  unsent_stopped keys size how one before after (inl u) none =
-      inl (ap (λ (all : List Outcome). tells_file_failed (slice_get all 0)) one ∙ (ap (λ (h : Outcome). tells_file_failed (Some h)) u.failed ∙ tells (Some now) (path_word words) size before after u.why u.reason))
-  unsent_stopped keys size how one before after (inr g) none = absurd (given_is_none g.of_ending (sym g.journals ∙ none))
-
-  -- ---- the setting
-
-  status_is : (n : ℕ) → (n == 70) ≡ true → n ≡ 70
-  status_is n e = grind arith
-
-  settles : run.warnings.items ≡ [] → IsPutAlone run.journal.items → ((n : ℕ) (how : Outcome) → slice_get run.outcomes.items n ≡ Some how → IsOrdinary how)
-      → IsSettingOf Shows HasStatus PlansNothing shown run.warnings.items ⊥ ⊥
-  settles no_warnings alone ordinary = record {
-    memory = λ n. refl;
-    lanes = omega arith;
-    planning_memory = λ e. status_is run.status e;
-    warning_memory = λ e. status_is run.status e;
-    left = sym (ap (λ (all : List Warning). filter_map left_by all) no_warnings);
-    untimed = sym (ap (λ (all : List Warning). filter_map untimed_by all) no_warnings);
-    files = files_by_outcomes Shows HasStatus PlansNothing shown alone (λ n. refl);
-    cancelled = λ e. absurd (false_is_true e);
-    cancels = λ n why e. absurd (none_cancelled (slice_get run.outcomes.items n) (ordinary n) why e);
-    dry = λ n how at_n. (ordinary n how at_n).1;
-  }
-    where
-      none_cancelled : (found : Option Outcome) → ((how : Outcome) → found ≡ Some how → IsOrdinary how) → (why : Reason) → cause_of found ≡ Some (cause.Cancelled why) → ⊥
-      none_cancelled None is why e = none_is_some (cause.Cancelled why) e
-      none_cancelled (Some how) is why e = (is how refl).0 why e
-
-  put_alone : (words_size : ℕ) (keys : Keys) (how : Outcome) (before after : ℕ)
-      → Uploads (endpoint_of words) keys (upload_ask (path_word words) (bucket_word words) (key_word words)) (Some now) (path_word words) words_size before after run.journal.items how talks notes
-      → IsPutAlone run.journal.items
-  put_alone words_size keys how before after (inl u) = inl u.no_job
-  put_alone words_size keys how before after (inr g) = inr (marks_of g.of_ending, g.journals)
-
-  ordinary_alone : (how : Outcome) → run.outcomes.items ≡ how ∷ [] → IsOrdinary how → (n : ℕ) (of_how : Outcome) → slice_get run.outcomes.items n ≡ Some of_how → IsOrdinary of_how
-  ordinary_alone how one is n of_how at_n =
-      subst (λ (any : Outcome). IsOrdinary any) (first_only how n of_how (sym (ap (λ (all : List Outcome). slice_get all n) one) ∙ at_n)).1 is
-
-  -- a planned run
-  pub planned_true : run.warnings.items ≡ [] → (env : Option SeenEnv) (before after : ℕ) → IsPlanned words env (Some was) (Some now) before after run talks notes → IsTrue words env limits before after run talks notes was now
-  planned_true no_warnings env before after p =
-      let one : IsOnePutRun Shows (request_text (endpoint_of words) p.keys) host port (CallFailed (path_word words) now before after run) shown (task p.keys p.size p.micros p.how p.one_task p.one_outcome) (bucket_word words) (key_word words) (path_word words) talks notes p.how =
-      record {
-        plan = record { alone = p.one_task; carried_out = refl; uploads = refl; keeps_source = refl; source = refl; dest = refl; is_small = p.small; replaces = refl; once = refl; has_lane = omega arith; has_buffer = omega arith };
-        outcomes = p.one_outcome;
-        files = λ any. ap (λ (s : FileStore). get s.held any) same;
-        first_talks = λ lane. refl;
-        first_notes = λ lane. refl;
-        went = went p.keys p.size p.micros p.how p.one_task p.one_outcome p.stands before after p.uploads;
-      } in
-      record {
-        keys = p.keys;
-        settled = λ any. p.settled;
-        truthful = one_put_truthful Shows (request_text (endpoint_of words) p.keys) host port HasStatus PlansNothing refl (CallFailed (path_word words) now before after run) shown (task p.keys p.size p.micros p.how p.one_task p.one_outcome)
-            (bucket_word words) (key_word words) (path_word words) talks notes p.how one;
-        willing = one_put_done Shows (request_text (endpoint_of words) p.keys) host port HasStatus PlansNothing (CallFailed (path_word words) now before after run) shown (task p.keys p.size p.micros p.how p.one_task p.one_outcome)
-            (bucket_word words) (key_word words) (path_word words) talks notes p.how one (unsent_stopped p.keys p.size p.how p.one_outcome before after p.uploads);
-        settles = settles no_warnings (put_alone p.size p.keys p.how before after p.uploads) (ordinary_alone p.how p.one_outcome (upload_ordinary (endpoint_of words) p.keys (upload_ask (path_word words) (bucket_word words) (key_word words)) (Some now) (path_word words) p.size before after run.journal.items p.how talks notes p.uploads));
-      }
-
-  -- a run without a plan
-  pub unplanned_true : run.warnings.items ≡ [] → (env : Option SeenEnv) (before after : ℕ) → IsUnplanned run talks notes → IsTrue words env limits before after run talks notes was now
-  unplanned_true no_warnings env before after u = record {
-    keys = record { id = []; secret = []; token = None; region = [] };
-    settled = λ some. absurd (some u.no_job);
-    truthful = idle_truthful Shows (CallFailed (path_word words) now before after run) shown
+    talked_run : (of_ending : Ending) (one_talk : Talk) (seconds : ℕ) → one_talk.host ≡ host → one_talk.port ≡ port
+        → ((of_class : Class) (bytes : List ℕ) → Shows asked most_body one_talk of_class bytes → SaysAll Shows (request_text (endpoint_of words) keys) host port of_class one_talk.sent (request_text (endpoint_of words) keys asked file.bytes seconds))
+        → IsPrefixOf one_talk.sent (request_text (endpoint_of words) keys asked file.bytes seconds)
+        → IsJudged Shows asked one_talk (of_ending ≡ ending.Uncertain why.Memory) (mark_of_ending of_ending) (outcome_of of_ending)
+        → Keeps (task ∷ []) (outcome_of of_ending ∷ []) (put_events (mark_of_ending of_ending ∷ [])) (one_talk ∷ []) (Moment seconds ∷ Began ∷ [])
+    talked_run of_ending one_talk seconds to_host to_port text beginning judged =
+        let how = outcome_of of_ending in
+        let attempt : Attempt = record { mark = mark_of_ending of_ending; talk = one_talk } in
+        let bytes_are : source_bytes was.store.held task.source ≡ file.bytes = ap bytes_of held in
+        let of_mark = judged_as asked one_talk (of_ending ≡ ending.Uncertain why.Memory) ((setting_of (upload how)).wanted_memory (Some 0) ≡ true)
+        (λ e. ap (λ (any : Ending). is_memory (cause_of (Some (outcome_of any)))) e) (mark_of_ending of_ending) how judged in
+        given_run how (mark_of_ending of_ending ∷ []) (attempt ∷ []) (one_talk ∷ []) (Moment seconds ∷ Began ∷ [])
+        (talked_carried Shows (request_text (endpoint_of words) keys) host port (upload how) attempt seconds
         (record {
-          no_job = u.no_job;
-          no_talks = λ lane. ap (λ (ts : List Talk). in_first ts lane) u.no_talk ∙ none_in lane;
-          idle = λ lane. subst AreIdle (sym (ap (λ (ns : List Note). in_first ns lane) u.no_note ∙ none_in lane)) none_idle;
-          unused = λ lane beyond. ap (λ (ns : List Note). in_first ns lane) u.no_note ∙ none_in lane;
-          files = λ any. ap (λ (s : FileStore). get s.held any) same;
-          as_many = ap (λ (all : List Outcome). length all) u.no_outcome ∙ sym (ap (λ (all : List Task). length all) u.no_task);
-          undone = λ n t how at_task at_n. absurd (nothing_at n how (sym (ap (λ (all : List Outcome). slice_get all n) u.no_outcome) ∙ at_n));
+          to_host = to_host;
+          to_port = to_port;
+          text = λ of_class bytes shows_it. subst (λ (body : List ℕ). SaysAll Shows (request_text (endpoint_of words) keys) host port of_class one_talk.sent (request_text (endpoint_of words) keys asked body seconds))
+              (sym bytes_are) (text of_class bytes shows_it);
+          beginning = subst (λ (body : List ℕ). IsPrefixOf one_talk.sent (request_text (endpoint_of words) keys asked body seconds)) (sym bytes_are) beginning;
         })
-        (request_text (endpoint_of words) (record { id = []; secret = []; token = None; region = [] })) host port HasStatus PlansNothing refl;
-    willing = always_done Shows (request_text (endpoint_of words) (record { id = []; secret = []; token = None; region = [] })) host port HasStatus PlansNothing (CallFailed (path_word words) now before after run) shown
-        (λ start not_cancelled n how at_n. absurd (nothing_at n how (sym (ap (λ (all : List Outcome). slice_get all n) u.no_outcome) ∙ at_n)));
-    settles = settles no_warnings (inl u.no_job) (λ n how at_n. absurd (nothing_at n how (sym (ap (λ (all : List Outcome). slice_get all n) u.no_outcome) ∙ at_n)));
-  }
+        of_mark)
+        (judged_for Shows HasStatus (Fails (task ∷ [])) (upload how) attempt how of_mark) (ending_ordinary of_ending)
+
+    silent_run : (notes : List Note) → AreIdle notes → Keeps (task ∷ []) (outcome_of ending.Memory ∷ []) (put_events []) [] notes
+    silent_run notes idle =
+        given_run (outcome.Failed cause.Memory) [] [] [] notes (silent_carried Shows (request_text (endpoint_of words) keys) host port (upload (outcome.Failed cause.Memory)) notes idle refl)
+        (silent_for Shows HasStatus (Fails (task ∷ [])) (upload (outcome.Failed cause.Memory)) refl) (ending_ordinary ending.Memory)
+
+    -- ---- what the run shows
+
+    one_keeps : (of_ending : Ending) (talks : List Talk) (notes : List Note) → IsOneTalk (endpoint_of words) keys asked file.bytes of_ending talks notes
+        → Keeps (task ∷ []) (outcome_of of_ending ∷ []) (put_events (mark_of_ending of_ending ∷ [])) talks notes
+    one_keeps of_ending talks notes one =
+        subst (λ (all : List Talk). Keeps (task ∷ []) (outcome_of of_ending ∷ []) (put_events (mark_of_ending of_ending ∷ [])) all notes) (sym one.one_talk)
+        (subst (λ (all : List Note). Keeps (task ∷ []) (outcome_of of_ending ∷ []) (put_events (mark_of_ending of_ending ∷ [])) (one.talk ∷ []) all) (sym one.noted)
+        (talked_run of_ending one.talk one.seconds one.to_host one.to_port one.text one.beginning one.judged))
+
+    given_keeps : (of_ending : Ending) (talks : List Talk) (notes : List Note) → CarriesAs (endpoint_of words) keys asked file.bytes of_ending talks notes
+        → Keeps (task ∷ []) (outcome_of of_ending ∷ []) (put_journal of_ending) talks notes
+    given_keeps ending.Memory talks notes silent =
+        subst (λ (all : List Talk). Keeps (task ∷ []) (outcome_of ending.Memory ∷ []) (put_events []) all notes) (sym silent.no_talk) (silent_run notes silent.idle)
+    given_keeps ending.Stored talks notes one = one_keeps ending.Stored talks notes one
+    given_keeps (ending.Refused code message) talks notes one = one_keeps (ending.Refused code message) talks notes one
+    given_keeps (ending.Uncertain reason) talks notes one = one_keeps (ending.Uncertain reason) talks notes one
+
+    pub upload_keeps : (journal : List Event) (how : Outcome) (talks : List Talk) (notes : List Note)
+        → Uploads (endpoint_of words) keys asked (Some now) path size before after journal how talks notes → Keeps (task ∷ []) (how ∷ []) journal talks notes
+    upload_keeps journal how talks notes (inl u) =
+        subst (λ (any : Outcome). Keeps (task ∷ []) (any ∷ []) journal talks notes) (sym u.failed)
+        (subst (λ (all : List Event). Keeps (task ∷ []) (outcome.Failed u.why ∷ []) all talks notes) (sym u.no_job)
+        (subst (λ (all : List Talk). Keeps (task ∷ []) (outcome.Failed u.why ∷ []) [] all notes) (sym u.no_talk)
+        (subst (λ (all : List Note). Keeps (task ∷ []) (outcome.Failed u.why ∷ []) [] [] all) (sym u.no_note) (unread_run u.why u.reason))))
+    upload_keeps journal how talks notes (inr g) =
+        let read : AreFirstBytes was.store path g.bytes = subst (λ (s : FileStore). AreFirstBytes s path g.bytes) same g.read in
+        let whole : g.bytes ≡ file.bytes = whole_file was.store path g.bytes file held read (g.size_is ∙ sym long) in
+        subst (λ (any : Outcome). Keeps (task ∷ []) (any ∷ []) journal talks notes) (sym g.judged)
+        (subst (λ (all : List Event). Keeps (task ∷ []) (outcome_of g.of_ending ∷ []) all talks notes) (sym g.journals)
+        (given_keeps g.of_ending talks notes (subst (λ (bytes : List ℕ). CarriesAs (endpoint_of words) keys asked bytes g.of_ending talks notes) whole g.carries)))
+
+no_keys : Keys
+no_keys = record { id = []; secret = []; token = None; region = [] }
+
+module _ (words : List (List ℕ)) (before after : ℕ) (limits : Limits) (valid : IsValidLimits limits) (run : Run) (was now : SeenFiles) (same : now.store ≡ was.store)
+    (no_warnings : run.warnings.items ≡ []) (env : Option SeenEnv) (talks : List Talk) (notes : List Note) where
+  abbrev AllKept : Keys → List Task → List Outcome → List Event → List Talk → List Note → Type 0
+  AllKept keys = Keeps words keys before after limits valid run.status was now same run.warnings.items no_warnings
+
+  planned_true : IsPlanned words env (Some was) (Some now) before after run talks notes → IsTrue words env limits before after run talks notes was now
+  planned_true p =
+      let found = shape_file was.store (path_word words) (get was.store.held (path_word words)) p.size p.micros p.stands in
+      let all : AllKept p.keys run.plan.tasks.items run.outcomes.items run.journal.items talks notes =
+      subst (λ (tasks : List Task). AllKept p.keys tasks run.outcomes.items run.journal.items talks notes) (sym p.one_task)
+      (subst (λ (outcomes : List Outcome). AllKept p.keys (upload_task (path_word words) (bucket_word words) (key_word words) p.size p.micros ∷ []) outcomes run.journal.items talks notes) (sym p.one_outcome)
+      (upload_keeps words p.keys before after limits valid run.status was now same run.warnings.items no_warnings p.size p.micros p.small found.0 found.1 found.2 run.journal.items p.how talks notes p.uploads)) in
+      record { keys = p.keys; settled = λ any. p.settled; truthful = all.0; willing = all.1; settles = all.2 }
+
+  unplanned_true : IsUnplanned run talks notes → IsTrue words env limits before after run talks notes was now
+  unplanned_true u =
+      let all : AllKept no_keys run.plan.tasks.items run.outcomes.items run.journal.items talks notes =
+      subst (λ (tasks : List Task). AllKept no_keys tasks run.outcomes.items run.journal.items talks notes) (sym u.no_task)
+      (subst (λ (outcomes : List Outcome). AllKept no_keys [] outcomes run.journal.items talks notes) (sym u.no_outcome)
+      (subst (λ (journal : List Event). AllKept no_keys [] [] journal talks notes) (sym u.no_job)
+      (subst (λ (any : List Talk). AllKept no_keys [] [] [] any notes) (sym u.no_talk)
+      (subst (λ (any : List Note). AllKept no_keys [] [] [] [] any) (sym u.no_note)
+      (unplanned words no_keys before after limits valid run.status was now same run.warnings.items no_warnings))))) in
+      record { keys = no_keys; settled = λ some. absurd (some u.no_job); truthful = all.0; willing = all.1; settles = all.2 }
 
 -- in either case, where the files are seen
-pub all_true : (limits : Limits) (run : Run) (talks : List Talk) (notes : List Note) (words : List (List ℕ)) (env : Option SeenEnv) (was now : Option SeenFiles) (before after : ℕ)
+pub all_true : (limits : Limits) → IsValidLimits limits → (run : Run) (talks : List Talk) (notes : List Note) (words : List (List ℕ)) (env : Option SeenEnv) (was now : Option SeenFiles) (before after : ℕ)
     → run.warnings.items ≡ [] → LooksAt (path_word words) was now → GoesAs words env was now before after run talks notes → IfSeen was now (IsTrue words env limits before after run talks notes)
-all_true limits run talks notes words env was None before after no_warnings looks goes = tt
-all_true limits run talks notes words env None (Some now) before after no_warnings looks goes = tt
-all_true limits run talks notes words env (Some was) (Some now) before after no_warnings looks (inl u) = unplanned_true limits run talks notes was now looks.0 words no_warnings env before after u
-all_true limits run talks notes words env (Some was) (Some now) before after no_warnings looks (inr p) = planned_true limits run talks notes was now looks.0 words no_warnings env before after p
+all_true limits valid run talks notes words env was None before after no_warnings looks goes = tt
+all_true limits valid run talks notes words env None (Some now) before after no_warnings looks goes = tt
+all_true limits valid run talks notes words env (Some was) (Some now) before after no_warnings looks (inl u) =
+    unplanned_true words before after limits valid run was now looks.0 no_warnings env talks notes u
+all_true limits valid run talks notes words env (Some was) (Some now) before after no_warnings looks (inr p) =
+    planned_true words before after limits valid run was now looks.0 no_warnings env talks notes p

@@ -10,7 +10,7 @@ use Rattle.s3_model.specs.declared.tries.Mark.{Mark}
 use Rattle.s3_model.specs.Counts.{Rose}
 use Rattle.s3_model.specs.Talks.{WireLog}
 use Rattle.s3_outside.specs.Files.{SeenFiles}
-use Rattle.one_put.specs.OnePut.{put_job}
+use Rattle.s3_main.specs.Puts.{put_job}
 use Rattle.s3_model.specs.declared.answers.Why.{Why}
 use Rattle.s3_model.specs.declared.answers.Why.TheVariants as why
 use Rattle.s3_main.specs.declared.carry.Ending.{Ending}

@@ -26,7 +26,8 @@ use Rattle.http_exchange.specs.Answer.{IsAnswer, HasNoAnswer, HasCoding, IsOfTal
 use Rattle.http_exchange.specs.Exchange.{Exchanges, IfBroken}
 use Rattle.s3_model.specs.Lists.{Buffer}
 use Rattle.run_promise.specs.Carried.{IsPrefixOf, SaysAll}
-use Rattle.one_put.specs.OnePut.{AreIdle, IsJudged, most_body}
+use Rattle.run_promise.specs.Schedule.{most_body}
+use Rattle.s3_main.specs.Puts.{AreIdle, IsJudged}
 use Rattle.s3_main.specs.declared.carry.Ending.{Ending}
 use Rattle.s3_main.specs.declared.carry.Ending.TheVariants as ending
 

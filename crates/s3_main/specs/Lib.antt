@@ -1,6 +1,7 @@
 pub mod Carrying
 pub mod Lines
 pub mod Printed
+pub mod Puts
 pub mod Rooms
 pub mod Runs
 pub mod Settings

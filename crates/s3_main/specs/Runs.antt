@@ -1,7 +1,6 @@
 -- What a run comes to: its status, what it prints, and what it promises.
 use Rattle.std.specs.Prelude.{◌≡◌, ◌≢◌, ◌⊎◌, ◌==◌, ◌++◌, ◌<◌, ℕ, Bool, true, false, not, List, [], ◌∷◌, Option, Some, None, Ok, Err, IfSome, slice_get, codes, unwrap_or, is_some, if◌then◌else◌}
 use Rattle.std.specs.List.{list_any}
-use Rattle.std.specs.Option.{option_map_or}
 use Rattle.s3_model.specs.declared.faults.PlanFault.TheVariants as plan_fault
 use Rattle.s3_model.specs.declared.faults.ProfileFault.TheVariants as profile
 use Rattle.s3_model.specs.declared.faults.WalkFault.TheVariants as walk
@@ -14,14 +13,16 @@ use Rattle.s3_model.specs.declared.settings.Config.{Config}
 use Rattle.s3_model.specs.declared.settings.Keys.{Keys}
 use Rattle.s3_model.specs.declared.settings.Limits.{Limits}
 use Rattle.s3_model.specs.declared.tasks.Task.{Task}
+use Rattle.s3_model.specs.declared.outcomes.Event.{Event}
 use Rattle.s3_model.specs.Counts.{Rose}
 use Rattle.s3_model.specs.Talks.{Talk, Note}
+use Rattle.run_promise.specs.Dispatches.{Dispatched}
+use Rattle.run_promise.specs.Schedule.{Setting}
 use Rattle.run_promise.specs.Settled.{IsSettingOf, cause_of, is_memory}
 use Rattle.run_promise.specs.Truthful.{Shown, IsTruthful, IsDoneWhereWilling}
 use Rattle.s3_outside.specs.Env.{SeenEnv}
 use Rattle.s3_outside.specs.Files.{SeenFiles, shape_at}
 use Rattle.s3_paths.specs.Endpoints.{authority_in, host_of, port_of}
-use Rattle.one_put.specs.OnePut.{PlansNothing, in_first, tells_file_failed}
 use Rattle.s3_main.specs.declared.run.Fatal.{Fatal}
 use Rattle.s3_main.specs.declared.run.Fatal.TheVariants as fatal
 use Rattle.s3_main.specs.declared.run.Run.{Run}
@@ -175,38 +176,60 @@ Undertakes words before after run = IsNothingPlanned run ⊎ IsOneUpload words b
 abbrev pub default_config : Config
 default_config = record { threshold = first_large; chunk = first_large; lanes = 10; queue = 1000; buffers = 10; attempts = 1 }
 
-abbrev pub wanted_by : Run → Option ℕ → Bool
-wanted_by run None = run.status == 70
-wanted_by run (Some n) = is_memory (cause_of (slice_get run.outcomes.items n))
+-- no request serves the planning
+abbrev pub PlansNothing : List Dispatched → Type 0
+PlansNothing jobs = jobs ≡ []
 
--- what the run shows: its plan and outcomes, its journal, what the first wire gained, and the files before and after
-abbrev pub shown_of : Limits → Run → List Talk → List Note → (was now : SeenFiles) → Shown
-shown_of limits run talks notes was now = record {
-  setting = record {
-    config = default_config;
-    limits = limits;
-    lanes = 1;
-    tasks = run.plan.tasks.items;
-    dryrun = false;
-    held = was.store.held;
-    others = was.store.others;
-    file_failed = λ n. tells_file_failed (slice_get run.outcomes.items n);
-    cancelled_at = None;
-    wanted_memory = wanted_by run;
-  };
-  status = run.status;
-  outcomes = run.outcomes.items;
-  journal = run.journal.items;
+-- what is in the first lane alone
+abbrev pub in_first : {A : Type 0} → List A → ℕ → List A
+in_first given lane = if lane == 0 then given else []
+
+-- the outcome of a task that reads no object says that a file call failed, that its file gave fewer bytes, or that memory ran out
+abbrev pub tells_file_failed : Option Outcome → Bool
+tells_file_failed (Some (outcome.Failed (cause.Files call))) = true
+tells_file_failed (Some (outcome.Failed (cause.Blocked length))) = true
+tells_file_failed (Some (outcome.Failed cause.Changed)) = true
+tells_file_failed (Some (outcome.Failed cause.Memory)) = true
+tells_file_failed how = false
+
+abbrev pub wanted_by : (status : ℕ) → List Outcome → Option ℕ → Bool
+wanted_by status outcomes None = status == 70
+wanted_by status outcomes (Some n) = is_memory (cause_of (slice_get outcomes n))
+
+-- what a run began with, and what its outcomes show of files and memory
+abbrev pub setting_by : Limits → (status : ℕ) → List Task → List Outcome → (was : SeenFiles) → Setting
+setting_by limits status tasks outcomes was = record {
+  config = default_config;
+  limits = limits;
+  lanes = 1;
+  tasks = tasks;
+  dryrun = false;
+  held = was.store.held;
+  others = was.store.others;
+  file_failed = λ n. tells_file_failed (slice_get outcomes n);
+  cancelled_at = None;
+  wanted_memory = wanted_by status outcomes;
+}
+
+abbrev pub shown_by : Limits → (status : ℕ) → List Task → List Outcome → List Event → List Talk → List Note → (was now : SeenFiles) → Shown
+shown_by limits status tasks outcomes journal talks notes was now = record {
+  setting = setting_by limits status tasks outcomes was;
+  status = status;
+  outcomes = outcomes;
+  journal = journal;
   logs = in_first talks;
   notes = in_first notes;
   held_after = now.store.held;
-  excused = record { left = []; untimed = []; wanted_memory = run.status == 70 };
+  excused = record { left = []; untimed = []; wanted_memory = status == 70 };
 }
 
+-- what the run shows: its plan and outcomes, its journal, what the first wire gained, and the files before and after
+abbrev pub shown_of : Limits → Run → List Talk → List Note → (was now : SeenFiles) → Shown
+shown_of limits run = shown_by limits run.status run.plan.tasks.items run.outcomes.items run.journal.items
+
 -- the calls on files show that one of the task failed so: a read failed, or the file gave fewer bytes than planned
-abbrev pub CallFailed : (path : List ℕ) → (now : SeenFiles) → (faults_before faults_after : ℕ) → Run → ℕ → Cause → Type 0
-CallFailed path now before after run n why =
-    (task : Task) × (slice_get run.plan.tasks.items n ≡ Some task) × IsReadCause (Some now) path task.size before after why
+abbrev pub CallFailed : (path : List ℕ) → (now : SeenFiles) → (faults_before faults_after : ℕ) → List Task → ℕ → Cause → Type 0
+CallFailed path now before after tasks n why = (task : Task) × (slice_get tasks n ≡ Some task) × IsReadCause (Some now) path task.size before after why
 
 -- Over every honest service the outcomes are true, and over a willing one the task is done; the keys are those of the environment
 -- where a request was sent.
@@ -214,9 +237,9 @@ pub record IsTrue (words : List (List ℕ)) (env : Option SeenEnv) (limits : Lim
   pub keys : Keys
   pub settled : run.journal.items ≢ [] → IfSome env (λ seen. settings_of seen.variables ≡ Ok keys)
   pub truthful : IsTruthful Shows HasStatus (request_text (endpoint_of words) keys) (endpoint_of words).host (endpoint_of words).port PlansNothing
-      (CallFailed (path_word words) now faults_before faults_after run) (shown_of limits run talks notes was now)
+      (CallFailed (path_word words) now faults_before faults_after run.plan.tasks.items) (shown_of limits run talks notes was now)
   pub willing : IsDoneWhereWilling Shows HasStatus (request_text (endpoint_of words) keys) (endpoint_of words).host (endpoint_of words).port PlansNothing
-      (CallFailed (path_word words) now faults_before faults_after run) (shown_of limits run talks notes was now)
+      (CallFailed (path_word words) now faults_before faults_after run.plan.tasks.items) (shown_of limits run talks notes was now)
   -- the setting is that of a run with this status and these warnings, in which no output is waited for and nothing is listed
   pub settles : IsSettingOf Shows HasStatus PlansNothing (shown_of limits run talks notes was now) run.warnings.items ⊥ ⊥
 

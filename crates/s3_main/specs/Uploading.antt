@@ -21,7 +21,7 @@ use Rattle.s3_model.specs.ContentTypes.{content_type_of}
 use Rattle.s3_model.specs.Counts.{Rose}
 use Rattle.s3_model.specs.Talks.{Talk, Note}
 use Rattle.s3_outside.specs.Files.{SeenFiles}
-use Rattle.one_put.specs.OnePut.{put_job}
+use Rattle.s3_main.specs.Puts.{put_job}
 use Rattle.s3_main.specs.declared.carry.Ending.{Ending}
 use Rattle.s3_main.specs.declared.carry.Ending.TheVariants as ending
 use Rattle.s3_main.specs.Carrying.{CarriesAs, mark_of_ending, outcome_of}

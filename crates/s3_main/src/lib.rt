@@ -10,8 +10,6 @@ mod report;
 mod run;
 mod source;
 mod start;
-#[cfg(test)]
-mod tests;
 mod top;
 mod upload;
 mod words;

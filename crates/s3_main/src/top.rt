@@ -76,6 +76,8 @@ where
     ensures err_later { X.faults err.old ≤ X.faults err.new }
 {
     let _ = rt;
+    // The promise speaks of services with these limits, which are valid.
+    let _limits = env.limits();
     let executed = execute(alloc, words, env, files, &mut wires[0]);
     report(executed, out, err)
 }

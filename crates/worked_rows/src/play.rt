@@ -1,0 +1,84 @@
+//! A run over a wire, a file, outputs and an environment in memory.
+
+use crate::rows::{Row, variable};
+use s3_main::run_s3;
+use s3_outside::{FileTable, MemEnv, MemFile, MemFiles, MemSink, S3_LIMITS, ScriptWire};
+use std::alloc::Global;
+use std::sync::Wait;
+use std::test::Fail;
+use std::thread::Threads;
+
+const MOMENT: u64 = 1_369_353_600;
+
+/// What a run showed.
+#[derive(Drop)]
+pub(crate) struct Seen {
+    pub(crate) status: u8,
+    pub(crate) stopped: bool,
+    pub(crate) out: MemSink,
+    pub(crate) err: MemSink,
+    pub(crate) wires: Vec<ScriptWire>,
+}
+
+impl Seen {
+    /// What the first talk sent; nothing where there was none.
+    pub(crate) fn sent(&self) -> &[u8] {
+        match self.wires.first().and_then(|wire| wire.talks().first()) {
+            Some(talk) => talk.sent.as_slice(),
+            None => &[],
+        }
+    }
+}
+
+fn words(alloc: Global, given: &[&str]) -> Result<Vec<String>, Fail> {
+    let mut words = Vec::new(alloc);
+    for word in given {
+        words.push(word.to_string(alloc)?)?;
+    }
+    Ok(words)
+}
+
+fn environment(alloc: Global, count: usize) -> Result<MemEnv, Fail> {
+    let mut env = MemEnv::make(alloc, S3_LIMITS);
+    for n in 0..count {
+        let (name, value) = variable(n);
+        env.set(alloc, name, value)?;
+    }
+    Ok(env)
+}
+
+/// The file `a.txt` of five bytes.
+fn files(alloc: Global) -> Result<MemFiles, Fail> {
+    let mut table = FileTable::make(alloc);
+    let file = MemFile::new(b"hello".to_vec(alloc)?, 7);
+    table.put_file(alloc, "a.txt", file)?;
+    Ok(MemFiles::make(alloc, table, Vec::new(alloc), Vec::new(alloc)))
+}
+
+fn wire(alloc: Global, answer: &str) -> Result<ScriptWire, Fail> {
+    let answers = vec![in alloc; answer.as_bytes().to_vec(alloc)?]?;
+    Ok(ScriptWire::make(alloc, answers, Vec::new(alloc), MOMENT))
+}
+
+/// Runs a row.
+pub(crate) fn play<R>(rt: &R, alloc: Global, row: &Row) -> Result<Seen, Fail>
+where
+    R: Threads + Wait + Clone + Send + Sync + Drop + 'static,
+{
+    let words = words(alloc, row.words)?;
+    let mut env = environment(alloc, row.variables)?;
+    let mut files = files(alloc)?;
+    let mut wires = vec![in alloc; wire(alloc, row.answer)?]?;
+    let mut out = MemSink::make_failing(alloc, Vec::new(alloc), row.room);
+    let mut err = MemSink::make_failing(alloc, Vec::new(alloc), row.room);
+    let run = run_s3(
+        rt, alloc, &words, &mut env, &mut files, &mut wires, &mut out, &mut err,
+    );
+    Ok(Seen {
+        status: run.status,
+        stopped: run.fatal.is_some(),
+        out,
+        err,
+        wires,
+    })
+}
