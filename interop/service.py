@@ -1,7 +1,10 @@
-"""A Python S3 service on a free loopback port, for the scripts beside this file."""
+"""A Python S3 service on a free loopback port, and what the scripts of this repository share."""
 
+import importlib.util
 import os
+import random
 import shutil
+import signal
 import socket
 import subprocess
 import sys
@@ -14,62 +17,130 @@ KEYS = {
 }
 
 
-def is_there():
-    """Whether the service and its Python client are on this machine."""
-    try:
-        import boto3  # noqa: F401
-        import moto  # noqa: F401
-    except ImportError:
-        return False
-    return shutil.which("moto_server") is not None
+PACKAGES = {"moto": "'moto[server]'", "boto3": "boto3"}
 
 
-def free_port():
-    with socket.socket() as probe:
-        probe.bind(("127.0.0.1", 0))
-        return probe.getsockname()[1]
+def missing(*modules):
+    """Which of these Python packages this machine lacks, and how to get them; empty where all are there."""
+    lacks = [name for name in modules or PACKAGES if importlib.util.find_spec(name) is None]
+    if not lacks:
+        return ""
+    verb, pronoun = ("is", "it") if len(lacks) == 1 else ("are", "them")
+    packages = " ".join(PACKAGES[name] for name in lacks)
+    return f"{' and '.join(lacks)} {verb} not on this machine; python3 -m pip install {packages} gets {pronoun}"
+
+
+def free_ports(count):
+    """Ports of the loopback that nobody has, below those that the system gives to connections."""
+    held = []
+    while len(held) < count:
+        probe = socket.socket()
+        try:
+            probe.bind(("127.0.0.1", random.randrange(20_000, 32_000)))
+            held.append(probe)
+        except OSError:
+            probe.close()
+    ports = [probe.getsockname()[1] for probe in held]
+    for probe in held:
+        probe.close()
+    return ports
 
 
 def program(root, crate="s3", words=("--", "--version")):
     """The path of a built program of this repository; it is built first, and run with these words."""
     folder = os.path.join(root, "crates", crate)
-    built = subprocess.run(["rt", "run", *words], cwd=folder, capture_output=True, text=True)
-    if built.returncode != 0:
-        sys.exit("the program was not built:\n" + built.stdout + built.stderr)
+    if shutil.which("rt") is None:
+        sys.exit("rt, the toolchain, is not on this machine")
+    building = subprocess.Popen(
+        ["rt", "run", *words],
+        cwd=folder,
+        stdout=subprocess.PIPE,
+        stderr=subprocess.STDOUT,
+        text=True,
+        start_new_session=True,
+    )
+    try:
+        shown, _ = building.communicate()
+    except BaseException:
+        os.killpg(building.pid, signal.SIGTERM)
+        building.wait()
+        raise
+    if building.returncode != 0:
+        sys.exit("the program was not built:\n" + shown)
     return os.path.join(folder, "out", crate)
 
 
+def interrupt(*_):
+    """What is open is closed on the way out, which a second signal is not to stop."""
+    for number in (signal.SIGINT, signal.SIGTERM):
+        signal.signal(number, signal.SIG_IGN)
+    raise KeyboardInterrupt
+
+
+def run_script(main, *words):
+    """Ends with the status of `main`, or with 130 where a signal ended it; services and runs are ended first."""
+    for number in (signal.SIGINT, signal.SIGTERM):
+        signal.signal(number, interrupt)
+    try:
+        sys.exit(main(*words))
+    except KeyboardInterrupt:
+        print("interrupted", file=sys.stderr)
+        sys.exit(130)
+
+
+def client(url, keys):
+    """A client of the service at this URL."""
+    import boto3
+
+    return boto3.client(
+        "s3",
+        endpoint_url=url,
+        region_name=keys["AWS_REGION"],
+        aws_access_key_id=keys["AWS_ACCESS_KEY_ID"],
+        aws_secret_access_key=keys["AWS_SECRET_ACCESS_KEY"],
+    )
+
+
 class Service:
-    """`moto_server`, which ends with the block that started it."""
+    """moto's server, which ends with the block that started it."""
+
+    name = "moto"
+    keys = KEYS
 
     def __enter__(self):
-        self.port = free_port()
-        self.url = f"http://127.0.0.1:{self.port}"
+        [port] = free_ports(1)
+        self.url = f"http://127.0.0.1:{port}"
         self.process = subprocess.Popen(
-            ["moto_server", "-H", "127.0.0.1", "-p", str(self.port)],
+            [sys.executable, "-m", "moto.server", "-H", "127.0.0.1", "-p", str(port)],
             stdout=subprocess.DEVNULL,
             stderr=subprocess.DEVNULL,
+            start_new_session=True,
         )
-        for _ in range(200):
+        try:
+            self.await_port(port)
+        except BaseException:
+            self.__exit__()
+            raise
+        return self
+
+    def await_port(self, port):
+        for _ in range(300):
+            if self.process.poll() is not None:
+                sys.exit("moto's server ended at once; python3 -m pip install 'moto[server]' brings all that it wants")
             try:
-                socket.create_connection(("127.0.0.1", self.port), timeout=1).close()
-                return self
+                socket.create_connection(("127.0.0.1", port), timeout=1).close()
+                return
             except OSError:
                 time.sleep(0.1)
-        self.process.kill()
-        sys.exit("the service did not start")
+        sys.exit("moto's server did not start in 30 seconds")
 
     def __exit__(self, *_):
         self.process.terminate()
-        self.process.wait(timeout=10)
+        try:
+            self.process.wait(timeout=10)
+        except subprocess.TimeoutExpired:
+            self.process.kill()
+            self.process.wait()
 
     def client(self):
-        import boto3
-
-        return boto3.client(
-            "s3",
-            endpoint_url=self.url,
-            region_name=KEYS["AWS_REGION"],
-            aws_access_key_id=KEYS["AWS_ACCESS_KEY_ID"],
-            aws_secret_access_key=KEYS["AWS_SECRET_ACCESS_KEY"],
-        )
+        return client(self.url, self.keys)

@@ -1,0 +1,177 @@
+"""The cases that are run on every service: what is stored, and what is refused and changes nothing."""
+
+import os
+from typing import NamedTuple
+
+from lines import STORED, lost, refused
+from service import free_ports
+
+BUCKET = "backups"
+LARGE = bytes(i * 7 % 251 for i in range(8_388_607))
+
+
+class Upload(NamedTuple):
+    """A file, its content, the key that it goes to, and the content type that its name says."""
+
+    name: str
+    file: str
+    content: bytes
+    key: str
+    kind: str | None = None
+
+
+UPLOADS = [
+    Upload("a small file", "a.txt", b"hello\n", "a.txt", "text/plain"),
+    Upload("an empty file", "empty.json", b"", "empty.json", "application/json"),
+    Upload("8,388,607 bytes", "large.bin", LARGE, "large.bin"),
+    Upload("other bytes under a key that is there", "b.csv", b"a,b\n", "a.txt", "text/csv"),
+    Upload("spaces and an accent", "a name with \u00e9.html", "<p>\u00e9</p>\n".encode(), "a name with \u00e9.html", "text/html"),
+    Upload("signs that are escaped", "a.txt", b"hello\n", "a+b%20c%&'\"<>;=?#[]~!*()@:,$\\^`{|}.txt", "text/plain"),
+    Upload("other scripts", "a.txt", b"hello\n", "\u65e5\u672c/\U0001f600/e\u0301.txt", "text/plain"),
+    Upload("a key of 1,024 bytes", "a.txt", b"hello\n", "k" * 1_024, "text/plain"),
+]
+
+
+class Answer(NamedTuple):
+    """The status of an answer, with the code and message of the document behind it."""
+
+    status: int
+    code: str = ""
+    message: str = ""
+
+    def outcome(self):
+        return STORED if self.status == 200 else refused(self.status)
+
+
+TAKEN = Answer(200)
+WRONG_SIGNATURE = (
+    "The request signature we calculated does not match the signature you provided. Check your key and signing method."
+)
+
+# What each service answers where keys or the bucket are not as they should be. moto looks at no signature; Ceph's
+# gateway says no message, and does not look at the region.
+ANSWERS = {
+    "an absent bucket": {
+        "moto": Answer(404, "NoSuchBucket", "The specified bucket does not exist"),
+        "swift": Answer(404, "NoSuchBucket", "The specified bucket does not exist."),
+        "ceph": Answer(404, "NoSuchBucket"),
+    },
+    "a wrong secret": {
+        "moto": TAKEN,
+        "swift": Answer(403, "SignatureDoesNotMatch", WRONG_SIGNATURE),
+        "ceph": Answer(403, "SignatureDoesNotMatch"),
+    },
+    "an unknown key": {
+        "moto": TAKEN,
+        "swift": Answer(403, "SignatureDoesNotMatch", WRONG_SIGNATURE),
+        "ceph": Answer(403, "InvalidAccessKeyId"),
+    },
+    "another region": {
+        "moto": TAKEN,
+        "swift": Answer(
+            400,
+            "AuthorizationHeaderMalformed",
+            "The authorization header is malformed; the region 'eu-west-1' is wrong; expecting 'us-east-1'",
+        ),
+        "ceph": TAKEN,
+    },
+}
+
+
+class Refusal(NamedTuple):
+    """A case of `ANSWERS`: the file, the bucket, and the settings that are not the service's own."""
+
+    name: str
+    case: str
+    file: str = "a.txt"
+    bucket: str = BUCKET
+    settings: dict = {}
+
+
+REFUSALS = [
+    Refusal("an absent bucket", "an absent bucket", bucket="none"),
+    Refusal("an absent bucket, 8,388,607 bytes", "an absent bucket", "large.bin", "none"),
+    Refusal("a wrong secret", "a wrong secret", settings={"AWS_SECRET_ACCESS_KEY": "wrong"}),
+    Refusal("a wrong secret, 8,388,607 bytes", "a wrong secret", "large.bin", settings={"AWS_SECRET_ACCESS_KEY": "wrong"}),
+    Refusal("an unknown key", "an unknown key", settings={"AWS_ACCESS_KEY_ID": "AKIANOBODY"}),
+    Refusal("another region", "another region", settings={"AWS_REGION": "eu-west-1"}),
+]
+
+
+def state(client):
+    """All objects, with their entity tags."""
+    return {
+        (bucket["Name"], entry["Key"]): entry["ETag"]
+        for bucket in client.list_buckets()["Buckets"]
+        for page in client.get_paginator("list_objects_v2").paginate(Bucket=bucket["Name"])
+        for entry in page.get("Contents", [])
+    }
+
+
+def uploads(checks, runs, service, client):
+    for upload in UPLOADS:
+        runs.write(upload.file, upload.content)
+        uri = f"s3://{BUCKET}/{upload.key}"
+        shown = runs.copy(upload.file, uri, service.url, service.keys)
+        checks.check(f"{upload.name}: status and line", shown == STORED.shown(upload.file, uri), line_of(shown))
+        stored = client.get_object(Bucket=BUCKET, Key=upload.key)
+        checks.check(f"{upload.name}: bytes", stored["Body"].read() == upload.content, f"{len(upload.content)} bytes")
+        if upload.kind is not None:
+            checks.check(f"{upload.name}: content type", stored["ContentType"] == upload.kind, stored["ContentType"])
+
+
+def refusals(checks, runs, service, client):
+    for row in REFUSALS:
+        uri = f"s3://{row.bucket}/{row.file}"
+        answer = ANSWERS[row.case][service.name]
+        before = state(client)
+        shown = runs.copy(row.file, uri, service.url, {**service.keys, **row.settings})
+        checks.check(f"{row.name}: status and line", shown == answer.outcome().shown(row.file, uri), line_of(shown))
+        if answer != TAKEN:
+            checks.check(f"{row.name}: nothing changed", state(client) == before)
+
+
+def unsent(checks, runs, service, client):
+    """What ends before anything is sent to the service."""
+    os.mkdir(os.path.join(runs.folder, "folder"))
+    [port] = free_ports(1)
+    closed = f"http://127.0.0.1:{port}"
+    uri = f"s3://{BUCKET}/a.txt"
+    no_region = {name: value for name, value in service.keys.items() if name != "AWS_REGION"}
+    unbuilt = (252, "", "s3: not built yet\n")
+    rows = [
+        ("a closed port", "a.txt", uri, closed, service.keys, lost("connection failed").shown("a.txt", uri)),
+        ("no credentials", "a.txt", uri, service.url, {}, (253, "", "s3: no credentials found\n")),
+        ("no region", "a.txt", uri, service.url, no_region, (253, "", "s3: no region found\n")),
+        ("an https endpoint", "a.txt", uri, "https://127.0.0.1", service.keys, unbuilt),
+        ("a folder", "folder", uri, service.url, service.keys, unbuilt),
+        ("an absent file", "absent", uri, service.url, service.keys, (1, "", "fatal error: The path absent does not exist\n")),
+        ("a key of 1,025 bytes", "a.txt", f"s3://{BUCKET}/" + "k" * 1_025, service.url, service.keys, unbuilt),
+    ]
+    before = state(client)
+    for name, file, to, url, env, expected in rows:
+        shown = runs.copy(file, to, url, env)
+        checks.check(f"{name}: status and line", shown == expected, line_of(shown))
+    checks.check("nothing changed", state(client) == before)
+
+
+def full_output(checks, runs, service):
+    with open("/dev/full", "wb") as full:
+        status, _, err = runs.copy("a.txt", f"s3://{BUCKET}/full.txt", service.url, service.keys, stdout=full)
+    checks.check("a full output: status", (status, err) == (74, ""), str(status))
+
+
+def line_of(shown):
+    """The line of a run, cut where it is long."""
+    status, out, err = shown
+    line = (out + err).strip()
+    return f"{status}: " + (line if len(line) <= 160 else line[:100] + " .. " + line[-50:])
+
+
+def try_service(checks, runs, service):
+    client = service.client()
+    client.create_bucket(Bucket=BUCKET)
+    uploads(checks, runs, service, client)
+    refusals(checks, runs, service, client)
+    unsent(checks, runs, service, client)
+    full_output(checks, runs, service)

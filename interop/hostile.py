@@ -1,0 +1,359 @@
+"""Servers of one misbehaviour each, on real sockets: what the program prints of a copy to each of them."""
+
+import hashlib
+import socket
+import struct
+import threading
+import time
+from concurrent.futures import ThreadPoolExecutor
+from typing import Callable, NamedTuple
+
+from lines import STORED, Outcome, lost, refused
+from service import KEYS
+
+SMALL, LARGE = "small.txt", "large.bin"
+FILES = {SMALL: b"hello\n", LARGE: bytes(i * 7 % 251 for i in range(8_388_607))}
+
+# The program gives up after so many seconds without a byte.
+SILENCE = 60
+
+# ---- what a server does with one connection
+
+
+def take_head(peer):
+    """The head of a request, and what came behind it."""
+    got = b""
+    while b"\r\n\r\n" not in got:
+        piece = peer.recv(65_536)
+        if not piece:
+            raise ConnectionError("the request ended in its head")
+        got += piece
+    head, _, rest = got.partition(b"\r\n\r\n")
+    return head.decode(), rest
+
+
+def field(head, name):
+    for line in head.split("\r\n")[1:]:
+        if line.lower().startswith(name + ":"):
+            return line.partition(":")[2].strip()
+    raise ConnectionError("the request has no " + name)
+
+
+def take_request(peer, piece=65_536, rest_before=lambda at: None):
+    """A whole request, whose body has to have the length and the SHA-256 that its head states."""
+    head, body = take_head(peer)
+    parts, at, length = [body], len(body), int(field(head, "content-length"))
+    while at < length:
+        rest_before(at)
+        parts.append(peer.recv(min(piece, length - at)))
+        if not parts[-1]:
+            raise ConnectionError("the request ended in its body")
+        at += len(parts[-1])
+    if hashlib.sha256(b"".join(parts)).hexdigest() != field(head, "x-amz-content-sha256"):
+        raise ConnectionError("the body is another one")
+
+
+def hold(peer):
+    """Keeps the connection open until the other side closes it."""
+    while peer.recv(65_536):
+        pass
+
+
+def close(peer):
+    """Closes the connection: with bytes of the request unread, the system resets it."""
+
+
+def reset(peer):
+    """Resets the connection in place of closing it."""
+    peer.setsockopt(socket.SOL_SOCKET, socket.SO_LINGER, struct.pack("ii", 1, 0))
+
+
+def says(answer, then=hold):
+    """Takes the request and says this."""
+
+    def serve(peer):
+        take_request(peer)
+        peer.sendall(answer)
+        then(peer)
+
+    return serve
+
+
+def says_early(answer, then=close):
+    """Says this right behind the head of the request, and takes no body."""
+
+    def serve(peer):
+        take_head(peer)
+        peer.sendall(answer)
+        then(peer)
+
+    return serve
+
+
+def dribbles(answer, seconds=0.0005, size=1, then=hold):
+    """Says this so many bytes at a time, with a pause before each."""
+
+    def serve(peer):
+        take_request(peer)
+        for at in range(0, len(answer), size):
+            time.sleep(seconds)
+            peer.sendall(answer[at : at + size])
+        then(peer)
+
+    return serve
+
+
+def resets_in_request(peer):
+    take_head(peer)
+    peer.recv(65_536)
+    reset(peer)
+
+
+def reads_slowly(peer):
+    take_request(peer, 8_192, lambda at: time.sleep(0.001))
+    peer.sendall(EMPTY)
+    hold(peer)
+
+
+def reads_with_pauses(peer):
+    """Twice reads nothing for 40 seconds, a MiB apart."""
+    pauses = [1 << 20, 2 << 20]
+
+    def rest_before(at):
+        if pauses and at >= pauses[0]:
+            pauses.pop(0)
+            time.sleep(40)
+
+    take_request(peer, 65_536, rest_before)
+    peer.sendall(EMPTY)
+    hold(peer)
+
+
+def reads_nothing(peer):
+    time.sleep(SILENCE * 3)
+
+
+class Server:
+    """Listens on a free port of the loopback and serves each connection in a thread of its own."""
+
+    def __init__(self, serve):
+        self.serve = serve
+        self.opened = 0
+        self.last = None
+        self.listener = socket.socket()
+        # Small, so that a large request does not fit into the system's buffers.
+        self.listener.setsockopt(socket.SOL_SOCKET, socket.SO_RCVBUF, 65_536)
+        self.listener.bind(("127.0.0.1", 0))
+        self.listener.listen(16)
+        self.port = self.listener.getsockname()[1]
+
+    def __enter__(self):
+        self.thread = threading.Thread(target=self.accept, daemon=True)
+        self.thread.start()
+        return self
+
+    def __exit__(self, *_):
+        """One more connection is the last: those that waited were accepted before it."""
+        with socket.socket() as last:
+            last.bind(("127.0.0.1", 0))
+            self.last = last.getsockname()
+            last.connect(("127.0.0.1", self.port))
+            self.thread.join()
+        self.listener.close()
+
+    def accept(self):
+        while True:
+            peer, address = self.listener.accept()
+            if address == self.last:
+                peer.close()
+                return
+            self.opened += 1
+            threading.Thread(target=self.converse, args=(peer,), daemon=True).start()
+
+    def converse(self, peer):
+        with peer:
+            peer.setsockopt(socket.IPPROTO_TCP, socket.TCP_NODELAY, 1)
+            try:
+                self.serve(peer)
+            except OSError:
+                pass  # the program was first to leave, or its request was no good one
+
+
+class DeafServer(Server):
+    """A port that has a listener and accepts nothing: its queue is full, so the system drops what comes."""
+
+    def __init__(self, serve):
+        super().__init__(serve)
+        self.listener.listen(0)
+        self.queued = []
+
+    def __enter__(self):
+        for _ in range(16):
+            client = socket.socket()
+            client.setblocking(False)
+            client.connect_ex(("127.0.0.1", self.port))
+            self.queued.append(client)
+        return self
+
+    def __exit__(self, *_):
+        for client in [*self.queued, self.listener]:
+            client.close()
+
+
+# ---- what they say
+
+
+def head(status, *fields, version="1.1"):
+    return "\r\n".join([f"HTTP/{version} {status}", *fields, "", ""]).encode()
+
+
+def chunked(status, *lines):
+    """An answer whose body is these lines, as they stand."""
+    return head(status, "transfer-encoding: chunked") + b"".join(lines)
+
+
+def padded(size):
+    """The head of a success, of exactly so many bytes."""
+    return head("200 OK", "content-length: 0", "x-pad: " + "a" * (size - len(head("200 OK", "content-length: 0", "x-pad: "))))
+
+
+def with_lines(count):
+    """The head of a success with so many header lines."""
+    return head("200 OK", "content-length: 0", *[f"x-{i}: {i}" for i in range(count - 1)])
+
+
+OK = "200 OK"
+FORBIDDEN = "403 Forbidden"
+EMPTY = head(OK, "content-length: 0")
+ERROR = b"<?xml version='1.0' encoding='UTF-8'?>\n<Error><Code>AccessDenied</Code><Message>Access Denied.</Message></Error>"
+ERROR_CHUNK = b"%x\r\n%s\r\n" % (len(ERROR), ERROR)
+HELLO = b"5\r\nhello\r\n"
+END = b"0\r\n\r\n"
+DENIED = head(FORBIDDEN, f"content-length: {len(ERROR)}") + ERROR
+DENIED_CHUNKED = chunked(FORBIDDEN, ERROR_CHUNK, END)
+
+
+class Row(NamedTuple):
+    """One server, how a copy to it ends, and how many connections that opens."""
+
+    name: str
+    serve: Callable[[socket.socket], None]
+    outcome: Outcome
+    file: str = SMALL
+    opened: int = 1
+    host: str = "127.0.0.1"
+    server: type = Server
+
+
+FAILED, EARLY = lost("connection failed"), lost("connection ended early")
+NOT_HTTP, BAD_LENGTH, BAD_CHUNK = lost("not HTTP"), lost("bad length"), lost("bad chunk")
+HEAD_LONG, BODY_LONG = lost("head too long"), lost("body too long")
+
+# A server that closes a kept connection between two requests comes with the first command that makes two.
+ROWS = [
+    Row("a plain success", says(EMPTY), STORED),
+    Row("a plain success, by name", says(EMPTY), STORED, host="localhost"),
+    Row("a plain refusal", says(DENIED), refused(403)),
+    # closing and resetting
+    Row("closes without an answer", says(b"", close), EARLY),
+    Row("closes in the head", says(b"HTTP/1.1 2", close), EARLY),
+    Row("closes in the body", says(head(OK, "content-length: 9") + b"abc", close), EARLY),
+    Row("resets without an answer", says(b"", reset), FAILED),
+    Row("resets in the head", says(b"HTTP/1.1 2", reset), FAILED),
+    Row("resets in the body", says(head(OK, "content-length: 9") + b"abc", reset), FAILED),
+    Row("resets behind a whole answer", says(EMPTY, reset), STORED),
+    Row("resets in the request", resets_in_request, FAILED, LARGE),
+    Row("connection: close", says(head(OK, "content-length: 0", "connection: close"), close), STORED),
+    Row("connection: close, and holds it", says(head(OK, "content-length: 0", "connection: close")), STORED),
+    # speed
+    Row("reads slowly", reads_slowly, STORED, LARGE),
+    Row("a byte at a time", dribbles(DENIED), refused(403)),
+    Row("a byte at a time, chunked", dribbles(DENIED_CHUNKED), refused(403)),
+    # refusals before the body is read
+    Row("403 behind the head, then closes", says_early(DENIED), refused(403), LARGE),
+    Row("413 behind the head, then closes", says_early(head("413 Too Large", "content-length: 0")), refused(413), LARGE),
+    Row("307 behind the head, then closes", says_early(head("307 Elsewhere", "content-length: 0")), refused(307), LARGE),
+    Row("403 in chunks behind the head, then closes", says_early(DENIED_CHUNKED), refused(403), LARGE),
+    Row("403 behind the head, then reads on", says_early(DENIED, hold), refused(403), LARGE),
+    Row("200 behind the head, then closes", says_early(EMPTY), FAILED, LARGE),
+    Row("503 behind the head, then closes", says_early(head("503 Busy", "content-length: 0")), FAILED, LARGE),
+    Row("no HTTP behind the head, then closes", says_early(b"go away\r\n"), FAILED, LARGE),
+    # chunks
+    Row("a success in chunks", says(chunked(OK, END)), STORED),
+    Row("a refusal in chunks", says(DENIED_CHUNKED), refused(403)),
+    Row("a refusal in chunks, closed", says(DENIED_CHUNKED, close), refused(403)),
+    Row("chunks with extensions", says(chunked(OK, b"5;a=b\r\nhello\r\n", b"0;last\r\n\r\n")), STORED),
+    Row("chunks with trailers", says(chunked(OK, HELLO, b"0\r\nx-a: b\r\nx-c: d\r\n\r\n")), STORED),
+    Row("a chunk size that is no number", says(chunked(OK, b"five\r\nhello\r\n", END)), BAD_CHUNK),
+    Row("a chunk without its line end", says(chunked(OK, b"5\r\nhello, hello\r\n", END)), BAD_CHUNK),
+    Row("a chunk line without an end", says(chunked(OK, b"5;" + b"a" * 2_000)), BAD_CHUNK),
+    Row("trailers without an end", says(chunked(OK, b"0\r\n" + b"x-a: b\r\n" * 200)), BAD_CHUNK),
+    Row("a chunk cut short", says(chunked(OK, b"5\r\nhel"), close), EARLY),
+    Row("no last chunk", says(chunked(OK, HELLO), close), EARLY),
+    Row("no line behind the last chunk", says(chunked(OK, HELLO, b"0\r\n"), close), EARLY),
+    Row("more chunks than an error may have", says(chunked(FORBIDDEN, b"10001\r\n" + b"a" * 65_537)), BODY_LONG),
+    # lengths
+    Row("two lengths that differ", says(head(OK, "content-length: 0", "content-length: 5")), BAD_LENGTH),
+    Row("two lengths that agree", says(head(OK, "content-length: 0", "content-length: 00")), STORED),
+    Row("a length that is no number", says(head(OK, "content-length: none")), BAD_LENGTH),
+    Row("a length beside chunks", says(head(OK, "content-length: 5", "transfer-encoding: chunked") + END), BAD_LENGTH),
+    Row("another transfer coding", says(head(OK, "transfer-encoding: gzip"), close), BAD_LENGTH),
+    Row("more bytes than an error may have", says(head(FORBIDDEN, "content-length: 65537")), BODY_LONG),
+    Row("as many bytes as an error may have", says(head(FORBIDDEN, "content-length: 65536") + b"a" * 65_536), refused(403)),
+    Row("bytes behind the answer", says(EMPTY + b"HTTP/1.1 500 No\r\n\r\n"), STORED),
+    Row("no length, to the end", says(head(OK) + b"hello", close), STORED),
+    Row("no length, HTTP/1.0", says(head(OK, version="1.0"), close), STORED),
+    Row("no length, HTTP/1.0, reset", says(head(OK, version="1.0"), reset), FAILED),
+    # heads
+    Row("a head of 65,536 bytes", says(padded(65_536)), STORED),
+    Row("a head of 65,537 bytes", says(padded(65_537)), HEAD_LONG),
+    Row("65,537 bytes of a head without an end", says(padded(65_539)[:65_537]), HEAD_LONG),
+    Row("65,535 bytes of a head, then closes", says(padded(65_539)[:65_535], close), EARLY),
+    Row("100 header lines", says(with_lines(100)), STORED),
+    Row("101 header lines", says(with_lines(101)), NOT_HTTP),
+    Row("bytes that are not HTTP", says(b"hello, this is no answer\r\n\r\n"), NOT_HTTP),
+    Row("a banner of another protocol", says(b"SSH-2.0-OpenSSH_9.2\r\n"), NOT_HTTP),
+    # statuses
+    Row("100 and then 200", says(head("100 Continue") + EMPTY), NOT_HTTP),
+    Row("204 without a length", says(head("204 No Content")), STORED),
+    Row("304 with a length", says(head("304 Not Modified", "content-length: 9")), refused(304)),
+    Row("412", says(head("412 Precondition Failed", "content-length: 0")), refused(412)),
+    Row("500", says(head("500 No", "content-length: 0")), lost("status 500")),
+    Row("503", says(head("503 Busy", "content-length: 0")), lost("status 503")),
+    Row("a status of two digits", says(head("20 OK", "content-length: 0")), NOT_HTTP),
+]
+
+# These wait for the program's limit of 60 seconds, or stay below it.
+SLOW_ROWS = [
+    Row("accepts no connection", hold, FAILED, opened=0, server=DeafServer),
+    Row("is silent", says(b""), FAILED),
+    Row("is silent in the head", says(b"HTTP/1.1 200 OK\r\n"), FAILED),
+    Row("is silent in the body", says(head(OK, "content-length: 9") + b"abc"), FAILED),
+    Row("reads nothing", reads_nothing, FAILED, LARGE),
+    Row("403 behind the head, then reads nothing", says_early(DENIED, reads_nothing), refused(403), LARGE),
+    Row("answers in three pieces, 27 seconds apart", dribbles(EMPTY, 27, 13), STORED),
+    Row("reads with two pauses of 40 seconds", reads_with_pauses, STORED, LARGE),
+]
+
+
+def try_row(runs, row, seconds):
+    """What the program showed, what was expected, and how many connections were opened."""
+    uri = "s3://backups/" + row.file
+    with row.server(row.serve) as server:
+        shown = runs.copy(row.file, uri, f"http://{row.host}:{server.port}", KEYS, seconds=seconds)
+    return shown, row.outcome.shown(row.file, uri), server.opened
+
+
+def try_rows(checks, runs, rows=ROWS, at_once=4, seconds=15):
+    for name, content in FILES.items():
+        runs.write(name, content)
+    with ThreadPoolExecutor(at_once) as pool, runs:
+        for row, (shown, expected, opened) in zip(rows, pool.map(lambda row: try_row(runs, row, seconds), rows)):
+            text = shown[1] + shown[2]
+            if shown != expected:
+                text += f" where status {expected[0]} and {(expected[1] + expected[2]).strip()} were due"
+            checks.check(f"{row.name}: status, line, connections", (shown, opened) == (expected, row.opened), text.strip() + f" {opened} opened")
+
+
+def try_slow_rows(checks, runs):
+    try_rows(checks, runs, SLOW_ROWS, len(SLOW_ROWS), 150)

@@ -1,0 +1,32 @@
+"""What the program prints of one copy, and the status that it ends with (README, "Statuses and lines")."""
+
+from typing import NamedTuple
+
+MESSAGES = {400: "Bad Request", 403: "Forbidden", 404: "Not Found", 412: "Precondition Failed"}
+
+
+class Outcome(NamedTuple):
+    """The status, the words before the paths of the copy, and the text behind them."""
+
+    status: int
+    words: str
+    text: str = ""
+
+    def shown(self, file, uri):
+        """The status, and what the two outputs get."""
+        line = f"{self.words}: {file} to {uri}{self.text}\n"
+        return (self.status, line, "") if self.status == 0 else (self.status, "", line)
+
+
+STORED = Outcome(0, "upload")
+
+
+def refused(status):
+    """The service refused: code and message are those of the status, as the document behind it is not read."""
+    message = MESSAGES.get(status, "Refused")
+    return Outcome(1, "upload failed", f" An error occurred ({status}) when calling the PutObject operation: {message}")
+
+
+def lost(why):
+    """Nobody here can know."""
+    return Outcome(1, "upload unknown", f" The answer to the PutObject operation was lost ({why})")

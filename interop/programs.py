@@ -1,0 +1,77 @@
+"""Runs of the built program, and the checks that are made of them."""
+
+import os
+import subprocess
+import threading
+
+SECONDS = 60
+
+
+class Checks:
+    """Prints each check, and counts them."""
+
+    def __init__(self):
+        self.passed = 0
+        self.failed = 0
+
+    def check(self, name, holds, shown=""):
+        self.passed += bool(holds)
+        self.failed += not holds
+        print(("ok   " if holds else "FAIL ") + name + (f"  [{shown}]" if shown else ""), flush=True)
+
+    def status(self):
+        """Prints the counts; the status of a script that made these checks."""
+        print(f"{self.passed} passed, {self.failed} failed")
+        return 1 if self.failed else 0
+
+
+class Runs:
+    """Runs a program in a folder; a run that is still there when the block is left is ended."""
+
+    def __init__(self, program, folder):
+        self.program = program
+        self.folder = folder
+        self.lock = threading.Lock()
+        self.children = set()
+        self.ended = False
+
+    def __enter__(self):
+        return self
+
+    def __exit__(self, *_):
+        with self.lock:
+            self.ended = True
+            for child in self.children:
+                child.kill()
+
+    def run(self, words, env, stdout=subprocess.PIPE, seconds=SECONDS):
+        """The status of a run and what it wrote to its two outputs; no status where it takes longer than this."""
+        with self.lock:
+            if self.ended:
+                return None, "", "not run"
+            child = subprocess.Popen(
+                [self.program, *words],
+                cwd=self.folder,
+                env={"PATH": os.environ["PATH"], **env},
+                stdin=subprocess.DEVNULL,
+                stdout=stdout,
+                stderr=subprocess.PIPE,
+            )
+            self.children.add(child)
+        try:
+            out, err = child.communicate(timeout=seconds)
+            return child.returncode, (out or b"").decode(), err.decode()
+        except subprocess.TimeoutExpired:
+            child.kill()
+            child.communicate()
+            return None, "", f"still running after {seconds} seconds"
+        finally:
+            with self.lock:
+                self.children.discard(child)
+
+    def copy(self, file, uri, url, env, **more):
+        return self.run(["cp", file, uri, "--endpoint-url", url], env, **more)
+
+    def write(self, name, content):
+        with open(os.path.join(self.folder, name), "wb") as file:
+            file.write(content)
