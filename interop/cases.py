@@ -4,10 +4,10 @@ import os
 from typing import NamedTuple
 
 from lines import STORED, lost, refused
+from programs import LARGE, line_of
 from service import free_ports
 
 BUCKET = "backups"
-LARGE = bytes(i * 7 % 251 for i in range(8_388_607))
 
 
 class Upload(NamedTuple):
@@ -25,7 +25,7 @@ UPLOADS = [
     Upload("an empty file", "empty.json", b"", "empty.json", "application/json"),
     Upload("8,388,607 bytes", "large.bin", LARGE, "large.bin"),
     Upload("other bytes under a key that is there", "b.csv", b"a,b\n", "a.txt", "text/csv"),
-    Upload("spaces and an accent", "a name with \u00e9.html", "<p>\u00e9</p>\n".encode(), "a name with \u00e9.html", "text/html"),
+    Upload("spaces and an accent", "a page \u00e9.html", "<p>\u00e9</p>\n".encode(), "a page \u00e9.html", "text/html"),
     Upload("signs that are escaped", "a.txt", b"hello\n", "a+b%20c%&'\"<>;=?#[]~!*()@:,$\\^`{|}.txt", "text/plain"),
     Upload("other scripts", "a.txt", b"hello\n", "\u65e5\u672c/\U0001f600/e\u0301.txt", "text/plain"),
     Upload("a key of 1,024 bytes", "a.txt", b"hello\n", "k" * 1_024, "text/plain"),
@@ -47,61 +47,64 @@ TAKEN = Answer(200)
 WRONG_SIGNATURE = (
     "The request signature we calculated does not match the signature you provided. Check your key and signing method."
 )
-
-# What each service answers where keys or the bucket are not as they should be. moto looks at no signature; Ceph's
-# gateway says no message, and does not look at the region.
-ANSWERS = {
-    "an absent bucket": {
-        "moto": Answer(404, "NoSuchBucket", "The specified bucket does not exist"),
-        "swift": Answer(404, "NoSuchBucket", "The specified bucket does not exist."),
-        "ceph": Answer(404, "NoSuchBucket"),
-    },
-    "a wrong secret": {
-        "moto": TAKEN,
-        "swift": Answer(403, "SignatureDoesNotMatch", WRONG_SIGNATURE),
-        "ceph": Answer(403, "SignatureDoesNotMatch"),
-    },
-    "an unknown key": {
-        "moto": TAKEN,
-        "swift": Answer(403, "SignatureDoesNotMatch", WRONG_SIGNATURE),
-        "ceph": Answer(403, "InvalidAccessKeyId"),
-    },
-    "another region": {
-        "moto": TAKEN,
-        "swift": Answer(
-            400,
-            "AuthorizationHeaderMalformed",
-            "The authorization header is malformed; the region 'eu-west-1' is wrong; expecting 'us-east-1'",
-        ),
-        "ceph": TAKEN,
-    },
-}
-
+WRONG_REGION = "The authorization header is malformed; the region 'eu-west-1' is wrong; expecting 'us-east-1'"
 
 class Refusal(NamedTuple):
-    """A case of `ANSWERS`: the file, the bucket, and the settings that are not the service's own."""
+    """What each service answers where the bucket is another one, or the settings, or the user."""
 
     name: str
-    case: str
-    file: str = "a.txt"
+    answers: dict[str, Answer]
+    settings: dict[str, str] = {}
     bucket: str = BUCKET
-    settings: dict = {}
+    is_other: bool = False
 
 
+# moto looks at no keys and no signature. Ceph's gateway says no message, and does not look at the region.
 REFUSALS = [
-    Refusal("an absent bucket", "an absent bucket", bucket="none"),
-    Refusal("an absent bucket, 8,388,607 bytes", "an absent bucket", "large.bin", "none"),
-    Refusal("a wrong secret", "a wrong secret", settings={"AWS_SECRET_ACCESS_KEY": "wrong"}),
-    Refusal("a wrong secret, 8,388,607 bytes", "a wrong secret", "large.bin", settings={"AWS_SECRET_ACCESS_KEY": "wrong"}),
-    Refusal("an unknown key", "an unknown key", settings={"AWS_ACCESS_KEY_ID": "AKIANOBODY"}),
-    Refusal("another region", "another region", settings={"AWS_REGION": "eu-west-1"}),
+    Refusal(
+        "an absent bucket",
+        {
+            "moto": Answer(404, "NoSuchBucket", "The specified bucket does not exist"),
+            "swift": Answer(404, "NoSuchBucket", "The specified bucket does not exist."),
+            "ceph": Answer(404, "NoSuchBucket"),
+        },
+        bucket="none",
+    ),
+    Refusal(
+        "a wrong secret",
+        {
+            "moto": TAKEN,
+            "swift": Answer(403, "SignatureDoesNotMatch", WRONG_SIGNATURE),
+            "ceph": Answer(403, "SignatureDoesNotMatch"),
+        },
+        {"AWS_SECRET_ACCESS_KEY": "wrong"},
+    ),
+    Refusal(
+        "an unknown key",
+        {
+            "moto": TAKEN,
+            "swift": Answer(403, "SignatureDoesNotMatch", WRONG_SIGNATURE),
+            "ceph": Answer(403, "InvalidAccessKeyId"),
+        },
+        {"AWS_ACCESS_KEY_ID": "AKIANOBODY"},
+    ),
+    Refusal(
+        "another user",
+        {"moto": TAKEN, "swift": Answer(403, "AccessDenied", "Access Denied."), "ceph": Answer(403, "AccessDenied")},
+        is_other=True,
+    ),
+    Refusal(
+        "another region",
+        {"moto": TAKEN, "swift": Answer(400, "AuthorizationHeaderMalformed", WRONG_REGION), "ceph": TAKEN},
+        {"AWS_REGION": "eu-west-1"},
+    ),
 ]
 
 
 def state(client):
-    """All objects, with their entity tags."""
+    """All objects, with their entity tags and times."""
     return {
-        (bucket["Name"], entry["Key"]): entry["ETag"]
+        (bucket["Name"], entry["Key"]): (entry["ETag"], entry["LastModified"])
         for bucket in client.list_buckets()["Buckets"]
         for page in client.get_paginator("list_objects_v2").paginate(Bucket=bucket["Name"])
         for entry in page.get("Contents", [])
@@ -122,13 +125,16 @@ def uploads(checks, runs, service, client):
 
 def refusals(checks, runs, service, client):
     for row in REFUSALS:
-        uri = f"s3://{row.bucket}/{row.file}"
-        answer = ANSWERS[row.case][service.name]
-        before = state(client)
-        shown = runs.copy(row.file, uri, service.url, {**service.keys, **row.settings})
-        checks.check(f"{row.name}: status and line", shown == answer.outcome().shown(row.file, uri), line_of(shown))
-        if answer != TAKEN:
-            checks.check(f"{row.name}: nothing changed", state(client) == before)
+        answer = row.answers[service.name]
+        keys = {**(service.other_keys if row.is_other else service.keys), **row.settings}
+        for file in ("a.txt", "large.bin"):
+            uri = f"s3://{row.bucket}/{file}"
+            before = state(client)
+            shown = runs.copy(file, uri, service.url, keys)
+            due = answer.outcome().shown(file, uri)
+            checks.check(f"{row.name}, {file}: status and line", shown == due, line_of(shown))
+            if answer != TAKEN:
+                checks.check(f"{row.name}, {file}: nothing changed", state(client) == before)
 
 
 def unsent(checks, runs, service, client):
@@ -139,13 +145,14 @@ def unsent(checks, runs, service, client):
     uri = f"s3://{BUCKET}/a.txt"
     no_region = {name: value for name, value in service.keys.items() if name != "AWS_REGION"}
     unbuilt = (252, "", "s3: not built yet\n")
+    absent = (1, "", "fatal error: The path absent does not exist\n")
     rows = [
         ("a closed port", "a.txt", uri, closed, service.keys, lost("connection failed").shown("a.txt", uri)),
         ("no credentials", "a.txt", uri, service.url, {}, (253, "", "s3: no credentials found\n")),
         ("no region", "a.txt", uri, service.url, no_region, (253, "", "s3: no region found\n")),
         ("an https endpoint", "a.txt", uri, "https://127.0.0.1", service.keys, unbuilt),
         ("a folder", "folder", uri, service.url, service.keys, unbuilt),
-        ("an absent file", "absent", uri, service.url, service.keys, (1, "", "fatal error: The path absent does not exist\n")),
+        ("an absent file", "absent", uri, service.url, service.keys, absent),
         ("a key of 1,025 bytes", "a.txt", f"s3://{BUCKET}/" + "k" * 1_025, service.url, service.keys, unbuilt),
     ]
     before = state(client)
@@ -159,13 +166,6 @@ def full_output(checks, runs, service):
     with open("/dev/full", "wb") as full:
         status, _, err = runs.copy("a.txt", f"s3://{BUCKET}/full.txt", service.url, service.keys, stdout=full)
     checks.check("a full output: status", (status, err) == (74, ""), str(status))
-
-
-def line_of(shown):
-    """The line of a run, cut where it is long."""
-    status, out, err = shown
-    line = (out + err).strip()
-    return f"{status}: " + (line if len(line) <= 160 else line[:100] + " .. " + line[-50:])
 
 
 def try_service(checks, runs, service):

@@ -7,7 +7,7 @@ import urllib.request
 import uuid
 
 from cluster import Cluster
-from service import KEYS, free_ports
+from service import KEYS, OTHER_KEYS, free_ports
 
 CONF = """
 [global]
@@ -71,6 +71,7 @@ class Ceph(Cluster):
     title = "Ceph"
     packages = ("ceph-mon", "ceph-osd", "ceph-common", "radosgw")
     keys = KEYS
+    other_keys = OTHER_KEYS
 
     def start(self):
         for name in ("run", "crash", "mon", "osd", "rgw"):
@@ -101,9 +102,10 @@ class Ceph(Cluster):
         self.wait_for("the store", lambda: '"num_up_osds":1,' in self.tells("osd", "stat", "--format", "json"))
 
     def start_gateway(self):
-        user = ["user", "create", "--uid=tester", "--display-name=tester"]
-        keys = ["--access-key=" + KEYS["AWS_ACCESS_KEY_ID"], "--secret-key=" + KEYS["AWS_SECRET_ACCESS_KEY"]]
-        self.step("radosgw-admin", "-c", self.conf, "--no-mon-config", *user, *keys)
+        for name, keys in (("tester", self.keys), ("other", self.other_keys)):
+            user = ["user", "create", f"--uid={name}", f"--display-name={name}"]
+            pair = ["--access-key=" + keys["AWS_ACCESS_KEY_ID"], "--secret-key=" + keys["AWS_SECRET_ACCESS_KEY"]]
+            self.step("radosgw-admin", "-c", self.conf, "--no-mon-config", *user, *pair)
         self.spawn("rgw", "radosgw", "-c", self.conf, "--no-mon-config", "-n", "client.rgw.a", "-f")
         self.wait_for("the gateway", lambda: answers(self.url))
 

@@ -1,5 +1,6 @@
-"""A service of several daemons from Debian packages: installed on request, started in a folder of its own, ended by id."""
+"""A service of several daemons from Debian packages, in a folder of its own, all of which end with the script."""
 
+import contextlib
 import getpass
 import os
 import shutil
@@ -23,6 +24,41 @@ def start_time(pid):
     except OSError:
         return None
     return None if fields[0] == "Z" else fields[19]
+
+
+@contextlib.contextmanager
+def without_starts():
+    """Packages that are installed here start no daemons (invoke-rc.d(8))."""
+    made = not os.path.exists(POLICY)
+    if made:
+        with open(POLICY, "w") as file:
+            file.write("#!/bin/sh\nexit 101\n")
+        os.chmod(POLICY, 0o755)
+    try:
+        yield
+    finally:
+        if made:
+            os.unlink(POLICY)
+
+
+def apt_get(*words):
+    """Runs apt-get to its end, also where a signal comes: half an installation stands in the way of the next one."""
+    apt = subprocess.Popen(
+        ["apt-get", "-q", "-o", "DPkg::Lock::Timeout=120", *words],
+        stdin=subprocess.DEVNULL,
+        stdout=subprocess.PIPE,
+        stderr=subprocess.STDOUT,
+        text=True,
+        env={**os.environ, "DEBIAN_FRONTEND": "noninteractive"},
+        start_new_session=True,
+    )
+    try:
+        shown, _ = apt.communicate()
+    except KeyboardInterrupt:
+        apt.communicate()
+        raise
+    if apt.returncode != 0:
+        sys.exit(f"apt-get {words[0]} failed:\n" + shown[-2_000:])
 
 
 class Daemon:
@@ -53,6 +89,7 @@ class Cluster:
     name = title = ""
     packages = ()
     keys = {}
+    other_keys = {}  # of a user who has no right to the buckets of the first
 
     @classmethod
     def missing(cls):
@@ -68,25 +105,10 @@ class Cluster:
         """Installs what is missing; the packages start no daemons of their own."""
         if os.geteuid() != 0 or shutil.which("apt-get") is None:
             sys.exit(f"{cls.title} can be installed by root on Debian alone")
-        missing = cls.missing()
-        print("installing " + " ".join(missing), flush=True)
-        apt = ["apt-get", "-q", "-o", "DPkg::Lock::Timeout=120"]
-        policy = not os.path.exists(POLICY)
-        if policy:
-            with open(POLICY, "w") as file:
-                file.write("#!/bin/sh\nexit 101\n")
-            os.chmod(POLICY, 0o755)
-        try:
-            for words in (["update"], ["install", "-y", "--no-install-recommends", *missing]):
-                done = subprocess.run(
-                    apt + words, stdin=subprocess.DEVNULL, stdout=subprocess.PIPE, stderr=subprocess.STDOUT, text=True,
-                    env={**os.environ, "DEBIAN_FRONTEND": "noninteractive"}, start_new_session=True,
-                )  # fmt: skip
-                if done.returncode != 0:
-                    sys.exit(f"apt-get {words[0]} failed:\n" + done.stdout[-2_000:])
-        finally:
-            if policy:
-                os.unlink(POLICY)
+        print("installing " + " ".join(cls.missing()), flush=True)
+        with without_starts():
+            apt_get("update")
+            apt_get("install", "-y", "--no-install-recommends", *cls.missing())
 
     def __enter__(self):
         self.daemons = []

@@ -9,13 +9,11 @@ from concurrent.futures import ThreadPoolExecutor
 from typing import Callable, NamedTuple
 
 from lines import STORED, Outcome, lost, refused
+from programs import LARGE, line_of
 from service import KEYS
 
-SMALL, LARGE = "small.txt", "large.bin"
-FILES = {SMALL: b"hello\n", LARGE: bytes(i * 7 % 251 for i in range(8_388_607))}
-
-# The program gives up after so many seconds without a byte.
-SILENCE = 60
+SMALL, BIG = "small.txt", "large.bin"
+FILES = {SMALL: b"hello\n", BIG: LARGE}
 
 # ---- what a server does with one connection
 
@@ -130,7 +128,7 @@ def reads_with_pauses(peer):
 
 
 def reads_nothing(peer):
-    time.sleep(SILENCE * 3)
+    time.sleep(180)
 
 
 class Server:
@@ -212,29 +210,33 @@ def chunked(status, *lines):
     return head(status, "transfer-encoding: chunked") + b"".join(lines)
 
 
+OK = "200 OK"
+
+
 def padded(size):
     """The head of a success, of exactly so many bytes."""
-    return head("200 OK", "content-length: 0", "x-pad: " + "a" * (size - len(head("200 OK", "content-length: 0", "x-pad: "))))
+    least = len(head(OK, "content-length: 0", "x-pad: "))
+    return head(OK, "content-length: 0", "x-pad: " + "a" * (size - least))
 
 
 def with_lines(count):
     """The head of a success with so many header lines."""
-    return head("200 OK", "content-length: 0", *[f"x-{i}: {i}" for i in range(count - 1)])
+    return head(OK, "content-length: 0", *[f"x-{i}: {i}" for i in range(count - 1)])
 
 
-OK = "200 OK"
 FORBIDDEN = "403 Forbidden"
 EMPTY = head(OK, "content-length: 0")
-ERROR = b"<?xml version='1.0' encoding='UTF-8'?>\n<Error><Code>AccessDenied</Code><Message>Access Denied.</Message></Error>"
+ERROR = b"<?xml version='1.0'?>\n<Error><Code>AccessDenied</Code><Message>Access Denied.</Message></Error>"
 ERROR_CHUNK = b"%x\r\n%s\r\n" % (len(ERROR), ERROR)
 HELLO = b"5\r\nhello\r\n"
 END = b"0\r\n\r\n"
 DENIED = head(FORBIDDEN, f"content-length: {len(ERROR)}") + ERROR
 DENIED_CHUNKED = chunked(FORBIDDEN, ERROR_CHUNK, END)
+FULL = head(FORBIDDEN, "content-length: 65536") + b"a" * 65_536
 
 
 class Row(NamedTuple):
-    """One server, how a copy to it ends, and how many connections that opens."""
+    """One server, how a copy to it ends, how many connections that opens, and how many seconds it may take."""
 
     name: str
     serve: Callable[[socket.socket], None]
@@ -243,6 +245,7 @@ class Row(NamedTuple):
     opened: int = 1
     host: str = "127.0.0.1"
     server: type = Server
+    seconds: int = 15
 
 
 FAILED, EARLY = lost("connection failed"), lost("connection ended early")
@@ -262,22 +265,22 @@ ROWS = [
     Row("resets in the head", says(b"HTTP/1.1 2", reset), FAILED),
     Row("resets in the body", says(head(OK, "content-length: 9") + b"abc", reset), FAILED),
     Row("resets behind a whole answer", says(EMPTY, reset), STORED),
-    Row("resets in the request", resets_in_request, FAILED, LARGE),
+    Row("resets in the request", resets_in_request, FAILED, BIG),
     Row("connection: close", says(head(OK, "content-length: 0", "connection: close"), close), STORED),
     Row("connection: close, and holds it", says(head(OK, "content-length: 0", "connection: close")), STORED),
     # speed
-    Row("reads slowly", reads_slowly, STORED, LARGE),
+    Row("reads slowly", reads_slowly, STORED, BIG),
     Row("a byte at a time", dribbles(DENIED), refused(403)),
     Row("a byte at a time, chunked", dribbles(DENIED_CHUNKED), refused(403)),
     # refusals before the body is read
-    Row("403 behind the head, then closes", says_early(DENIED), refused(403), LARGE),
-    Row("413 behind the head, then closes", says_early(head("413 Too Large", "content-length: 0")), refused(413), LARGE),
-    Row("307 behind the head, then closes", says_early(head("307 Elsewhere", "content-length: 0")), refused(307), LARGE),
-    Row("403 in chunks behind the head, then closes", says_early(DENIED_CHUNKED), refused(403), LARGE),
-    Row("403 behind the head, then reads on", says_early(DENIED, hold), refused(403), LARGE),
-    Row("200 behind the head, then closes", says_early(EMPTY), FAILED, LARGE),
-    Row("503 behind the head, then closes", says_early(head("503 Busy", "content-length: 0")), FAILED, LARGE),
-    Row("no HTTP behind the head, then closes", says_early(b"go away\r\n"), FAILED, LARGE),
+    Row("403 behind the head, then closes", says_early(DENIED), refused(403), BIG),
+    Row("413 behind the head, then closes", says_early(head("413 Too Large", "content-length: 0")), refused(413), BIG),
+    Row("307 behind the head, then closes", says_early(head("307 Elsewhere", "content-length: 0")), refused(307), BIG),
+    Row("403 in chunks behind the head, then closes", says_early(DENIED_CHUNKED), refused(403), BIG),
+    Row("403 behind the head, then reads on", says_early(DENIED, hold), refused(403), BIG),
+    Row("200 behind the head, then closes", says_early(EMPTY), FAILED, BIG),
+    Row("503 behind the head, then closes", says_early(head("503 Busy", "content-length: 0")), FAILED, BIG),
+    Row("no HTTP behind the head, then closes", says_early(b"go away\r\n"), FAILED, BIG),
     # chunks
     Row("a success in chunks", says(chunked(OK, END)), STORED),
     Row("a refusal in chunks", says(DENIED_CHUNKED), refused(403)),
@@ -299,7 +302,7 @@ ROWS = [
     Row("a length beside chunks", says(head(OK, "content-length: 5", "transfer-encoding: chunked") + END), BAD_LENGTH),
     Row("another transfer coding", says(head(OK, "transfer-encoding: gzip"), close), BAD_LENGTH),
     Row("more bytes than an error may have", says(head(FORBIDDEN, "content-length: 65537")), BODY_LONG),
-    Row("as many bytes as an error may have", says(head(FORBIDDEN, "content-length: 65536") + b"a" * 65_536), refused(403)),
+    Row("as many bytes as an error may have", says(FULL), refused(403)),
     Row("bytes behind the answer", says(EMPTY + b"HTTP/1.1 500 No\r\n\r\n"), STORED),
     Row("no length, to the end", says(head(OK) + b"hello", close), STORED),
     Row("no length, HTTP/1.0", says(head(OK, version="1.0"), close), STORED),
@@ -323,37 +326,37 @@ ROWS = [
     Row("a status of two digits", says(head("20 OK", "content-length: 0")), NOT_HTTP),
 ]
 
-# These wait for the program's limit of 60 seconds, or stay below it.
+# These wait for the program's limit of 60 seconds, or stay below it. Where a write took some bytes before it gave up,
+# the next one waits once more.
 SLOW_ROWS = [
-    Row("accepts no connection", hold, FAILED, opened=0, server=DeafServer),
-    Row("is silent", says(b""), FAILED),
-    Row("is silent in the head", says(b"HTTP/1.1 200 OK\r\n"), FAILED),
-    Row("is silent in the body", says(head(OK, "content-length: 9") + b"abc"), FAILED),
-    Row("reads nothing", reads_nothing, FAILED, LARGE),
-    Row("403 behind the head, then reads nothing", says_early(DENIED, reads_nothing), refused(403), LARGE),
-    Row("answers in three pieces, 27 seconds apart", dribbles(EMPTY, 27, 13), STORED),
-    Row("reads with two pauses of 40 seconds", reads_with_pauses, STORED, LARGE),
+    Row("accepts no connection", hold, FAILED, opened=0, server=DeafServer, seconds=75),
+    Row("is silent", says(b""), FAILED, seconds=75),
+    Row("is silent in the head", says(b"HTTP/1.1 200 OK\r\n"), FAILED, seconds=75),
+    Row("is silent in the body", says(head(OK, "content-length: 9") + b"abc"), FAILED, seconds=75),
+    Row("reads nothing", reads_nothing, FAILED, BIG, seconds=135),
+    Row("403 behind the head, then reads nothing", says_early(DENIED, reads_nothing), refused(403), BIG, seconds=135),
+    Row("answers in three pieces, 27 seconds apart", dribbles(EMPTY, 27, 13), STORED, seconds=100),
+    Row("reads with two pauses of 40 seconds", reads_with_pauses, STORED, BIG, seconds=100),
 ]
 
 
-def try_row(runs, row, seconds):
-    """What the program showed, what was expected, and how many connections were opened."""
+def try_row(runs, row):
+    """What the program showed, what was due, and how many connections were opened."""
     uri = "s3://backups/" + row.file
     with row.server(row.serve) as server:
-        shown = runs.copy(row.file, uri, f"http://{row.host}:{server.port}", KEYS, seconds=seconds)
+        shown = runs.copy(row.file, uri, f"http://{row.host}:{server.port}", KEYS, seconds=row.seconds)
     return shown, row.outcome.shown(row.file, uri), server.opened
 
 
-def try_rows(checks, runs, rows=ROWS, at_once=4, seconds=15):
+def try_rows(checks, runs, rows=ROWS, at_once=4):
     for name, content in FILES.items():
         runs.write(name, content)
     with ThreadPoolExecutor(at_once) as pool, runs:
-        for row, (shown, expected, opened) in zip(rows, pool.map(lambda row: try_row(runs, row, seconds), rows)):
-            text = shown[1] + shown[2]
-            if shown != expected:
-                text += f" where status {expected[0]} and {(expected[1] + expected[2]).strip()} were due"
-            checks.check(f"{row.name}: status, line, connections", (shown, opened) == (expected, row.opened), text.strip() + f" {opened} opened")
+        for row, (shown, due, opened) in zip(rows, pool.map(lambda row: try_row(runs, row), rows)):
+            text = line_of(shown) if shown == due else f"{line_of(shown)}, and due was {line_of(due)}"
+            checks.check(f"{row.name}: status and line", shown == due, text)
+            checks.check(f"{row.name}: connections", opened == row.opened, str(opened))
 
 
 def try_slow_rows(checks, runs):
-    try_rows(checks, runs, SLOW_ROWS, len(SLOW_ROWS), 150)
+    try_rows(checks, runs, SLOW_ROWS, len(SLOW_ROWS))

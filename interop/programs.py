@@ -6,6 +6,9 @@ import threading
 
 SECONDS = 60
 
+# The largest file that the program copies today.
+LARGE = (bytes(range(251)) * 33_422)[:8_388_607]
+
 
 class Checks:
     """Prints each check, and counts them."""
@@ -23,6 +26,13 @@ class Checks:
         """Prints the counts; the status of a script that made these checks."""
         print(f"{self.passed} passed, {self.failed} failed")
         return 1 if self.failed else 0
+
+
+def line_of(shown):
+    """The status and the lines of a run, cut where they are long."""
+    status, out, err = shown
+    line = (out + err).strip()
+    return f"{status}: " + (line if len(line) <= 200 else line[:120] + " .. " + line[-70:])
 
 
 class Runs:
@@ -48,7 +58,7 @@ class Runs:
         """The status of a run and what it wrote to its two outputs; no status where it takes longer than this."""
         with self.lock:
             if self.ended:
-                return None, "", "not run"
+                return None, "", "it was not run"
             child = subprocess.Popen(
                 [self.program, *words],
                 cwd=self.folder,
@@ -64,7 +74,7 @@ class Runs:
         except subprocess.TimeoutExpired:
             child.kill()
             child.communicate()
-            return None, "", f"still running after {seconds} seconds"
+            return None, "", f"it still ran after {seconds} seconds"
         finally:
             with self.lock:
                 self.children.discard(child)

@@ -15,6 +15,7 @@ KEYS = {
     "AWS_SECRET_ACCESS_KEY": "wJalrXUtnFEMI/K7MDENG/bPxRfiCYEXAMPLEKEY",
     "AWS_REGION": "us-east-1",
 }
+OTHER_KEYS = {**KEYS, "AWS_ACCESS_KEY_ID": "AKIAOTHER", "AWS_SECRET_ACCESS_KEY": "otherotherother"}
 
 
 PACKAGES = {"moto": "'moto[server]'", "boto3": "boto3"}
@@ -106,6 +107,7 @@ class Service:
 
     name = "moto"
     keys = KEYS
+    other_keys = OTHER_KEYS
 
     def __enter__(self):
         [port] = free_ports(1)

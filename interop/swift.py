@@ -1,4 +1,4 @@
-"""OpenStack Swift with its S3 API: a proxy, an account, a container and an object server, and memcached; one device, one replica."""
+"""OpenStack Swift with its S3 API: the four servers and memcached, one device, one replica."""
 
 import getpass
 import os
@@ -24,7 +24,8 @@ import sys
 from swift.common.ring import RingBuilder
 for kind, port in zip(sys.argv[2::2], sys.argv[3::2]):
     builder = RingBuilder(4, 1, 0)
-    builder.add_dev({"id": 0, "region": 1, "zone": 1, "weight": 1.0, "ip": "127.0.0.1", "port": int(port), "device": "one"})
+    place = {"ip": "127.0.0.1", "port": int(port), "device": "one"}
+    builder.add_dev({"id": 0, "region": 1, "zone": 1, "weight": 1.0, **place})
     builder.rebalance()
     builder.get_ring().save(f"{sys.argv[1]}/{kind}.ring.gz")
 """
@@ -68,14 +69,13 @@ recon_cache_path = {recon}
 use = egg:swift#healthcheck
 """
 
-FILTERS = "catch_errors gatekeeper healthcheck cache listing_formats bulk s3api tempauth copy slo dlo versioned_writes symlink"
+FILTERS = "catch_errors gatekeeper healthcheck cache listing_formats bulk s3api tempauth copy slo"
 
 SETTINGS = {
     "cache": "memcache_servers = 127.0.0.1:{cache}",
     "s3api": "location = us-east-1\nmax_upload_part_num = 10000",
     "tempauth": "user_test_tester = testing .admin\nuser_test_reader = reading",
     "slo": "max_manifest_segments = 10000",
-    "versioned_writes": "allow_object_versioning = true",
 }
 
 PROXY_CONF = COMMON + """
@@ -85,8 +85,6 @@ pipeline = {filters} proxy-server
 [app:proxy-server]
 use = egg:swift#proxy
 account_autocreate = true
-conn_timeout = 30
-node_timeout = 60
 error_suppression_limit = 1000000
 """
 
@@ -96,6 +94,7 @@ class Swift(Cluster):
     title = "OpenStack Swift"
     packages = ("swift-proxy", "swift-account", "swift-container", "swift-object", "python3-swift", "memcached")
     keys = {"AWS_ACCESS_KEY_ID": "test:tester", "AWS_SECRET_ACCESS_KEY": "testing", "AWS_REGION": "us-east-1"}
+    other_keys = {"AWS_ACCESS_KEY_ID": "test:reader", "AWS_SECRET_ACCESS_KEY": "reading", "AWS_REGION": "us-east-1"}
 
     def start(self):
         self.need_attributes()
