@@ -76,34 +76,14 @@ aborts_is e = cc
 module _ (gained : Gained) (task : Task) (known : Known) (number : ℕ) (asked : Ask) (body : List ℕ) (b k id : List ℕ) where
   complete_row : (of_kind : Kind) (small : Bool) (etags : Reserved (List ℕ)) (fresh : Bool) → IsTaskAsk gained task known of_kind small op.Complete number asked body → asked ≡ ask.Complete b k id etags fresh
       → IsUpload gained known.number id × (number ≡ 0)
-  complete_row kind.Upload false etags fresh row e = (subst (λ (i : List ℕ). IsUpload gained known.number i) (completes_is (sym row.0.6 ∙ e)) row.0.4, row.1)
-  complete_row kind.Copy false etags fresh row e = (subst (λ (i : List ℕ). IsUpload gained known.number i) (completes_is (sym row.0.6 ∙ e)) row.0.4, row.1)
-  complete_row kind.Upload true etags fresh row e = absurd row
-  complete_row kind.Copy true etags fresh row e = absurd row
-  complete_row kind.Download true etags fresh row e = absurd row
-  complete_row kind.Download false etags fresh row e = absurd row
-  complete_row kind.RemoveObject true etags fresh row e = absurd row
-  complete_row kind.RemoveObject false etags fresh row e = absurd row
-  complete_row kind.RemoveFile true etags fresh row e = absurd row
-  complete_row kind.RemoveFile false etags fresh row e = absurd row
+  complete_row of_kind small etags fresh row e = rows.in_parts gained task known number asked body (λ k. IsUpload gained known.number id × (number ≡ 0)) of_kind small op.Complete tt
+      (λ row. (subst (λ (i : List ℕ). IsUpload gained known.number i) (completes_is (sym row.0.6 ∙ e)) row.0.4, row.1))
+      (λ row. (subst (λ (i : List ℕ). IsUpload gained known.number i) (completes_is (sym row.0.6 ∙ e)) row.0.4, row.1)) row
 
   abort_row : (of_kind : Kind) (small : Bool) → IsTaskAsk gained task known of_kind small op.Abort number asked body → asked ≡ ask.Abort b k id → IsUpload gained known.number id × (number ≡ 0)
-  abort_row kind.Upload false row e = (subst (λ (i : List ℕ). IsUpload gained known.number i) (aborts_is (sym row.0.3 ∙ e)) row.0.2, row.1)
-  abort_row kind.Copy false row e = (subst (λ (i : List ℕ). IsUpload gained known.number i) (aborts_is (sym row.0.3 ∙ e)) row.0.2, row.1)
-  abort_row kind.Upload true row e = absurd row
-  abort_row kind.Copy true row e = absurd row
-  abort_row kind.Download true row e = absurd row
-  abort_row kind.Download false row e = absurd row
-  abort_row kind.RemoveObject true row e = absurd row
-  abort_row kind.RemoveObject false row e = absurd row
-  abort_row kind.RemoveFile true row e = absurd row
-  abort_row kind.RemoveFile false row e = absurd row
-
-part_is : {x y i b k id : List ℕ} {m n : ℕ} → ask.Part x y i m ≡ ask.Part b k id n → (i ≡ id) × (m ≡ n)
-part_is e = (cc, cc)
-
-copied_part_is : {x y i f g u b k id f' g' u' : List ℕ} {m n : ℕ} {r r' : ℕ × ℕ} → ask.PartCopy x y i m f g u r ≡ ask.PartCopy b k id n f' g' u' r' → (i ≡ id) × (m ≡ n)
-copied_part_is e = (cc, cc)
+  abort_row of_kind small row e = rows.in_parts gained task known number asked body (λ k. IsUpload gained known.number id × (number ≡ 0)) of_kind small op.Abort tt
+      (λ row. (subst (λ (i : List ℕ). IsUpload gained known.number i) (aborts_is (sym row.0.3 ∙ e)) row.0.2, row.1))
+      (λ row. (subst (λ (i : List ℕ). IsUpload gained known.number i) (aborts_is (sym row.0.3 ∙ e)) row.0.2, row.1)) row
 
 -- the request that stores a part, by the kind of its task
 abbrev pub part_of : Kind → Op
@@ -115,28 +95,14 @@ module _ (gained : Gained) (task : Task) (known : Known) (number : ℕ) (asked :
   IsPartOf of_kind of_op = IsUpload gained known.number id × (of_op ≡ part_of of_kind) × (number ≡ m)
 
   part_row : (of_kind : Kind) (small : Bool) → IsTaskAsk gained task known of_kind small op.Part number asked body → asked ≡ ask.Part b k id m → IsPartOf of_kind op.Part
-  part_row kind.Upload false row e = let is = part_is (sym row.4 ∙ e) in (subst (λ (i : List ℕ). IsUpload gained known.number i) is.0 row.2, refl, is.1)
-  part_row kind.Upload true row e = absurd row
-  part_row kind.Copy true row e = absurd row
-  part_row kind.Copy false row e = absurd row
-  part_row kind.Download true row e = absurd row
-  part_row kind.Download false row e = absurd row
-  part_row kind.RemoveObject true row e = absurd row
-  part_row kind.RemoveObject false row e = absurd row
-  part_row kind.RemoveFile true row e = absurd row
-  part_row kind.RemoveFile false row e = absurd row
+  part_row of_kind small row e =
+      let is = rows.row_part gained task known b k id m of_kind small op.Part number asked body row e in
+      (is.created, ap part_of (sym is.is_upload), is.numbered)
 
   copied_row : (of_kind : Kind) (small : Bool) (f g u : List ℕ) (range : ℕ × ℕ) → IsTaskAsk gained task known of_kind small op.PartCopy number asked body → asked ≡ ask.PartCopy b k id m f g u range → IsPartOf of_kind op.PartCopy
-  copied_row kind.Copy false f g u range row e = let is = copied_part_is (sym row.5 ∙ e) in (subst (λ (i : List ℕ). IsUpload gained known.number i) is.0 row.3, refl, is.1)
-  copied_row kind.Copy true f g u range row e = absurd row
-  copied_row kind.Upload true f g u range row e = absurd row
-  copied_row kind.Upload false f g u range row e = absurd row
-  copied_row kind.Download true f g u range row e = absurd row
-  copied_row kind.Download false f g u range row e = absurd row
-  copied_row kind.RemoveObject true f g u range row e = absurd row
-  copied_row kind.RemoveObject false f g u range row e = absurd row
-  copied_row kind.RemoveFile true f g u range row e = absurd row
-  copied_row kind.RemoveFile false f g u range row e = absurd row
+  copied_row of_kind small f g u range row e =
+      let is = rows.row_copy gained task known b k id m f g u range of_kind small op.PartCopy number asked body row e in
+      (is.created, ap part_of (sym is.is_copy), is.numbered)
 
 -- it stores that part of the upload
 abbrev pub AsksPart : Ask → List ℕ → List ℕ → List ℕ → ℕ → Type 0
@@ -182,16 +148,9 @@ module _ (gained : Gained) (task : Task) (known : Known) (number : ℕ) (asked :
     pub asks : asked ≡ ask.Complete to.bucket to.key id (record { items = etags; spare = spare }) task.fresh
 
   pub row_joins : (of_kind : Kind) (small : Bool) → IsTaskAsk gained task known of_kind small op.Complete number asked body → Joins of_kind
-  row_joins kind.Upload false row = record { to = row.0.0; id = row.0.1; etags = row.0.2; spare = row.0.3; created = row.0.4; are = row.0.5; asks = row.0.6 }
-  row_joins kind.Copy false row = record { to = row.0.0; id = row.0.1; etags = row.0.2; spare = row.0.3; created = row.0.4; are = row.0.5; asks = row.0.6 }
-  row_joins kind.Upload true row = absurd row
-  row_joins kind.Copy true row = absurd row
-  row_joins kind.Download true row = absurd row
-  row_joins kind.Download false row = absurd row
-  row_joins kind.RemoveObject true row = absurd row
-  row_joins kind.RemoveObject false row = absurd row
-  row_joins kind.RemoveFile true row = absurd row
-  row_joins kind.RemoveFile false row = absurd row
+  row_joins of_kind small row = rows.in_parts gained task known number asked body Joins of_kind small op.Complete tt
+      (λ row. record { to = row.0.0; id = row.0.1; etags = row.0.2; spare = row.0.3; created = row.0.4; are = row.0.5; asks = row.0.6 })
+      (λ row. record { to = row.0.0; id = row.0.1; etags = row.0.2; spare = row.0.3; created = row.0.4; are = row.0.5; asks = row.0.6 }) row
 
   -- a request for a part
   pub row_asks_part : (of_kind : Kind) (small : Bool) → IsTaskAsk gained task known of_kind small (part_of of_kind) number asked body

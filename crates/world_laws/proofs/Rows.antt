@@ -198,43 +198,73 @@ row_op gained task known kind.Copy small op.Delete number asked body row = ap as
 row_op gained task known kind.RemoveObject small op.Delete number asked body row = ap ask_number row.2
 row_op gained task known of_kind small of_op number asked body row = absurd row
 
-part_is : {x y i b k id : List ℕ} {m n : ℕ} → ask.Part x y i m ≡ ask.Part b k id n → (x ≡ b) × (y ≡ k) × (m ≡ n)
-part_is e = (cc, cc, cc)
+-- ---- uploads in parts
+
+-- the requests of an upload in parts
+abbrev pub IsOfParts : Op → Type 0
+IsOfParts op.Create = Unit {0}
+IsOfParts op.Part = Unit {0}
+IsOfParts op.PartCopy = Unit {0}
+IsOfParts op.Complete = Unit {0}
+IsOfParts op.Abort = Unit {0}
+IsOfParts other = ⊥
+
+module _ (gained : Gained) (task : Task) (known : Known) (number : ℕ) (asked : Ask) (body : List ℕ) where
+  abbrev IsRowOf : Kind → Bool → Op → Type 0
+  IsRowOf of_kind small of_op = IsTaskAsk gained task known of_kind small of_op number asked body
+
+  -- what has such a request is an upload or a copy, in parts
+  pub in_parts : (IsSuch : Kind → Type 0) (of_kind : Kind) (small : Bool) (of_op : Op) → IsOfParts of_op → (IsRowOf kind.Upload false of_op → IsSuch kind.Upload)
+      → (IsRowOf kind.Copy false of_op → IsSuch kind.Copy) → IsRowOf of_kind small of_op → IsSuch of_kind
+  in_parts IsSuch kind.Upload false of_op is upload copy row = upload row
+  in_parts IsSuch kind.Copy false of_op is upload copy row = copy row
+  in_parts IsSuch kind.Upload true op.Put is upload copy row = absurd is
+  in_parts IsSuch kind.Download true op.Get is upload copy row = absurd is
+  in_parts IsSuch kind.Download false op.Get is upload copy row = absurd is
+  in_parts IsSuch kind.Download small op.Delete is upload copy row = absurd is
+  in_parts IsSuch kind.Copy true op.Copy is upload copy row = absurd is
+  in_parts IsSuch kind.Copy true op.Delete is upload copy row = absurd is
+  in_parts IsSuch kind.RemoveObject small op.Delete is upload copy row = absurd is
+  in_parts IsSuch of_kind small of_op is upload copy row = absurd row
+
+part_is : {x y i b k id : List ℕ} {m n : ℕ} → ask.Part x y i m ≡ ask.Part b k id n → (x ≡ b) × (y ≡ k) × (m ≡ n) × (i ≡ id)
+part_is e = (cc, cc, cc, cc)
 
 copy_is : {x y i f g u b k id f' g' u' : List ℕ} {m n : ℕ} {r r' : ℕ × ℕ} → ask.PartCopy x y i m f g u r ≡ ask.PartCopy b k id n f' g' u' r'
-    → (x ≡ b) × (y ≡ k) × (m ≡ n) × (f' ≡ f) × (g' ≡ g) × (u' ≡ u) × (r' ≡ r)
-copy_is e = (cc, cc, cc, cc, cc, cc, cc)
+    → (x ≡ b) × (y ≡ k) × (m ≡ n) × (f' ≡ f) × (g' ≡ g) × (u' ≡ u) × (r' ≡ r) × (i ≡ id)
+copy_is e = (cc, cc, cc, cc, cc, cc, cc, cc)
 
 module _ (gained : Gained) (task : Task) (known : Known) (bucket key id : List ℕ) (n : ℕ) where
   -- a part is one of an upload to its task's destination, and has its piece
-  pub record IsPieceOf (of_kind : Kind) (body : List ℕ) : Type 0 where
+  pub record IsPieceOf (number : ℕ) (body : List ℕ) (of_kind : Kind) : Type 0 where
     pub is_dest : IsObject task.dest bucket key
+    pub created : IsUpload gained known.number id
+    pub numbered : number ≡ n
     pub is_upload : of_kind ≡ kind.Upload
     pub is_piece : body ≡ piece_of known.bytes known.piece n
 
-  part_row : (of_kind : Kind) (small : Bool) (number : ℕ) (asked : Ask) (body : List ℕ) → IsTaskAsk gained task known of_kind small op.Part number asked body → asked ≡ ask.Part bucket key id n → IsPieceOf of_kind body
-  part_row kind.Upload false number asked body row e =
+  part_row : (of_kind : Kind) (small : Bool) (number : ℕ) (asked : Ask) (body : List ℕ) → IsTaskAsk gained task known of_kind small op.Part number asked body → asked ≡ ask.Part bucket key id n → IsPieceOf number body of_kind
+  part_row of_kind small number asked body row e = in_parts gained task known number asked body (IsPieceOf number body) of_kind small op.Part tt (λ row.
       let is = part_is (sym row.4 ∙ e) in
-      record { is_dest = moved_place task.dest row.0.bucket row.0.key bucket key row.0.is_dest is.0 is.1; is_upload = refl; is_piece = row.5 ∙ ap (piece_of known.bytes known.piece) is.2 }
-  part_row kind.Upload true number asked body row e = absurd row
-  part_row kind.Download true number asked body row e = absurd row
-  part_row kind.Download false number asked body row e = absurd row
-  part_row kind.Copy true number asked body row e = absurd row
-  part_row kind.Copy false number asked body row e = absurd row
-  part_row kind.RemoveObject true number asked body row e = absurd row
-  part_row kind.RemoveObject false number asked body row e = absurd row
-  part_row kind.RemoveFile true number asked body row e = absurd row
-  part_row kind.RemoveFile false number asked body row e = absurd row
+      record {
+        is_dest = moved_place task.dest row.0.bucket row.0.key bucket key row.0.is_dest is.0 is.1;
+        created = subst (λ (i : List ℕ). IsUpload gained known.number i) is.3 row.2;
+        numbered = is.2;
+        is_upload = refl;
+        is_piece = row.5 ∙ ap (piece_of known.bytes known.piece) is.2;
+      }) (λ row. absurd row) row
 
-  pub row_part : (of_kind : Kind) (small : Bool) (of_op : Op) (number : ℕ) (asked : Ask) (body : List ℕ) → IsTaskAsk gained task known of_kind small of_op number asked body → asked ≡ ask.Part bucket key id n → IsPieceOf of_kind body
+  pub row_part : (of_kind : Kind) (small : Bool) (of_op : Op) (number : ℕ) (asked : Ask) (body : List ℕ) → IsTaskAsk gained task known of_kind small of_op number asked body → asked ≡ ask.Part bucket key id n → IsPieceOf number body of_kind
   row_part of_kind small of_op number asked body row e =
       let is_op : of_op ≡ op.Part = op_same of_op op.Part (sym (row_op gained task known of_kind small of_op number asked body row) ∙ ap ask_number e) in
       part_row of_kind small number asked body (subst (λ (o : Op). IsTaskAsk gained task known of_kind small o number asked body) is_op row) e
 
   -- a copied part is one of an upload to its task's destination, and names its range of the task's source
   module _ (b k under : List ℕ) (range : ℕ × ℕ) where
-    pub record IsRangeOf (of_kind : Kind) : Type 0 where
+    pub record IsRangeOf (number : ℕ) (of_kind : Kind) : Type 0 where
       pub is_dest : IsObject task.dest bucket key
+      pub created : IsUpload gained known.number id
+      pub numbered : number ≡ n
       pub is_copy : of_kind ≡ kind.Copy
       pub from : Origin task
       pub bucket_is : b ≡ from.bucket
@@ -242,29 +272,23 @@ module _ (gained : Gained) (task : Task) (known : Known) (bucket key id : List �
       pub etag_is : under ≡ task.etag
       pub range_is : range ≡ asked_range task.size known.piece n
 
-    copy_row : (of_kind : Kind) (small : Bool) (number : ℕ) (asked : Ask) (body : List ℕ) → IsTaskAsk gained task known of_kind small op.PartCopy number asked body → asked ≡ ask.PartCopy bucket key id n b k under range → IsRangeOf of_kind
-    copy_row kind.Copy false number asked body row e =
+    copy_row : (of_kind : Kind) (small : Bool) (number : ℕ) (asked : Ask) (body : List ℕ) → IsTaskAsk gained task known of_kind small op.PartCopy number asked body
+        → asked ≡ ask.PartCopy bucket key id n b k under range → IsRangeOf number of_kind
+    copy_row of_kind small number asked body row e = in_parts gained task known number asked body (IsRangeOf number) of_kind small op.PartCopy tt (λ row. absurd row) (λ row.
         let is = copy_is (sym row.5 ∙ e) in
         record {
           is_dest = moved_place task.dest row.0.bucket row.0.key bucket key row.0.is_dest is.0 is.1;
+          created = subst (λ (i : List ℕ). IsUpload gained known.number i) is.7 row.3;
+          numbered = is.2;
           is_copy = refl;
           from = row.1;
           bucket_is = is.3;
           key_is = is.4;
           etag_is = is.5;
           range_is = is.6 ∙ ap (asked_range task.size known.piece) is.2;
-        }
-    copy_row kind.Upload true number asked body row e = absurd row
-    copy_row kind.Upload false number asked body row e = absurd row
-    copy_row kind.Download true number asked body row e = absurd row
-    copy_row kind.Download false number asked body row e = absurd row
-    copy_row kind.Copy true number asked body row e = absurd row
-    copy_row kind.RemoveObject true number asked body row e = absurd row
-    copy_row kind.RemoveObject false number asked body row e = absurd row
-    copy_row kind.RemoveFile true number asked body row e = absurd row
-    copy_row kind.RemoveFile false number asked body row e = absurd row
+        }) row
 
-    pub row_copy : (of_kind : Kind) (small : Bool) (of_op : Op) (number : ℕ) (asked : Ask) (body : List ℕ) → IsTaskAsk gained task known of_kind small of_op number asked body → asked ≡ ask.PartCopy bucket key id n b k under range → IsRangeOf of_kind
+    pub row_copy : (of_kind : Kind) (small : Bool) (of_op : Op) (number : ℕ) (asked : Ask) (body : List ℕ) → IsTaskAsk gained task known of_kind small of_op number asked body → asked ≡ ask.PartCopy bucket key id n b k under range → IsRangeOf number of_kind
     row_copy of_kind small of_op number asked body row e =
         let is_op : of_op ≡ op.PartCopy = op_same of_op op.PartCopy (sym (row_op gained task known of_kind small of_op number asked body row) ∙ ap ask_number e) in
         copy_row of_kind small number asked body (subst (λ (o : Op). IsTaskAsk gained task known of_kind small o number asked body) is_op row) e
@@ -277,16 +301,9 @@ module _ (gained : Gained) (task : Task) (known : Known) where
     pub creates : asked ≡ ask.Create to.bucket to.key content
 
   pub row_create : (of_kind : Kind) (small : Bool) (number : ℕ) (asked : Ask) (body : List ℕ) → IsTaskAsk gained task known of_kind small op.Create number asked body → CreatesAt asked
-  row_create kind.Upload false number asked body row = record { to = row.0; content = task.content; creates = row.2 }
-  row_create kind.Copy false number asked body row = record { to = row.0; content = None; creates = row.2 }
-  row_create kind.Upload true number asked body row = absurd row
-  row_create kind.Download true number asked body row = absurd row
-  row_create kind.Download false number asked body row = absurd row
-  row_create kind.Copy true number asked body row = absurd row
-  row_create kind.RemoveObject true number asked body row = absurd row
-  row_create kind.RemoveObject false number asked body row = absurd row
-  row_create kind.RemoveFile true number asked body row = absurd row
-  row_create kind.RemoveFile false number asked body row = absurd row
+  row_create of_kind small number asked body row =
+      in_parts gained task known number asked body (λ k. CreatesAt asked) of_kind small op.Create tt (λ row. record { to = row.0; content = task.content; creates = row.2 })
+      (λ row. record { to = row.0; content = None; creates = row.2 }) row
 
   -- the request that decides a task may change its destination
   changes_dest : (to : Target task) (asked other : Ask) → asked ≡ other → MayChange other to.bucket to.key → (at : Target task) × MayChange asked at.bucket at.key
