@@ -28,6 +28,7 @@ use Rattle.run_promise.specs.Outcomes.{HasOutcome}
 use Rattle.run_promise.specs.Schedule.{most_body, IsSchedule, IsFailed, IsTaskAsk, Target, bytes_of, gained_before, job_of, source_bytes}
 use Rattle.run_promise.specs.Traces.{Step, IsTrace, begun_in, events_of}
 use Rattle.run_promise.specs.Truthful.{IsDest}
+use Rattle.world_laws.proofs.Clashes.{false_true as never}
 use Rattle.promise_examples.specs.Reading.{Reads, HasNoStatus, NeverFailed, signed_body}
 use Rattle.promise_examples.specs.Services.{object_of, one_bucket}
 use Rattle.promise_examples.specs.Runs.{Example, IsMet}
@@ -88,9 +89,6 @@ module _ (limits : Limits) (page_of : List ℕ → Listed) (bucket key path : Li
 
   runs : IsTrace limits [] start trace
   runs = (refl, (refl, (((0, omega arith, refl), (refl, (λ fresh taken. absurd (never fresh)))), (refl, (refl, (refl, (((0, omega arith, refl), (there, (λ fresh. absurd (never fresh)), (object_of bytes, refl, refl))), (refl, tt))))))))
-    where
-      never : false ≡ true → ⊥
-      never same = cc
 
   still : IsFaithful start
   still = one_bucket_is_faithful bucket
@@ -179,9 +177,6 @@ module _ (limits : Limits) (page_of : List ℕ → Listed) (bucket key path : Li
     at_most = (omega arith, (omega arith, tt));
     ends = ((λ goes. inr (inr may_stop)), ((λ goes. absurd (never goes)), tt));
   }
-    where
-      never : false ≡ true → ⊥
-      never same = cc
 
   -- ---- its jobs
 
@@ -233,9 +228,6 @@ module _ (limits : Limits) (page_of : List ℕ → Listed) (bucket key path : Li
 
   is_done : HasOutcome Shows HasNoStatus NeverFailed e.setting jobs jobs 0 (upload bucket key path) outcome.Done
   is_done = ((λ c failure. no_failure c failure.0), (last, at jobs 1 last refl, (tt, refl), (0, well, refl, refl)), (λ moves. absurd (never moves)), (λ fresh. absurd (never fresh)))
-    where
-      never : false ≡ true → ⊥
-      never same = cc
 
   cause : (n : ℕ) (task : Task) (how : Outcome) → slice_get e.setting.tasks n ≡ Some task → slice_get e.outcomes n ≡ Some how → HasOutcome Shows HasNoStatus NeverFailed e.setting jobs jobs n task how
   cause zero task how at_task at_how =

@@ -1,41 +1,11 @@
 -- A statement on each member, place or cut of a list that is written out, from one component for each.
-use Rattle.std.proofs.Common.{◌≡◌, ◌∙◌, ◌⊎◌, ◌<◌, ◌++◌, ℕ, zero, suc, Bool, true, false, cond, List, [], ◌∷◌, Option, Some, None, refl, ap, subst, inl, inr, All, AllPairs, Contains, get_or, slice_get, filter, arith}
-use Rattle.std.proofs.lemmas.List.Elements.{Contains-append_cases, Contains-append_right}
+use Rattle.std.proofs.Common.{◌≡◌, ◌++◌, ℕ, zero, suc, Bool, true, List, [], ◌∷◌, Some, subst, inl, inr, All, AllPairs, Contains, slice_get, filter, arith}
 use Rattle.std.proofs.lemmas.List.Kept.{AllPairs-cons}
+pub use Rattle.world_laws.proofs.Clashes.{none_is_some, some_is}
+pub use Rattle.world_laws.proofs.Members.{Has, has, contains_of, has_middle}
+use Rattle.world_laws.proofs.Members.{has_at, has-filter}
 
 -- ---- members
-
-abbrev pub Has : {X : Type 0} → List X → X → Type 0
-Has [] x = ⊥
-Has (y ∷ ys) x = (y ≡ x) ⊎ Has ys x
-
-only_one : {X : Type 0} (y x : X) (k : ℕ) → k < 1 → get_or (y ∷ []) k x ≡ x → y ≡ x
-only_one y x zero h e = e
-only_one y x (suc k) h e = absurd (omega arith)
-
-pub has : {X : Type 0} (xs : List X) (x : X) → Contains xs x → Has xs x
-has [] x h = let below : h.0 < 0 = h.1 in absurd (omega arith)
-has (y ∷ ys) x h = elim (Contains-append_cases (y ∷ []) ys x h) [ inl one ↦ inl (only_one y x one.0 one.1 one.2) | inr rest ↦ inr (has ys x rest) ]
-
-pub contains_of : {X : Type 0} (xs : List X) (x : X) → Has xs x → Contains xs x
-contains_of [] x h = absurd h
-contains_of (y ∷ ys) x (inl e) = (0, omega arith, e)
-contains_of (y ∷ ys) x (inr h) = Contains-append_right (y ∷ []) ys x (contains_of ys x h)
-
-pub none_is_some : {X : Type 0} (x : X) → ◌≡◌ {A = Option X} None (Some x) → ⊥
-none_is_some x e = cc
-
-pub some_is : {X : Type 0} (a b : X) → Some a ≡ Some b → a ≡ b
-some_is a b e = cc
-
-has_at : {X : Type 0} (xs : List X) (k : ℕ) (x : X) → slice_get xs k ≡ Some x → Has xs x
-has_at [] k x e = absurd (none_is_some x e)
-has_at (y ∷ ys) zero x e = inl (some_is y x e)
-has_at (y ∷ ys) (suc k) x e = inr (has_at ys k x e)
-
-pub has_middle : {X : Type 0} (front : List X) (x : X) (back : List X) → Has (front ++ x ∷ back) x
-has_middle [] x back = inl refl
-has_middle (y ∷ front) x back = inr (has_middle front x back)
 
 -- the member at a place
 pub at : {X : Type 0} (xs : List X) (k : ℕ) (x : X) → slice_get xs k ≡ Some x → Contains xs x
@@ -55,18 +25,9 @@ each P xs all x known = each_has P xs all x (has xs x known)
 
 -- ---- members that pass a test
 
-passes : {X : Type 0} (test : X → Bool) (xs : List X) (x : X) → Has xs x → test x ≡ true → Has (filter test xs) x
-passes test [] x h e = absurd h
-passes test (y ∷ ys) x (inl is) e = let yes : test y ≡ true = ap test is ∙ e in rw yes (inl is)
-passes {X} test (y ∷ ys) x (inr h) e = from (test y) (passes test ys x h e)
-  where
-    from : (b : Bool) → Has (filter test ys) x → Has (cond b (y ∷ filter test ys) (filter test ys)) x
-    from true g = inr g
-    from false g = g
-
 -- what is said of those that pass is said of each that passes
 pub each_passing : {X : Type 0} (test : X → Bool) (P : X → Type 0) (xs : List X) → Each P (filter test xs) → (x : X) → Contains xs x → test x ≡ true → P x
-each_passing test P xs all x known e = each_has P (filter test xs) all x (passes test xs x (has xs x known) e)
+each_passing test P xs all x known e = each_has P (filter test xs) all x (has-filter test xs x e (has xs x known))
 
 -- ---- places
 

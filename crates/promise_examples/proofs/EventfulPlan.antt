@@ -1,5 +1,5 @@
 -- The eventful run keeps to the schedule, and its outcomes have the causes that its wires show.
-use Rattle.std.proofs.Common.{◌≡◌, ◌∙◌, ◌+◌, ◌<◌, ◌≤◌, ℕ, zero, suc, true, false, List, [], ◌∷◌, Option, Some, refl, sym, ap, subst, inl, inr, Contains, slice_get, arith}
+use Rattle.std.proofs.Common.{◌≡◌, ◌∙◌, ◌+◌, ◌<◌, ◌≤◌, ℕ, zero, suc, List, [], ◌∷◌, Option, Some, refl, sym, ap, subst, inl, inr, Contains, slice_get, arith}
 use Rattle.std.specs.Prelude.{IsPermutation}
 use Rattle.std.specs.Cmp.Lexicographic.{nat_list_cmp_total}
 use Rattle.std.specs.FinMap.{get, empty}
@@ -26,6 +26,7 @@ use Rattle.run_promise.specs.Dispatches.{Dispatched, IsCut, last_of}
 use Rattle.run_promise.specs.Outcomes.{HasOutcome, IsFirstFailure}
 use Rattle.run_promise.specs.Schedule.{HasReply, IsSchedule, IsFailed, IsUpload, IsDecided, IsBefore, AreETags, Target, Origin, bytes_of, gained_before, job_of}
 use Rattle.run_promise.specs.Truthful.{IsDest}
+use Rattle.world_laws.proofs.Clashes.{false_true as never}
 use Rattle.promise_examples.specs.Reading.{Reads, HasNoStatus, NeverFailed}
 use Rattle.promise_examples.specs.Runs.{Example, IsMet}
 use Rattle.promise_examples.specs.Everything.{EverythingIsMet, bucket, uploaded, source, copied, path, bytes, id, first_etag, second_etag, upload, copy, create_job, part_job, complete_job, copy_job, delete_job, copy_answered, complete_again, events, eventful_run, start, eventful_trace}
@@ -49,9 +50,6 @@ zero_one same = numbers (some_is 0 1 same)
 
 one_zero : ◌≡◌ {A = Option ℕ} (Some 1) (Some 0) → ⊥
 one_zero same = zero_one (sym same)
-
-never : false ≡ true → ⊥
-never same = cc
 
 no_success : mark.Uncertain ≡ mark.Success → ⊥
 no_success same = cc

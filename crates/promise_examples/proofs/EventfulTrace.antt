@@ -1,5 +1,5 @@
 -- The trace of the eventful run: each request is served as it may be, it is honest, and it fits.
-use Rattle.std.proofs.Common.{◌≡◌, ◌∙◌, ◌==◌, ℕ, zero, suc, true, false, List, [], ◌∷◌, Some, refl, inl, inr, ◌⊎◌, filter, filter_map, take, arith}
+use Rattle.std.proofs.Common.{◌≡◌, ◌∙◌, ◌==◌, ℕ, zero, suc, false, List, [], ◌∷◌, Some, refl, inl, inr, ◌⊎◌, filter, filter_map, take, arith}
 use Rattle.std.specs.Prelude.{flat_map}
 use Rattle.std.specs.Ordering.{nat_cmp}
 use Rattle.std.specs.Cmp.{nat_cmp_total}
@@ -18,6 +18,7 @@ use Rattle.run_promise.specs.Fits.{Fits, IsAnswered, Names, requests_of}
 use Rattle.run_promise.specs.Dispatches.{Dispatched}
 use Rattle.run_promise.specs.Schedule.{most_body}
 use Rattle.run_promise.specs.Traces.{IsTrace, IsHonest, begun_in, events_of}
+use Rattle.world_laws.proofs.Clashes.{false_true as never}
 use Rattle.promise_examples.specs.Reading.{Reads}
 use Rattle.promise_examples.specs.Services.{object_of, one_bucket}
 use Rattle.promise_examples.specs.Everything.{bucket, uploaded, source, copied, bytes, source_etag, lost_id, id, first_etag, second_etag, limits, create_job, part_job, complete_job, copy_job, delete_job, create_lost, create_answered, copy_answered, part_lost, part_stored, other_stored, delete_lost, delete_again, complete_lost, complete_again, events, unused, first_part, second_part, with_second, with_both, once_more, start, once_created, twice_created, after_copy, after_second, after_first, after_delete, after_late, joined, completed, after_all, create_request, copy_request, part_request, other_request, delete_request, complete_request, eventful_trace}
@@ -85,9 +86,6 @@ joins = inl (
   (object_of bytes, refl, refl),
   refl,
 )
-  where
-    never : false ≡ true → ⊥
-    never same = cc
 
 joins_again : Joins limits completed bucket uploaded id (first_etag ∷ second_etag ∷ []) false completed ⊎ JoinsAgain completed id (first_etag ∷ second_etag ∷ []) completed
 joins_again = inr (get-insert_same nat_list_cmp_total text_exact joined.ended id (CompletedBy (first_etag ∷ second_etag ∷ [])), refl)

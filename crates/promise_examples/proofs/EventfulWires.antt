@@ -1,5 +1,5 @@
 -- The wires of the eventful run carry its jobs and nothing else.
-use Rattle.std.proofs.Common.{◌≡◌, ◌==◌, ◌<◌, ◌≤◌, ℕ, zero, suc, true, false, List, [], ◌∷◌, refl, inl, inr, Contains, arith}
+use Rattle.std.proofs.Common.{◌≡◌, ◌==◌, ◌<◌, ◌≤◌, ℕ, zero, suc, false, List, [], ◌∷◌, refl, inl, inr, Contains, arith}
 use Rattle.std.proofs.lemmas.List.{append-nil}
 use Rattle.s3_model.specs.declared.requests.Ask.{Ask}
 use Rattle.s3_model.specs.declared.requests.Op.TheVariants as op
@@ -8,6 +8,7 @@ use Rattle.s3_model.specs.declared.answers.Listed.{Listed}
 use Rattle.s3_model.specs.declared.tries.Mark.TheVariants as mark
 use Rattle.s3_model.specs.Talks.{Talk, Note, Moment, Pause, Began}
 use Rattle.run_promise.specs.Carried.{IsCarried, IsSaid, MayStop}
+use Rattle.world_laws.proofs.Clashes.{false_true as never}
 use Rattle.promise_examples.specs.Reading.{Reads, signed_body}
 use Rattle.promise_examples.specs.Runs.{Example}
 use Rattle.promise_examples.specs.Everything.{document, create_lost, create_answered, copy_answered, part_lost, part_stored, other_stored, delete_lost, delete_again, complete_lost, complete_again, events, eventful_run}
@@ -36,9 +37,6 @@ unused (suc (suc lane)) beyond =
     let a : (suc (suc lane) == 0) ≡ false = grind arith in
     let b : (suc (suc lane) == 1) ≡ false = grind arith in
     rw (a, b) (refl, refl)
-
-never : false ≡ true → ⊥
-never same = cc
 
 module _ (page_of : List ℕ → Listed) where
   abbrev Shows : Ask → ℕ → Talk → Class → List ℕ → Type 0

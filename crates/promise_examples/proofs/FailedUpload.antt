@@ -34,6 +34,7 @@ use Rattle.run_promise.specs.Outcomes.{HasOutcome, HasDeciding, IsFirstFailure}
 use Rattle.run_promise.specs.Schedule.{IsSchedule, IsBefore, IsBeforeAny, IsBeforePlace, IsFailed, IsUpload, Target, bytes_of, gained_before, job_of, most_body}
 use Rattle.run_promise.specs.Traces.{IsTrace, begun_in, events_of}
 use Rattle.run_promise.specs.Truthful.{IsDest}
+use Rattle.world_laws.proofs.Clashes.{false_true as never}
 use Rattle.promise_examples.specs.Reading.{Reads, HasNoStatus, NeverFailed, signed_body}
 use Rattle.promise_examples.specs.Runs.{Example, IsMet}
 use Rattle.promise_examples.specs.Everything.{bucket, uploaded, path, bytes, id, second_etag, upload, create_job, part_job, create, part, create_answered, unused, second_part, create_request, part_request, other_request}
@@ -74,9 +75,6 @@ jobs = create_sent ∷ first_sent ∷ second_sent ∷ abort_sent ∷ []
 
 abbrev e : Example
 e = failed_run
-
-never : false ≡ true → ⊥
-never same = cc
 
 -- ---- its trace
 

@@ -1,5 +1,5 @@
 -- Outcomes that the wires of a run do not bear out are refused.
-use Rattle.std.proofs.Common.{◌≡◌, ◌++◌, ℕ, true, false, List, [], ◌∷◌, Some, refl, inl, inr, sym, subst, Contains, slice_get}
+use Rattle.std.proofs.Common.{◌≡◌, ◌++◌, ℕ, false, List, [], ◌∷◌, Some, refl, inl, inr, sym, subst, Contains, slice_get}
 use Rattle.std.specs.Prelude.{codes}
 use Rattle.std.proofs.lemmas.List.Sorted.{IsPermutation-sym, Contains-permutation}
 use Rattle.s3_model.specs.declared.requests.Ask.{Ask}
@@ -20,6 +20,7 @@ use Rattle.s3_model.specs.Talks.{Talk}
 use Rattle.run_promise.specs.Dispatches.{Attempt, Dispatched, dispatches}
 use Rattle.run_promise.specs.Outcomes.{HasOutcome, HasDeciding, IsLastCause}
 use Rattle.run_promise.specs.Schedule.{IsSchedule}
+use Rattle.world_laws.proofs.Clashes.{false_true as never}
 use Rattle.promise_examples.specs.Everything.{create_job, part_job, complete_job, create_answered, upload}
 use Rattle.promise_examples.specs.FailedUpload.{failed_run, other_lost}
 use Rattle.promise_examples.specs.GivenAgain.{put_job}
@@ -32,9 +33,6 @@ use Rattle.promise_examples.proofs.Concrete.{at, contains_of, each, has_middle, 
 use Rattle.promise_examples.proofs.Repeats.{other_job}
 use Rattle.promise_examples.proofs.Scheduling as scheduling
 use Rattle.promise_examples.proofs.Shown.{made, Whatever, of_shown}
-
-never : false ≡ true → ⊥
-never e = cc
 
 uncertain_success : mark.Uncertain ≡ mark.Success → ⊥
 uncertain_success e = cc

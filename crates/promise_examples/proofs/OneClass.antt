@@ -1,4 +1,5 @@
 -- An answer has one class at most.
+use Rattle.world_laws.proofs.Clashes.{some_is}
 use Rattle.std.proofs.Common.{◌≡◌, ◌∙◌, ℕ, Bool, List, Option, Some, refl, sym, ap, inl, inr, arith}
 use Rattle.std.specs.Prelude.{codes}
 use Rattle.s3_model.specs.Lists.{Reserved}
@@ -11,9 +12,6 @@ use Rattle.s3_model.specs.declared.answers.Class.{Class}
 use Rattle.s3_model.specs.declared.answers.Class.TheVariants as class
 use Rattle.s3_model.specs.Replies.{IsSameReply, IsSameClass}
 use Rattle.s3_model.specs.Classes.{HasOneClass, HasOneReading, IsClass, Succeeded, FailsLate, Refuses, succeeded, failed_late, failed_inside, unreadable, refused, busy, other}
-
-some_is : {X : Type 0} (a b : X) → Some a ≡ Some b → a ≡ b
-some_is a b e = cc
 
 -- both are what was found
 one_found : {X : Type 0} (found : Option X) (a b : X) → found ≡ Some a → found ≡ Some b → a ≡ b

@@ -19,6 +19,7 @@ use Rattle.s3_model.specs.Talks.{Talk}
 use Rattle.run_promise.specs.Carried.{IsCarried}
 use Rattle.run_promise.specs.Dispatches.{Dispatched, IsCut}
 use Rattle.run_promise.specs.Schedule.{Gained, IsSchedule, IsTaskAsk, IsUpload, IsBefore, IsBeforeAny, gained_before, is_small, source_bytes}
+use Rattle.world_laws.proofs.Clashes.{false_true as never}
 use Rattle.promise_examples.specs.Everything.{create_job, part_job, complete_job, copy_job, delete_job, create_answered, copy_answered, part_stored, other_stored, upload, copy, id, limits, eventful_run}
 use Rattle.promise_examples.specs.Orders as specs
 use Rattle.promise_examples.specs.Orders.{OrdersAreRefused, abort_job, part_denied, complete_answered, abort_answered, delete_answered}
@@ -211,10 +212,7 @@ module _ (page_of : List ℕ → Listed) where
             ((λ same late. other_job create_job (part_job 1) refl same), ((λ same late. absurd (omega arith)), ((λ same late. other_job (part_job 2) (part_job 1) refl same), ((λ same late. other_job abort_job (part_job 1) refl same), tt))))
             again.0 known again.2 after
         uncut schedule front later e WasStopped (inr stopped) =
-            let goes = stopped.3 in denied (same_again (class.Refusal (codes "AccessDenied") []) goes.0 goes.2.0 ∙ goes.3)
-          where
-            denied : false ≡ true → ⊥
-            denied same = cc
+            let goes = stopped.3 in never (same_again (class.Refusal (codes "AccessDenied") []) goes.0 goes.2.0 ∙ goes.3)
 
   -- ---- a part is given while Create is out
 

@@ -20,6 +20,7 @@ use Rattle.s3_model.specs.Talks.{Talk, Note, Ending, Finished, Moment, Pause, Be
 use Rattle.run_promise.specs.Carried.{IsCarried, IsSaid, MayStop, Numbered, SaysAll, pause_of}
 use Rattle.run_promise.specs.Dispatches.{Attempt, Dispatched, IsCut, IsFailing, IsSuccessLast, dispatches, last_of}
 use Rattle.run_promise.specs.Schedule.{Setting, Gained, IsBeforeAny, IsSchedule, IsStopped, IsTaskAsk, bytes_of, gained_before, is_small, source_bytes}
+use Rattle.world_laws.proofs.Clashes.{false_true as never}
 use Rattle.promise_examples.specs.GivenAgain.{put_job, bytes}
 use Rattle.promise_examples.specs.Reading.{Reads, class_by, signed_body}
 use Rattle.promise_examples.specs.Runs.{Example}
@@ -57,9 +58,6 @@ began_moment a e = cc
 
 pause_moment : (a b : ℕ) → Pause a ≡ Moment b → ⊥
 pause_moment a b e = cc
-
-never : false ≡ true → ⊥
-never e = cc
 
 -- the talk that begins first begins at the first moment
 at_first : (moment : ℕ) (later : List Note) (front : List Note) (seconds : ℕ) (rest : List Note) → Moment moment ∷ Began ∷ later ≡ front ++ Moment seconds ∷ Began ∷ rest → ¬ (Contains front Began)

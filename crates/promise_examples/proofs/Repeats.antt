@@ -1,21 +1,9 @@
 -- Jobs that are given more than once, in a list of dispatches that is written out.
-use Rattle.std.proofs.Common.{◌≡◌, ◌∙◌, ◌==◌, ◌&&◌, ◌+◌, ◌<◌, ◌≤◌, ℕ, zero, suc, Bool, true, false, cond, List, [], ◌∷◌, Option, Some, None, refl, sym, ap, AllPairs, filter, length, slice_get, arith}
+use Rattle.world_laws.proofs.Jobs.{job_itself}
+use Rattle.std.proofs.Common.{◌≡◌, ◌∙◌, ◌+◌, ◌<◌, ◌≤◌, ℕ, zero, suc, Bool, true, false, cond, List, [], ◌∷◌, Some, refl, sym, ap, AllPairs, filter, length, slice_get, arith}
 use Rattle.s3_model.specs.declared.outcomes.JobId.{JobId}
-use Rattle.run_promise.specs.Dispatches.{Dispatched, is_job, is_task, is_op, op_number}
+use Rattle.run_promise.specs.Dispatches.{Dispatched, is_job}
 use Rattle.promise_examples.proofs.Concrete.{Each, Pairs, pairs, none_is_some, some_is}
-
-same_number : (n : ℕ) → (n == n) ≡ true
-same_number n = grind arith
-
-task_itself : (task : Option ℕ) → is_task task task ≡ true
-task_itself None = refl
-task_itself (Some n) = same_number n
-
-all_three : (a b c : Bool) → a ≡ true → b ≡ true → c ≡ true → (a && b && c) ≡ true
-all_three a b c p q r = rw (p, q, r) refl
-
-pub job_itself : (job : JobId) → is_job job job ≡ true
-job_itself job = all_three (is_task job.task job.task) (is_op job.op job.op) (job.number == job.number) (task_itself job.task) (same_number (op_number job.op)) (same_number job.number)
 
 -- two jobs that the test tells apart
 pub other_job : (a b : JobId) → is_job a b ≡ false → a ≡ b → ⊥

@@ -1,5 +1,5 @@
 -- A listing in two pages fits, whatever room the lists of its reader have.
-use Rattle.std.proofs.Common.{◌≡◌, ◌∙◌, ◌==◌, ◌<◌, ◌≤◌, ℕ, zero, suc, true, false, List, [], ◌∷◌, Option, Some, None, refl, sym, ap, subst, inl, inr, filter, filter_map, map, take, unwrap_or, Contains, arith}
+use Rattle.std.proofs.Common.{◌≡◌, ◌∙◌, ◌==◌, ◌<◌, ◌≤◌, ℕ, zero, suc, false, List, [], ◌∷◌, Option, Some, None, refl, sym, ap, subst, inl, inr, filter, filter_map, map, take, unwrap_or, Contains, arith}
 use Rattle.std.specs.Prelude.{flat_map, nat_eq, IsNone, IsSome}
 use Rattle.std.specs.List.{starts_with}
 use Rattle.std.specs.Ordering.{nat_cmp}
@@ -27,6 +27,7 @@ use Rattle.run_promise.specs.Planning.{Listing, PlansFor}
 use Rattle.run_promise.specs.Schedule.{most_body, IsSchedule, IsFailed, job_of}
 use Rattle.run_promise.specs.Truthful.{IsDest}
 use Rattle.run_promise.specs.Traces.{IsTrace, begun_in, events_of}
+use Rattle.world_laws.proofs.Clashes.{false_true as never}
 use Rattle.promise_examples.specs.Reading.{Reads, signed_body}
 use Rattle.promise_examples.specs.Services.{one_bucket}
 use Rattle.promise_examples.specs.Runs.{Example, IsMet}
@@ -216,9 +217,6 @@ module _ (limits : Limits) (spare : ℕ) where
     at_most = (omega arith, (omega arith, tt));
     ends = ((λ goes. absurd (never goes)), ((λ goes. absurd (never goes)), tt));
   }
-    where
-      never : false ≡ true → ⊥
-      never same = cc
 
   -- ---- its jobs
 
@@ -259,9 +257,6 @@ module _ (limits : Limits) (spare : ℕ) where
       no_task : (failed : Dispatched) → IsFailed Shows e.setting jobs failed → IsSome failed.dispatch.job.task → ⊥
       no_task failed is_failed of_task =
           each_has (λ (d : Dispatched). IsSome d.dispatch.job.task → ⊥) jobs (never, (never, tt)) failed (subst (λ (xs : List Dispatched). Has xs failed) (sym is_failed.2) (has_middle is_failed.0 failed is_failed.1)) of_task
-        where
-          never : false ≡ true → ⊥
-          never same = cc
 
       not_created : (n : ℕ) (c : Dispatched) → Contains jobs c → c.dispatch.job ≡ job_of n op.Create 0 → ⊥
       not_created n c known is = each (λ (d : Dispatched). d.dispatch.job ≡ job_of n op.Create 0 → ⊥) jobs (other_job (list_job 0) (job_of n op.Create 0) refl, (other_job (list_job 1) (job_of n op.Create 0) refl, tt)) c known is

@@ -27,6 +27,7 @@ use Rattle.run_promise.specs.Outcomes.{HasOutcome}
 use Rattle.run_promise.specs.Schedule.{most_body, IsSchedule, IsFailed, IsTaskAsk, Target, bytes_of, gained_before, job_of, source_bytes}
 use Rattle.run_promise.specs.Traces.{IsTrace, begun_in, events_of}
 use Rattle.run_promise.specs.Truthful.{IsDest}
+use Rattle.world_laws.proofs.Clashes.{false_true as never}
 use Rattle.promise_examples.specs.Reading.{Reads, HasNoStatus, NeverFailed, signed_body}
 use Rattle.promise_examples.specs.Services.{object_of}
 use Rattle.promise_examples.specs.Runs.{Example, IsMet}
@@ -71,9 +72,6 @@ module _ (page_of : List ℕ → Listed) where
 
   there : HasBucket before bucket
   there = has_bucket (record { objects = empty; uploads = empty; ended = empty; tokens = empty }) bucket empty
-
-  never : false ≡ true → ⊥
-  never same = cc
 
   runs : IsTrace limits [] before whole_trace
   runs = (refl, (refl, (((0, omega arith, refl), (there, (λ fresh. absurd (never fresh)), (object_of bytes, refl, refl))), (refl, tt))))

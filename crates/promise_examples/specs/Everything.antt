@@ -1,6 +1,6 @@
 -- A run over two lanes: an upload in parts whose Create was lost and then answered, with a part that was cut short, given again and also
 -- served late, and a Complete that was lost and then answered again; and a copy that is moved, whose Delete was lost.
-use Rattle.std.specs.Prelude.{◌≡◌, ◌==◌, ℕ, true, false, List, [], ◌∷◌, Some, None, if◌then◌else◌}
+use Rattle.std.specs.Prelude.{◌≡◌, ◌==◌, ℕ, false, List, [], ◌∷◌, None, if◌then◌else◌}
 use Rattle.std.specs.FinMap.{insert, empty}
 use Rattle.s3_model.specs.declared.requests.Ask.{Ask}
 use Rattle.s3_model.specs.declared.requests.Ask.TheVariants as ask
@@ -14,9 +14,7 @@ use Rattle.s3_model.specs.declared.outcomes.JobId.{JobId}
 use Rattle.s3_model.specs.declared.outcomes.Event.{Event}
 use Rattle.s3_model.specs.declared.outcomes.Event.TheVariants as entry
 use Rattle.s3_model.specs.declared.outcomes.Outcome.TheVariants as outcome
-use Rattle.s3_model.specs.declared.places.Place.TheVariants as place
 use Rattle.s3_model.specs.declared.settings.Limits.{Limits}
-use Rattle.s3_model.specs.declared.tasks.Kind.TheVariants as kind
 use Rattle.s3_model.specs.declared.tasks.Task.{Task}
 use Rattle.s3_model.specs.declared.tries.Mark.TheVariants as mark
 use Rattle.s3_model.specs.Documents.{document_of}
@@ -25,6 +23,7 @@ use Rattle.s3_service.specs.ServiceState.{State, Upload, StoredPart, CompletedBy
 use Rattle.s3_service.specs.Serves.{Replied}
 use Rattle.run_promise.specs.Schedule.{job_of}
 use Rattle.run_promise.specs.Traces.{Request, Step, TraceEvent, Given, Begin, Serve, Came}
+use Rattle.world_laws.specs.ExampleTasks as tasks
 use Rattle.promise_examples.specs.Runs.{Example, IsMet}
 use Rattle.promise_examples.specs.Services.{object_of, one_bucket}
 
@@ -71,31 +70,11 @@ second_etag = 52 ∷ []
 
 -- a file of two bytes, in two parts
 abbrev pub upload : Task
-upload = record {
-  kind = kind.Upload;
-  moves = false;
-  source = Some (place.File path);
-  dest = place.Object bucket uploaded;
-  size = 2;
-  etag = [];
-  micros = 0;
-  content = None;
-  fresh = false;
-}
+upload = tasks.upload bucket uploaded path 2 false
 
 -- an object of one byte
 abbrev pub copy : Task
-copy = record {
-  kind = kind.Copy;
-  moves = true;
-  source = Some (place.Object bucket source);
-  dest = place.Object bucket copied;
-  size = 1;
-  etag = source_etag;
-  micros = 0;
-  content = None;
-  fresh = false;
-}
+copy = tasks.moved_copy bucket copied bucket source source_etag 1
 
 abbrev pub limits : Limits
 limits = record { min_part = 1; max_part = 1; max_parts = 2; max_object = 2 }

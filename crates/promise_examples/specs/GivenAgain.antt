@@ -12,9 +12,7 @@ use Rattle.s3_model.specs.declared.outcomes.JobId.{JobId}
 use Rattle.s3_model.specs.declared.outcomes.Event.{Event}
 use Rattle.s3_model.specs.declared.outcomes.Event.TheVariants as entry
 use Rattle.s3_model.specs.declared.outcomes.Outcome.TheVariants as outcome
-use Rattle.s3_model.specs.declared.places.Place.TheVariants as place
 use Rattle.s3_model.specs.declared.settings.Limits.{Limits}
-use Rattle.s3_model.specs.declared.tasks.Kind.TheVariants as kind
 use Rattle.s3_model.specs.declared.tasks.Task.{Task}
 use Rattle.s3_model.specs.declared.tries.Mark.TheVariants as mark
 use Rattle.s3_model.specs.Classes.{is_tried_again}
@@ -25,6 +23,7 @@ use Rattle.run_promise.specs.Carried.{IsCarried}
 use Rattle.run_promise.specs.Dispatches.{Attempt, Dispatched, last_of}
 use Rattle.run_promise.specs.Schedule.{Setting, IsSchedule}
 use Rattle.run_promise.specs.Traces.{Request, Step, Given, Begin, Serve, Came}
+use Rattle.world_laws.specs.ExampleTasks as tasks
 use Rattle.promise_examples.specs.Pages.{in_first}
 use Rattle.promise_examples.specs.Runs.{Example, IsMet}
 use Rattle.promise_examples.specs.Services.{object_of, one_bucket}
@@ -67,17 +66,7 @@ bytes = 1 ∷ 2 ∷ []
 
 module _ (bucket key path : List ℕ) where
   abbrev pub upload : Task
-  upload = record {
-    kind = kind.Upload;
-    moves = false;
-    source = Some (place.File path);
-    dest = place.Object bucket key;
-    size = 2;
-    etag = [];
-    micros = 0;
-    content = None;
-    fresh = false;
-  }
+  upload = tasks.upload bucket key path 2 false
 
   abbrev pub put : Ask
   put = ask.Put bucket key None false

@@ -11,12 +11,10 @@ use Rattle.run_promise.specs.Dispatches.{Dispatched}
 use Rattle.s3_model.specs.Validity.{IsValidConfig, IsValidLimits}
 use Rattle.run_promise.specs.Schedule.{Setting, IsSchedule, planning_of}
 use Rattle.run_promise.specs.Carried.{IsCarried}
+use Rattle.world_laws.proofs.Clashes.{some_is}
 use Rattle.world_laws.specs.Premises.{AreGiven, HasCome}
 use Rattle.world_laws.specs.Tasks.{AreApart, AreQuestions, IsScheduled}
 use Rattle.world_laws.proofs.Given.{stands, given_is_dispatched}
-
-some_is : (m n : ℕ) → Some m ≡ Some n → m ≡ n
-some_is m n e = cc
 
 came_job : (job other : JobId) (lane lane' : ℕ) (tries tries' : List Mark) → Some (entry.Came job lane tries) ≡ Some (entry.Came other lane' tries') → job ≡ other
 came_job job other lane lane' tries tries' e = cc

@@ -15,6 +15,7 @@ use Rattle.run_promise.specs.Schedule.{IsBefore, IsBeforeAny}
 use Rattle.s3_service.specs.ServiceState.{State}
 use Rattle.s3_model.specs.Maps.{MapOf}
 use Rattle.s3_model.specs.Files.{HeldFile}
+use Rattle.world_laws.proofs.Clashes.{some_is}
 use Rattle.world_laws.specs.Rounds.{Round, Told, attempt_of, body_by, class_by, dispatch_at, dispatched_from, ending_by, journal_of, mark_by, no_text, reply_to}
 use Rattle.world_laws.proofs.Jobs.{either_way}
 use Rattle.world_laws.proofs.Members.{Has, has}
@@ -78,14 +79,8 @@ no_memory false asked got size e = clash (reply_to asked got size) e
     clash : (answered : Reply) → class.Success answered ≡ class.Uncertain why.Memory → ⊥
     clash answered f = cc
 
-some_attempt : (a b : Attempt) → Some a ≡ Some b → a ≡ b
-some_attempt a b e = cc
-
 one_none : (attempt : Attempt) → attempt ∷ [] ≡ [] → ⊥
 one_none attempt e = cc
-
-false_true : false ≡ true → ⊥
-false_true e = cc
 
 module _ (held : MapOf HeldFile) (task : Task) (rounds : List Round) (start : State) (apart : AreOtherJobs rounds) (plain : AllPlain rounds) (port : ℕ)
     (sized : (r : Round) → Has rounds r → r.size ≡ port) where
@@ -123,7 +118,7 @@ module _ (held : MapOf HeldFile) (task : Task) (rounds : List Round) (start : St
 
   marked : (place : ℕ) (r : Round) → Marked (dispatch_at place r)
   marked place r k attempt at =
-      let is : attempt_of r ≡ attempt = some_attempt (attempt_of r) attempt (ap (slice_get (attempt_of r ∷ [])) (sym (first_attempt r k attempt at)) ∙ at) in
+      let is : attempt_of r ≡ attempt = some_is (attempt_of r) attempt (ap (slice_get (attempt_of r ∷ [])) (sym (first_attempt r k attempt at)) ∙ at) in
       subst (λ (a : Attempt). (shown : Class) × (bytes : List ℕ) × Told r.ask 0 a.talk shown bytes × (a.mark ≡ mark_of shown) × (shown ≡ class.Uncertain why.Memory → ⊥)) is
       (class_by (ending_by r.refused) r.ask r.got r.size, body_by r.ask r.got, (refl, refl), mark_same r.refused r.ask r.got r.size, no_memory r.refused r.ask r.got r.size)
 

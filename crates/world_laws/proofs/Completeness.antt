@@ -41,6 +41,7 @@ use Rattle.run_promise.specs.Outcomes.{HasDeciding, HasOutcome, IsCauseOf, IsDec
 use Rattle.run_promise.specs.Schedule.{Setting, IsObject, IsTaskAsk, Known, Target, gained_before, is_small, job_of, source_bytes, IsUpload}
 use Rattle.run_promise.specs.Traces.{Step, TraceEvent, Serve, IsWilling, Steps, state_after}
 use Rattle.run_promise.specs.Truthful.{Shown, AreCertain, HasDestBuckets, IsAlone, IsFinished, MayBeFresh, WasTaken}
+use Rattle.world_laws.proofs.Clashes.{some_is, true_is_false}
 use Rattle.world_laws.specs.Completeness.{AreCallsCounted, AreSourcesThere, IsOwed, AreFreshByKind, OrderlyIsDone, WillingIsDone}
 use Rattle.world_laws.specs.Promises.{run_of, IsByRequests, IsOrderly}
 use Rattle.world_laws.specs.Tasks.{IsScheduled, IsTraceOf}
@@ -54,10 +55,10 @@ use Rattle.world_laws.proofs.Promises as promises
 use Rattle.world_laws.proofs.Requests.{may_change_decided, success_elsewhere}
 use Rattle.world_laws.proofs.Rows as rows
 use Rattle.world_laws.proofs.Tasks as tasks
-use Rattle.world_laws.proofs.Tasks.{last_place, planning_changes_nothing, some_task}
+use Rattle.world_laws.proofs.Tasks.{last_place, planning_changes_nothing}
 use Rattle.world_laws.proofs.Traces.{begun_through, step_of}
 use Rattle.world_laws.proofs.RefusedJobs as jobs
-use Rattle.world_laws.proofs.RefusedJobs.{true_is_false, upload_is_no_removal, part_is_no_abort, copied_is_no_abort, complete_is_no_abort, fits_any, put_vacant, bucket_of_object, there_or_not, not_there, same_completed, beyond, refused_is_no_reply, same_answer}
+use Rattle.world_laws.proofs.RefusedJobs.{upload_is_no_removal, part_is_no_abort, copied_is_no_abort, complete_is_no_abort, fits_any, put_vacant, bucket_of_object, there_or_not, not_there, same_completed, beyond, refused_is_no_reply, same_answer}
 
 module _ (Shows : Ask → ℕ → Talk → Class → List ℕ → Type 0) (HasStatus : Ask → ℕ → Talk → ℕ → Type 0) (Plans : List Dispatched → Type 0) (CallFailed : ℕ → Cause → Type 0)
     (request_text : Ask → List ℕ → ℕ → List ℕ) (host : List ℕ) (port : ℕ) (shown : Shown) (dispatched coming : List Dispatched)
@@ -289,7 +290,7 @@ module _ (Shows : Ask → ℕ → Talk → Class → List ℕ → Type 0) (HasSt
     never_taken d taken = by_kind task.kind refl (subst (λ (k : Kind). MayBeFresh k) (ap (λ (t : Task). t.kind) is) taken.3)
       where
         is : taken.0 ≡ task
-        is = some_task taken.0 task (sym taken.1 ∙ is_task)
+        is = some_is taken.0 task (sym taken.1 ∙ is_task)
 
         there_at : (d : Place) → d ≡ place.Object by.bucket by.key → IsThereIn (record { state = start; held = s.held; others = s.others }) d → IsThereNow start
         there_at d is_dest h = subst (λ (q : Place). IsThereIn (record { state = start; held = s.held; others = s.others }) q) is_dest h

@@ -11,6 +11,7 @@ use Rattle.s3_service.specs.ServiceState.{objects_in, State, Object, object_at, 
 use Rattle.s3_service.specs.Serves.{ExternalWrite, Writes, Removes}
 use Rattle.run_promise.specs.Traces.{Given, Begin, Serve, External, Came, states, events_of}
 use Rattle.run_promise.specs.Truthful.{IsExternal, HasJournal}
+use Rattle.world_laws.proofs.Clashes.{some_is}
 use Rattle.world_laws.specs.Premises.{Run, IsFitting}
 use Rattle.world_laws.specs.Rounds.{Told, Round, dispatched_from, journal_of, steps_from, AreServed}
 use Rattle.world_laws.proofs.Maps.{text_exact, text_decided, found_after_insert, found_in_empty, not_both, get-insert_same, get-insert_other}
@@ -21,9 +22,6 @@ use Rattle.world_laws.proofs.Rounds.{AreApart, rounds_trace, rounds_fit}
 -- each object's ETag is its content
 abbrev pub IsFaithful : State → Type 0
 IsFaithful t = (bucket key : List ℕ) (object : Object) → object_at t bucket key ≡ Some object → object.etag ≡ object.bytes
-
-some_is : (a b : Object) → Some a ≡ Some b → a ≡ b
-some_is a b e = cc
 
 -- the object with these bytes, under themselves
 abbrev pub object_of : List ℕ → Object

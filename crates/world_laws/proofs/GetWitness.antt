@@ -23,6 +23,7 @@ use Rattle.s3_model.specs.declared.outcomes.JobId.{JobId}
 use Rattle.s3_model.specs.Maps.{MapOf}
 use Rattle.s3_service.specs.Listing.{Name, Key, IsPage, listing, name_of, once}
 use Rattle.world_laws.proofs.Maps.{entries-empty}
+use Rattle.world_laws.specs.ExampleTasks.{removal}
 use Rattle.world_laws.specs.SmallTransfers.{HasSize}
 use Rattle.world_laws.specs.Downloads.{AreGotInParts, IsGot, IsPartial}
 use Rattle.world_laws.specs.Sources.{TellsOf, IsFound}
@@ -30,7 +31,7 @@ use Rattle.world_laws.specs.Rounds.{body_by, page_of, reply_to, Told, Round, dis
 use Rattle.world_laws.specs.Premises.{Run, IsNoPlace}
 use Rattle.run_promise.specs.Truthful.{IsDest}
 use Rattle.world_laws.proofs.ScheduleWitness.{setting_of, the_limits}
-use Rattle.world_laws.specs.Witnesses.{HeadIsMet, IsFoundMet, PageIsMet, AreRangesGot, removal, IsMet, GetIsMet, RangesAreMet}
+use Rattle.world_laws.specs.Witnesses.{HeadIsMet, IsFoundMet, PageIsMet, AreRangesGot, IsMet, GetIsMet, RangesAreMet}
 use Rattle.world_laws.proofs.Members.{has}
 use Rattle.world_laws.proofs.Objects.{objects_in_same, object_at-with_object}
 use Rattle.world_laws.proofs.Rounds.{AreApart, rounds_come}

@@ -1,4 +1,5 @@
 -- Where the dispatches of a journal stand in it.
+use Rattle.world_laws.proofs.Clashes.{some_is}
 use Rattle.std.proofs.Common.{append_assoc, ◌≡◌, ◌∙◌, ◌+◌, ◌<◌, ◌≤◌, ℕ, zero, suc, Bool, true, false, cond, List, [], ◌∷◌, ◌++◌, Option, Some, None, refl, sym, ap, subst, inl, inr, Contains, length, map, slice_get, arith}
 use Rattle.std.proofs.lemmas.List.{length-append}
 use Rattle.s3_model.specs.declared.outcomes.JobId.{JobId}
@@ -20,9 +21,6 @@ next_is_after job (entry.Given other lane ∷ events) at place e = let rest = ne
 next_is_after job (entry.Came other lane tries ∷ events) at place e =
     here (is_job job other) (λ f. next_is_after job events (at + 1) place f) e
   where
-    some_is : (m n : ℕ) → Some m ≡ Some n → m ≡ n
-    some_is m n e = cc
-
     here : (test : Bool) → (place_of (next_came job (at + 1) events) ≡ Some place → at + 1 ≤ place) → place_of (cond test (Some (at, tries)) (next_came job (at + 1) events)) ≡ Some place → at ≤ place
     here true later f = let same = some_is at place f in omega arith
     here false later f = let rest = later f in omega arith

@@ -2,6 +2,7 @@ pub mod Assembled
 pub mod Buckets
 pub mod Carried
 pub mod CarriedWitness
+pub mod Clashes
 pub mod Completeness
 pub mod Destinations
 pub mod Downloads

@@ -1,4 +1,5 @@
 -- Maps at one key: what is there after a change.
+pub use Rattle.world_laws.proofs.Clashes.{none_is_some, some_is}
 use Rattle.std.proofs.Common.{[], ◌∷◌, length, arith, ◌≡◌, ◌∙◌, ◌⊎◌, ℕ, Bool, true, false, cond, List, Option, Some, None, refl, sym, ap, inl, inr}
 use Rattle.std.specs.Prelude.{IsNone}
 use Rattle.std.specs.Ordering.{eq_by_cmp, is_eq, nat_cmp}
@@ -16,12 +17,6 @@ equal_from_test : (o : Ordering) → is_eq o ≡ true → o ≡ Equal
 equal_from_test Less e = cc
 equal_from_test Equal e = refl
 equal_from_test Greater e = cc
-
-pub none_is_some : {V : Type 0} (w : V) → ◌≡◌ {A = Option V} None (Some w) → ⊥
-none_is_some w e = cc
-
-pub some_is : {V : Type 0} (a b : V) → Some a ≡ Some b → a ≡ b
-some_is a b e = cc
 
 -- nothing and something are never found at once
 pub not_both : {V : Type 0} (found : Option V) (w : V) → found ≡ None → found ≡ Some w → ⊥

@@ -18,6 +18,7 @@ use Rattle.run_promise.specs.Carried.{IsCarried, mark_of}
 use Rattle.run_promise.specs.Dispatches.{Attempt, Dispatched, FitsAsk, FitsLast, IsSuccessLast, last_of}
 use Rattle.run_promise.specs.Outcomes.{HasMark}
 use Rattle.run_promise.specs.Schedule.{Setting, IsBefore, IsBeforeAny, IsFailed, IsSchedule, HasReply}
+use Rattle.world_laws.proofs.Clashes.{some_is}
 use Rattle.world_laws.specs.Premises.{AreGiven, HasCome, HasSucceeded, AllRefused}
 use Rattle.world_laws.specs.Promises.{ShowsOneClass}
 use Rattle.world_laws.proofs.Members.{Has, has, contains_of, has-append_cases, place_in_front, place_middle, found_or_not}
@@ -126,9 +127,6 @@ pair_of : {X : Type 0} (R : X → X → Type 0) (xs : List X) → AllPairs R xs 
 pair_of R xs all i j a b before at_i at_j =
     subst (λ x. R a x) (get_or_from_slice_get xs j b a at_j) (subst (λ x. R x (get_or xs j a)) (get_or_from_slice_get xs i a a at_i) (all i j a before (slice_get_within xs j b at_j)))
 
-same_item : (a b : Dispatched) → Some a ≡ Some b → a ≡ b
-same_item a b e = cc
-
 -- ---- a job that came with success did not fail
 
 module _ (Shows : Ask → ℕ → Talk → Class → List ℕ → Type 0) (Plans : List Dispatched → Type 0) (s : Setting) (journal : List Event) (dispatched coming : List Dispatched)
@@ -175,7 +173,7 @@ module _ (Shows : Ask → ℕ → Talk → Class → List ℕ → Type 0) (Plans
       at_b = index_of dispatched b known_b
 
       by_place : (at_a.0 ≡ at_b.0) ⊎ (at_a.0 < at_b.0) ⊎ (at_b.0 < at_a.0) → a ≡ b
-      by_place (inl level) = same_item a b (sym at_a.1 ∙ ap (slice_get dispatched) level ∙ at_b.1)
+      by_place (inl level) = some_is a b (sym at_a.1 ∙ ap (slice_get dispatched) level ∙ at_b.1)
       by_place (inr (inl before)) = absurd ((pair_of IsGivenAgain dispatched all_again at_a.0 at_b.0 a b before at_a.1 at_b.1 same).1 ok_a)
       by_place (inr (inr after)) = absurd ((pair_of IsGivenAgain dispatched all_again at_b.0 at_a.0 b a after at_b.1 at_a.1 (sym same)).1 ok_b)
 
@@ -193,7 +191,7 @@ module _ (Shows : Ask → ℕ → Talk → Class → List ℕ → Type 0) (Plans
       never_again i j d before inside alike = (schedule.twice i j d before inside alike).5
 
       by_place : (at_a.0 ≡ at_b.0) ⊎ (at_a.0 < at_b.0) ⊎ (at_b.0 < at_a.0) → a ≡ b
-      by_place (inl level) = same_item a b (sym at_a.1 ∙ ap (slice_get dispatched) level ∙ at_b.1)
+      by_place (inl level) = some_is a b (sym at_a.1 ∙ ap (slice_get dispatched) level ∙ at_b.1)
       by_place (inr (inl before)) =
           absurd (pair_of (λ (c d : Dispatched). c.dispatch.job ≡ d.dispatch.job → c.dispatch.job.op ≢ op.Abort) dispatched never_again at_a.0 at_b.0 a b before at_a.1 at_b.1 same is_abort)
       by_place (inr (inr after)) =
@@ -225,7 +223,7 @@ module _ (Shows : Ask → ℕ → Talk → Class → List ℕ → Type 0) (Plans
 
       by_place : (at_d.0 ≡ at_c.0) ⊎ (at_d.0 < at_c.0) ⊎ (at_c.0 < at_d.0) → ⊥
       by_place (inl level) =
-          let is : d ≡ c = same_item d c (sym at_d.1 ∙ ap (slice_get dispatched) level ∙ at_c.1) in
+          let is : d ≡ c = some_is d c (sym at_d.1 ∙ ap (slice_get dispatched) level ∙ at_c.1) in
           let ok_c = subst (λ (x : Dispatched). IsSuccessLast (last_of x.dispatch.attempts)) is ok in
           failed.4 (ok_c, fits_last c (last_of c.dispatch.attempts) ok_c fits)
       by_place (inr (inl before)) = (pair_of IsGivenAgain dispatched all_again at_d.0 at_c.0 d c before at_d.1 at_c.1 same).1 ok

@@ -1,4 +1,5 @@
 -- What a list contains, by recursion on the list.
+use Rattle.world_laws.proofs.Clashes.{none_is_some, some_is}
 use Rattle.std.proofs.Common.{◌≡◌, ◌∙◌, ◌⊎◌, ◌<◌, ℕ, zero, suc, Bool, true, false, cond, List, [], ◌∷◌, ◌++◌, Option, Some, None, refl, sym, ap, inl, inr, Contains, length, get_or, map, reverse, subst, filter, filter_map, slice_get, arith}
 use Rattle.std.specs.Prelude.{flat_map}
 use Rattle.std.proofs.lemmas.List.{reverse-append}
@@ -137,12 +138,6 @@ pub record SplitAt {X Y : Type 0} (f : X → Option Y) (xs : List X) (k : ℕ) (
   pub is : xs ≡ front ++ item ∷ back
   pub gives : f item ≡ Some y
   pub place : length (filter_map f front) ≡ k
-
-none_is_some : {X : Type 0} (w : X) → ◌≡◌ {A = Option X} None (Some w) → ⊥
-none_is_some w e = cc
-
-some_is : {X : Type 0} (a b : X) → Some a ≡ Some b → a ≡ b
-some_is a b e = cc
 
 -- something or nothing
 pub found_or_not : {X : Type 0} (o : Option X) → (o ≡ None) ⊎ ((x : X) × (o ≡ Some x))

@@ -23,6 +23,7 @@ use Rattle.run_promise.specs.Schedule.{Setting, Gained, IsObject, IsSource, IsTa
 use Rattle.run_promise.specs.Endings.{IsGone}
 use Rattle.s3_model.specs.Maps.{MapOf}
 use Rattle.s3_model.specs.Files.{HeldFile}
+use Rattle.world_laws.proofs.Clashes.{some_is}
 use Rattle.world_laws.specs.Premises.{Run, moments, HasEndedBy, HasSucceeded}
 use Rattle.world_laws.specs.Destinations.{AllThatChange}
 use Rattle.world_laws.specs.SmallTransfers.{AsksDelete}
@@ -122,7 +123,7 @@ module _ (Shows : Ask → ℕ → Talk → Class → List ℕ → Type 0) where
           ]
 
       own_of : (found : (t : Task) × (slice_get s.tasks n ≡ Some t) × tasks.IsRow Shows s run.journal run.dispatched of.coming of.scheduled n t c) → tasks.IsRow Shows s run.journal run.dispatched of.coming of.scheduled n task c
-      own_of found = subst (λ (t : Task). tasks.IsRow Shows s run.journal run.dispatched of.coming of.scheduled n t c) (tasks.some_task found.0 task (sym found.1 ∙ is_task)) found.2
+      own_of found = subst (λ (t : Task). tasks.IsRow Shows s run.journal run.dispatched of.coming of.scheduled n t c) (some_is found.0 task (sym found.1 ∙ is_task)) found.2
 
       may : MayChange c.ask bucket key
       may =

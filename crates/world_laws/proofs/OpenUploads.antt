@@ -28,6 +28,7 @@ use Rattle.run_promise.specs.Fits.{request_at}
 use Rattle.run_promise.specs.Schedule.{Setting, AreETags, Gained, HasReply, IsTaskAsk, IsUpload, Known, Target, asked_range, gained_before, is_small, job_of, source_bytes}
 use Rattle.run_promise.specs.Traces.{Request, Step, TraceEvent, Serve, Steps, state_after, states, events_of, event_of}
 use Rattle.run_promise.specs.Truthful.{IsAlone}
+use Rattle.world_laws.proofs.Clashes.{some_is}
 use Rattle.world_laws.specs.Premises.{HasCome}
 use Rattle.world_laws.specs.Tasks.{AreQuestions, IsPlanning, IsScheduled, IsTraceOf}
 use Rattle.world_laws.proofs.Early as early
@@ -378,7 +379,7 @@ module _ (Shows : Ask → ℕ → Talk → Class → List ℕ → Type 0) (s : S
             finish : IsUpload (gained_before Shows dispatched c.dispatch.given_at) m id × (c.dispatch.job.op ≡ part_of found.0.kind) × (c.dispatch.job.number ≡ number) → c.dispatch.job ≡ job_of n (part_of task.kind) number
             finish says =
                 let same : m ≡ n = ours m id c.dispatch.given_at has says.0 in
-                let is : found.0 ≡ task = tasks.some_task found.0 task (sym found.1 ∙ ap (slice_get s.tasks) same ∙ is_task) in
+                let is : found.0 ≡ task = some_is found.0 task (sym found.1 ∙ ap (slice_get s.tasks) same ∙ is_task) in
                 job_is c.dispatch.job (job_of n (part_of task.kind) number) (of_task ∙ ap Some same) (says.1 ∙ ap (λ (t : Task). part_of t.kind) is) says.2
 
     ends_task : (c : Dispatched) → Ends c → c.dispatch.job.task ≡ Some n

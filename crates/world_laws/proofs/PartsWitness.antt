@@ -16,6 +16,7 @@ use Rattle.run_promise.specs.Dispatches.{Dispatched, op_number}
 use Rattle.run_promise.specs.Schedule.{job_of, IsBefore}
 use Rattle.run_promise.specs.Fits.{request_at}
 use Rattle.s3_model.specs.Documents.{document_of}
+use Rattle.world_laws.proofs.Clashes.{false_true}
 use Rattle.world_laws.specs.Destinations.{Requests}
 use Rattle.world_laws.specs.Multipart.{AreParts, AreCopiedParts, CompletesHere, IsCreated}
 use Rattle.world_laws.specs.Uploads.{NamesUpload}
@@ -25,7 +26,7 @@ use Rattle.world_laws.proofs.Maps.{is_nothing, not_both, text_exact, get-insert_
 use Rattle.world_laws.proofs.Members.{Has, has}
 use Rattle.world_laws.proofs.Rounds.{AreApart, round_of, rounds_trace, rounds_fit, rounds_come}
 use Rattle.world_laws.proofs.Faithful.{run_by, IsFaithful, AreFaithful, object_of, bare, bare_is_faithful, bare_has, bare_uploads, bare_ended, faithful_with, faithful_without, has_bucket_after, has_bucket_still}
-use Rattle.world_laws.proofs.Witnesses.{false_true, round, succeeds, met, by_op, two_buckets, with_source, source_is_there, bucket_is_there, source_is_faithful}
+use Rattle.world_laws.proofs.Witnesses.{moved_by, round, succeeds, met, by_op, two_buckets, with_source, source_is_there, bucket_is_there, source_is_faithful}
 
 -- two jobs of one task with other ops, or other numbers, are apart
 apart_by_op : (a b : JobId) → (op_number a.op < op_number b.op) → a ≡ b → ⊥
@@ -429,23 +430,10 @@ module _ (limits : Limits) (bucket key from_bucket from_key etag : List ℕ) (ra
 
   copied_move : IsMoveMet limits bucket key from_bucket from_key (AreCopiedParts Told bucket key from_bucket from_key etag ranges 2)
   unfolding copied_met upload_met met
-  copied_move = record {
-    run = done.run;
-    fitting = done.fitting;
-    such = record {
-      copy = done.such;
-      job = job_of 0 op.Delete 0;
-      waits = λ d known same. waits d (has (dispatched_from 0 moved_rounds) d known) same;
-      lane = 0;
-      sent = request_at (dispatch_at 8 (round (job_of 0 op.Delete 0) (ask.Delete from_bucket from_key) [] [] from_start)) 0;
-      begins = (17, omega arith, refl);
-      of_job = refl;
-      deletes = refl;
-    };
-  }
-    where
-      from_start : State
-      from_start = with_source limits bucket key from_bucket from_key etag
+  copied_move =
+      moved_by limits bucket key from_bucket from_key (AreCopiedParts Told bucket key from_bucket from_key etag ranges 2) done
+      (request_at (dispatch_at 8 (round (job_of 0 op.Delete 0) (ask.Delete from_bucket from_key) [] [] (with_source limits bucket key from_bucket from_key etag))) 0)
+      (λ d known same. waits d (has (dispatched_from 0 moved_rounds) d known) same) (17, omega arith, refl) refl refl
 
 pub copied_move_is_met : CopiedMoveIsMet
 copied_move_is_met limits bucket key from_bucket from_key etag ranges apart two = copied_move limits bucket key from_bucket from_key etag ranges apart two.0 two.1 two.2

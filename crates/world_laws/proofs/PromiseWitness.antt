@@ -30,12 +30,14 @@ use Rattle.run_promise.specs.Traces.{External, IsWilling, events_of, states}
 use Rattle.run_promise.specs.Truthful.{AreCertain, HasDestBuckets, IsAlone, IsDest, Shown}
 use Rattle.s3_model.specs.Maps.{MapOf}
 use Rattle.s3_model.specs.Files.{HeldFile}
+use Rattle.world_laws.proofs.Clashes.{false_true, some_is}
+use Rattle.world_laws.specs.ExampleTasks.{upload, moved_copy, removal}
 use Rattle.world_laws.specs.Completeness.{AreSourcesThere}
 use Rattle.world_laws.specs.Premises.{IsFitting}
 use Rattle.world_laws.specs.Promises.{IsByRequests, IsOrderly, ShowsOneClass}
 use Rattle.world_laws.specs.Rounds.{AreNone, AreServed, NeverFailed, Round, Told, ToldStatus, attempt_of, class_by, dispatch_at, ending_by, dispatched_from, journal_of, mark_by, no_text, steps_from}
 use Rattle.world_laws.specs.Tasks.{AreApart, HasSource, MayBeNew}
-use Rattle.world_laws.specs.Witnesses.{CompleteIsMet, DoneIsMet, FailedIsMet, IsCompleteMet, IsPromiseMet, SkippedIsMet, upload, moved_copy, removal}
+use Rattle.world_laws.specs.Witnesses.{CompleteIsMet, DoneIsMet, FailedIsMet, IsCompleteMet, IsPromiseMet, SkippedIsMet}
 use Rattle.world_laws.proofs.CarriedWitness.{logs_of, notes_of, rounds_carried}
 use Rattle.world_laws.proofs.Faithful.{nobody_writes, IsFaithful, bare, bare_is_faithful, faithful_with, object_of, run_by}
 use Rattle.world_laws.proofs.Members.{Has, has}
@@ -55,17 +57,8 @@ same_class (class.Uncertain why) = refl
 pub told_one_class : ShowsOneClass Told
 told_one_class asked limit talk one same bytes others told told_too = subst (IsSameClass one) (told.0 ∙ sym told_too.0) (same_class one)
 
-same_outcome : (a b : Outcome) → Some a ≡ Some b → a ≡ b
-same_outcome a b e = cc
-
-some_attempt : (a b : Attempt) → Some a ≡ Some b → a ≡ b
-some_attempt a b e = cc
-
 no_upload : kind.Copy ≡ kind.Upload → ⊥
 no_upload e = cc
-
-no_fresh : false ≡ true → ⊥
-no_fresh e = cc
 
 -- ---- an orderly run of one task
 
@@ -96,7 +89,7 @@ module _ (held : MapOf HeldFile) (task : Task) (how : Outcome) (rounds : List Ro
     outcomes = inl refl;
     causes = λ n other ended is_task at_how.
         let one = one_task task n other is_task in
-        let level : how ≡ ended = same_outcome how ended (ap (slice_get (how ∷ [])) (sym one.0) ∙ at_how) in
+        let level : how ≡ ended = some_is how ended (ap (slice_get (how ∷ [])) (sym one.0) ∙ at_how) in
         subst (λ (k : ℕ). HasOutcome Told ToldStatus NeverFailed (setting_with held task) all all k other ended) (sym one.0)
         (subst (λ (t : Task). HasOutcome Told ToldStatus NeverFailed (setting_with held task) all all 0 t ended) (sym one.1) (subst (λ (h : Outcome). HasOutcome Told ToldStatus NeverFailed (setting_with held task) all all 0 task h) level caused));
     questions = λ c known none. absurd (planned c known none);
@@ -104,7 +97,7 @@ module _ (held : MapOf HeldFile) (task : Task) (how : Outcome) (rounds : List Ro
     apart = tasks_apart;
     sources = λ first trace traced n other ended is_task at_how may.
         let one = one_task task n other is_task in
-        let level : how ≡ ended = same_outcome how ended (ap (slice_get (how ∷ [])) (sym one.0) ∙ at_how) in
+        let level : how ≡ ended = some_is how ended (ap (slice_get (how ∷ [])) (sym one.0) ∙ at_how) in
         subst (λ (t : Task). HasSource (setting_with held task).held (states first trace) t t.kind (is_small (setting_with held task) t)) (sym one.1) (sourced (states first trace) (subst MayBeNew (sym level) may));
     files = λ n other ended path is_task at_how moves is_source.
         let one = one_task task n other is_task in
@@ -130,7 +123,7 @@ module _ (rounds : List Round) (start : State) where
   certain_at port c at attempt why bytes known slot told =
       let found = round_of rounds 0 c (has (dispatched_from 0 rounds) c known) in
       let here : slice_get (attempt_of found.0 ∷ []) at ≡ Some attempt = subst (λ (d : Dispatched). slice_get d.dispatch.attempts at ≡ Some attempt) (sym found.3) slot in
-      let only : attempt_of found.0 ≡ attempt = some_attempt (attempt_of found.0) attempt (ap (slice_get (attempt_of found.0 ∷ [])) (sym (first_attempt found.0 at attempt here)) ∙ here) in
+      let only : attempt_of found.0 ≡ attempt = some_is (attempt_of found.0) attempt (ap (slice_get (attempt_of found.0 ∷ [])) (sym (first_attempt found.0 at attempt here)) ∙ here) in
       came found.0.refused c.ask attempt.talk.got attempt.talk.port why
       (told.0 ∙ ap (λ (e : Ending). class_by e c.ask attempt.talk.got attempt.talk.port) (sym (ap (λ (a : Attempt). a.talk.ending) only)))
     where
@@ -156,7 +149,7 @@ bucket_of start task bucket key is_task there b k is_dest =
 
 module _ (bucket key from_bucket from_key etag : List ℕ) (apart : (from_bucket ≡ bucket) × (from_key ≡ key) → ⊥) where
   abbrev copy_task : Task
-  copy_task = moved_copy bucket key from_bucket from_key etag
+  copy_task = moved_copy bucket key from_bucket from_key etag 0
 
   abbrev rounds : List Round
   rounds = sched.rounds bucket key from_bucket from_key etag apart
@@ -174,11 +167,8 @@ module _ (bucket key from_bucket from_key etag : List ℕ) (apart : (from_bucket
     λ c failed. sched.not_failed (setting_of copy_task) rounds (sched.all_well bucket key from_bucket from_key etag apart) c failed.0,
     (dispatch_at 0 (sched.copy_round bucket key from_bucket from_key etag apart), (0, omega arith, refl), (tt, refl), (0, attempt_of (sched.copy_round bucket key from_bucket from_key etag apart), refl, refl)),
     λ moves is_object. (reply.Gone, (dispatch_at 2 (sched.delete_round bucket key from_bucket from_key etag apart), (1, omega arith, refl), refl, (refl, [], (refl, refl)))),
-    λ fresh. absurd (never_fresh fresh),
+    λ fresh. absurd (false_true fresh),
   )
-    where
-      never_fresh : false ≡ true → ⊥
-      never_fresh e = cc
 
   done_met : IsPromiseMet copy_task outcome.Done
   done_met = record {
@@ -198,9 +188,6 @@ module _ (bucket key from_bucket from_key etag : List ℕ) (apart : (from_bucket
     where
       no_removal : kind.Copy ≡ kind.RemoveObject → ⊥
       no_removal e = cc
-
-      no_fresh : false ≡ true → ⊥
-      no_fresh e = cc
 
       no_file : (path : List ℕ) → Some (place.Object from_bucket from_key) ≡ Some (place.File path) → ⊥
       no_file path e = cc
@@ -237,7 +224,7 @@ module _ (bucket key from_bucket from_key etag : List ℕ) (apart : (from_bucket
       alone = alone_trace rounds start;
       buckets = bucket_of start copy_task bucket key refl (bucket_is_there the_limits bucket key from_bucket from_key etag);
       sources = sources_there;
-      fresh = λ n task is_task fresh. absurd (no_fresh (ap (λ (t : Task). t.fresh) (sym (one_task copy_task n task is_task).1) ∙ fresh));
+      fresh = λ n task is_task fresh. absurd (false_true (ap (λ (t : Task). t.fresh) (sym (one_task copy_task n task is_task).1) ∙ fresh));
       not_cancelled = refl;
     }
 
@@ -269,7 +256,7 @@ module _ (task : Task) (stays : task.moves ≡ false) (r : Round) (plain : IsPla
   marked_refused : (c : Dispatched) (of_mark : Mark) → Contains one c → HasMark c of_mark → mark.Refusal ≡ of_mark
   marked_refused c of_mark known marked =
       let slot : slice_get (attempt_of r ∷ []) marked.0 ≡ Some marked.1 = subst (λ (d : Dispatched). slice_get d.dispatch.attempts marked.0 ≡ Some marked.1) (sym (is_only c known)) marked.2 in
-      let only : attempt_of r ≡ marked.1 = some_attempt (attempt_of r) marked.1 (ap (slice_get (attempt_of r ∷ [])) (sym (first_attempt r marked.0 marked.1 slot)) ∙ slot) in
+      let only : attempt_of r ≡ marked.1 = some_is (attempt_of r) marked.1 (ap (slice_get (attempt_of r ∷ [])) (sym (first_attempt r marked.0 marked.1 slot)) ∙ slot) in
       sym (ap mark_by refused) ∙ ap (λ (a : Attempt). a.mark) only ∙ marked.3
 
   not_cut : (Stopped : Type 0) → IsCut Told 1 request [] Stopped → ⊥
@@ -292,14 +279,11 @@ module _ (task : Task) (stays : task.moves ≡ false) (r : Round) (plain : IsPla
     planned = refl;
     ended = refl;
     orderly = orderly empty task how (r ∷ []) start (alone r) one_plain sized shown (sched.one_schedule task stays r plain start faithful served after asked first no_create AreNone refl) caused by_requests
-        (sched.one_apart task stays r plain start faithful served after asked first no_create) (λ moments may. absurd (never_new may)) (λ path moves is_file. absurd (clash (sym stays ∙ moves)));
+        (sched.one_apart task stays r plain start faithful served after asked first no_create) (λ moments may. absurd (never_new may)) (λ path moves is_file. absurd (false_true (sym stays ∙ moves)));
     traced = fitting;
     whole = ([], sym (append-nil (steps_from 0 start (r ∷ []))), fitting.fits.moves);
   }
     where
-      clash : false ≡ true → ⊥
-      clash e = cc
-
       one_plain : AllPlain (r ∷ [])
       one_plain = sched.one_plain task stays r plain start faithful served after asked first no_create
 
@@ -331,14 +315,11 @@ module _ (bucket key : List ℕ) where
             first_failure gone_task refl gone_round (sched.removal_is_plain bucket key) (one_bucket the_limits bucket key) (bare_is_faithful (bucket ∷ [])) ((refl, tt), tt) refl (sched.removes bucket key) refl sched.delete_create refl,
             (refl, ([], (refl, refl)), λ changed. changed.0),
           ),
-          λ skipped. absurd (no_fresh skipped.0),
+          λ skipped. absurd (false_true skipped.0),
         ),
       )
       (record { bucket = bucket; key = key; is_dest = refl; decided = tt; keeps = λ removes. refl }) (λ may. may)
     where
-      no_fresh : false ≡ true → ⊥
-      no_fresh e = cc
-
       marked : (c : Dispatched) (of_mark : Mark) → Contains (dispatch_at 0 gone_round ∷ []) c → HasMark c of_mark → mark.Refusal ≡ of_mark
       marked = marked_refused gone_task refl gone_round (sched.removal_is_plain bucket key) (one_bucket the_limits bucket key) (bare_is_faithful (bucket ∷ [])) ((refl, tt), tt) refl (sched.removes bucket key) refl sched.delete_create refl
 

@@ -56,9 +56,6 @@ decided_by kind.RemoveObject small n count gained by h = absurd h
 decided_by kind.Download small n count gained by h = absurd by
 decided_by kind.RemoveFile small n count gained by h = absurd by
 
-true_is_false : true ≡ false → ⊥
-true_is_false e = cc
-
 -- ---- what is carried
 
 module _ (Shows : Ask → ℕ → Talk → Class → List ℕ → Type 0) where

@@ -45,6 +45,7 @@ use Rattle.run_promise.specs.Outcomes.{HasMark, IsDecidedByRequest, deciding}
 use Rattle.run_promise.specs.Schedule.{Setting, Gained, IsFailed, IsObject, IsSource, IsTaskAsk, Known, Target, gained_before, is_small, job_of, source_bytes, HasReply, IsBefore, IsPart, IsUpload, asked_range, bytes_of}
 use Rattle.run_promise.specs.Traces.{Step, IsTrace, IsWilling, SaysTaken, state_after, events_of, event_of, states}
 use Rattle.run_promise.specs.Truthful.{Shown, AreCertain, HasDestBuckets, IsAlone, MayBeFresh}
+use Rattle.world_laws.proofs.Clashes.{some_is, true_is_false}
 use Rattle.world_laws.specs.Completeness.{AreSourcesThere}
 use Rattle.world_laws.specs.Premises.{HasCome}
 use Rattle.world_laws.specs.Promises.{run_of, IsByRequests, IsOrderly}
@@ -62,12 +63,9 @@ use Rattle.world_laws.proofs.Promises as promises
 use Rattle.world_laws.proofs.Requests.{may_change_decided, success_elsewhere}
 use Rattle.world_laws.proofs.Rows as rows
 use Rattle.world_laws.proofs.Tasks as tasks
-use Rattle.world_laws.proofs.Tasks.{last_place, planning_changes_nothing, some_task}
+use Rattle.world_laws.proofs.Tasks.{last_place, planning_changes_nothing}
 use Rattle.world_laws.proofs.Traces.{stable_along, trace_beginning}
 use Rattle.world_laws.proofs.Willing.{IsRefusedEarly, refused_early}
-
-pub true_is_false : true ≡ false → ⊥
-true_is_false e = cc
 
 pub upload_is_no_removal : kind.Upload ≡ kind.RemoveObject → ⊥
 upload_is_no_removal e = cc
@@ -332,7 +330,7 @@ module _ (Shows : Ask → ℕ → Talk → Class → List ℕ → Type 0) (HasSt
               → (row : tasks.IsRow Shows s shown.journal dispatched coming scheduled m other d) → rows.DeletesSource other d.ask bucket key → ⊥
           deletes_never d m other known_d of_other at row deletes =
               let same : n ≡ m = sources.moved_once n m task other bucket key is_task at is_copy is_source deletes.moves deletes.is_source in
-              let is : other ≡ task = some_task other task (sym at ∙ ap (slice_get s.tasks) (sym same) ∙ is_task) in
+              let is : other ≡ task = some_is other task (sym at ∙ ap (slice_get s.tasks) (sym same) ∙ is_task) in
               let is_op : d.dispatch.job.op ≡ op.Delete = op_same d.dispatch.job.op op.Delete
               (sym (rows.row_op (Gains d.dispatch.given_at) other (record { number = m; bytes = source_bytes s.held other.source; piece = row.piece; count = row.count }) other.kind (is_small s other)
               d.dispatch.job.op d.dispatch.job.number d.ask d.body row.row) ∙ ap rows.ask_number deletes.deletes) in

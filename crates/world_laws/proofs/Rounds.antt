@@ -21,6 +21,7 @@ use Rattle.s3_service.specs.Serves.{Answer}
 use Rattle.run_promise.specs.Dispatches.{Attempt, Dispatched, is_job}
 use Rattle.run_promise.specs.Traces.{Request, TraceEvent, Given, Begin, Serve, Came, IsTrace, IsSameAttempt, events_of, event_of, begun_in, served_in, is_begin_of, marks_come}
 use Rattle.run_promise.specs.Fits.{Fits, Names, request_at, requests_of}
+use Rattle.world_laws.proofs.Clashes.{some_is}
 use Rattle.world_laws.specs.Premises.{AreGiven, HasCome}
 use Rattle.world_laws.specs.Rounds.{reply_to, Told, Round, answer_by, mark_by, ending_by, attempt_of, dispatch_at, dispatched_from, journal_of, steps_from, AreServed}
 use Rattle.world_laws.proofs.Members.{Has, has, contains_of, has_middle, head_is, tail_is, place_middle}
@@ -294,12 +295,9 @@ named_by : (c : Dispatched) (r : Round) (at : ℕ) → dispatch_at at r ≡ c �
 named_by c r at is k attempt shown bytes slot told =
     let slot_here : slice_get (attempt_of r ∷ []) k ≡ Some attempt = subst (λ (d : Dispatched). slice_get d.dispatch.attempts k ≡ Some attempt) (sym is) slot in
     let first : k ≡ 0 = first_attempt r k attempt slot_here in
-    let only : attempt_of r ≡ attempt = some_attempt (attempt_of r) attempt (ap (slice_get (attempt_of r ∷ [])) (sym first) ∙ slot_here) in
+    let only : attempt_of r ≡ attempt = some_is (attempt_of r) attempt (ap (slice_get (attempt_of r ∷ [])) (sym first) ∙ slot_here) in
     names_answer r.refused r.ask r.got r.size shown bytes (answer_by r.refused r.ask r.got r.size)
     (subst (λ (a : Attempt). Told r.ask 0 a.talk shown bytes) (sym only) (subst (λ (d : Dispatched). Told d.ask d.limit attempt.talk shown bytes) (sym is) told)) refl
-  where
-    some_attempt : (a b : Attempt) → Some a ≡ Some b → a ≡ b
-    some_attempt a b e = cc
 
 -- ---- places of the journal
 
@@ -395,9 +393,6 @@ module _ (rounds : List Round) (start : State) (apart : AreApart rounds) where
     each_came = λ place lane job tries e.
         let found = each_came rounds 0 place lane job tries e in (found.0, contains_of (dispatched_from 0 rounds) found.0 found.1, found.2, found.3 ∙ ap Some (omega arith));
   }
-    where
-      some_is : (m n : ℕ) → Some m ≡ Some n → m ≡ n
-      some_is m n e = cc
 
   pub rounds_come : (c : Dispatched) → Has (dispatched_from 0 rounds) c → HasCome (journal_of rounds) c
   rounds_come c known = let stands = stands_at rounds 0 [] c refl known in (c.dispatch.given_at + 1, stands.tries, stands.comes, stands.came)

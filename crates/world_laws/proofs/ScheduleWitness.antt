@@ -26,10 +26,12 @@ use Rattle.s3_model.specs.Validity.{IsValidConfig, IsValidLimits}
 use Rattle.run_promise.specs.Schedule.{IsUpload, Setting, limit_of, Target, Origin, IsSchedule, IsTaskAsk, IsBefore, IsBeforeAny, IsDecided, IsObject, IsSource, IsFailed, gained_before, is_planning, planning_of, is_small, job_of, source_bytes}
 use Rattle.s3_model.specs.Maps.{MapOf}
 use Rattle.s3_model.specs.Files.{HeldFile}
+use Rattle.world_laws.proofs.Clashes.{false_true, some_is}
+use Rattle.world_laws.specs.ExampleTasks.{moved_copy, removal}
 use Rattle.world_laws.specs.Premises.{IsFitting, AllRefused}
 use Rattle.world_laws.specs.Rounds.{AreServed, Told, Round, mark_by, dispatch_at, dispatched_from, journal_of, steps_from}
 use Rattle.world_laws.specs.Tasks.{AreApart, AreQuestions, HasSource, IsScheduled}
-use Rattle.world_laws.specs.Witnesses.{moved_copy, removal, IsTaskMet, IsMovedCopy, IsRefusedTask, TaskIsMet, RefusedTaskIsMet}
+use Rattle.world_laws.specs.Witnesses.{IsTaskMet, IsMovedCopy, IsRefusedTask, TaskIsMet, RefusedTaskIsMet}
 use Rattle.world_laws.proofs.Tasks.{planned_none}
 use Rattle.world_laws.proofs.Members.{Has, has, kept, passes, has_at, has_middle, contains_of}
 use Rattle.world_laws.proofs.Faithful.{run_by, IsFaithful, bare_is_faithful, faithful_without, rounds_fitting}
@@ -132,7 +134,7 @@ module _ (s : Setting) (rounds : List Round) (apart : AreOtherJobs rounds) (plai
     is_coming = IsPermutation-refl all;
     in_order = in_order rounds 0;
     asks = asks;
-    dry = λ c dried known. absurd (other_test (sym carried_out ∙ dried));
+    dry = λ c dried known. absurd (false_true (sym carried_out ∙ dried));
     plans = subst Plans (sym (nothing_in (planning_of all) no_planning)) no_plans;
     planned = λ c known none. let found = plain_of c known in absurd (none_task c found.0 found.1 found.2 found.3 none);
     numbered = λ k c at. absurd (no_planning c (has_at (planning_of all) k c at));
@@ -146,9 +148,6 @@ module _ (s : Setting) (rounds : List Round) (apart : AreOtherJobs rounds) (plai
     moves_last = moves_last;
   }
     where
-      other_test : false ≡ true → ⊥
-      other_test e = cc
-
       none_some : (m : ℕ) → ◌≡◌ {A = Option ℕ} None (Some m) → ⊥
       none_some m e = cc
 
@@ -221,12 +220,9 @@ limits_are_valid = record {
   reached = omega arith;
 }
 
-pub same_task : (a b : Task) → Some a ≡ Some b → a ≡ b
-same_task a b e = cc
-
 -- the only task is the first
 pub one_task : (task : Task) (m : ℕ) (a : Task) → slice_get (task ∷ []) m ≡ Some a → (m ≡ 0) × (a ≡ task)
-one_task task zero a e = (refl, sym (same_task task a e))
+one_task task zero a e = (refl, sym (some_is task a e))
 one_task task (suc m) a e = absurd (nothing a e)
   where
     nothing : (t : Task) → ◌≡◌ {A = Option Task} None (Some t) → ⊥
@@ -242,9 +238,6 @@ abbrev pub AsksOf : Task → List Dispatched → Dispatched → ℕ → Type 0
 AsksOf = AsksWith empty
 
 -- ---- a small copy that is moved
-
-pub some_is : (m n : ℕ) → Some m ≡ Some n → m ≡ n
-some_is m n e = cc
 
 copy_delete : op.Copy ≡ op.Delete → ⊥
 copy_delete e = let level : ◌≡◌ {A = ℕ} 3 4 = ap op_number e in absurd (omega arith)
@@ -263,7 +256,7 @@ delete_abort e = let level : ◌≡◌ {A = ℕ} 4 9 = ap op_number e in absurd 
 
 module _ (bucket key from_bucket from_key etag : List ℕ) (apart : (from_bucket ≡ bucket) × (from_key ≡ key) → ⊥) where
   abbrev pub the_task : Task
-  the_task = moved_copy bucket key from_bucket from_key etag
+  the_task = moved_copy bucket key from_bucket from_key etag 0
 
   abbrev pub the_setting : Setting
   the_setting = setting_of the_task
@@ -335,7 +328,7 @@ module _ (bucket key from_bucket from_key etag : List ℕ) (apart : (from_bucket
       which (inl e) = absurd (copy_delete (ap (λ (d : Dispatched). d.dispatch.job.op) e ∙ is_op))
       which (inr (inl e)) =
           let zero_is : 0 ≡ n = some_is 0 n (ap (λ (d : Dispatched). d.dispatch.job.task) e ∙ of_task) in
-          let task_is : the_task ≡ task = same_task the_task task (ap (slice_get the_setting.tasks) zero_is ∙ at) in
+          let task_is : the_task ≡ task = some_is the_task task (ap (slice_get the_setting.tasks) zero_is ∙ at) in
           subst (λ (d : Dispatched). IsDecided the_setting task n (gained_before Told dispatched d.dispatch.given_at)) e
           (subst (λ (m : ℕ). IsDecided the_setting task m (gained_before Told dispatched 2)) zero_is
           (subst (λ (t : Task). IsDecided the_setting t 0 (gained_before Told dispatched 2)) task_is (λ piece count pieces. copy_is_gained)))
@@ -417,10 +410,7 @@ module _ (task : Task) (stays : task.moves ≡ false) (r : Round) (plain : IsPla
       subst (AsksOf task (request ∷ []) c) zero_is (subst (λ (d : Dispatched). AsksOf task (request ∷ []) d 0) only asked)
 
   never_moves : (other : Task) (n : ℕ) → slice_get (task ∷ []) n ≡ Some other → other.moves ≡ true → ⊥
-  never_moves other n at moved = clash (sym stays ∙ ap (λ (t : Task). t.moves) (sym (one_task task n other at).1) ∙ moved)
-    where
-      clash : false ≡ true → ⊥
-      clash e = cc
+  never_moves other n at moved = false_true (sym stays ∙ ap (λ (t : Task). t.moves) (sym (one_task task n other at).1) ∙ moved)
 
   pub failed_is : (c : Dispatched) → IsFailed Told (setting_of task) (request ∷ []) c → request ≡ c
   failed_is c failed = is_only c (contains_of (request ∷ []) c (subst (λ (xs : List Dispatched). Has xs c) (sym failed.2) (has_middle failed.0 c failed.1)))

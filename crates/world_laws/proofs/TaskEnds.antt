@@ -24,6 +24,7 @@ use Rattle.run_promise.specs.Fits.{request_at}
 use Rattle.run_promise.specs.Schedule.{Setting, Known, IsTaskAsk, is_small, source_bytes, gained_before}
 use Rattle.run_promise.specs.Outcomes.{deciding}
 use Rattle.run_promise.specs.Endings.{Excused, Scene, LeavesAs, IsAsBefore, IsThereIn, IsGone}
+use Rattle.world_laws.proofs.Clashes.{true_is_false}
 use Rattle.world_laws.specs.Premises.{Run, moments, HasEndedBy, IsOldAfter}
 use Rattle.world_laws.specs.Tasks.{MayBeNew, HasSource, IsRunOf, IsObjectTask, scene_after, scene_before, IsRefusedIn, IsTakenIn, IsSourceGone, IsShown, TaskEnds}
 use Rattle.world_laws.proofs.Members.{Has}
@@ -44,9 +45,6 @@ ends_by (outcome.Failed cause) sourced decided refused taken gone left spared ne
 ends_by (outcome.Unknown cause) sourced decided refused taken gone left spared new old was_there no_more needed is_new is_old is_there is_gone whole shown = (whole (needed tt), shown)
 ends_by outcome.Dry sourced decided refused taken gone left spared new old was_there no_more needed is_new is_old is_there is_gone whole shown = (is_old shown.0, shown.1)
 ends_by outcome.Skipped sourced decided refused taken gone left spared new old was_there no_more needed is_new is_old is_there is_gone whole shown = (is_old shown.0, is_there shown.0 shown.1, shown.2)
-
-true_is_false : true ≡ false → ⊥
-true_is_false e = cc
 
 module _ (Shows : Ask → ℕ → Talk → Class → List ℕ → Type 0) (s : Setting) (excused : Excused) (held : MapOf HeldFile) (run : Run) (part : List Step) (of : IsRunOf Shows s run)
     (whole : HasEndedBy run part) (n : ℕ) (task : Task) (bucket key : List ℕ) (is_task : slice_get s.tasks n ≡ Some task) (is_dest : task.dest ≡ place.Object bucket key) where

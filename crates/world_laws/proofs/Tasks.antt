@@ -20,6 +20,7 @@ use Rattle.s3_model.specs.Parts.{HasPieces, piece_of}
 use Rattle.s3_service.specs.Serves.{MayChange}
 use Rattle.run_promise.specs.Dispatches.{Attempt, Dispatched, last_of}
 use Rattle.run_promise.specs.Schedule.{Setting, IsObject, IsSource, asked_range, IsTaskAsk, IsUpload, Known, is_small, job_of, source_bytes, HasReply, gained_before, is_planning, planning_of}
+use Rattle.world_laws.proofs.Clashes.{some_is}
 use Rattle.world_laws.specs.Premises.{HasSucceeded}
 use Rattle.world_laws.specs.Destinations.{AllThatChange}
 use Rattle.world_laws.specs.SmallTransfers.{AsksPut, AsksCopy, AsksDelete}
@@ -31,9 +32,6 @@ use Rattle.world_laws.proofs.Jobs.{job_is}
 use Rattle.world_laws.proofs.PieceCounts.{pieces_are_one}
 use Rattle.world_laws.proofs.Rows as rows
 use Rattle.world_laws.proofs.Rows.{ChangesAs, CompletesAt}
-
-pub some_task : (a b : Task) → Some a ≡ Some b → a ≡ b
-some_task a b e = cc
 
 pub planning_changes_nothing : (asked : Ask) (bucket key : List ℕ) → IsPlanning asked → MayChange asked bucket key → ⊥
 planning_changes_nothing (ask.Head b k) bucket key plans may = may
@@ -101,7 +99,7 @@ module _ (Shows : Ask → ℕ → Talk → Class → List ℕ → Type 0) where
       -- a row of this number is of this task
       row_here : (c : Dispatched) (m : ℕ) (other : Task) → m ≡ n → slice_get s.tasks m ≡ Some other → IsRow m other c → IsRow n task c
       row_here c m other same at o =
-          let is : other ≡ task = some_task other task (sym at ∙ ap (slice_get s.tasks) same ∙ is_task) in
+          let is : other ≡ task = some_is other task (sym at ∙ ap (slice_get s.tasks) same ∙ is_task) in
           subst (λ (t : Task). IsRow n t c) is (subst (λ (k : ℕ). IsRow k other c) same o)
 
       -- a request that goes to this destination is of this task

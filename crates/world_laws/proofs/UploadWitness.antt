@@ -20,12 +20,14 @@ use Rattle.run_promise.specs.Outcomes.{HasOutcome}
 use Rattle.run_promise.specs.Schedule.{AreETags, IsSchedule, IsUpload, Target, bytes_of, gained_before, job_of}
 use Rattle.run_promise.specs.Traces.{IsWilling}
 use Rattle.run_promise.specs.Truthful.{IsDest}
+use Rattle.world_laws.proofs.Clashes.{some_is, false_true}
+use Rattle.world_laws.specs.ExampleTasks.{upload}
 use Rattle.world_laws.specs.Completeness.{AreSourcesThere}
 use Rattle.world_laws.specs.Premises.{IsFitting}
 use Rattle.world_laws.specs.Promises.{IsByRequests}
 use Rattle.world_laws.specs.Rounds.{AreNone, AreServed, NeverFailed, Round, Told, ToldStatus, attempt_of, dispatch_at, dispatched_from, steps_from}
 use Rattle.world_laws.specs.Tasks.{AreApart, HasSourceFile}
-use Rattle.world_laws.specs.Witnesses.{IsPromiseMet, IsUploadMet, UploadIsComplete, upload}
+use Rattle.world_laws.specs.Witnesses.{IsPromiseMet, IsUploadMet, UploadIsComplete}
 use Rattle.world_laws.proofs.Faithful.{bare, bare_has, rounds_fitting, run_by}
 use Rattle.world_laws.proofs.Maps.{none_is_some, text_exact, get-insert_same}
 use Rattle.world_laws.proofs.Members.{Has, has}
@@ -33,16 +35,13 @@ use Rattle.world_laws.proofs.PartsWitness as parts
 use Rattle.world_laws.proofs.PartsWitness.{bucket_is_ready, none_later}
 use Rattle.world_laws.proofs.PromiseWitness.{alone_trace, bucket_of, certain_at, orderly, run}
 use Rattle.world_laws.proofs.Rounds.{AreApart as AreOtherJobs}
-use Rattle.world_laws.proofs.ScheduleWitness.{AllCompleted, AllPlain, AsksWith, CameWell, IsPlainRound, not_failed, one_task, rounds_schedule, setting_with, some_is, the_config, the_limits}
+use Rattle.world_laws.proofs.ScheduleWitness.{AllCompleted, AllPlain, AsksWith, CameWell, IsPlainRound, not_failed, one_task, rounds_schedule, setting_with, the_config, the_limits}
 
 upload_copy : kind.Upload ≡ kind.Copy → ⊥
 upload_copy e = cc
 
 upload_removal : kind.Upload ≡ kind.RemoveObject → ⊥
 upload_removal e = cc
-
-false_true : false ≡ true → ⊥
-false_true e = cc
 
 -- no op of an upload that came is an Abort
 no_abort : (a : ℕ) → (a < 9) → a ≡ 9 → ⊥

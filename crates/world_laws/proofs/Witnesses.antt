@@ -1,5 +1,5 @@
 -- Runs that meet the premises of the laws.
-use Rattle.std.proofs.Common.{◌≡◌, ◌∙◌, ℕ, zero, suc, true, false, List, [], ◌∷◌, Option, Some, None, refl, sym, ap, subst, inl, inr, arith}
+use Rattle.std.proofs.Common.{Contains, ◌≡◌, ◌∙◌, ℕ, zero, suc, true, false, List, [], ◌∷◌, Option, Some, None, refl, sym, ap, subst, inl, inr, arith}
 use Rattle.std.specs.FinMap.{insert}
 use Rattle.s3_model.specs.declared.requests.Ask.{Ask}
 use Rattle.s3_model.specs.declared.requests.Ask.TheVariants as ask
@@ -11,6 +11,9 @@ use Rattle.s3_service.specs.Serves.{MayChange, IsThere}
 use Rattle.run_promise.specs.Dispatches.{Attempt, Dispatched, op_number}
 use Rattle.run_promise.specs.Schedule.{job_of, IsBefore}
 use Rattle.run_promise.specs.Fits.{request_at}
+use Rattle.world_laws.proofs.Clashes.{false_true}
+use Rattle.run_promise.specs.Traces.{Begin, Request, events_of}
+use Rattle.world_laws.specs.Moves.{IsGivenAfter}
 use Rattle.world_laws.specs.Premises.{Run, HasSucceeded, IsPlace, AllRefused}
 use Rattle.world_laws.specs.Destinations.{AllThatChange, Requests}
 use Rattle.world_laws.specs.Frame.{IsAskedOf}
@@ -55,9 +58,6 @@ met limits bucket key AreOurs start rounds served apart first all ours place r n
     };
   };
 }
-
-pub false_true : false ≡ true → ⊥
-false_true e = cc
 
 -- one round is apart
 pub alone : (r : Round) → AreApart (r ∷ [])
@@ -183,6 +183,16 @@ frame_is_met limits bucket key other apart = record {
 
 -- ---- a move
 
+-- a run with a success for an object, and a later Delete of another that begins
+pub moved_by : (limits : Limits) (bucket key from_bucket from_key : List ℕ) (AreOurs : Requests) (done : IsDestMet limits bucket key AreOurs) (sent : Request)
+    → IsGivenAfter done.such.success.request (job_of 0 op.Delete 0) done.run.dispatched → Contains (events_of done.run.trace) (Begin 0 sent) → sent.job ≡ job_of 0 op.Delete 0
+    → sent.ask ≡ ask.Delete from_bucket from_key → IsMoveMet limits bucket key from_bucket from_key AreOurs
+moved_by limits bucket key from_bucket from_key AreOurs done sent waits begins of_job deletes = record {
+  run = done.run;
+  fitting = done.fitting;
+  such = record { copy = done.such; job = job_of 0 op.Delete 0; waits = waits; lane = 0; sent = sent; begins = begins; of_job = of_job; deletes = deletes };
+}
+
 -- jobs of different numbers of their op, or of different numbers, are apart
 pub by_op : (a b : JobId) → a ≡ b → op_number a.op ≡ op_number b.op
 by_op a b e = ap (λ (j : JobId). op_number j.op) e
@@ -237,20 +247,9 @@ module _ (limits : Limits) (bucket key from_bucket from_key etag : List ℕ) (ap
 
   moves : IsMoveMet limits bucket key from_bucket from_key (λ journal dispatched. AllThatChange bucket key (AsksCopy bucket key from_bucket from_key etag) dispatched)
   unfolding met
-  moves = record {
-    run = done.run;
-    fitting = done.fitting;
-    such = record {
-      copy = done.such;
-      job = job_of 0 op.Delete 0;
-      waits = λ d known same. later d (has (dispatched_from 0 move) d known) same;
-      lane = 0;
-      sent = request_at (dispatch_at 2 source_gone) 0;
-      begins = (5, omega arith, refl);
-      of_job = refl;
-      deletes = refl;
-    };
-  }
+  moves =
+      moved_by limits bucket key from_bucket from_key (λ journal dispatched. AllThatChange bucket key (AsksCopy bucket key from_bucket from_key etag) dispatched) done (request_at (dispatch_at 2 source_gone) 0)
+      (λ d known same. later d (has (dispatched_from 0 move) d known) same) (5, omega arith, refl) refl refl
     where
       later : (d : Dispatched) → Has (dispatched_from 0 move) d → d.dispatch.job ≡ job_of 0 op.Delete 0 → IsBefore (Some 1) d.dispatch.given_at
       later d (inl e) same = absurd (copy_delete (ap (λ (x : Dispatched). x.dispatch.job) e ∙ same))

@@ -1,6 +1,7 @@
 pub mod Completeness
 pub mod Destinations
 pub mod Downloads
+pub mod ExampleTasks
 pub mod Frame
 pub mod Moves
 pub mod Multipart

@@ -1,5 +1,5 @@
 -- That the premises of the laws can be met: for each law there is a run.
-use Rattle.std.specs.Prelude.{Bool, ◌≡◌, ◌≤◌, ◌++◌, ℕ, true, false, List, [], ◌∷◌, Some, None, Contains, length}
+use Rattle.std.specs.Prelude.{◌≡◌, ◌≤◌, ◌++◌, ℕ, true, false, List, [], ◌∷◌, Some, None, Contains, length}
 use Rattle.s3_model.specs.declared.requests.Ask.{Ask}
 use Rattle.s3_model.specs.declared.requests.Ask.TheVariants as ask
 use Rattle.s3_model.specs.declared.requests.Op.TheVariants as op
@@ -19,6 +19,7 @@ use Rattle.run_promise.specs.Traces.{Request, Step, Begin, Serve, IsTrace, IsWil
 use Rattle.run_promise.specs.Schedule.{Setting, is_small, job_of}
 use Rattle.run_promise.specs.Truthful.{Shown, AreCertain, HasDestBuckets, HasJournal, IsAlone, IsDest, IsExternal}
 use Rattle.s3_model.specs.Parts.{HasPieces}
+use Rattle.world_laws.specs.ExampleTasks.{moved_copy, removal, upload}
 use Rattle.world_laws.specs.Premises.{Run, moments, HasBegun, HasEndedBy, HasTrace, IsFitting, IsPlace, IsNoPlace, AreGiven, HasSuccess, AllRefused}
 use Rattle.world_laws.specs.Completeness.{AreCallsCounted, AreFreshByKind, AreSourcesThere}
 use Rattle.world_laws.specs.Destinations.{AllThatChange, Requests}
@@ -178,46 +179,6 @@ PageIsMet = (bucket key etag : List ℕ) → IsFoundMet bucket key etag (ask.Lis
 
 -- ---- tasks
 
--- a small copy that is moved
-abbrev pub moved_copy : (bucket key from_bucket from_key etag : List ℕ) → Task
-moved_copy bucket key from_bucket from_key etag = record {
-  kind = kind.Copy;
-  moves = true;
-  source = Some (place.Object from_bucket from_key);
-  dest = place.Object bucket key;
-  size = 0;
-  etag = etag;
-  micros = 0;
-  content = None;
-  fresh = false;
-}
-
-abbrev pub removal : (bucket key : List ℕ) → Task
-removal bucket key = record {
-  kind = kind.RemoveObject;
-  moves = false;
-  source = None;
-  dest = place.Object bucket key;
-  size = 0;
-  etag = [];
-  micros = 0;
-  content = None;
-  fresh = false;
-}
-
-abbrev pub upload : (bucket key path : List ℕ) → (size : ℕ) → (fresh : Bool) → Task
-upload bucket key path size fresh = record {
-  kind = kind.Upload;
-  moves = false;
-  source = Some (place.File path);
-  dest = place.Object bucket key;
-  size = size;
-  etag = [];
-  micros = 0;
-  content = None;
-  fresh = fresh;
-}
-
 -- A run of a plan with a task whose destination is that object, and of which that is so.
 pub record IsTaskMet (bucket key : List ℕ) (IsSuch : Setting → Run → Task → Type 0) : Type 0 where
   pub setting : Setting
@@ -266,7 +227,7 @@ pub record IsPromiseMet (task : Task) (how : Outcome) : Type 0 where
 -- a moved copy that is done, a removal that failed, and an upload that is not to replace and was skipped
 abbrev pub DoneIsMet : Type 0
 DoneIsMet = (bucket key from_bucket from_key etag : List ℕ) → (IsPlace bucket key from_bucket from_key → ⊥)
-    → IsPromiseMet (moved_copy bucket key from_bucket from_key etag) outcome.Done
+    → IsPromiseMet (moved_copy bucket key from_bucket from_key etag 0) outcome.Done
 
 abbrev pub FailedIsMet : Type 0
 FailedIsMet = (bucket key : List ℕ) → IsPromiseMet (removal bucket key) (outcome.Failed (cause.Service op.Delete [] []))
@@ -289,7 +250,7 @@ pub record IsCompleteMet (task : Task) (how : Outcome) : Type 0 where
 -- a moved copy of an empty object
 abbrev pub CompleteIsMet : Type 0
 CompleteIsMet = (bucket key from_bucket from_key : List ℕ) → (IsPlace bucket key from_bucket from_key → ⊥)
-    → IsCompleteMet (moved_copy bucket key from_bucket from_key []) outcome.Done
+    → IsCompleteMet (moved_copy bucket key from_bucket from_key [] 0) outcome.Done
 
 -- an upload of two bytes, in two parts
 pub record IsUploadMet (bucket key path : List ℕ) : Type 0 where
