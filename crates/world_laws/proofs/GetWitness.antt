@@ -38,99 +38,6 @@ use Rattle.world_laws.proofs.Rounds.{AreApart, rounds_come}
 use Rattle.world_laws.proofs.Faithful.{bare_objects, has_bucket_after, IsFaithful, object_of, bare, bare_is_faithful, faithful_with, run_by, states_faithful, rounds_fitting}
 use Rattle.world_laws.proofs.Witnesses.{round, succeeds}
 
--- what has bytes has one piece of all its length
-one_piece : (size : ℕ) → 1 ≤ size → piece_count size size ≡ 1
-one_piece size some =
-    let sum : size + size - 1 ≡ 1 * size + (size - 1) = omega arith in
-    let below : size - 1 < size = omega arith in
-    ap (λ n. n / size) sum ∙ div-mul-add 1 size (size - 1) below
-
-module _ (limits : Limits) (bucket key etag : List ℕ) where
-  abbrev start : State
-  start = with_object (bare (bucket ∷ [])) bucket key (object_of etag)
-
-  is_there : IsThere start bucket key etag (object_of etag)
-  is_there = record { held = object_at-with_object (bare (bucket ∷ [])) bucket key (object_of etag); etag = refl }
-
-  is_faithful : IsFaithful start
-  is_faithful = faithful_with (bare (bucket ∷ [])) bucket key etag (bare_is_faithful (bucket ∷ []))
-
-  abbrev get_all : Round
-  get_all = round (job_of 0 op.Get 0) (ask.Get bucket key etag None) [] etag start
-
-  alone : (r : Round) → AreApart (r ∷ [])
-  alone r = (λ other h. absurd h, tt)
-
-  got_all : IsGot Told (journal_of (get_all ∷ [])) (dispatched_from 0 (get_all ∷ [])) bucket key etag None etag
-  got_all = record {
-    get = dispatch_at 0 get_all;
-    known = (0, omega arith, refl);
-    is_get = refl;
-    come = rounds_come (get_all ∷ []) start (alone get_all) (dispatch_at 0 get_all) (inl refl);
-    succeeded = succeeds 0 get_all refl;
-    is_body = refl;
-  }
-
-  get_met : IsMet limits IsNoPlace (λ (run : Run). (bytes : List ℕ) × IsGot Told run.journal run.dispatched bucket key etag None bytes)
-  get_met = record {
-    run = run_by start (get_all ∷ []);
-    fitting = rounds_fitting limits start (get_all ∷ []) ((object_of etag, is_there, (refl, refl, refl), refl), tt) (alone get_all) is_faithful (is_faithful, tt) IsNoPlace;
-    such = (etag, got_all);
-  }
-
-  module _ (some : 1 ≤ length etag) where
-    abbrev range : ℕ × ℕ
-    range = asked_range (length etag) (length etag) 1
-
-    abbrev get_range : Round
-    get_range = record {
-      job = job_of 0 op.Get 1;
-      ask = ask.Get bucket key etag (Some range);
-      body = [];
-      refused = false;
-      got = bytes_within range etag;
-      size = length etag;
-      after = start;
-    }
-
-    inside : LiesWithin range etag
-    inside = (omega arith, omega arith)
-
-    range_served : AreServed limits start (get_range ∷ [])
-    range_served = ((object_of etag, is_there, (inside, inr (refl, refl, refl, refl)), refl), tt)
-
-    got_range : IsGot Told (journal_of (get_range ∷ [])) (dispatched_from 0 (get_range ∷ [])) bucket key etag (Some range) (bytes_within range etag)
-    got_range = record {
-      get = dispatch_at 0 get_range;
-      known = (0, omega arith, refl);
-      is_get = refl;
-      come = rounds_come (get_range ∷ []) start (alone get_range) (dispatch_at 0 get_range) (inl refl);
-      succeeded = succeeds 0 get_range refl;
-      is_body = refl;
-    }
-
-    size_known : HasSize (states start (steps_from 0 start (get_range ∷ []))) bucket key etag (length etag)
-    size_known bytes had =
-        let faithful = states_faithful (get_range ∷ []) 0 start is_faithful (is_faithful, tt) had.0 (has (states start (steps_from 0 start (get_range ∷ []))) had.0 had.2) bucket key had.1 had.3.held in
-        ap length (sym had.4 ∙ sym faithful ∙ had.3.etag)
-
-    abbrev GotPart : ℕ → Type 0
-    GotPart k = (get : IsGot Told (journal_of (get_range ∷ [])) (dispatched_from 0 (get_range ∷ [])) bucket key etag (Some (asked_range (length etag) (length etag) k)) (bytes_within range etag)) × IsPartial get.succeeded.reply
-
-    each_got : AreGotInParts Told (journal_of (get_range ∷ [])) (dispatched_from 0 (get_range ∷ [])) bucket key etag (length etag) (length etag) (λ k. bytes_within range etag)
-    unfolding got_range
-    each_got k low high =
-        let one = one_piece (length etag) some in
-        let first : 1 ≡ k = omega arith in
-        subst GotPart first (got_range, refl)
-
-    ranges_met : IsMet limits IsNoPlace (AreRangesGot bucket key etag (length etag) (length etag))
-    ranges_met = record {
-      run = run_by start (get_range ∷ []);
-      fitting = rounds_fitting limits start (get_range ∷ []) range_served (alone get_range) is_faithful (is_faithful, tt) IsNoPlace;
-      such = (size_known, (λ k. bytes_within range etag, each_got));
-    }
-
 -- ---- what planning is told
 
 planning_job : Op → JobId
@@ -140,6 +47,7 @@ planning_job of_op = record { task = None; op = of_op; number = 0 }
 abbrev names_of : List ℕ → List (List ℕ × Object) → List Name
 names_of prefix es = once (map (name_of prefix false) (filter (λ (entry : List ℕ × Object). starts_with nat_eq entry.0 prefix) es))
 
+-- of a bucket with one object, whose ETag is its content
 module _ (bucket key etag : List ℕ) where
   abbrev holding : State
   holding = with_object (bare (bucket ∷ [])) bucket key (object_of etag)
@@ -197,6 +105,95 @@ page_is_met bucket key etag =
   where
     there_is_bucket : HasBucket (holding bucket key etag) bucket
     there_is_bucket = has_bucket_after (bare (bucket ∷ [])) bucket (insert (objects_in (bare (bucket ∷ [])) bucket) key (object_of etag))
+
+-- ---- a Get
+
+-- what has bytes has one piece of all its length
+one_piece : (size : ℕ) → 1 ≤ size → piece_count size size ≡ 1
+one_piece size some =
+    let sum : size + size - 1 ≡ 1 * size + (size - 1) = omega arith in
+    let below : size - 1 < size = omega arith in
+    ap (λ n. n / size) sum ∙ div-mul-add 1 size (size - 1) below
+
+module _ (limits : Limits) (bucket key etag : List ℕ) where
+  abbrev start : State
+  start = holding bucket key etag
+
+  abbrev get_all : Round
+  get_all = round (job_of 0 op.Get 0) (ask.Get bucket key etag None) [] etag start
+
+  alone : (r : Round) → AreApart (r ∷ [])
+  alone r = (λ other h. absurd h, tt)
+
+  got_all : IsGot Told (journal_of (get_all ∷ [])) (dispatched_from 0 (get_all ∷ [])) bucket key etag None etag
+  got_all = record {
+    get = dispatch_at 0 get_all;
+    known = (0, omega arith, refl);
+    is_get = refl;
+    come = rounds_come (get_all ∷ []) start (alone get_all) (dispatch_at 0 get_all) (inl refl);
+    succeeded = succeeds 0 get_all refl;
+    is_body = refl;
+  }
+
+  get_met : IsMet limits IsNoPlace (λ (run : Run). (bytes : List ℕ) × IsGot Told run.journal run.dispatched bucket key etag None bytes)
+  get_met = record {
+    run = run_by start (get_all ∷ []);
+    fitting = rounds_fitting limits start (get_all ∷ []) ((object_of etag, there bucket key etag, (refl, refl, refl), refl), tt) (alone get_all) (holding_is_faithful bucket key etag) (holding_is_faithful bucket key etag, tt) IsNoPlace;
+    such = (etag, got_all);
+  }
+
+  module _ (some : 1 ≤ length etag) where
+    abbrev range : ℕ × ℕ
+    range = asked_range (length etag) (length etag) 1
+
+    abbrev get_range : Round
+    get_range = record {
+      job = job_of 0 op.Get 1;
+      ask = ask.Get bucket key etag (Some range);
+      body = [];
+      refused = false;
+      got = bytes_within range etag;
+      size = length etag;
+      after = start;
+    }
+
+    inside : LiesWithin range etag
+    inside = (omega arith, omega arith)
+
+    range_served : AreServed limits start (get_range ∷ [])
+    range_served = ((object_of etag, there bucket key etag, (inside, inr (refl, refl, refl, refl)), refl), tt)
+
+    got_range : IsGot Told (journal_of (get_range ∷ [])) (dispatched_from 0 (get_range ∷ [])) bucket key etag (Some range) (bytes_within range etag)
+    got_range = record {
+      get = dispatch_at 0 get_range;
+      known = (0, omega arith, refl);
+      is_get = refl;
+      come = rounds_come (get_range ∷ []) start (alone get_range) (dispatch_at 0 get_range) (inl refl);
+      succeeded = succeeds 0 get_range refl;
+      is_body = refl;
+    }
+
+    size_known : HasSize (states start (steps_from 0 start (get_range ∷ []))) bucket key etag (length etag)
+    size_known bytes had =
+        let faithful = states_faithful (get_range ∷ []) 0 start (holding_is_faithful bucket key etag) (holding_is_faithful bucket key etag, tt) had.0 (has (states start (steps_from 0 start (get_range ∷ []))) had.0 had.2) bucket key had.1 had.3.held in
+        ap length (sym had.4 ∙ sym faithful ∙ had.3.etag)
+
+    abbrev GotPart : ℕ → Type 0
+    GotPart k = (get : IsGot Told (journal_of (get_range ∷ [])) (dispatched_from 0 (get_range ∷ [])) bucket key etag (Some (asked_range (length etag) (length etag) k)) (bytes_within range etag)) × IsPartial get.succeeded.reply
+
+    each_got : AreGotInParts Told (journal_of (get_range ∷ [])) (dispatched_from 0 (get_range ∷ [])) bucket key etag (length etag) (length etag) (λ k. bytes_within range etag)
+    unfolding got_range
+    each_got k low high =
+        let one = one_piece (length etag) some in
+        let first : 1 ≡ k = omega arith in
+        subst GotPart first (got_range, refl)
+
+    ranges_met : IsMet limits IsNoPlace (AreRangesGot bucket key etag (length etag) (length etag))
+    ranges_met = record {
+      run = run_by start (get_range ∷ []);
+      fitting = rounds_fitting limits start (get_range ∷ []) range_served (alone get_range) (holding_is_faithful bucket key etag) (holding_is_faithful bucket key etag, tt) IsNoPlace;
+      such = (size_known, (λ k. bytes_within range etag, each_got));
+    }
 
 pub get_is_met : GetIsMet
 get_is_met limits bucket key etag = get_met limits bucket key etag

@@ -24,7 +24,7 @@ use Rattle.run_promise.specs.Fits.{request_at}
 use Rattle.world_laws.specs.Premises.{Run, IsFitting, IsPlace, HasCome}
 use Rattle.world_laws.specs.Destinations.{AllThatChange}
 use Rattle.world_laws.specs.Multipart.{IsCreated, CompletesHere}
-use Rattle.world_laws.proofs.Maps.{text_exact, text_decided, not_both, nothing_is, some_is, found_after_insert, found_after_remove, found_in_empty, get-insert_same, get-insert_other, get-remove_other}
+use Rattle.world_laws.proofs.Maps.{text_exact, not_both, nothing_is, found_after_insert, found_after_remove, found_in_empty, get-insert_same}
 use Rattle.world_laws.proofs.Members.{Has, ordered}
 use Rattle.world_laws.proofs.Objects.{object_at-with_object}
 use Rattle.world_laws.proofs.Traces.{begun_through, step_of, state_after_step}
@@ -268,65 +268,13 @@ module _ (Shows : Ask → ℕ → Talk → Class → List ℕ → Type 0) (limit
         ]
 
     still_open : (c : Dispatched) (old new : State) (answered : Reply) (bytes : List ℕ) (id : List ℕ) → HereServed c old answered bytes new → Change c.ask c.body answered old new → IsStillOpen id old → IsOnItsWay id new
-    still_open c old new answered bytes id served (up.none same_uploads same_ended) way = inl (record {
-      upload = way.upload;
-      is_open = record { held = ap (λ uploads. get uploads id) same_uploads ∙ way.is_open.held; bucket = way.is_open.bucket; key = way.is_open.key };
-      not_ended = ap (λ all. get all id) same_ended ∙ way.not_ended;
-    })
-    still_open c old new answered bytes id served (up.created b k content other made is_create is_created was_free is_fresh is_uploads same_ended) way =
-        let apart : id ≡ other → ⊥ = λ same. not_both (get old.uploads id) way.upload (ap (get old.uploads) same ∙ was_free.not_open) way.is_open.held in
-        inl (record {
-          upload = way.upload;
-          is_open = record {
-            held = ap (λ uploads. get uploads id) is_uploads ∙ get-insert_other nat_list_cmp_total text_exact old.uploads other made id apart ∙ way.is_open.held;
-            bucket = way.is_open.bucket;
-            key = way.is_open.key;
-          };
-          not_ended = ap (λ all. get all id) same_ended ∙ way.not_ended;
-        })
-    still_open c old new answered bytes id served (up.stored b k other number was part stores was_open is_uploads same_ended says) way =
-        let changed : Upload = record was { parts = insert was.parts number part } in
-        elim (text_decided id other) [
-          | inl same ↦
-              let was_here : was ≡ way.upload = some_is was way.upload (sym was_open.held ∙ ap (get old.uploads) (sym same) ∙ way.is_open.held) in
-              inl (record {
-                upload = changed;
-                is_open = record {
-                  held = ap (λ uploads. get uploads id) is_uploads ∙ ap (get (insert old.uploads other changed)) same ∙ get-insert_same nat_list_cmp_total text_exact old.uploads other changed;
-                  bucket = ap (λ (u : Upload). u.bucket) was_here ∙ way.is_open.bucket;
-                  key = ap (λ (u : Upload). u.key) was_here ∙ way.is_open.key;
-                };
-                not_ended = ap (λ all. get all id) same_ended ∙ way.not_ended;
-              })
-          | inr apart ↦ inl (record {
-            upload = way.upload;
-            is_open = record {
-              held = ap (λ uploads. get uploads id) is_uploads ∙ get-insert_other nat_list_cmp_total text_exact old.uploads other changed id apart ∙ way.is_open.held;
-              bucket = way.is_open.bucket;
-              key = way.is_open.key;
-            };
-            not_ended = ap (λ all. get all id) same_ended ∙ way.not_ended;
-          })
-        ]
-    still_open c old new answered bytes id served (up.closed b k other was how ends was_open is_uploads is_ended) way = elim (text_decided id other) [
-      | inr apart ↦ inl (record {
-        upload = way.upload;
-        is_open = record {
-          held = ap (λ uploads. get uploads id) is_uploads ∙ get-remove_other nat_list_cmp_total text_exact old.uploads other id apart ∙ way.is_open.held;
-          bucket = way.is_open.bucket;
-          key = way.is_open.key;
-        };
-        not_ended = ap (λ all. get all id) is_ended ∙ get-insert_other nat_list_cmp_total text_exact old.ended other how id apart ∙ way.not_ended;
-      })
-      | inl same ↦
-          let was_here : was ≡ way.upload = some_is was way.upload (sym was_open.held ∙ ap (get old.uploads) (sym same) ∙ way.is_open.held) in
-          let here_bucket : b ≡ bucket = sym was_open.bucket ∙ ap (λ (u : Upload). u.bucket) was_here ∙ way.is_open.bucket in
-          let here_key : k ≡ key = sym was_open.key ∙ ap (λ (u : Upload). u.key) was_here ∙ way.is_open.key in
-          let ends_here : EndsUpload c.ask bucket key id how =
-          subst (λ (x : List ℕ). EndsUpload c.ask bucket key x how) (sym same) (subst (λ (x : List ℕ). EndsUpload c.ask bucket x other how) here_key (subst (λ (x : List ℕ). EndsUpload c.ask x k other how) here_bucket ends)) in
-          let ended_other : HasEnded new other how = up.closed_has_ended old new other how is_uploads is_ended in
-          closes c old new answered bytes id way.upload how served ends_here way.is_open.held (subst (λ (x : List ℕ). HasEnded new x how) (sym same) ended_other)
-    ]
+    still_open c old new answered bytes id served change way = which (up.open_afterwards c.ask c.body answered old new id bucket key way.upload change way.is_open)
+      where
+        which : up.Afterwards c.ask c.body answered old new id bucket key way.upload → IsOnItsWay id new
+        which (up.stays is_open same_ended) = inl (record { upload = way.upload; is_open = is_open; not_ended = same_ended ∙ way.not_ended })
+        which (up.gains number part stores says is_open same_ended) =
+            inl (record { upload = record way.upload { parts = insert way.upload.parts number part }; is_open = is_open; not_ended = same_ended ∙ way.not_ended })
+        which (up.ends how ending ended) = closes c old new answered bytes id way.upload how served ending way.is_open.held ended
 
     goes_on : (id : List ℕ) (c : Dispatched) (old new : State) (answered : Reply) (bytes : List ℕ) → HereServed c old answered bytes new → IsOnItsWay id old → IsOnItsWay id new
     goes_on id c old new answered bytes served (inl way) = still_open c old new answered bytes id served (up.success_changes limits old c.ask c.body answered bytes new served.succeeds) way

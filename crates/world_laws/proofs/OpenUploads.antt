@@ -36,7 +36,7 @@ use Rattle.world_laws.proofs.Early.{reached}
 use Rattle.world_laws.proofs.Fitting as fitting
 use Rattle.world_laws.proofs.Fitting.{IsServed}
 use Rattle.world_laws.proofs.Jobs.{job_is, op_same}
-use Rattle.world_laws.proofs.Maps.{text_exact, text_decided, not_both, some_is, key_decided, get-insert_same, get-insert_other, get-remove_other}
+use Rattle.world_laws.proofs.Maps.{text_exact, some_is, key_decided, get-insert_same, get-insert_other}
 use Rattle.world_laws.proofs.Marks as marks
 use Rattle.world_laws.proofs.Members.{Has, found_or_not, head_is, tail_is}
 use Rattle.world_laws.proofs.Multipart as multi
@@ -399,62 +399,16 @@ module _ (Shows : Ask → ℕ → Talk → Class → List ℕ → Type 0) (s : S
           → StoresPart c.ask c.body old bucket key id number part.bytes → answered ≡ reply.PartStored part.etag → (upload : Upload) → IsSuch upload → IsSuch (record upload { parts = insert upload.parts number part })) where
         by_change : (c : Dispatched) (old new : State) (answered : Reply) (bytes : List ℕ) → HereServed c old answered bytes new
             → early.IsGivenEarly Shows s.limits start trace dispatched journal p.runs p.fits r.given alone place c → Change c.ask c.body answered old new → Open IsSuch old → Open IsSuch new
-        by_change c old new answered bytes served given (up.none same_uploads same_ended) way =
-            record { upload = way.upload; is_open = record { held = ap (λ uploads. get uploads id) same_uploads ∙ way.is_open.held; bucket = way.is_open.bucket; key = way.is_open.key }; such = way.such }
-        by_change c old new answered bytes served given (up.created b k content other made is_create is_created was_free is_fresh is_uploads same_ended) way =
-            let apart : id ≡ other → ⊥ = λ same. not_both (get old.uploads id) way.upload (ap (get old.uploads) same ∙ was_free.not_open) way.is_open.held in
-            record {
-              upload = way.upload;
-              is_open = record {
-                held = ap (λ uploads. get uploads id) is_uploads ∙ get-insert_other nat_list_cmp_total text_exact old.uploads other made id apart ∙ way.is_open.held;
-                bucket = way.is_open.bucket;
-                key = way.is_open.key;
-              };
-              such = way.such;
+        by_change c old new answered bytes served given change way = which (up.open_afterwards c.ask c.body answered old new id bucket key way.upload change way.is_open)
+          where
+            which : up.Afterwards c.ask c.body answered old new id bucket key way.upload → Open IsSuch new
+            which (up.stays is_open same_ended) = record { upload = way.upload; is_open = is_open; such = way.such }
+            which (up.gains number part stores says is_open same_ended) = record {
+              upload = record way.upload { parts = insert way.upload.parts number part };
+              is_open = is_open;
+              such = keeps c old answered bytes new served number part stores says way.upload way.such;
             }
-        by_change c old new answered bytes served given (up.stored b k other number was part stores was_open is_uploads same_ended says) way =
-            let changed : Upload = record was { parts = insert was.parts number part } in
-            elim (text_decided id other) [
-              | inr apart ↦ record {
-                upload = way.upload;
-                is_open = record {
-                  held = ap (λ uploads. get uploads id) is_uploads ∙ get-insert_other nat_list_cmp_total text_exact old.uploads other changed id apart ∙ way.is_open.held;
-                  bucket = way.is_open.bucket;
-                  key = way.is_open.key;
-                };
-                such = way.such;
-              }
-              | inl same ↦
-                  let here : was ≡ way.upload = some_is was way.upload (sym was_open.held ∙ ap (get old.uploads) (sym same) ∙ way.is_open.held) in
-                  let here_bucket : b ≡ bucket = sym was_open.bucket ∙ ap (λ (u : Upload). u.bucket) here ∙ way.is_open.bucket in
-                  let here_key : k ≡ key = sym was_open.key ∙ ap (λ (u : Upload). u.key) here ∙ way.is_open.key in
-                  let stores_here : StoresPart c.ask c.body old bucket key id number part.bytes =
-                  subst (λ (x : List ℕ). StoresPart c.ask c.body old bucket key x number part.bytes) (sym same)
-                  (subst (λ (x : List ℕ). StoresPart c.ask c.body old bucket x other number part.bytes) here_key (subst (λ (x : List ℕ). StoresPart c.ask c.body old x k other number part.bytes) here_bucket stores)) in
-                  record {
-                    upload = changed;
-                    is_open = record {
-                      held = ap (λ uploads. get uploads id) is_uploads ∙ ap (get (insert old.uploads other changed)) same ∙ get-insert_same nat_list_cmp_total text_exact old.uploads other changed;
-                      bucket = ap (λ (u : Upload). u.bucket) here ∙ way.is_open.bucket;
-                      key = ap (λ (u : Upload). u.key) here ∙ way.is_open.key;
-                    };
-                    such = keeps c old answered bytes new served number part stores_here says was (subst IsSuch (sym here) way.such);
-                  }
-            ]
-        by_change c old new answered bytes served given (up.closed b k other was how ends was_open is_uploads is_ended) way = elim (text_decided id other) [
-          | inr apart ↦ record {
-            upload = way.upload;
-            is_open = record {
-              held = ap (λ uploads. get uploads id) is_uploads ∙ get-remove_other nat_list_cmp_total text_exact old.uploads other id apart ∙ way.is_open.held;
-              bucket = way.is_open.bucket;
-              key = way.is_open.key;
-            };
-            such = way.such;
-          }
-          | inl same ↦
-              let ending = ender c served.known b k id how has (subst (λ (x : List ℕ). EndsUpload c.ask b k x how) (sym same) ends) in
-              absurd (never c served.known given old answered bytes new served ending)
-        ]
+            which (up.ends how closes ended) = absurd (never c served.known given old answered bytes new served (ender c served.known bucket key id how has closes))
 
         -- from one step on
         stays_open : (front back : List Step) → trace ≡ front ++ back → reached front ≤ place → (before : List Step) (step : Step) (after : List Step) → front ≡ before ++ step ∷ after → Open IsSuch step.state → Open IsSuch (state_after start front)

@@ -1,5 +1,5 @@
 -- What one request leaves of the uploads: one of four changes, or none.
-use Rattle.std.proofs.Common.{◌≡◌, ◌∙◌, ◌⊎◌, ℕ, Bool, List, [], ◌∷◌, Option, Some, None, refl, sym, ap, inl, inr}
+use Rattle.std.proofs.Common.{subst, ◌≡◌, ◌∙◌, ◌⊎◌, ℕ, Bool, List, [], ◌∷◌, Option, Some, None, refl, sym, ap, inl, inr}
 use Rattle.std.specs.Cmp.Lexicographic.{nat_list_cmp_total}
 use Rattle.std.specs.FinMap.{get, insert, remove}
 use Rattle.s3_model.specs.declared.requests.Ask.{Ask}
@@ -12,7 +12,7 @@ use Rattle.s3_service.specs.ServiceState.{State, Object, Upload, StoredPart, End
 use Rattle.s3_service.specs.Listing.{Name, Remembers}
 use Rattle.s3_service.specs.Serves.{Succeeds, IsOpen, IsUnused, IsThere, bytes_within, ExternalWrite, Writes, Removes, after_external}
 use Rattle.world_laws.specs.Uploads.{IsFree}
-use Rattle.world_laws.proofs.Maps.{text_exact, not_both, nothing_is, get-insert_same, get-insert_other, get-remove_same, get-remove_other}
+use Rattle.world_laws.proofs.Maps.{some_is, text_decided, text_exact, not_both, nothing_is, get-insert_same, get-insert_other, get-remove_same, get-remove_other}
 
 -- the request stores these bytes as that part
 abbrev pub StoresPart : Ask → List ℕ → State → List ℕ → List ℕ → List ℕ → ℕ → List ℕ → Type 0
@@ -148,3 +148,52 @@ closed_has_ended old new id how is_uploads is_ended = record {
 
 pub not_aborted : (etags : List (List ℕ)) → ◌≡◌ {A = Option Ended} (Some Aborted) (Some (CompletedBy etags)) → ⊥
 not_aborted etags e = cc
+
+-- ---- an upload that is open
+
+-- what a change makes of it: it stays, it gains a part, or it is closed
+pub data Afterwards (asked : Ask) (body : List ℕ) (answered : Reply) (old new : State) (id bucket key : List ℕ) (upload : Upload) : Type 0 where
+  stays : IsOpen new id bucket key upload → get new.ended id ≡ get old.ended id → Afterwards asked body answered old new id bucket key upload
+  gains : (number : ℕ) (part : StoredPart) → StoresPart asked body old bucket key id number part.bytes → answered ≡ reply.PartStored part.etag
+      → IsOpen new id bucket key (record upload { parts = insert upload.parts number part }) → get new.ended id ≡ get old.ended id → Afterwards asked body answered old new id bucket key upload
+  ends : (how : Ended) → EndsUpload asked bucket key id how → HasEnded new id how → Afterwards asked body answered old new id bucket key upload
+
+open_same : (old new : State) (id bucket key : List ℕ) (upload : Upload) → get new.uploads id ≡ get old.uploads id → IsOpen old id bucket key upload → IsOpen new id bucket key upload
+open_same old new id bucket key upload same is_open = record { held = same ∙ is_open.held; bucket = is_open.bucket; key = is_open.key }
+
+pub open_afterwards : (asked : Ask) (body : List ℕ) (answered : Reply) (old new : State) (id bucket key : List ℕ) (upload : Upload) → Change asked body answered old new → IsOpen old id bucket key upload
+    → Afterwards asked body answered old new id bucket key upload
+open_afterwards asked body answered old new id bucket key upload (none same_uploads same_ended) is_open =
+    stays (open_same old new id bucket key upload (ap (λ uploads. get uploads id) same_uploads) is_open) (ap (λ all. get all id) same_ended)
+open_afterwards asked body answered old new id bucket key upload (created b k content other made is_create is_created was_free is_fresh is_uploads same_ended) is_open =
+    let apart : id ≡ other → ⊥ = λ same. not_both (get old.uploads id) upload (ap (get old.uploads) same ∙ was_free.not_open) is_open.held in
+    stays (open_same old new id bucket key upload (ap (λ uploads. get uploads id) is_uploads ∙ get-insert_other nat_list_cmp_total text_exact old.uploads other made id apart) is_open) (ap (λ all. get all id) same_ended)
+open_afterwards asked body answered old new id bucket key upload (stored b k other number was part stores was_open is_uploads same_ended says) is_open =
+    let changed : Upload = record was { parts = insert was.parts number part } in
+    elim (text_decided id other) [
+      | inr apart ↦ stays
+          (open_same old new id bucket key upload (ap (λ uploads. get uploads id) is_uploads ∙ get-insert_other nat_list_cmp_total text_exact old.uploads other changed id apart) is_open)
+          (ap (λ all. get all id) same_ended)
+      | inl same ↦
+          let here : was ≡ upload = some_is was upload (sym was_open.held ∙ ap (get old.uploads) (sym same) ∙ is_open.held) in
+          let here_bucket : b ≡ bucket = sym was_open.bucket ∙ ap (λ (u : Upload). u.bucket) here ∙ is_open.bucket in
+          let here_key : k ≡ key = sym was_open.key ∙ ap (λ (u : Upload). u.key) here ∙ is_open.key in
+          let stores_here : StoresPart asked body old bucket key id number part.bytes = subst (λ (x : List ℕ). StoresPart asked body old bucket key x number part.bytes) (sym same)
+          (subst (λ (x : List ℕ). StoresPart asked body old bucket x other number part.bytes) here_key (subst (λ (x : List ℕ). StoresPart asked body old x k other number part.bytes) here_bucket stores)) in
+          let held : get new.uploads id ≡ Some changed =
+          ap (λ uploads. get uploads id) is_uploads ∙ ap (get (insert old.uploads other changed)) same ∙ get-insert_same nat_list_cmp_total text_exact old.uploads other changed in
+          gains number part stores_here says
+          (record { held = held ∙ ap (λ (u : Upload). Some (record u { parts = insert u.parts number part })) here; bucket = is_open.bucket; key = is_open.key }) (ap (λ all. get all id) same_ended)
+    ]
+open_afterwards asked body answered old new id bucket key upload (closed b k other was how closes was_open is_uploads is_ended) is_open = elim (text_decided id other) [
+  | inr apart ↦ stays
+      (open_same old new id bucket key upload (ap (λ uploads. get uploads id) is_uploads ∙ get-remove_other nat_list_cmp_total text_exact old.uploads other id apart) is_open)
+      (ap (λ all. get all id) is_ended ∙ get-insert_other nat_list_cmp_total text_exact old.ended other how id apart)
+  | inl same ↦
+      let here : was ≡ upload = some_is was upload (sym was_open.held ∙ ap (get old.uploads) (sym same) ∙ is_open.held) in
+      let here_bucket : b ≡ bucket = sym was_open.bucket ∙ ap (λ (u : Upload). u.bucket) here ∙ is_open.bucket in
+      let here_key : k ≡ key = sym was_open.key ∙ ap (λ (u : Upload). u.key) here ∙ is_open.key in
+      ends how
+      (subst (λ (x : List ℕ). EndsUpload asked bucket key x how) (sym same) (subst (λ (x : List ℕ). EndsUpload asked bucket x other how) here_key (subst (λ (x : List ℕ). EndsUpload asked x k other how) here_bucket closes)))
+      (subst (λ (x : List ℕ). HasEnded new x how) (sym same) (closed_has_ended old new other how is_uploads is_ended))
+]
