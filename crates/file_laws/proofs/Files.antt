@@ -1,0 +1,273 @@
+-- Files that no download replaces: removed ones, the sources of moves, and all others.
+use Rattle.std.proofs.Common.{◌≡◌, ◌∙◌, ◌⊎◌, ◌++◌, ℕ, Bool, true, false, List, [], ◌∷◌, Option, Some, None, Ok, refl, sym, ap, subst, inl, inr, Contains, slice_get}
+use Rattle.std.proofs.lemmas.List.{append-nil}
+use Rattle.std.specs.FinMap.{get}
+use Rattle.s3_model.specs.declared.answers.Class.{Class}
+use Rattle.s3_model.specs.declared.places.Place.{Place}
+use Rattle.s3_model.specs.declared.places.Place.TheVariants as place
+use Rattle.s3_model.specs.declared.requests.Ask.{Ask}
+use Rattle.s3_model.specs.declared.tasks.Kind.{Kind}
+use Rattle.s3_model.specs.declared.tasks.Kind.TheVariants as kind
+use Rattle.s3_model.specs.declared.tasks.Task.{Task}
+use Rattle.s3_model.specs.Files.{HeldFile}
+use Rattle.s3_model.specs.Maps.{MapOf}
+use Rattle.s3_model.specs.Talks.{Talk}
+use Rattle.run_promise.specs.Dispatches.{Dispatched}
+use Rattle.run_promise.specs.Endings.{Excused, IsLeft, IsLeftover}
+use Rattle.run_promise.specs.Schedule.{Setting}
+use Rattle.run_promise.specs.Truthful.{IsTouchedFile}
+use Rattle.local_files.specs.Calls.{Call, MakeTemp, Remove}
+use Rattle.world_laws.proofs.Maps.{text_decided}
+use Rattle.world_laws.proofs.Members.{Has, contains_of, has, has-append_left, has_at}
+use Rattle.file_laws.specs.FileTasks.{IsDecidedBefore, IsRemoved, TaskCall, files_after}
+use Rattle.file_laws.specs.FileLaws.{AreCalls, FileIsMoved, FileIsRemoved, FilesStay, IsDecidedIn}
+use Rattle.file_laws.proofs.Keeping as keeping
+use Rattle.file_laws.proofs.Keeping.{IsClosing, only_download_makes, removal_downloads, same_path, same_task, some_none, some_place, upload_downloads, upload_removes, who_removes}
+use Rattle.file_laws.proofs.TempFiles as temps
+use Rattle.file_laws.proofs.TempFiles.{Absent, InUse, Stayed, Untouched}
+
+-- ---- touched files
+
+is_that_file : (q : Place) (p : List ℕ) → (q ≡ place.File p) ⊎ (q ≡ place.File p → ⊥)
+is_that_file (place.Object bucket key) p = inr (λ e. clash e)
+  where
+    clash : place.Object bucket key ≡ place.File p → ⊥
+    clash e = cc
+is_that_file (place.File q) p = elim (text_decided q p) [ inl e ↦ inl (ap place.File e) | inr other ↦ inr (λ e. other (same_path q p e)) ]
+
+is_that_source : (q : Option Place) (p : List ℕ) → (q ≡ Some (place.File p)) ⊎ (q ≡ Some (place.File p) → ⊥)
+is_that_source None p = inr (λ e. clash e)
+  where
+    clash : ◌≡◌ {A = Option Place} None (Some (place.File p)) → ⊥
+    clash e = cc
+is_that_source (Some q) p = elim (is_that_file q p) [ inl e ↦ inl (ap Some e) | inr other ↦ inr (λ e. other (some_place q (place.File p) e)) ]
+
+Touches : Task → List ℕ → Type 0
+Touches task p = (task.dest ≡ place.File p) ⊎ (task.moves ≡ true) × (task.source ≡ Some (place.File p))
+
+true_false : true ≡ false → ⊥
+true_false e = cc
+
+moves_or_not : (b : Bool) → (b ≡ true) ⊎ (b ≡ true → ⊥)
+moves_or_not true = inl refl
+moves_or_not false = inr (λ e. true_false (sym e))
+
+touches_or_not : (task : Task) (p : List ℕ) → Touches task p ⊎ (Touches task p → ⊥)
+unfolding Touches
+touches_or_not task p = elim (is_that_file task.dest p) [
+  | inl e ↦ inl (inl e)
+  | inr other ↦ elim (is_that_source task.source p) [
+    | inr third ↦ inr (λ touches. elim touches [ inl e ↦ other e | inr m ↦ third m.1 ])
+    | inl source ↦ elim (moves_or_not task.moves) [ inl moves ↦ inl (inr (moves, source)) | inr stays ↦ inr (λ touches. elim touches [ inl e ↦ other e | inr m ↦ stays m.0 ]) ]
+  ]
+]
+
+one_touches : (tasks : List Task) (p : List ℕ) → ((task : Task) × Has tasks task × Touches task p) ⊎ ((task : Task) → Has tasks task → Touches task p → ⊥)
+one_touches [] p = inr (λ task h touches. h)
+one_touches (task ∷ tasks) p = elim (touches_or_not task p) [
+  | inl touches ↦ inl (task, inl refl, touches)
+  | inr spared ↦ elim (one_touches tasks p) [
+    | inl later ↦ inl (later.0, inr later.1, later.2)
+    | inr none ↦ inr (λ other h touches. elim h [ inl e ↦ spared (subst (λ (t : Task). Touches t p) (back_to task other e) touches) | inr rest ↦ none other rest touches ])
+  ]
+]
+  where
+    back_to : (a b : Task) → a ≡ b → b ≡ a
+    back_to a b e = cc
+
+touched_or_not : (tasks : List Task) (p : List ℕ) → IsTouchedFile tasks p ⊎ ((n : ℕ) (task : Task) → slice_get tasks n ≡ Some task → Touches task p → ⊥)
+unfolding Touches
+touched_or_not tasks p = elim (one_touches tasks p) [
+  | inl one ↦ inl (one.0, contains_of tasks one.0 one.1, one.2)
+  | inr none ↦ inr (λ n task is touches. none task (has_at tasks n task is) touches)
+]
+
+module _ (Shows : Ask → ℕ → Talk → Class → List ℕ → Type 0) (s : Setting) (excused : Excused) (dispatched : List Dispatched) (calls : List TaskCall) (a : AreCalls Shows s excused dispatched calls) where
+  -- a file that was made is a download's
+  made_loads : (front late : List TaskCall) → calls ≡ front ++ late → (m : TaskCall) → Has front m → (dest temp : List ℕ) → m.step.call ≡ MakeTemp dest (Ok temp)
+      → (task : Task) × (slice_get s.tasks m.task ≡ Some task) × (task.kind ≡ kind.Download)
+  made_loads front late is m h dest temp e =
+      let known : Contains calls m = subst (λ (all : List TaskCall). Contains all m) (sym is) (contains_of (front ++ late) m (has-append_left front late m h)) in
+      let own = keeping.named Shows s excused dispatched calls a m (MakeTemp dest (Ok temp)) known e in
+      (own.task, own.is_task, (only_download_makes own.task own.task.kind dest (Ok temp) own.is_call).0)
+
+  whole : calls ≡ calls ++ []
+  whole = sym (append-nil calls)
+
+  module _ (p : List ℕ) (undownloaded : (n : ℕ) (task : Task) → slice_get s.tasks n ≡ Some task → task.kind ≡ kind.Download → task.dest ≡ place.File p → ⊥) where
+    abbrev Made : ℕ → Type 0
+    Made n = temps.Made Shows s excused dispatched calls a p undownloaded calls n
+
+    abbrev Closed : ℕ → Type 0
+    Closed n = temps.Closed Shows s excused dispatched calls a p undownloaded calls n
+
+    -- in the end each temporary file was renamed or dropped
+    closed_in_the_end : (n : ℕ) → Made n → Closed n
+    closed_in_the_end n made = elim (a.keep.drops n p (made.0, contains_of calls made.0 made.1, made.2, made.3, made.4)) [
+      | inl renamed ↦ (renamed.0, has calls renamed.0 renamed.1, renamed.2, subst (λ (x : Call). IsClosing x) (sym renamed.5) tt)
+      | inr dropped ↦ (dropped.0, has calls dropped.0 dropped.1, dropped.2, subst (λ (x : Call). IsClosing x) (sym dropped.5) tt)
+    ]
+
+    -- so in the end the file is as before, or free and absent, or one that stayed
+    data End : Type 0 where
+      Kept : get (files_after s.held calls) p ≡ get s.held p → (temps.Removed Shows s excused dispatched calls a p undownloaded calls → ⊥) → End
+      Free : get (files_after s.held calls) p ≡ None → temps.Freed Shows s excused dispatched calls a p undownloaded calls → End
+      Left : IsLeft excused p → (n : ℕ) → Made n → temps.Freed Shows s excused dispatched calls a p undownloaded calls → End
+
+    end : End
+    end = by (temps.standing Shows s excused dispatched calls a p undownloaded calls [] whole)
+      where
+        by : temps.Standing Shows s excused dispatched calls a p undownloaded calls (files_after s.held calls) → End
+        by (Untouched e none kept) = Kept e kept
+        by (Absent e all freed) = Free e freed
+        by (InUse n there made unclosed others freed) = absurd (unclosed (closed_in_the_end n made))
+        by (Stayed excuse there n made all freed) = Left excuse n made freed
+
+  -- ---- all others
+
+  others : (p : List ℕ) → ((n : ℕ) (task : Task) → slice_get s.tasks n ≡ Some task → Touches task p → ⊥) → IsLeftover excused s.held p ⊎ (get (files_after s.held calls) p ≡ get s.held p)
+  unfolding Touches
+  others p untouched = by (end p undownloaded)
+    where
+      undownloaded : (n : ℕ) (task : Task) → slice_get s.tasks n ≡ Some task → task.kind ≡ kind.Download → task.dest ≡ place.File p → ⊥
+      undownloaded n task is load dest = untouched n task is (inl dest)
+
+      none_removes : (c : TaskCall) → Has calls c → c.step.call ≡ Remove p true → ⊥
+      none_removes c h e =
+          let own = keeping.named Shows s excused dispatched calls a c (Remove p true) (contains_of calls c h) e in
+          elim (who_removes own.task own.task.kind p true own.is_call) [
+            | inl removal ↦ untouched c.task own.task own.is_task (inl removal.1)
+            | inr upload ↦ untouched c.task own.task own.is_task (inr (upload.1, upload.2))
+          ]
+
+      by : End p undownloaded → IsLeftover excused s.held p ⊎ (get (files_after s.held calls) p ≡ get s.held p)
+      by (Kept e kept) = inr e
+      by (Free e (inl none)) = inr (e ∙ sym none)
+      by (Free e (inr removed)) = absurd (none_removes removed.0 removed.1 removed.2)
+      by (Left excuse n made (inl none)) = inl (excuse, none)
+      by (Left excuse n made (inr removed)) = absurd (none_removes removed.0 removed.1 removed.2)
+
+  -- ---- removed files
+
+  module _ (n : ℕ) (task : Task) (p : List ℕ) (is_task : slice_get s.tasks n ≡ Some task) (removal : task.kind ≡ kind.RemoveFile) (is_dest : task.dest ≡ place.File p) where
+    only_removed : (m : ℕ) (other : Task) → slice_get s.tasks m ≡ Some other → other.kind ≡ kind.Download → other.dest ≡ place.File p → ⊥
+    only_removed m other is load dest =
+        let one = a.apart.destinations m n other task p is is_task dest is_dest in
+        let alike = same_task other task (sym is ∙ ap (slice_get s.tasks) one ∙ is_task) in
+        removal_downloads (sym removal ∙ ap (λ (t : Task). t.kind) (sym alike) ∙ load)
+
+    own_path : IsRemoved calls n → temps.Removed Shows s excused dispatched calls a p only_removed calls
+    own_path removed =
+        let own = keeping.named Shows s excused dispatched calls a removed.0 (Remove removed.3 true) removed.1 removed.4 in
+        let alike = same_task own.task task (sym own.is_task ∙ ap (slice_get s.tasks) removed.2 ∙ is_task) in
+        elim (who_removes own.task own.task.kind removed.3 true own.is_call) [
+          | inl is ↦ (removed.0, has calls removed.0 removed.1, removed.4 ∙ ap (λ (q : List ℕ). Remove q true) (same_path removed.3 p (sym is.1 ∙ ap (λ (t : Task). t.dest) alike ∙ is_dest)))
+          | inr upload ↦ absurd (upload_removes (sym upload.0 ∙ ap (λ (t : Task). t.kind) alike ∙ removal))
+        ]
+
+    own_task : temps.Removed Shows s excused dispatched calls a p only_removed calls → IsRemoved calls n
+    own_task removed =
+        let own = keeping.named Shows s excused dispatched calls a removed.0 (Remove p true) (contains_of calls removed.0 removed.1) removed.2 in
+        elim (who_removes own.task own.task.kind p true own.is_call) [
+          | inl is ↦ (removed.0, contains_of calls removed.0 removed.1, a.apart.destinations removed.0.task n own.task task p own.is_task is_task is.1 is_dest, p, removed.2)
+          | inr upload ↦ absurd (a.apart.sources removed.0.task n own.task task p own.is_task is_task upload.1 upload.2 is_dest)
+        ]
+
+    after_removal : IsRemoved calls n → (get (files_after s.held calls) p ≡ None) ⊎ IsLeft excused p
+    after_removal removed = by (end p only_removed)
+      where
+        by : End p only_removed → (get (files_after s.held calls) p ≡ None) ⊎ IsLeft excused p
+        by (Kept e kept) = absurd (kept (own_path removed))
+        by (Free e freed) = inl e
+        by (Left excuse m made freed) = inr excuse
+
+    without_removal : (IsRemoved calls n → ⊥) → get (files_after s.held calls) p ≡ get s.held p
+    without_removal kept = by (end p only_removed)
+      where
+        freed_by : temps.Freed Shows s excused dispatched calls a p only_removed calls → ⊥
+        freed_by (inl none) = some_none (get s.held p) (a.apart.there n task p is_task removal is_dest) none
+        freed_by (inr removed) = kept (own_task removed)
+
+        by : End p only_removed → get (files_after s.held calls) p ≡ get s.held p
+        by (Kept e stays) = e
+        by (Free e freed) = absurd (freed_by freed)
+        by (Left excuse m made freed) = absurd (freed_by freed)
+
+  -- ---- moved files
+
+  module _ (n : ℕ) (task : Task) (p : List ℕ) (is_task : slice_get s.tasks n ≡ Some task) (upload : task.kind ≡ kind.Upload) (moves : task.moves ≡ true) (is_source : task.source ≡ Some (place.File p)) where
+    only_moved : (m : ℕ) (other : Task) → slice_get s.tasks m ≡ Some other → other.kind ≡ kind.Download → other.dest ≡ place.File p → ⊥
+    only_moved m other is load dest = a.apart.sources n m task other p is_task is moves is_source dest
+
+    source_path : IsRemoved calls n → temps.Removed Shows s excused dispatched calls a p only_moved calls
+    source_path removed =
+        let own = keeping.named Shows s excused dispatched calls a removed.0 (Remove removed.3 true) removed.1 removed.4 in
+        let alike = same_task own.task task (sym own.is_task ∙ ap (slice_get s.tasks) removed.2 ∙ is_task) in
+        elim (who_removes own.task own.task.kind removed.3 true own.is_call) [
+          | inl removal ↦ absurd (upload_removes (sym upload ∙ ap (λ (t : Task). t.kind) (sym alike) ∙ removal.0))
+          | inr is ↦ (
+            removed.0,
+            has calls removed.0 removed.1,
+            removed.4 ∙ ap (λ (q : List ℕ). Remove q true) (same_path removed.3 p (some_place (place.File removed.3) (place.File p) (sym is.2 ∙ ap (λ (t : Task). t.source) alike ∙ is_source))),
+          )
+        ]
+
+    source_task : (c : TaskCall) → Contains calls c → c.step.call ≡ Remove p true → c.task ≡ n
+    source_task c known e =
+        let own = keeping.named Shows s excused dispatched calls a c (Remove p true) known e in
+        elim (who_removes own.task own.task.kind p true own.is_call) [
+          | inl removal ↦ absurd (a.apart.sources n c.task task own.task p is_task own.is_task moves is_source removal.1)
+          | inr is ↦ a.apart.moved_once c.task n own.task task p own.is_task is_task is.1 is.2 moves is_source
+        ]
+
+    no_temp : (front late : List TaskCall) → calls ≡ front ++ late → (m : TaskCall) → Has front m → (dest : List ℕ) → m.step.call ≡ MakeTemp dest (Ok p) → ⊥
+    no_temp front late is m h dest e = let load = made_loads front late is m h dest p e in a.apart.one_way n m.task task load.0 p is_task load.1 moves is_source load.2
+
+    after_move : IsRemoved calls n → get (files_after s.held calls) p ≡ None
+    after_move removed = by (end p only_moved)
+      where
+        by : End p only_moved → get (files_after s.held calls) p ≡ None
+        by (Kept e kept) = absurd (kept (source_path removed))
+        by (Free e freed) = e
+        by (Left excuse m made freed) = absurd (no_temp calls [] whole made.0 made.1 made.3 made.4)
+
+    without_move : (IsRemoved calls n → ⊥) → get (files_after s.held calls) p ≡ get s.held p
+    without_move kept = by (end p only_moved)
+      where
+        by : End p only_moved → get (files_after s.held calls) p ≡ get s.held p
+        by (Kept e stays) = e
+        by (Free e (inl none)) = e ∙ sym none
+        by (Free e (inr removed)) = absurd (kept (removed.0, contains_of calls removed.0 removed.1, source_task removed.0 (contains_of calls removed.0 removed.1) removed.2, p, removed.2))
+        by (Left excuse m made freed) = absurd (no_temp calls [] whole made.0 made.1 made.3 made.4)
+
+    until_decided : (part late : List TaskCall) → calls ≡ part ++ late → (get (files_after s.held part) p ≡ get s.held p) ⊎ IsDecidedIn Shows s dispatched part n task
+    until_decided part late is = by (temps.standing Shows s excused dispatched calls a p only_moved part late is)
+      where
+        decided : (c : TaskCall) → Has part c → c.step.call ≡ Remove p true → IsDecidedIn Shows s dispatched part n task
+        decided c h e =
+            let known : Contains calls c = subst (λ (all : List TaskCall). Contains all c) (sym is) (contains_of (part ++ late) c (has-append_left part late c h)) in
+            let one = source_task c known e in
+            let at : slice_get s.tasks c.task ≡ Some task = ap (slice_get s.tasks) one ∙ is_task in
+            (c, contains_of part c h, one, subst (λ (k : ℕ). IsDecidedBefore Shows s dispatched k task c.place) one (a.keep.moves_last c task p true known at upload e))
+
+        by : temps.Standing Shows s excused dispatched calls a p only_moved part (files_after s.held part) → (get (files_after s.held part) p ≡ get s.held p) ⊎ IsDecidedIn Shows s dispatched part n task
+        by (Untouched e none kept) = inl e
+        by (Absent e all (inl none)) = inl (e ∙ sym none)
+        by (Absent e all (inr removed)) = inr (decided removed.0 removed.1 removed.2)
+        by (InUse m there made unclosed others freed) = absurd (no_temp part late is made.0 made.1 made.3 made.4)
+        by (Stayed excuse there m made all freed) = absurd (no_temp part late is made.0 made.1 made.3 made.4)
+
+module _ (Shows : Ask → ℕ → Talk → Class → List ℕ → Type 0) where
+  pub files_stay : FilesStay Shows
+  files_stay s excused dispatched calls a p = elim (touched_or_not s.tasks p) [ inl touched ↦ inl touched | inr untouched ↦ inr (others Shows s excused dispatched calls a p untouched) ]
+
+  pub file_is_removed : FileIsRemoved Shows
+  file_is_removed s excused dispatched calls a n task p is_task removal is_dest =
+      (after_removal Shows s excused dispatched calls a n task p is_task removal is_dest, without_removal Shows s excused dispatched calls a n task p is_task removal is_dest)
+
+  pub file_is_moved : FileIsMoved Shows
+  file_is_moved s excused dispatched calls a n task p is_task upload moves is_source = (
+    after_move Shows s excused dispatched calls a n task p is_task upload moves is_source,
+    without_move Shows s excused dispatched calls a n task p is_task upload moves is_source,
+    until_decided Shows s excused dispatched calls a n task p is_task upload moves is_source,
+  )

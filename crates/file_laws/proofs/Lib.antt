@@ -1,0 +1,5 @@
+pub mod Effects
+pub mod Files
+pub mod Keeping
+pub mod Runs
+pub mod TempFiles

@@ -1,0 +1,168 @@
+-- Tasks whose destination is a file, and files that are moved: which calls on files a run makes for them, and when.
+use Rattle.std.specs.Prelude.{◌≡◌, ◌≢◌, ◌⊎◌, ◌≤◌, ◌++◌, ℕ, Bool, true, false, List, [], ◌∷◌, Option, Some, None, Result, Ok, Err, IsSome, Contains, AllPairs, length, map, slice_get}
+use Rattle.std.specs.FinMap.{get}
+use Rattle.s3_model.specs.declared.answers.Class.{Class}
+use Rattle.s3_model.specs.declared.answers.Class.TheVariants as class
+use Rattle.s3_model.specs.declared.answers.Reply.{Reply}
+use Rattle.s3_model.specs.declared.places.Place.TheVariants as place
+use Rattle.s3_model.specs.declared.requests.Ask.{Ask}
+use Rattle.s3_model.specs.declared.requests.Op.TheVariants as op
+use Rattle.s3_model.specs.declared.tasks.Kind.{Kind}
+use Rattle.s3_model.specs.declared.tasks.Kind.TheVariants as kind
+use Rattle.s3_model.specs.declared.tasks.Task.{Task}
+use Rattle.s3_model.specs.Files.{HeldFile}
+use Rattle.s3_model.specs.Maps.{MapOf}
+use Rattle.s3_model.specs.Parts.{HasPieces, piece_range}
+use Rattle.s3_model.specs.Talks.{Talk}
+use Rattle.s3_model.specs.TempNames.{is_temp_name}
+use Rattle.run_promise.specs.Dispatches.{Attempt, Dispatched, IsCompletedWell, ShowsIn, last_of}
+use Rattle.run_promise.specs.Endings.{Excused, IsLeft, IsUntimed}
+use Rattle.run_promise.specs.Outcomes.{deciding}
+use Rattle.run_promise.specs.Schedule.{HasReply, IsBefore, Setting, is_small, job_of}
+use Rattle.local_files.specs.Calls.{Call, CallStep, DropTemp, Fault, MakeTemp, Remove, Rename, Stamp, WriteAt, held_after}
+
+-- ---- the calls of a run
+
+-- a call that was made for a task, and how many events of the journal stood before it
+pub record TaskCall : Type 0 where
+  pub task : ℕ
+  pub place : ℕ
+  pub step : CallStep
+
+abbrev pub steps_of : List TaskCall → List CallStep
+steps_of calls = map (λ (c : TaskCall). c.step) calls
+
+-- the files after calls
+abbrev pub files_after : MapOf HeldFile → List TaskCall → MapOf HeldFile
+files_after held calls = held_after held (steps_of calls)
+
+-- Which calls a task makes. A download makes, writes, renames or drops its temporary file and sets the time of its destination; the removal of a
+-- file removes it; and the upload of a file that is moved removes its source.
+abbrev pub IsCallOf : Task → Kind → Call → Type 0
+IsCallOf task kind.Download (MakeTemp dest answer) = task.dest ≡ place.File dest
+IsCallOf task kind.Download (WriteAt temp at bytes fine) = Unit {0}
+IsCallOf task kind.Download (Rename temp dest fault) = task.dest ≡ place.File dest
+IsCallOf task kind.Download (DropTemp temp fine) = Unit {0}
+IsCallOf task kind.Download (Stamp path micros fine) = (task.dest ≡ place.File path) × (micros ≡ task.micros)
+IsCallOf task kind.RemoveFile (Remove path fine) = task.dest ≡ place.File path
+IsCallOf task kind.Upload (Remove path fine) = (task.moves ≡ true) × (task.source ≡ Some (place.File path))
+IsCallOf task of_kind call = ⊥
+
+-- Which call of a task may come after which: one temporary file, each place written once, one rename, and after a failed call nothing but the drop.
+abbrev pub MayFollow : (earlier later : Call) → Type 0
+MayFollow (MakeTemp dest (Ok temp)) (WriteAt same at bytes fine) = same ≡ temp
+MayFollow (MakeTemp dest (Ok temp)) (Rename same to fault) = same ≡ temp
+MayFollow (MakeTemp dest (Ok temp)) (DropTemp same fine) = same ≡ temp
+MayFollow (MakeTemp dest (Ok temp)) (Stamp path micros fine) = Unit {0}
+MayFollow (WriteAt temp at bytes true) (WriteAt same other more fine) = other ≢ at
+MayFollow (WriteAt temp at bytes true) (Rename same dest fault) = Unit {0}
+MayFollow (WriteAt temp at bytes true) (DropTemp same fine) = Unit {0}
+MayFollow (WriteAt temp at bytes true) (Stamp path micros fine) = Unit {0}
+MayFollow (WriteAt temp at bytes false) (DropTemp same fine) = Unit {0}
+MayFollow (Rename temp dest (Some fault)) (DropTemp same fine) = Unit {0}
+MayFollow (Rename temp dest None) (Stamp path micros fine) = Unit {0}
+MayFollow earlier later = ⊥
+
+-- it works on that temporary file
+abbrev pub UsesTemp : Call → List ℕ → Type 0
+UsesTemp (WriteAt temp at bytes fine) path = temp ≡ path
+UsesTemp (Rename temp dest fault) path = temp ≡ path
+UsesTemp (DropTemp temp fine) path = temp ≡ path
+UsesTemp call path = ⊥
+
+-- ---- calls that were made
+
+abbrev pub IsMade : List TaskCall → ℕ → List ℕ → Type 0
+IsMade calls n temp = (c : TaskCall) × Contains calls c × (c.task ≡ n) × (dest : List ℕ) × (c.step.call ≡ MakeTemp dest (Ok temp))
+
+-- the destination was replaced
+abbrev pub IsRenamed : List TaskCall → ℕ → Type 0
+IsRenamed calls n = (c : TaskCall) × Contains calls c × (c.task ≡ n) × (temp : List ℕ) × (dest : List ℕ) × (c.step.call ≡ Rename temp dest None)
+
+abbrev pub IsDropped : List TaskCall → ℕ → Type 0
+IsDropped calls n = (c : TaskCall) × Contains calls c × (c.task ≡ n) × (temp : List ℕ) × (fine : Bool) × (c.step.call ≡ DropTemp temp fine)
+
+abbrev pub IsStamped : List TaskCall → ℕ → Type 0
+IsStamped calls n = (c : TaskCall) × Contains calls c × (c.task ≡ n) × (path : List ℕ) × (micros : ℕ) × (fine : Bool) × (c.step.call ≡ Stamp path micros fine)
+
+-- the file that the task was to remove was removed
+abbrev pub IsRemoved : List TaskCall → ℕ → Type 0
+IsRemoved calls n = (c : TaskCall) × Contains calls c × (c.task ≡ n) × (path : List ℕ) × (c.step.call ≡ Remove path true)
+
+-- ---- the plan
+
+-- What a plan makes sure of.
+pub record AreFilesApart (held : MapOf HeldFile) (tasks : List Task) : Type 0 where
+  -- no two tasks have one destination
+  pub destinations : (m n : ℕ) (a b : Task) (path : List ℕ) → slice_get tasks m ≡ Some a → slice_get tasks n ≡ Some b → a.dest ≡ place.File path → b.dest ≡ place.File path → m ≡ n
+  -- no destination is a file that is moved, and no file is moved twice
+  pub sources : (m n : ℕ) (a b : Task) (path : List ℕ) → slice_get tasks m ≡ Some a → slice_get tasks n ≡ Some b → a.moves ≡ true → a.source ≡ Some (place.File path) → b.dest ≡ place.File path → ⊥
+  pub moved_once : (m n : ℕ) (a b : Task) (path : List ℕ) → slice_get tasks m ≡ Some a → slice_get tasks n ≡ Some b
+      → a.moves ≡ true → a.source ≡ Some (place.File path) → b.moves ≡ true → b.source ≡ Some (place.File path) → m ≡ n
+  -- a plan that moves files downloads nothing
+  pub one_way : (m n : ℕ) (a b : Task) (path : List ℕ) → slice_get tasks m ≡ Some a → slice_get tasks n ≡ Some b → a.moves ≡ true → a.source ≡ Some (place.File path) → b.kind ≡ kind.Download → ⊥
+  -- a download to a place with the name of a temporary file is the only one
+  pub names : (m n : ℕ) (a b : Task) (path : List ℕ) → slice_get tasks m ≡ Some a → slice_get tasks n ≡ Some b → a.kind ≡ kind.Download → b.kind ≡ kind.Download
+      → a.dest ≡ place.File path → is_temp_name path ≡ true → m ≡ n
+  -- a file that is to be removed is there
+  pub there : (n : ℕ) (task : Task) (path : List ℕ) → slice_get tasks n ≡ Some task → task.kind ≡ kind.RemoveFile → task.dest ≡ place.File path → IsSome (get held path)
+
+-- place and length of what a Get of that number is to bring: the whole, or a piece
+abbrev pub IsRangeIn : Bool → (size piece count number at long : ℕ) → Type 0
+IsRangeIn true size piece count number at long = (number ≡ 0) × (at ≡ 0) × (long ≡ size)
+IsRangeIn false size piece count number at long = (1 ≤ number) × (number ≤ count) × (piece_range size piece number ≡ (at, long))
+
+abbrev pub IsRange : Setting → Task → (number at long : ℕ) → Type 0
+IsRange s task number at long = (piece : ℕ) × (count : ℕ) × HasPieces s.config s.limits task.kind task.size piece count × IsRangeIn (is_small s task) task.size piece count number at long
+
+-- `Shows ask limit talk class bytes`: the talk has that class for the ask, and its answer that body
+module _ (Shows : Ask → ℕ → Talk → Class → List ℕ → Type 0) where
+  -- a Get of the task came before that place of the journal with what was asked for: these bytes, which belong there
+  pub record IsBody (s : Setting) (dispatched : List Dispatched) (n : ℕ) (task : Task) (before at : ℕ) (bytes : List ℕ) : Type 0 where
+    pub get : Dispatched
+    pub known : Contains dispatched get
+    pub number : ℕ
+    pub is_get : get.dispatch.job ≡ job_of n op.Get number
+    pub came : IsBefore get.dispatch.came_at before
+    pub well : IsCompletedWell Shows get
+    pub attempt : Attempt
+    pub is_last : last_of get.dispatch.attempts ≡ Some attempt
+    pub answered : Reply
+    pub shows : ShowsIn Shows get attempt (class.Success answered) bytes
+    pub range : IsRange s task number at (length bytes)
+
+  -- the request that decides a task came before that place of the journal with success
+  abbrev pub IsDecidedBefore : Setting → List Dispatched → ℕ → Task → ℕ → Type 0
+  IsDecidedBefore s dispatched n task before = (c : Dispatched) × Contains dispatched c × (c.dispatch.job ≡ job_of n (deciding task.kind (is_small s task)) 0) × IsBefore c.dispatch.came_at before
+      × ((answered : Reply) × HasReply Shows c (last_of c.dispatch.attempts) answered)
+
+  -- What the calls on files of a run keep to.
+  pub record AreFileCalls (s : Setting) (excused : Excused) (dispatched : List Dispatched) (calls : List TaskCall) : Type 0 where
+    -- each is one of its task's; they stand in the order of the journal; and a dry run makes none
+    pub named : (c : TaskCall) → Contains calls c → (task : Task) × (slice_get s.tasks c.task ≡ Some task) × IsCallOf task task.kind c.step.call
+    pub placed : AllPairs (λ (a b : TaskCall). a.place ≤ b.place) calls
+    pub dry : s.dryrun ≡ true → calls ≡ []
+    pub order : (front back : List TaskCall) (earlier later : TaskCall) → calls ≡ front ++ later ∷ back → Contains front earlier → earlier.task ≡ later.task → MayFollow earlier.step.call later.step.call
+    -- a temporary file is made before it is used, and before any Get of its task is given
+    pub made : (front back : List TaskCall) (c : TaskCall) (temp : List ℕ) → calls ≡ front ++ c ∷ back → UsesTemp c.step.call temp → IsMade front c.task temp
+    pub made_first : (c : Dispatched) (n number : ℕ) → Contains dispatched c → c.dispatch.job ≡ job_of n op.Get number
+        → (made : TaskCall) × Contains calls made × (made.task ≡ n) × (dest : List ℕ) × (temp : List ℕ) × (made.step.call ≡ MakeTemp dest (Ok temp)) × (made.place ≤ c.dispatch.given_at)
+    -- what is written is the body of a Get of the task, at its place
+    pub writes : (c : TaskCall) (task : Task) (temp : List ℕ) (at : ℕ) (bytes : List ℕ) (fine : Bool) → Contains calls c → slice_get s.tasks c.task ≡ Some task
+        → c.step.call ≡ WriteAt temp at bytes fine → IsBody s dispatched c.task task c.place at bytes
+    -- the file is renamed only once each range was written
+    pub renames : (front back : List TaskCall) (c : TaskCall) (task : Task) (temp dest : List ℕ) (fault : Option Fault) (number at long : ℕ) → calls ≡ front ++ c ∷ back → slice_get s.tasks c.task ≡ Some task
+        → c.step.call ≡ Rename temp dest fault → IsRange s task number at long
+        → (w : TaskCall) × Contains front w × (w.task ≡ c.task) × (bytes : List ℕ) × (w.step.call ≡ WriteAt temp at bytes true)
+    -- a renamed file has its time set then, or a warning says that this failed
+    pub stamps : (n : ℕ) → IsRenamed calls n → IsStamped calls n
+    pub stamps_last : (front back : List TaskCall) (c : TaskCall) (path : List ℕ) (micros : ℕ) (fine : Bool) → calls ≡ front ++ c ∷ back → c.step.call ≡ Stamp path micros fine → IsRenamed front c.task
+    pub untimed : (c : TaskCall) (path : List ℕ) (micros : ℕ) → Contains calls c → c.step.call ≡ Stamp path micros false → IsUntimed excused path
+    -- a temporary file is renamed or dropped, or a warning says that this failed
+    pub drops : (n : ℕ) (temp : List ℕ) → IsMade calls n temp → IsRenamed calls n ⊎ IsDropped calls n
+    pub left : (c : TaskCall) (temp : List ℕ) → Contains calls c → c.step.call ≡ DropTemp temp false → IsLeft excused temp
+    -- the source of a move is removed only after the success that decides the task, an object's Delete only after the file was renamed
+    pub moves_last : (c : TaskCall) (task : Task) (path : List ℕ) (fine : Bool) → Contains calls c → slice_get s.tasks c.task ≡ Some task → task.kind ≡ kind.Upload
+        → c.step.call ≡ Remove path fine → IsDecidedBefore s dispatched c.task task c.place
+    pub deletes_last : (c : Dispatched) (n : ℕ) (task : Task) → Contains dispatched c → c.dispatch.job ≡ job_of n op.Delete 0 → slice_get s.tasks n ≡ Some task → task.kind ≡ kind.Download
+        → (r : TaskCall) × Contains calls r × (r.task ≡ n) × (temp : List ℕ) × (dest : List ℕ) × (r.step.call ≡ Rename temp dest None) × (r.place ≤ c.dispatch.given_at)

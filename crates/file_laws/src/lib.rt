@@ -1,0 +1,6 @@
+//! Laws on local files: what the calls of a run leave of destinations, of moved files and of all others, whatever fails.
+#![tactic(auto)]
+
+mod laws;
+
+pub use laws::{file_removal, moved_file, other_files};
