@@ -30,7 +30,7 @@ pub data Effect (p : List ℕ) (call : Call) (old new : MapOf HeldFile) : Type 0
   removes : call ≡ Remove p true → get new p ≡ None → Effect p call old new
   stamps : (micros : ℕ) → call ≡ Stamp p micros true → (file : HeldFile) → get old p ≡ Some file → get new p ≡ Some (record file { micros = micros }) → Effect p call old new
 
-inserted : (p : List ℕ) (file : HeldFile) (old new : MapOf HeldFile) → new ≡ insert old p file → get new p ≡ Some file
+pub inserted : (p : List ℕ) (file : HeldFile) (old new : MapOf HeldFile) → new ≡ insert old p file → get new p ≡ Some file
 inserted p file old new e = ap (λ (m : MapOf HeldFile). get m p) e ∙ get-insert_same nat_list_cmp_total text_exact old p file
 
 beside : (q p : List ℕ) (file : HeldFile) (old new : MapOf HeldFile) → (q ≡ p → ⊥) → new ≡ insert old q file → get new p ≡ get old p

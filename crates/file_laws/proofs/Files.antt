@@ -109,16 +109,16 @@ module _ (Shows : Ask → ℕ → Talk → Class → List ℕ → Type 0) (s : S
     ]
 
     -- so in the end the file is as before, or free and absent, or one that stayed
-    data End : Type 0 where
-      Kept : get (files_after s.held calls) p ≡ get s.held p → (temps.Removed Shows s excused dispatched calls a p undownloaded calls → ⊥) → End
+    pub data End : Type 0 where
+      Kept : get (files_after s.held calls) p ≡ get s.held p → ((n : ℕ) → Made n → ⊥) → (temps.Removed Shows s excused dispatched calls a p undownloaded calls → ⊥) → End
       Free : get (files_after s.held calls) p ≡ None → temps.Freed Shows s excused dispatched calls a p undownloaded calls → End
       Left : IsLeft excused p → (n : ℕ) → Made n → temps.Freed Shows s excused dispatched calls a p undownloaded calls → End
 
-    end : End
+    pub end : End
     end = by (temps.standing Shows s excused dispatched calls a p undownloaded calls [] whole)
       where
         by : temps.Standing Shows s excused dispatched calls a p undownloaded calls (files_after s.held calls) → End
-        by (Untouched e none kept) = Kept e kept
+        by (Untouched e none kept) = Kept e none kept
         by (Absent e all freed) = Free e freed
         by (InUse n there made unclosed others freed) = absurd (unclosed (closed_in_the_end n made))
         by (Stayed excuse there n made all freed) = Left excuse n made freed
@@ -141,7 +141,7 @@ module _ (Shows : Ask → ℕ → Talk → Class → List ℕ → Type 0) (s : S
           ]
 
       by : End p undownloaded → IsLeftover excused s.held p ⊎ (get (files_after s.held calls) p ≡ get s.held p)
-      by (Kept e kept) = inr e
+      by (Kept e none kept) = inr e
       by (Free e (inl none)) = inr (e ∙ sym none)
       by (Free e (inr removed)) = absurd (none_removes removed.0 removed.1 removed.2)
       by (Left excuse n made (inl none)) = inl (excuse, none)
@@ -177,7 +177,7 @@ module _ (Shows : Ask → ℕ → Talk → Class → List ℕ → Type 0) (s : S
     after_removal removed = by (end p only_removed)
       where
         by : End p only_removed → (get (files_after s.held calls) p ≡ None) ⊎ IsLeft excused p
-        by (Kept e kept) = absurd (kept (own_path removed))
+        by (Kept e none kept) = absurd (kept (own_path removed))
         by (Free e freed) = inl e
         by (Left excuse m made freed) = inr excuse
 
@@ -189,7 +189,7 @@ module _ (Shows : Ask → ℕ → Talk → Class → List ℕ → Type 0) (s : S
         freed_by (inr removed) = kept (own_task removed)
 
         by : End p only_removed → get (files_after s.held calls) p ≡ get s.held p
-        by (Kept e stays) = e
+        by (Kept e none stays) = e
         by (Free e freed) = absurd (freed_by freed)
         by (Left excuse m made freed) = absurd (freed_by freed)
 
@@ -227,7 +227,7 @@ module _ (Shows : Ask → ℕ → Talk → Class → List ℕ → Type 0) (s : S
     after_move removed = by (end p only_moved)
       where
         by : End p only_moved → get (files_after s.held calls) p ≡ None
-        by (Kept e kept) = absurd (kept (source_path removed))
+        by (Kept e none kept) = absurd (kept (source_path removed))
         by (Free e freed) = e
         by (Left excuse m made freed) = absurd (no_temp calls [] whole made.0 made.1 made.3 made.4)
 
@@ -235,7 +235,7 @@ module _ (Shows : Ask → ℕ → Talk → Class → List ℕ → Type 0) (s : S
     without_move kept = by (end p only_moved)
       where
         by : End p only_moved → get (files_after s.held calls) p ≡ get s.held p
-        by (Kept e stays) = e
+        by (Kept e none stays) = e
         by (Free e (inl none)) = e ∙ sym none
         by (Free e (inr removed)) = absurd (kept (removed.0, contains_of calls removed.0 removed.1, source_task removed.0 (contains_of calls removed.0 removed.1) removed.2, p, removed.2))
         by (Left excuse m made freed) = absurd (no_temp calls [] whole made.0 made.1 made.3 made.4)
@@ -266,7 +266,7 @@ module _ (Shows : Ask → ℕ → Talk → Class → List ℕ → Type 0) where
       (after_removal Shows s excused dispatched calls a n task p is_task removal is_dest, without_removal Shows s excused dispatched calls a n task p is_task removal is_dest)
 
   pub file_is_moved : FileIsMoved Shows
-  file_is_moved s excused dispatched calls a n task p is_task upload moves is_source = (
+  file_is_moved s excused dispatched calls a n task p is_task moves is_source = let upload = a.apart.uploads n task p is_task moves is_source in (
     after_move Shows s excused dispatched calls a n task p is_task upload moves is_source,
     without_move Shows s excused dispatched calls a n task p is_task upload moves is_source,
     until_decided Shows s excused dispatched calls a n task p is_task upload moves is_source,

@@ -1,5 +1,10 @@
+pub mod Downloads
 pub mod Effects
 pub mod Files
+pub mod Filling
+pub mod Gets
 pub mod Keeping
+pub mod Ranges
 pub mod Runs
 pub mod TempFiles
+pub mod Written

@@ -35,7 +35,7 @@ spares_use p call spares closes uses = absurd closes
 spares_removal : (p : List ℕ) (call : Call) → Spares p call → call ≡ Remove p true → ⊥
 spares_removal p call spares e = subst (λ (x : Call). Spares p x) e spares refl
 
-write_makes : (temp path dest : List ℕ) (at : ℕ) (bytes : List ℕ) (fine : Bool) → WriteAt temp at bytes fine ≡ MakeTemp dest (Ok path) → ⊥
+pub write_makes : (temp path dest : List ℕ) (at : ℕ) (bytes : List ℕ) (fine : Bool) → WriteAt temp at bytes fine ≡ MakeTemp dest (Ok path) → ⊥
 write_makes temp path dest at bytes fine e = cc
 
 rename_makes : (temp to path dest : List ℕ) (fault : Option Fault) → Rename temp to fault ≡ MakeTemp dest (Ok path) → ⊥
@@ -76,10 +76,10 @@ module _ (Shows : Ask → ℕ → Talk → Class → List ℕ → Type 0) (s : S
     known : Contains calls c
     known = keeping.within Shows s excused dispatched calls a front c back is
 
-    made_on : (n : ℕ) → Made front n → Made longer n
+    pub made_on : (n : ℕ) → Made front n → Made longer n
     made_on n m = (m.0, has-append_left front (c ∷ []) m.0 m.1, m.2, m.3, m.4)
 
-    closed_on : (n : ℕ) → Closed front n → Closed longer n
+    pub closed_on : (n : ℕ) → Closed front n → Closed longer n
     closed_on n m = (m.0, has-append_left front (c ∷ []) m.0 m.1, m.2, m.3)
 
     removed_on : Removed front → Removed longer
@@ -90,7 +90,7 @@ module _ (Shows : Ask → ℕ → Talk → Class → List ℕ → Type 0) (s : S
     freed_on (inr gone) = inr (removed_on gone)
 
     -- made before, where this call makes none
-    made_before : ((dest : List ℕ) → c.step.call ≡ MakeTemp dest (Ok p) → ⊥) → (n : ℕ) → Made longer n → Made front n
+    pub made_before : ((dest : List ℕ) → c.step.call ≡ MakeTemp dest (Ok p) → ⊥) → (n : ℕ) → Made longer n → Made front n
     made_before none n m = elim (last_cases front c m.0 m.1) [
       | inl before ↦ (m.0, before, m.2, m.3, m.4)
       | inr here ↦ absurd (none m.3 (ap (λ (x : TaskCall). x.step.call) here ∙ m.4))
@@ -114,10 +114,10 @@ module _ (Shows : Ask → ℕ → Talk → Class → List ℕ → Type 0) (s : S
 
     -- ---- who uses the path
 
-    made_by_user : UsesTemp c.step.call p → Made front c.task
+    pub made_by_user : UsesTemp c.step.call p → Made front c.task
     made_by_user uses = let m = a.keep.made front back c p is uses in (m.0, has front m.0 m.1, m.2, m.3, m.4)
 
-    user_not_closed : UsesTemp c.step.call p → Closed front c.task → ⊥
+    pub user_not_closed : UsesTemp c.step.call p → Closed front c.task → ⊥
     user_not_closed uses closed = closed_unused closed.0.step.call c.step.call p closed.3 uses (keeping.follows Shows s excused dispatched calls a front c back closed.0 is closed.1 closed.2)
 
     -- a task that made the file and closes it, closes this one
@@ -150,7 +150,7 @@ module _ (Shows : Ask → ℕ → Talk → Class → List ℕ → Type 0) (s : S
         (own.task, subst (λ (k : ℕ). slice_get s.tasks k ≡ Some own.task) same own.is_task, (only_download_makes own.task own.task.kind dest (Ok p) own.is_call).0)
 
     -- a path that was free when a temporary file took it is not removed as a task's file
-    no_removal : (n : ℕ) → Made front n → Freed front → (fine : Bool) → c.step.call ≡ Remove p fine → ⊥
+    pub no_removal : (n : ℕ) → Made front n → Freed front → (fine : Bool) → c.step.call ≡ Remove p fine → ⊥
     no_removal n made freed fine e = by (who_removes own.task own.task.kind p fine own.is_call) freed
       where
         own : keeping.Named Shows s excused dispatched calls a c (Remove p fine)
@@ -175,13 +175,13 @@ module _ (Shows : Ask → ℕ → Talk → Class → List ℕ → Type 0) (s : S
               | inl other ↦ twice before.0 before.1 before.2 (a.apart.destinations before.0.task c.task earlier.task own.task p earlier.is_task own.is_task other.1 removal.1)
             ]
 
-    no_arrival : (temp : List ℕ) → c.step.call ≡ Rename temp p None → ⊥
+    pub no_arrival : (temp : List ℕ) → c.step.call ≡ Rename temp p None → ⊥
     no_arrival temp e =
         let own = keeping.named Shows s excused dispatched calls a c (Rename temp p None) known e in
         let load = only_download_renames own.task own.task.kind temp p None own.is_call in
         undownloaded c.task own.task own.is_task load.0 load.1
 
-    no_stamp : (micros : ℕ) → c.step.call ≡ Stamp p micros true → ⊥
+    pub no_stamp : (micros : ℕ) → c.step.call ≡ Stamp p micros true → ⊥
     no_stamp micros e =
         let own = keeping.named Shows s excused dispatched calls a c (Stamp p micros true) known e in
         let load = only_download_stamps own.task own.task.kind p micros true own.is_call in

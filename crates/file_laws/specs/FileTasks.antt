@@ -4,6 +4,7 @@ use Rattle.std.specs.FinMap.{get}
 use Rattle.s3_model.specs.declared.answers.Class.{Class}
 use Rattle.s3_model.specs.declared.answers.Class.TheVariants as class
 use Rattle.s3_model.specs.declared.answers.Reply.{Reply}
+use Rattle.s3_model.specs.declared.answers.Reply.TheVariants as reply
 use Rattle.s3_model.specs.declared.places.Place.TheVariants as place
 use Rattle.s3_model.specs.declared.requests.Ask.{Ask}
 use Rattle.s3_model.specs.declared.requests.Op.TheVariants as op
@@ -99,7 +100,8 @@ pub record AreFilesApart (held : MapOf HeldFile) (tasks : List Task) : Type 0 wh
   pub sources : (m n : ℕ) (a b : Task) (path : List ℕ) → slice_get tasks m ≡ Some a → slice_get tasks n ≡ Some b → a.moves ≡ true → a.source ≡ Some (place.File path) → b.dest ≡ place.File path → ⊥
   pub moved_once : (m n : ℕ) (a b : Task) (path : List ℕ) → slice_get tasks m ≡ Some a → slice_get tasks n ≡ Some b
       → a.moves ≡ true → a.source ≡ Some (place.File path) → b.moves ≡ true → b.source ≡ Some (place.File path) → m ≡ n
-  -- a plan that moves files downloads nothing
+  -- only an upload moves a file, and a plan that moves files downloads nothing
+  pub uploads : (n : ℕ) (task : Task) (path : List ℕ) → slice_get tasks n ≡ Some task → task.moves ≡ true → task.source ≡ Some (place.File path) → task.kind ≡ kind.Upload
   pub one_way : (m n : ℕ) (a b : Task) (path : List ℕ) → slice_get tasks m ≡ Some a → slice_get tasks n ≡ Some b → a.moves ≡ true → a.source ≡ Some (place.File path) → b.kind ≡ kind.Download → ⊥
   -- a download to a place with the name of a temporary file is the only one
   pub names : (m n : ℕ) (a b : Task) (path : List ℕ) → slice_get tasks m ≡ Some a → slice_get tasks n ≡ Some b → a.kind ≡ kind.Download → b.kind ≡ kind.Download
@@ -115,6 +117,14 @@ IsRangeIn false size piece count number at long = (1 ≤ number) × (number ≤ 
 abbrev pub IsRange : Setting → Task → (number at long : ℕ) → Type 0
 IsRange s task number at long = (piece : ℕ) × (count : ℕ) × HasPieces s.config s.limits task.kind task.size piece count × IsRangeIn (is_small s task) task.size piece count number at long
 
+-- each range of a download was written to that temporary file
+pub record AreWritten (s : Setting) (calls : List TaskCall) (n : ℕ) (task : Task) (temp : List ℕ) : Type 0 where
+  pub piece : ℕ
+  pub count : ℕ
+  pub pieces : HasPieces s.config s.limits task.kind task.size piece count
+  pub each : (number at long : ℕ) → IsRangeIn (is_small s task) task.size piece count number at long
+      → (w : TaskCall) × Contains calls w × (w.task ≡ n) × (bytes : List ℕ) × (w.step.call ≡ WriteAt temp at bytes true)
+
 -- `Shows ask limit talk class bytes`: the talk has that class for the ask, and its answer that body
 module _ (Shows : Ask → ℕ → Talk → Class → List ℕ → Type 0) where
   -- a Get of the task came before that place of the journal with what was asked for: these bytes, which belong there
@@ -127,8 +137,10 @@ module _ (Shows : Ask → ℕ → Talk → Class → List ℕ → Type 0) where
     pub well : IsCompletedWell Shows get
     pub attempt : Attempt
     pub is_last : last_of get.dispatch.attempts ≡ Some attempt
-    pub answered : Reply
-    pub shows : ShowsIn Shows get attempt (class.Success answered) bytes
+    pub status : ℕ
+    pub told : Option (ℕ × ℕ × ℕ)
+    pub size : ℕ
+    pub shows : ShowsIn Shows get attempt (class.Success (reply.Got status told size)) bytes
     pub range : IsRange s task number at (length bytes)
 
   -- the request that decides a task came before that place of the journal with success
@@ -151,9 +163,8 @@ module _ (Shows : Ask → ℕ → Talk → Class → List ℕ → Type 0) where
     pub writes : (c : TaskCall) (task : Task) (temp : List ℕ) (at : ℕ) (bytes : List ℕ) (fine : Bool) → Contains calls c → slice_get s.tasks c.task ≡ Some task
         → c.step.call ≡ WriteAt temp at bytes fine → IsBody s dispatched c.task task c.place at bytes
     -- the file is renamed only once each range was written
-    pub renames : (front back : List TaskCall) (c : TaskCall) (task : Task) (temp dest : List ℕ) (fault : Option Fault) (number at long : ℕ) → calls ≡ front ++ c ∷ back → slice_get s.tasks c.task ≡ Some task
-        → c.step.call ≡ Rename temp dest fault → IsRange s task number at long
-        → (w : TaskCall) × Contains front w × (w.task ≡ c.task) × (bytes : List ℕ) × (w.step.call ≡ WriteAt temp at bytes true)
+    pub renames : (front back : List TaskCall) (c : TaskCall) (task : Task) (temp dest : List ℕ) (fault : Option Fault) → calls ≡ front ++ c ∷ back → slice_get s.tasks c.task ≡ Some task
+        → c.step.call ≡ Rename temp dest fault → AreWritten s front c.task task temp
     -- a renamed file has its time set then, or a warning says that this failed
     pub stamps : (n : ℕ) → IsRenamed calls n → IsStamped calls n
     pub stamps_last : (front back : List TaskCall) (c : TaskCall) (path : List ℕ) (micros : ℕ) (fine : Bool) → calls ≡ front ++ c ∷ back → c.step.call ≡ Stamp path micros fine → IsRenamed front c.task
@@ -164,5 +175,5 @@ module _ (Shows : Ask → ℕ → Talk → Class → List ℕ → Type 0) where
     -- the source of a move is removed only after the success that decides the task, an object's Delete only after the file was renamed
     pub moves_last : (c : TaskCall) (task : Task) (path : List ℕ) (fine : Bool) → Contains calls c → slice_get s.tasks c.task ≡ Some task → task.kind ≡ kind.Upload
         → c.step.call ≡ Remove path fine → IsDecidedBefore s dispatched c.task task c.place
-    pub deletes_last : (c : Dispatched) (n : ℕ) (task : Task) → Contains dispatched c → c.dispatch.job ≡ job_of n op.Delete 0 → slice_get s.tasks n ≡ Some task → task.kind ≡ kind.Download
+    pub deletes_last : (c : Dispatched) (n : ℕ) (task : Task) → Contains dispatched c → c.dispatch.job.task ≡ Some n → c.dispatch.job.op ≡ op.Delete → slice_get s.tasks n ≡ Some task → task.kind ≡ kind.Download
         → (r : TaskCall) × Contains calls r × (r.task ≡ n) × (temp : List ℕ) × (dest : List ℕ) × (r.step.call ≡ Rename temp dest None) × (r.place ≤ c.dispatch.given_at)

@@ -1,2 +1,3 @@
+pub mod FileEnds
 pub mod FileLaws
 pub mod FileTasks

@@ -1,0 +1,91 @@
+-- Tasks whose destination is a file end as their outcomes say, and moved files go only where their tasks are done.
+use Rattle.std.specs.Prelude.{◌≡◌, ◌⊎◌, ℕ, true, false, List, Option, Some, None, Err, Contains, slice_get}
+use Rattle.s3_model.specs.declared.answers.Class.{Class}
+use Rattle.s3_model.specs.declared.outcomes.Cause.{Cause}
+use Rattle.s3_model.specs.declared.outcomes.Cause.TheVariants as cause
+use Rattle.s3_model.specs.declared.outcomes.Event.{Event}
+use Rattle.s3_model.specs.declared.outcomes.FileCall.{FileCall}
+use Rattle.s3_model.specs.declared.outcomes.FileCall.TheVariants as call
+use Rattle.s3_model.specs.declared.outcomes.Outcome.{Outcome}
+use Rattle.s3_model.specs.declared.outcomes.Outcome.TheVariants as outcome
+use Rattle.s3_model.specs.declared.places.Place.TheVariants as place
+use Rattle.s3_model.specs.declared.requests.Ask.{Ask}
+use Rattle.s3_model.specs.declared.tasks.Kind.{Kind}
+use Rattle.s3_model.specs.declared.tasks.Kind.TheVariants as kind
+use Rattle.s3_model.specs.declared.tasks.Task.{Task}
+use Rattle.s3_model.specs.Talks.{Talk}
+use Rattle.s3_service.specs.ServiceState.{State}
+use Rattle.run_promise.specs.Dispatches.{Dispatched}
+use Rattle.run_promise.specs.Endings.{Excused, IsEnded}
+use Rattle.run_promise.specs.Outcomes.{HasOutcome}
+use Rattle.run_promise.specs.Schedule.{Setting}
+use Rattle.run_promise.specs.Traces.{Step, state_after, states}
+use Rattle.run_promise.specs.Truthful.{HasJournal, Shown}
+use Rattle.local_files.specs.Calls.{Blocked, Call, Failed, MakeTemp, Remove, Rename, WriteAt}
+use Rattle.world_laws.specs.Promises.{AreFilesLeft, IsFileLeft}
+use Rattle.world_laws.specs.Tasks.{HasSourceObject, IsScheduled, IsTraceOf, MayBeNew}
+use Rattle.file_laws.specs.FileLaws.{AreCalls}
+use Rattle.file_laws.specs.FileTasks.{IsRemoved, IsRenamed, TaskCall, files_after}
+
+-- a task that calls on files decide: a download of an object, or the removal of a file, which moves nothing
+pub record IsByFiles (task : Task) : Type 0 where
+  pub path : List ℕ
+  pub is_dest : task.dest ≡ place.File path
+  pub decided : (task.kind ≡ kind.Download) ⊎ (task.kind ≡ kind.RemoveFile)
+  pub from : task.kind ≡ kind.Download → (bucket : List ℕ) × (key : List ℕ) × (task.source ≡ Some (place.Object bucket key))
+  pub keeps : task.kind ≡ kind.RemoveFile → task.moves ≡ false
+
+-- ---- what calls show
+
+-- a call of that kind failed
+abbrev pub IsFailedCall : FileCall → Call → Type 0
+IsFailedCall call.Create (MakeTemp dest (Err Failed)) = Unit {0}
+IsFailedCall call.Write (WriteAt temp at bytes false) = Unit {0}
+IsFailedCall call.Rename (Rename temp dest (Some Failed)) = Unit {0}
+IsFailedCall call.Remove (Remove path false) = Unit {0}
+IsFailedCall of_call other = ⊥
+
+-- something stood in the way, which the first `length` bytes of the destination name
+abbrev pub IsBlockedCall : ℕ → Call → Type 0
+IsBlockedCall length (MakeTemp dest (Err (Blocked front))) = front ≡ length
+IsBlockedCall length (Rename temp dest (Some (Blocked front))) = front ≡ length
+IsBlockedCall length other = ⊥
+
+-- A call of the task failed so. Reads are no part of these calls.
+abbrev pub CallFailed : List TaskCall → ℕ → Cause → Type 0
+CallFailed calls n (cause.Files of_call) = (c : TaskCall) × Contains calls c × (c.task ≡ n) × IsFailedCall of_call c.step.call
+CallFailed calls n (cause.Blocked length) = (c : TaskCall) × Contains calls c × (c.task ≡ n) × IsBlockedCall length c.step.call
+CallFailed calls n other = ⊥
+
+-- the destination was replaced, or removed
+abbrev pub IsPlaced : Kind → List TaskCall → ℕ → Type 0
+IsPlaced kind.Download calls n = IsRenamed calls n
+IsPlaced kind.RemoveFile calls n = IsRemoved calls n
+IsPlaced other calls n = ⊥
+
+-- Done and copied are tasks whose destination was replaced or removed, and failed those where it was not.
+abbrev pub IsShownByCalls : Outcome → (placed : Type 0) → Type 0
+IsShownByCalls outcome.Done placed = placed
+IsShownByCalls (outcome.Copied why) placed = placed
+IsShownByCalls (outcome.Failed why) placed = ¬ placed
+IsShownByCalls how placed = Unit {0}
+
+-- `Shows ask limit talk class bytes`: the talk has that class for the ask, and its answer that body;
+-- `HasStatus ask limit talk status`: the talk's answer has that HTTP status
+module _ (Shows : Ask → ℕ → Talk → Class → List ℕ → Type 0) (HasStatus : Ask → ℕ → Talk → ℕ → Type 0) where
+  -- A task that calls on files decide ended as its outcome says, over every honest trace, where that outcome is what its jobs and its calls show.
+  -- The source of a download is to be as planned only where its destination may be new.
+  abbrev pub FileTaskEnds : Type 0
+  FileTaskEnds = (s : Setting) (excused : Excused) (dispatched coming : List Dispatched) (calls : List TaskCall) (start : State) (trace part : List Step) (journal : List Event)
+      → AreCalls Shows s excused dispatched calls → IsScheduled Shows s journal dispatched coming → IsTraceOf Shows s start trace journal dispatched → HasJournal journal trace part
+      → (n : ℕ) (task : Task) (how : Outcome) → slice_get s.tasks n ≡ Some task → IsByFiles task → (MayBeNew how → task.kind ≡ kind.Download → HasSourceObject (states start trace) task)
+      → HasOutcome Shows HasStatus (CallFailed calls) s dispatched coming n task how → IsShownByCalls how (IsPlaced task.kind calls n)
+      → IsEnded excused journal start trace (record { state = start; held = s.held; others = s.others }) (record { state = state_after start part; held = files_after s.held calls; others = s.others }) n task how
+
+  -- The file of a move goes where its task is done, and else stays, where the calls show its removal just there.
+  abbrev pub MovedFilesAreLeft : Type 0
+  MovedFilesAreLeft = (shown : Shown) (dispatched : List Dispatched) (calls : List TaskCall) → AreCalls Shows shown.setting shown.excused dispatched calls
+      → shown.held_after ≡ files_after shown.setting.held calls
+      → ((n : ℕ) (task : Task) (how : Outcome) (path : List ℕ) → slice_get shown.setting.tasks n ≡ Some task → slice_get shown.outcomes n ≡ Some how → task.moves ≡ true
+      → task.source ≡ Some (place.File path) → IsFileLeft how (IsRemoved calls n) (¬ (IsRemoved calls n)))
+      → AreFilesLeft shown
