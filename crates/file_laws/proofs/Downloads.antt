@@ -157,7 +157,7 @@ module _ (Shows : Ask → ℕ → Talk → Class → List ℕ → Type 0) (s : S
       old_step old new before (removes e f) none = absurd (no_removal e)
       old_step old new before (stamps micros e file was f) none = absurd (none (renamed_on (renamed_before_stamp micros e)))
 
-    old_until : (part late : List TaskCall) → calls ≡ part ++ late → ¬ (IsRenamed part n) → get (files_after s.held part) path ≡ get s.held path
+    pub old_until : (part late : List TaskCall) → calls ≡ part ++ late → ¬ (IsRenamed part n) → get (files_after s.held part) path ≡ get s.held path
     old_until part late is none = through s.held calls (λ front now. (Renamed front → ⊥) → get now path ≡ get s.held path)
         (λ front c back split before. old_step front c back split (files_after s.held front) c.step.held before
         (effect path c.step.call (files_after s.held front) c.step.held (leads_at front c back s.held (subst (λ (all : List TaskCall). IsCallRun s.held (steps_of all)) split a.runs))))
@@ -322,11 +322,11 @@ module _ (Shows : Ask → ℕ → Talk → Class → List ℕ → Type 0) (s : S
           (effect path c.step.call (files_after s.held front) c.step.held (leads_at front c back s.held (subst (λ (all : List TaskCall). IsCallRun s.held (steps_of all)) split a.runs))))
           (λ re. absurd re.1) part late is
 
-      new_from : (part late : List TaskCall) → calls ≡ part ++ late → IsRenamed part n → (file : HeldFile) × (get (files_after s.held part) path ≡ Some file) × IsContent file.bytes
+      pub new_from : (part late : List TaskCall) → calls ≡ part ++ late → IsRenamed part n → (file : HeldFile) × (get (files_after s.held part) path ≡ Some file) × IsContent file.bytes
       new_from part late is re = let w = whole_after part late is (to_has part re) in (w.file, w.there, w.content)
 
       -- its time was set, or a warning says that this failed
-      timed_in_the_end : IsRenamed calls n → (file : HeldFile) × (get (files_after s.held calls) path ≡ Some file) × ((file.micros ≡ task.micros) ⊎ IsUntimed excused path)
+      pub timed_in_the_end : IsRenamed calls n → (file : HeldFile) × (get (files_after s.held calls) path ≡ Some file) × ((file.micros ≡ task.micros) ⊎ IsUntimed excused path)
       timed_in_the_end re = (w.file, w.there, by st.5 st.6)
         where
           w : IsWhole calls (files_after s.held calls)

@@ -1,5 +1,6 @@
 pub mod Downloads
 pub mod Effects
+pub mod FileEnds
 pub mod Files
 pub mod Filling
 pub mod Gets
