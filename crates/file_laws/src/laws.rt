@@ -1,11 +1,12 @@
 //! The laws on local files, each a function that does nothing.
 
-ghost use Rattle.file_laws.specs.FileLaws.{FileIsMoved, FileIsRemoved, FilesStay};
+ghost use Rattle.file_laws.specs.FileEnds.{FileTaskEnds, MovedFilesAreLeft};
+ghost use Rattle.file_laws.specs.FileLaws.{FileIsDownloaded, FileIsMoved, FileIsRemoved, FilesStay};
 
-use world_laws::Reading;
+use world_laws::{Command, Reading};
 
 /// Every file that is no destination and no source of a move is as at the start, whatever calls failed; but a temporary
-/// file that could neither be renamed nor dropped may stay, and a warning names it.
+/// file that could not be dropped may stay, and a warning names it.
 pub fn other_files<R: Reading>()
     ensures stay { FilesStay R.shows }
 {}
@@ -15,16 +16,30 @@ pub fn file_removal<R: Reading>()
     ensures removed { FileIsRemoved R.shows }
 {}
 
+/// The destination of a download is as before until its temporary file is renamed. From then on it has what the object
+/// had under the planned ETag at some moment, whoever rewrites the object and in whatever order its ranges came; in the
+/// end it has the planned time, or a warning says that this failed.
+pub fn download<R: Reading>()
+    ensures downloaded { FileIsDownloaded R.shows }
+{}
+
 /// The file of a move is there until the success that decides its task, gone after its removal went well, and else as
-/// before.
-pub fn moved_file<R: Reading>()
-    ensures moved { FileIsMoved R.shows }
+/// before. So it goes just where its task is done, where the calls show its removal just there.
+pub fn moved_file<C: Command>()
+    ensures moved { FileIsMoved C.shows }
+    ensures left { MovedFilesAreLeft C.shows C.has_status }
+{}
+
+/// A task whose destination is a file ends as its outcome says, over every honest service that fits, where that outcome
+/// is what its jobs and its calls on files show.
+pub fn file_task<C: Command>()
+    ensures ends { FileTaskEnds C.shows C.has_status }
 {}
 
 #[cfg(test)]
 mod tests {
     use super::*;
-    ghost use Rattle.world_laws.specs.Rounds.{Told};
+    ghost use Rattle.world_laws.specs.Rounds.{AreNone, NeverFailed, Told, ToldStatus};
 
     // The reading of talks over which each law has a run.
     struct Plain;
@@ -33,10 +48,20 @@ mod tests {
         ghost shows = { Told };
     }
 
+    impl Command for Plain {
+        ghost has_status = { ToldStatus };
+
+        ghost plans = { AreNone };
+
+        ghost call_failed = { NeverFailed };
+    }
+
     #[test]
     fn each_law_stands() {
         other_files::<Plain>();
         file_removal::<Plain>();
+        download::<Plain>();
         moved_file::<Plain>();
+        file_task::<Plain>();
     }
 }
