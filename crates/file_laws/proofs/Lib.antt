@@ -1,3 +1,5 @@
+pub mod CallWitness
+pub mod DownloadWitness
 pub mod Downloads
 pub mod Effects
 pub mod FileEnds
@@ -6,6 +8,8 @@ pub mod Filling
 pub mod Gets
 pub mod Keeping
 pub mod Ranges
+pub mod RemovalWitness
+pub mod Resized
 pub mod Runs
 pub mod TempFiles
 pub mod Written

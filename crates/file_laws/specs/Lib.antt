@@ -1,3 +1,4 @@
 pub mod FileEnds
 pub mod FileLaws
 pub mod FileTasks
+pub mod FileWitnesses

@@ -2,6 +2,7 @@
 
 ghost use Rattle.file_laws.specs.FileEnds.{FileTaskEnds, MovedFilesAreLeft};
 ghost use Rattle.file_laws.specs.FileLaws.{FileIsDownloaded, FileIsMoved, FileIsRemoved, FilesStay};
+ghost use Rattle.file_laws.specs.FileWitnesses.{DownloadIsMet, FailedRemovalIsMet, MovedFileIsMet, RefusedGetIsMet, RemovalIsMet};
 
 use world_laws::{Command, Reading};
 
@@ -9,11 +10,14 @@ use world_laws::{Command, Reading};
 /// file that could not be dropped may stay, and a warning names it.
 pub fn other_files<R: Reading>()
     ensures stay { FilesStay R.shows }
+    ensures met { RefusedGetIsMet }
 {}
 
 /// A file that is to be removed is absent after its removal went well, and else as before.
 pub fn file_removal<R: Reading>()
     ensures removed { FileIsRemoved R.shows }
+    ensures met { RemovalIsMet }
+    ensures met_failed { FailedRemovalIsMet }
 {}
 
 /// The destination of a download is as before until its temporary file is renamed. From then on it has what the object
@@ -21,6 +25,8 @@ pub fn file_removal<R: Reading>()
 /// end it has the planned time, or a warning says that this failed.
 pub fn download<R: Reading>()
     ensures downloaded { FileIsDownloaded R.shows }
+    ensures met { DownloadIsMet }
+    ensures met_dropped { RefusedGetIsMet }
 {}
 
 /// The file of a move is there until the success that decides its task, gone after its removal went well, and else as
@@ -28,12 +34,16 @@ pub fn download<R: Reading>()
 pub fn moved_file<C: Command>()
     ensures moved { FileIsMoved C.shows }
     ensures left { MovedFilesAreLeft C.shows C.has_status }
+    ensures met { MovedFileIsMet }
 {}
 
 /// A task whose destination is a file ends as its outcome says, over every honest service that fits, where that outcome
 /// is what its jobs and its calls on files show.
 pub fn file_task<C: Command>()
     ensures ends { FileTaskEnds C.shows C.has_status }
+    ensures met_done { DownloadIsMet }
+    ensures met_failed { RefusedGetIsMet }
+    ensures met_removal { FailedRemovalIsMet }
 {}
 
 #[cfg(test)]

@@ -1,5 +1,9 @@
+use Rattle.file_laws.proofs.DownloadWitness.{refused_get_is_met}
 use Rattle.file_laws.proofs.Files as files
 use Rattle.file_laws.proofs.laws.other_files.Goals as goal
 
-pub returns : goal.returns
-returns g c = record { stay = files.files_stay g.R.Reading.shows }
+pub returns-clause-stay : goal.returns-clause-stay
+returns-clause-stay g c = files.files_stay g.R.Reading.shows
+
+pub returns-clause-met : goal.returns-clause-met
+returns-clause-met g c = refused_get_is_met

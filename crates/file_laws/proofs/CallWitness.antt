@@ -1,0 +1,149 @@
+-- Calls that are written out keep their clauses, where each does by itself and beside those before it.
+use Rattle.std.proofs.Common.{append_assoc, ◌≡◌, ◌∙◌, ◌⊎◌, ◌<◌, ◌≤◌, ◌++◌, ℕ, true, false, List, [], ◌∷◌, Option, Some, None, Ok, refl, sym, ap, subst, inl, inr, AllPairs, Contains, get_or, length, slice_get, arith}
+use Rattle.std.proofs.lemmas.List.{append-nil}
+use Rattle.std.proofs.lemmas.List.Elements.{Contains-get_or}
+use Rattle.std.proofs.lemmas.List.Kept.{AllPairs-cons}
+use Rattle.s3_model.specs.declared.answers.Class.{Class}
+use Rattle.s3_model.specs.declared.outcomes.JobId.{JobId}
+use Rattle.s3_model.specs.declared.requests.Ask.{Ask}
+use Rattle.s3_model.specs.declared.requests.Op.{Op}
+use Rattle.s3_model.specs.declared.requests.Op.TheVariants as op
+use Rattle.s3_model.specs.declared.tasks.Kind.TheVariants as kind
+use Rattle.s3_model.specs.declared.tasks.Task.{Task}
+use Rattle.s3_model.specs.Talks.{Talk}
+use Rattle.run_promise.specs.Dispatches.{Dispatched}
+use Rattle.run_promise.specs.Endings.{Excused, IsLeft, IsUntimed}
+use Rattle.run_promise.specs.Schedule.{Setting}
+use Rattle.local_files.specs.Calls.{Call, DropTemp, MakeTemp, Remove, Rename, Stamp, WriteAt}
+use Rattle.world_laws.proofs.Members.{Has, contains_of, has, head_is, split_of, tail_is}
+use Rattle.file_laws.specs.FileTasks.{AreFileCalls, AreWritten, IsBody, IsCallOf, IsDecidedBefore, IsDropped, IsMade, IsRenamed, IsStamped, MayFollow, TaskCall, UsesTemp}
+
+-- ---- lists that are written out
+
+abbrev pub ForAll : {X : Type 0} → (X → Type 0) → List X → Type 0
+ForAll P [] = Unit {0}
+ForAll P (x ∷ xs) = P x × ForAll P xs
+
+pub for_each : {X : Type 0} (P : X → Type 0) (xs : List X) → ForAll P xs → (x : X) → Has xs x → P x
+for_each P [] all x h = absurd h
+for_each P (y ∷ xs) all x (inl e) = subst P e all.0
+for_each P (y ∷ xs) all x (inr h) = for_each P xs all.1 x h
+
+abbrev pub Pairs : {X : Type 0} → (X → X → Type 0) → List X → Type 0
+Pairs R [] = Unit {0}
+Pairs R (x ∷ xs) = ForAll (R x) xs × Pairs R xs
+
+pub all_pairs : {X : Type 0} (R : X → X → Type 0) (xs : List X) → Pairs R xs → AllPairs R xs
+all_pairs R [] pairs = λ i j d before inside. absurd (omega arith)
+all_pairs R (x ∷ xs) pairs =
+    AllPairs-cons R x xs (λ k d inside. for_each (R x) xs pairs.0 (get_or xs k d) (has xs (get_or xs k d) (Contains-get_or xs k d inside))) (all_pairs R xs pairs.1)
+
+-- each with those before it
+abbrev pub Along : {X : Type 0} → (List X → X → Type 0) → List X → List X → Type 0
+Along P before [] = Unit {0}
+Along P before (x ∷ xs) = P before x × Along P (before ++ x ∷ []) xs
+
+none_there : {Y : Type 0} (front : List Y) (y : Y) (back : List Y) → [] ≡ front ++ y ∷ back → ⊥
+none_there [] y back e = cc
+none_there (z ∷ front) y back e = cc
+
+along_from : {X : Type 0} (P : List X → X → Type 0) (front before xs : List X) (x : X) (back : List X) → Along P before xs → xs ≡ front ++ x ∷ back → P (before ++ front) x
+along_from P front before [] x back all is = absurd (none_there front x back is)
+along_from P [] before (y ∷ xs) x back all is = subst (P (before ++ [])) (head_is y x xs back is) (subst (λ (l : List _). P l y) (sym (append-nil before)) all.0)
+along_from P (z ∷ front) before (y ∷ xs) x back all is =
+    subst (λ (l : List _). P l x) (append_assoc before (y ∷ []) front ∙ ap (λ (w : _). before ++ w ∷ front) (head_is y z xs (front ++ x ∷ back) is))
+    (along_from P front (before ++ y ∷ []) xs x back all.1 (tail_is y z xs (front ++ x ∷ back) is))
+
+-- ---- what a call is to be, by what it is
+
+abbrev pub OnWrite : (List ℕ → ℕ → List ℕ → Type 0) → Call → Type 0
+OnWrite P (WriteAt temp at bytes fine) = P temp at bytes
+OnWrite P call = Unit {0}
+
+abbrev pub OnRename : (List ℕ → Type 0) → Call → Type 0
+OnRename P (Rename temp dest fault) = P temp
+OnRename P call = Unit {0}
+
+abbrev pub OnStamp : Type 0 → Call → Type 0
+OnStamp P (Stamp path micros fine) = P
+OnStamp P call = Unit {0}
+
+abbrev pub OnUse : (List ℕ → Type 0) → Call → Type 0
+OnUse P (WriteAt temp at bytes fine) = P temp
+OnUse P (Rename temp dest fault) = P temp
+OnUse P (DropTemp temp fine) = P temp
+OnUse P call = Unit {0}
+
+-- no call but a removal is left to a failure
+abbrev pub IsFine : Call → Type 0
+IsFine (DropTemp temp false) = ⊥
+IsFine (Stamp path micros false) = ⊥
+IsFine call = Unit {0}
+
+on_use : (P : List ℕ → Type 0) (call : Call) (temp : List ℕ) → OnUse P call → UsesTemp call temp → P temp
+on_use P (WriteAt q at bytes fine) temp h e = subst P e h
+on_use P (Rename q dest fault) temp h e = subst P e h
+on_use P (DropTemp q fine) temp h e = subst P e h
+on_use P call temp h e = absurd e
+
+module _ (Shows : Ask → ℕ → Talk → Class → List ℕ → Type 0) (s : Setting) (excused : Excused) (dispatched : List Dispatched) (task : Task) where
+  -- a call keeps its clauses beside those before it
+  pub record Keeps (front : List TaskCall) (c : TaskCall) : Type 0 where
+    pub first : c.task ≡ 0
+    pub is_call : IsCallOf task task.kind c.step.call
+    pub fine : IsFine c.step.call
+    pub follows : ForAll (λ (earlier : TaskCall). MayFollow earlier.step.call c.step.call) front
+    pub uses : OnUse (IsMade front 0) c.step.call
+    pub writes : OnWrite (λ temp at bytes. IsBody Shows s dispatched 0 task c.place at bytes) c.step.call
+    pub renames : OnRename (AreWritten s front 0 task) c.step.call
+    pub stamps : OnStamp (IsRenamed front 0) c.step.call
+
+  module _ (only : (n : ℕ) (other : Task) → slice_get s.tasks n ≡ Some other → other ≡ task) (first_task : slice_get s.tasks 0 ≡ Some task) (calls : List TaskCall) (keep : Along Keeps [] calls) where
+    kept : (front : List TaskCall) (c : TaskCall) (back : List TaskCall) → calls ≡ front ++ c ∷ back → Keeps front c
+    kept front c back is = along_from Keeps front [] calls c back keep is
+
+    kept_one : (c : TaskCall) → Contains calls c → (front : List TaskCall) × Keeps front c
+    kept_one c known = let split = split_of calls c (has calls c known) in (split.front, kept split.front c split.back split.is)
+
+    pub calls_keep : s.dryrun ≡ false → ((c : TaskCall) → Contains calls c → task.kind ≡ kind.Upload → IsDecidedBefore Shows s dispatched 0 task c.place) → Pairs (λ (a b : TaskCall). a.place ≤ b.place) calls
+        → ((c : Dispatched) → Contains dispatched c → c.dispatch.job.op ≡ op.Delete → ⊥)
+        → ((c : Dispatched) → Contains dispatched c → c.dispatch.job.op ≡ op.Get → (made : TaskCall) × Contains calls made × (c.dispatch.job.task ≡ Some made.task) × (dest : List ℕ) × (temp : List ℕ) × (made.step.call ≡ MakeTemp dest (Ok temp))
+        × (made.place ≤ c.dispatch.given_at))
+        → (IsRenamed calls 0 → IsStamped calls 0) → ((temp : List ℕ) → IsMade calls 0 temp → IsRenamed calls 0 ⊎ IsDropped calls 0)
+        → AreFileCalls Shows s excused dispatched calls
+    calls_keep carried_out decided places no_delete made_first stamped dropped = record {
+      named = λ c known. let k = kept_one c known in (task, ap (slice_get s.tasks) k.1.first ∙ first_task, k.1.is_call);
+      placed = all_pairs (λ (a b : TaskCall). a.place ≤ b.place) calls places;
+      dry = λ dried. absurd (clash (sym carried_out ∙ dried));
+      order = λ front back earlier later is h same. for_each (λ (x : TaskCall). MayFollow x.step.call later.step.call) front (kept front later back is).follows earlier (has front earlier h);
+      made = λ front back c temp is uses. let k = kept front c back is in subst (λ (n : ℕ). IsMade front n temp) (sym k.first) (on_use (IsMade front 0) c.step.call temp k.uses uses);
+      made_first = λ c n number known is.
+          let m = made_first c known (ap (λ (j : JobId). j.op) is) in
+          (m.0, m.1, some_is m.0.task n (sym m.2 ∙ ap (λ (j : JobId). j.task) is), m.3, m.4, m.5, m.6);
+      writes = λ c other temp at bytes fine known is_other e.
+          let k = (kept_one c known).1 in
+          let body = subst (λ (x : Call). OnWrite (λ temp at bytes. IsBody Shows s dispatched 0 task c.place at bytes) x) e k.writes in
+          subst (λ (t : Task). IsBody Shows s dispatched c.task t c.place at bytes) (sym (only c.task other is_other)) (subst (λ (n : ℕ). IsBody Shows s dispatched n task c.place at bytes) (sym k.first) body);
+      renames = λ front back c other temp dest fault is is_other e.
+          let k = kept front c back is in
+          let written = subst (λ (x : Call). OnRename (AreWritten s front 0 task) x) e k.renames in
+          subst (λ (t : Task). AreWritten s front c.task t temp) (sym (only c.task other is_other)) (subst (λ (n : ℕ). AreWritten s front n task temp) (sym k.first) written);
+      stamps = λ n re. let k = (kept_one re.0 re.1).1 in let zero = sym k.first ∙ re.2 in
+          subst (IsStamped calls) zero (stamped (re.0, re.1, k.first, re.3, re.4, re.5));
+      stamps_last = λ front back c path micros fine is e. let k = kept front c back is in subst (IsRenamed front) (sym k.first) (subst (λ (x : Call). OnStamp (IsRenamed front 0) x) e k.stamps);
+      untimed = λ c path micros known e. absurd (subst (λ (x : Call). IsFine x) e (kept_one c known).1.fine);
+      drops = λ n temp made. let k = (kept_one made.0 made.1).1 in let zero = sym k.first ∙ made.2 in
+          subst (λ (m : ℕ). IsRenamed calls m ⊎ IsDropped calls m) zero (dropped temp (made.0, made.1, k.first, made.3, made.4));
+      left = λ c temp known e. absurd (subst (λ (x : Call). IsFine x) e (kept_one c known).1.fine);
+      moves_last = λ c other path fine known is_other upload e.
+          let by = decided c known (ap (λ (t : Task). t.kind) (sym (only c.task other is_other)) ∙ upload) in
+          subst (λ (t : Task). IsDecidedBefore Shows s dispatched c.task t c.place) (sym (only c.task other is_other))
+          (subst (λ (n : ℕ). IsDecidedBefore Shows s dispatched n task c.place) (sym (kept_one c known).1.first) by);
+      deletes_last = λ c n other known of is_delete is_other load. absurd (no_delete c known is_delete);
+    }
+      where
+        clash : false ≡ true → ⊥
+        clash e = cc
+
+        some_is : (m n : ℕ) → Some m ≡ Some n → m ≡ n
+        some_is m n e = cc
