@@ -1,21 +1,20 @@
 -- Calls that are written out keep their clauses, where each does by itself and beside those before it.
-use Rattle.std.proofs.Common.{append_assoc, ◌≡◌, ◌∙◌, ◌⊎◌, ◌<◌, ◌≤◌, ◌++◌, ℕ, true, false, List, [], ◌∷◌, Option, Some, None, Ok, refl, sym, ap, subst, inl, inr, AllPairs, Contains, get_or, length, slice_get, arith}
+use Rattle.std.proofs.Common.{append_assoc, ◌≡◌, ◌∙◌, ◌⊎◌, ◌≤◌, ◌++◌, ℕ, true, false, List, [], ◌∷◌, Some, Ok, sym, ap, subst, inl, inr, AllPairs, Contains, get_or, slice_get, arith}
 use Rattle.std.proofs.lemmas.List.{append-nil}
 use Rattle.std.proofs.lemmas.List.Elements.{Contains-get_or}
 use Rattle.std.proofs.lemmas.List.Kept.{AllPairs-cons}
 use Rattle.s3_model.specs.declared.answers.Class.{Class}
 use Rattle.s3_model.specs.declared.outcomes.JobId.{JobId}
 use Rattle.s3_model.specs.declared.requests.Ask.{Ask}
-use Rattle.s3_model.specs.declared.requests.Op.{Op}
 use Rattle.s3_model.specs.declared.requests.Op.TheVariants as op
 use Rattle.s3_model.specs.declared.tasks.Kind.TheVariants as kind
 use Rattle.s3_model.specs.declared.tasks.Task.{Task}
 use Rattle.s3_model.specs.Talks.{Talk}
 use Rattle.run_promise.specs.Dispatches.{Dispatched}
-use Rattle.run_promise.specs.Endings.{Excused, IsLeft, IsUntimed}
+use Rattle.run_promise.specs.Endings.{Excused}
 use Rattle.run_promise.specs.Schedule.{Setting}
-use Rattle.local_files.specs.Calls.{Call, DropTemp, MakeTemp, Remove, Rename, Stamp, WriteAt}
-use Rattle.world_laws.proofs.Members.{Has, contains_of, has, head_is, split_of, tail_is}
+use Rattle.local_files.specs.Calls.{Call, DropTemp, MakeTemp, Rename, Stamp, WriteAt}
+use Rattle.world_laws.proofs.Members.{Has, has, head_is, split_of, tail_is}
 use Rattle.file_laws.specs.FileTasks.{AreFileCalls, AreWritten, IsBody, IsCallOf, IsDecidedBefore, IsDropped, IsMade, IsRenamed, IsStamped, MayFollow, TaskCall, UsesTemp}
 
 -- ---- lists that are written out

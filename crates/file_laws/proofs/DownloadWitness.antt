@@ -1,5 +1,5 @@
 -- Runs that download two bytes in two ranges: one in which they came in reverse order, and one whose second Get was refused.
-use Rattle.std.proofs.Common.{◌≡◌, ◌≢◌, ◌∙◌, ◌⊎◌, ◌+◌, ◌-◌, ◌*◌, ◌<◌, ◌≤◌, ◌++◌, ℕ, zero, suc, Bool, true, false, min, List, [], ◌∷◌, Option, Some, None, Ok, refl, sym, ap, subst, inl, inr, AllPairs, Contains, length, slice_get, arith}
+use Rattle.std.proofs.Common.{◌≡◌, ◌∙◌, ◌⊎◌, ◌≤◌, ℕ, zero, suc, Bool, true, false, List, [], ◌∷◌, Option, Some, None, Ok, refl, sym, ap, subst, inl, inr, AllPairs, Contains, length, slice_get, arith}
 use Rattle.std.specs.Prelude.{codes}
 use Rattle.std.specs.Cmp.Lexicographic.{nat_list_cmp_total, slice_cmp}
 use Rattle.std.specs.Ordering.{nat_cmp}
@@ -15,7 +15,6 @@ use Rattle.s3_model.specs.declared.outcomes.Cause.TheVariants as cause
 use Rattle.s3_model.specs.declared.outcomes.JobId.{JobId}
 use Rattle.s3_model.specs.declared.outcomes.Outcome.{Outcome}
 use Rattle.s3_model.specs.declared.outcomes.Outcome.TheVariants as outcome
-use Rattle.s3_model.specs.declared.places.Place.TheVariants as place
 use Rattle.s3_model.specs.declared.requests.Ask.TheVariants as ask
 use Rattle.s3_model.specs.declared.requests.Op.{Op}
 use Rattle.s3_model.specs.declared.requests.Op.TheVariants as op
@@ -35,11 +34,11 @@ use Rattle.run_promise.specs.Outcomes.{HasOutcome, IsFirstFailure, SaysChanged, 
 use Rattle.run_promise.specs.Schedule.{IsBefore, IsBeforeAny, IsDecided, IsFailed, IsSchedule, IsTaskAsk, Origin, Setting, asked_range, gained_before, is_small, job_of, limit_of, source_bytes}
 use Rattle.run_promise.specs.Traces.{Step, states}
 use Rattle.run_promise.specs.Truthful.{IsDest}
-use Rattle.local_files.specs.Calls.{Call, DropTemp, IsCallRun, IsTempFor, MakeTemp, Rename, Stamp, WriteAt, written_at}
+use Rattle.local_files.specs.Calls.{DropTemp, IsCallRun, IsTempFor, MakeTemp, Rename, Stamp, WriteAt, written_at}
 use Rattle.world_laws.specs.Premises.{IsFitting}
 use Rattle.world_laws.specs.Rounds.{AreServed, Round, Told, ToldStatus, attempt_of, dispatch_at, dispatched_from, journal_of, steps_from}
 use Rattle.world_laws.specs.SmallTransfers.{HadContent}
-use Rattle.world_laws.specs.Tasks.{AreQuestions, HasSourceObject, IsScheduled, IsTraceOf}
+use Rattle.world_laws.specs.Tasks.{AreQuestions, HasSourceObject, IsScheduled}
 use Rattle.world_laws.proofs.Faithful.{IsFaithful, bare, bare_is_faithful, faithful_with, object_of, rounds_fitting, states_faithful}
 use Rattle.world_laws.proofs.Maps.{get-insert_same, text_exact}
 use Rattle.world_laws.proofs.Members.{Has, contains_of, has, has_middle}
@@ -47,11 +46,11 @@ use Rattle.world_laws.proofs.Objects.{object_at-with_object}
 use Rattle.world_laws.proofs.PieceCounts.{pieces_are_one}
 use Rattle.world_laws.proofs.Rounds.{AreApart as AreOtherJobs, rounds_come, rounds_given}
 use Rattle.world_laws.proofs.ScheduleWitness.{limits_are_valid, one_task, setting_of, the_limits}
-use Rattle.file_laws.specs.FileEnds.{CallFailed, IsPlaced, IsShownByCalls}
-use Rattle.file_laws.specs.FileTasks.{AreFileCalls, AreFilesApart, AreWritten, IsBody, IsDropped, IsMade, IsRangeIn, IsRenamed, TaskCall, steps_of}
+use Rattle.file_laws.specs.FileEnds.{CallFailed, IsShownByCalls}
+use Rattle.file_laws.specs.FileTasks.{AreFileCalls, AreFilesApart, AreWritten, IsBody, IsDropped, IsRangeIn, IsRenamed, TaskCall, steps_of}
 use Rattle.file_laws.specs.FileWitnesses.{DownloadIsMet, IsFileTaskMet, RefusedGetIsMet, places_written, two_bytes}
 use Rattle.file_laws.proofs.CallWitness.{all_pairs, calls_keep}
-use Rattle.file_laws.proofs.Resized.{all_resized, resized, resized_come, resized_fits, resized_given}
+use Rattle.file_laws.proofs.Resized.{resized, resized_come, resized_fits, resized_given}
 
 -- ---- what differs
 
@@ -428,23 +427,22 @@ module _ (bucket key : List ℕ) (a b : ℕ) where
       ]
 
   keep : AreFileCalls Told setting excused reversed calls
-  keep = calls_keep Told setting excused reversed task only refl calls
+  keep = calls_keep Told setting excused reversed task only refl calls (
+    record { first = refl; is_call = refl; fine = tt; follows = tt; uses = tt; writes = tt; renames = tt; stamps = tt },
+    (
+      record { first = refl; is_call = tt; fine = tt; follows = (refl, tt); uses = (make, (0, omega arith, refl), refl, dest, refl); writes = body_two; renames = tt; stamps = tt },
       (
-        record { first = refl; is_call = refl; fine = tt; follows = tt; uses = tt; writes = tt; renames = tt; stamps = tt },
+        record { first = refl; is_call = tt; fine = tt; follows = (refl, ((λ e. absurd (omega arith)), tt)); uses = (make, (0, omega arith, refl), refl, dest, refl); writes = body_one; renames = tt; stamps = tt },
         (
-          record { first = refl; is_call = tt; fine = tt; follows = (refl, tt); uses = (make, (0, omega arith, refl), refl, dest, refl); writes = body_two; renames = tt; stamps = tt },
+          record { first = refl; is_call = refl; fine = tt; follows = (refl, (tt, (tt, tt))); uses = (make, (0, omega arith, refl), refl, dest, refl); writes = tt; renames = all_written; stamps = tt },
           (
-            record { first = refl; is_call = tt; fine = tt; follows = (refl, ((λ e. absurd (omega arith)), tt)); uses = (make, (0, omega arith, refl), refl, dest, refl); writes = body_one; renames = tt; stamps = tt },
-            (
-              record { first = refl; is_call = refl; fine = tt; follows = (refl, (tt, (tt, tt))); uses = (make, (0, omega arith, refl), refl, dest, refl); writes = tt; renames = all_written; stamps = tt },
-              (
-                record { first = refl; is_call = (refl, refl); fine = tt; follows = (tt, (tt, (tt, (tt, tt)))); uses = tt; writes = tt; renames = tt; stamps = (rename, (3, omega arith, refl), refl, temp, dest, refl) },
-                tt,
-              ),
-            ),
+            record { first = refl; is_call = (refl, refl); fine = tt; follows = (tt, (tt, (tt, (tt, tt)))); uses = tt; writes = tt; renames = tt; stamps = (rename, (3, omega arith, refl), refl, temp, dest, refl) },
+            tt,
           ),
         ),
-      )
+      ),
+    ),
+  )
       refl (λ c known upload. absurd (loads_or_moves upload))
       ((omega arith, (omega arith, (omega arith, (omega arith, tt)))), ((omega arith, (omega arith, (omega arith, tt))), ((omega arith, (omega arith, tt)), ((omega arith, tt), (tt, tt)))))
       (λ c known is. no_op 2 1 (omega arith) (omega arith) (omega arith) (omega arith) two_is_one (b ∷ []) (a ∷ []) refl false backwards_served op.Delete (λ e. absurd (omega arith)) c known is)
@@ -479,18 +477,24 @@ module _ (bucket key : List ℕ) (a b : ℕ) where
   decided piece count has k low high =
       let level = pieces_are_one config the_limits kind.Download 2 piece 1 count 2 has two_pieces in
       elim (one_or_two k low (subst (λ (c : ℕ). k ≤ c) level.1 high)) [
-        | inl first ↦ (got_range 1, subst (λ (j : ℕ). came_with Told ToldStatus (CallFailed calls) setting reversed reversed (job_of 0 op.Get j) (got_range 1)) (sym first)
-        (resized 1 2 (dispatch_at 2 (get_round 1 false (a ∷ []))), (1, omega arith, refl), refl, (refl, a ∷ [], (refl, refl))))
-        | inr second ↦ (got_range 2, subst (λ (j : ℕ). came_with Told ToldStatus (CallFailed calls) setting reversed reversed (job_of 0 op.Get j) (got_range 2)) (sym second)
-        (resized 1 2 (dispatch_at 0 (get_round 2 false (b ∷ []))), (0, omega arith, refl), refl, (refl, b ∷ [], (refl, refl))))
+        | inl first ↦ (
+          got_range 1,
+          subst (λ (j : ℕ). came_with Told ToldStatus (CallFailed calls) setting reversed reversed (job_of 0 op.Get j) (got_range 1)) (sym first)
+              (resized 1 2 (dispatch_at 2 (get_round 1 false (a ∷ []))), (1, omega arith, refl), refl, (refl, a ∷ [], (refl, refl))),
+        )
+        | inr second ↦ (
+          got_range 2,
+          subst (λ (j : ℕ). came_with Told ToldStatus (CallFailed calls) setting reversed reversed (job_of 0 op.Get j) (got_range 2)) (sym second)
+              (resized 1 2 (dispatch_at 0 (get_round 2 false (b ∷ []))), (0, omega arith, refl), refl, (refl, b ∷ [], (refl, refl))),
+        )
       ]
 
   done_met : (done : IsFileTaskMet task outcome.Done) × (places_written done.calls ≡ 1 ∷ 0 ∷ [])
   unfolding met
   done_met = (
     met 2 1 (omega arith) (omega arith) (omega arith) (omega arith) two_is_one (b ∷ []) (a ∷ []) refl false backwards_served calls keep runs outcome.Done
-    (λ c failed. none_fails c failed.0, decided, λ moves. absurd (true_false (sym moves)), λ fresh. absurd (true_false (sym fresh)))
-    (rename, (3, omega arith, refl), refl, temp, dest, refl),
+        (λ c failed. none_fails c failed.0, decided, λ moves. absurd (true_false (sym moves)), λ fresh. absurd (true_false (sym fresh)))
+        (rename, (3, omega arith, refl), refl, temp, dest, refl),
     refl,
   )
 
@@ -562,14 +566,13 @@ module _ (bucket key : List ℕ) (a b : ℕ) where
       by (inr (inr (inr h))) = h
 
   keep_half : AreFileCalls Told setting excused halved half_calls
-  keep_half = calls_keep Told setting excused halved task only refl half_calls
-      (
-        record { first = refl; is_call = refl; fine = tt; follows = tt; uses = tt; writes = tt; renames = tt; stamps = tt },
-        (
-          record { first = refl; is_call = tt; fine = tt; follows = (refl, tt); uses = (make, (0, omega arith, refl), refl, dest, refl); writes = body_half; renames = tt; stamps = tt },
-          (record { first = refl; is_call = tt; fine = tt; follows = (refl, (tt, tt)); uses = (make, (0, omega arith, refl), refl, dest, refl); writes = tt; renames = tt; stamps = tt }, tt),
-        ),
-      )
+  keep_half = calls_keep Told setting excused halved task only refl half_calls (
+    record { first = refl; is_call = refl; fine = tt; follows = tt; uses = tt; writes = tt; renames = tt; stamps = tt },
+    (
+      record { first = refl; is_call = tt; fine = tt; follows = (refl, tt); uses = (make, (0, omega arith, refl), refl, dest, refl); writes = body_half; renames = tt; stamps = tt },
+      (record { first = refl; is_call = tt; fine = tt; follows = (refl, (tt, tt)); uses = (make, (0, omega arith, refl), refl, dest, refl); writes = tt; renames = tt; stamps = tt }, tt),
+    ),
+  )
       refl (λ c known upload. absurd (loads_or_moves upload))
       ((omega arith, (omega arith, tt)), ((omega arith, tt), (tt, tt)))
       (λ c known is. no_op 1 2 (omega arith) (omega arith) (omega arith) (omega arith) one_is_two (a ∷ []) denied refl true half_served op.Delete (λ e. absurd (omega arith)) c known is)
@@ -591,8 +594,11 @@ module _ (bucket key : List ℕ) (a b : ℕ) where
   second_fails = (resized 1 2 (dispatch_at 0 (get_round 1 false (a ∷ []))) ∷ [], [], refl, λ cut. not_cut _ cut, λ well. refused_or_fine well.0)
 
   first_failure : IsFirstFailure Told ToldStatus (CallFailed half_calls) setting halved halved 0 refused_get
-  first_failure = ((second_fails, refl), λ other failing. inl (sym (ap (λ (c : Dispatched). c.dispatch)
-      (only_second_fails 1 2 (omega arith) (omega arith) (omega arith) (omega arith) one_is_two (a ∷ []) denied refl true half_served other failing.0))))
+  first_failure = (
+    (second_fails, refl),
+    λ other failing. inl (sym (ap (λ (c : Dispatched). c.dispatch)
+        (only_second_fails 1 2 (omega arith) (omega arith) (omega arith) (omega arith) one_is_two (a ∷ []) denied refl true half_served other failing.0))),
+  )
 
   not_changed : SaysChanged Told ToldStatus refused_get (attempt_of (get_round 2 true denied)) → ⊥
   not_changed changed = elim changed.1.4 [
@@ -612,13 +618,12 @@ module _ (bucket key : List ℕ) (a b : ℕ) where
   refused_met : (failed : IsFileTaskMet task (outcome.Failed (cause.Service op.Get denied []))) × (places_written failed.calls ≡ 0 ∷ []) × IsDropped failed.calls 0
   unfolding met
   refused_met = (
-    met 1 2 (omega arith) (omega arith) (omega arith) (omega arith) one_is_two (a ∷ []) denied refl true half_served half_calls keep_half runs_half (outcome.Failed (cause.Service op.Get denied []))
-    (
+    met 1 2 (omega arith) (omega arith) (omega arith) (omega arith) one_is_two (a ∷ []) denied refl true half_served half_calls keep_half runs_half (outcome.Failed (cause.Service op.Get denied [])) (
       λ decided. decided.2.0,
       λ left_open. left_open.0.2.0,
       ((refused_get, first_failure, (refl, (denied, (refl, refl)), not_changed)), λ skipped. loads_or_moves skipped.1),
     )
-    none_renamed,
+        none_renamed,
     refl,
     (drop_temp, (2, omega arith, refl), refl, temp, true, refl),
   )

@@ -1,20 +1,17 @@
 -- Downloads: the destination is as before until its temporary file is renamed, and then has the content of its source.
-use Rattle.std.proofs.Common.{◌≡◌, ◌∙◌, ◌⊎◌, ◌+◌, ◌≤◌, ◌++◌, ℕ, Bool, true, false, List, [], ◌∷◌, Option, Some, None, Ok, refl, sym, ap, subst, inl, inr, Contains, length, take, drop, slice_get, arith}
+use Rattle.std.proofs.Common.{◌≡◌, ◌∙◌, ◌⊎◌, ◌+◌, ◌≤◌, ◌++◌, ℕ, Bool, true, false, List, [], ◌∷◌, Some, None, Ok, refl, sym, ap, subst, inl, inr, Contains, length, take, drop, slice_get, arith}
 use Rattle.std.proofs.lemmas.List.{append-nil}
 use Rattle.std.specs.FinMap.{get}
 use Rattle.s3_model.specs.declared.answers.Class.{Class}
 use Rattle.s3_model.specs.declared.outcomes.Event.{Event}
-use Rattle.s3_model.specs.declared.places.Place.{Place}
 use Rattle.s3_model.specs.declared.places.Place.TheVariants as place
 use Rattle.s3_model.specs.declared.requests.Ask.{Ask}
-use Rattle.s3_model.specs.declared.tasks.Kind.{Kind}
 use Rattle.s3_model.specs.declared.tasks.Kind.TheVariants as kind
 use Rattle.s3_model.specs.declared.tasks.Task.{Task}
 use Rattle.s3_model.specs.Files.{HeldFile}
 use Rattle.s3_model.specs.Maps.{MapOf}
 use Rattle.s3_model.specs.Parts.{HasPieces}
 use Rattle.s3_model.specs.Talks.{Talk}
-use Rattle.s3_model.specs.TempNames.{is_temp_name}
 use Rattle.s3_service.specs.ServiceState.{State}
 use Rattle.run_promise.specs.Dispatches.{Dispatched}
 use Rattle.run_promise.specs.Endings.{Excused, HasContent, IsLeft, IsUntimed}
@@ -25,7 +22,7 @@ use Rattle.world_laws.specs.Tasks.{HasSourceObject, IsScheduled, IsTraceOf}
 use Rattle.world_laws.proofs.Maps.{some_is}
 use Rattle.world_laws.proofs.Members.{Has, contains_of, has, has-append_left, split_of}
 use Rattle.file_laws.specs.FileTasks.{AreWritten, IsBody, IsMade, IsRangeIn, IsRenamed, IsStamped, MayFollow, TaskCall, UsesTemp, files_after, steps_of}
-use Rattle.file_laws.specs.FileLaws.{AreCalls, FileIsDownloaded, IsDownloaded}
+use Rattle.file_laws.specs.FileLaws.{AreCalls, FileIsDownloaded}
 use Rattle.file_laws.proofs.Effects.{Effect, Spares, arrives, drops, effect, goes, leaves, makes, removes, spoils, stamps, stays, writes}
 use Rattle.file_laws.proofs.Files as files
 use Rattle.file_laws.proofs.Files.{Free, Kept, Left}
@@ -301,7 +298,7 @@ module _ (Shows : Ask → ℕ → Talk → Class → List ℕ → Type 0) (s : S
             never st = elim (stamped_cases st) [
               | inr here ↦ absurd (rename_stamps here.1 temp path here.2 (sym e ∙ here.3))
               | inl first ↦ absurd (subst (λ (x : Call). MayFollow x (Rename temp path None)) first.5
-              (subst (λ (x : Call). MayFollow first.0.step.call x) e (keeping.follows Shows s excused dispatched calls a front c back first.0 is first.1 (first.2 ∙ sym own))))
+                  (subst (λ (x : Call). MayFollow first.0.step.call x) e (keeping.follows Shows s excused dispatched calls a front c back first.0 is first.1 (first.2 ∙ sym own))))
             ]
         new_step before (drops e f) re = absurd (uses_none front c back is (DropTemp path true) e refl)
         new_step before (leaves e f) re = absurd (uses_none front c back is (DropTemp path false) e refl)

@@ -1,10 +1,10 @@
 -- What a call on files does at one path.
-use Rattle.std.proofs.Common.{◌≡◌, ◌∙◌, ◌⊎◌, ℕ, true, false, List, [], Option, Some, None, Result, Ok, Err, refl, ap, subst, inl, inr}
+use Rattle.std.proofs.Common.{◌≡◌, ◌∙◌, ◌⊎◌, ℕ, true, false, List, [], Some, None, Ok, Err, refl, ap, subst, inl, inr}
 use Rattle.std.specs.Cmp.Lexicographic.{nat_list_cmp_total}
 use Rattle.std.specs.FinMap.{get, insert, remove}
 use Rattle.s3_model.specs.Files.{HeldFile}
 use Rattle.s3_model.specs.Maps.{MapOf}
-use Rattle.local_files.specs.Calls.{Call, DropTemp, Fault, IsTempFor, Leads, MakeTemp, Puts, Remove, Rename, Stamp, WriteAt, written_at}
+use Rattle.local_files.specs.Calls.{Call, DropTemp, IsTempFor, Leads, MakeTemp, Remove, Rename, Stamp, WriteAt, written_at}
 use Rattle.world_laws.proofs.Maps.{get-insert_other, get-insert_same, get-remove_other, get-remove_same, text_decided, text_exact}
 
 -- the call neither makes nor changes the file there, nor is it a drop of it

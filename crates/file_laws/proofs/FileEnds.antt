@@ -1,13 +1,11 @@
 -- Tasks whose destination is a file ended as their outcomes say.
-use Rattle.std.proofs.Common.{◌≡◌, ◌∙◌, ◌⊎◌, ◌++◌, ℕ, Bool, true, false, List, [], ◌∷◌, Option, Some, None, refl, sym, ap, subst, inl, inr, Contains, slice_get}
-use Rattle.std.specs.Prelude.{IsSome}
+use Rattle.std.proofs.Common.{◌≡◌, ◌∙◌, ◌⊎◌, ◌++◌, ℕ, true, false, List, [], Option, Some, None, refl, sym, ap, subst, inl, inr, Contains, slice_get}
 use Rattle.std.specs.Bool.{OnTrue}
 use Rattle.std.specs.FinMap.{get}
-use Rattle.std.proofs.lemmas.Bool.{OnTrue_at, OnTrue_from}
+use Rattle.std.proofs.lemmas.Bool.{OnTrue_from}
 use Rattle.std.proofs.lemmas.List.{append-nil}
 use Rattle.std.proofs.lemmas.Option.{slice_get-get_or}
 use Rattle.s3_model.specs.declared.answers.Class.{Class}
-use Rattle.s3_model.specs.declared.answers.Reply.{Reply}
 use Rattle.s3_model.specs.declared.outcomes.Event.{Event}
 use Rattle.s3_model.specs.declared.outcomes.Event.TheVariants as entry
 use Rattle.s3_model.specs.declared.outcomes.JobId.{JobId}
@@ -16,21 +14,20 @@ use Rattle.s3_model.specs.declared.outcomes.Outcome.TheVariants as outcome
 use Rattle.s3_model.specs.declared.places.Place.{Place}
 use Rattle.s3_model.specs.declared.places.Place.TheVariants as place
 use Rattle.s3_model.specs.declared.requests.Ask.{Ask}
-use Rattle.s3_model.specs.declared.requests.Op.{Op}
 use Rattle.s3_model.specs.declared.requests.Op.TheVariants as op
 use Rattle.s3_model.specs.declared.tasks.Kind.{Kind}
 use Rattle.s3_model.specs.declared.tasks.Kind.TheVariants as kind
 use Rattle.s3_model.specs.declared.tasks.Task.{Task}
-use Rattle.s3_model.specs.Files.{HeldFile, is_listed}
+use Rattle.s3_model.specs.Files.{HeldFile}
 use Rattle.s3_model.specs.Maps.{MapOf}
 use Rattle.s3_model.specs.Talks.{Talk}
 use Rattle.s3_service.specs.ServiceState.{State}
 use Rattle.run_promise.specs.Dispatches.{Dispatched}
-use Rattle.run_promise.specs.Endings.{Excused, HasContent, Holds, IsAbsent, IsAsBefore, IsEnded, IsGone, IsGoneOrThere, IsLeft, IsNew, IsSpared, IsThereIn, IsUntimed, Scene}
+use Rattle.run_promise.specs.Endings.{Excused, Holds, IsAbsent, IsAsBefore, IsEnded, IsGone, IsGoneOrThere, IsNew, IsSpared, IsThereIn, IsUntimed, Scene}
 use Rattle.run_promise.specs.Outcomes.{HasOutcome, IsDecidedByRequest, IsObjectPlace, IsSourceDeleted, StoodAt}
-use Rattle.run_promise.specs.Schedule.{Setting, is_small, job_of}
+use Rattle.run_promise.specs.Schedule.{Setting, is_small}
 use Rattle.run_promise.specs.Traces.{Step, state_after, states}
-use Rattle.run_promise.specs.Truthful.{HasJournal, Shown}
+use Rattle.run_promise.specs.Truthful.{HasJournal}
 use Rattle.world_laws.specs.Promises.{IsFileLeft}
 use Rattle.world_laws.specs.Tasks.{HasSourceObject, IsScheduled, IsTraceOf, MayBeNew}
 use Rattle.world_laws.proofs.Maps.{some_is}
@@ -39,7 +36,7 @@ use Rattle.world_laws.proofs.MovedTasks.{moved_source_is_gone}
 use Rattle.world_laws.proofs.Tasks.{replied}
 use Rattle.file_laws.specs.FileTasks.{IsRemoved, IsRenamed, TaskCall, files_after}
 use Rattle.file_laws.specs.FileLaws.{AreCalls}
-use Rattle.file_laws.specs.FileEnds.{CallFailed, FileTaskEnds, IsByFiles, IsPlaced, IsShownByCalls, MovedFilesAreLeft}
+use Rattle.file_laws.specs.FileEnds.{CallFailed, FileTaskEnds, IsPlaced, IsShownByCalls, MovedFilesAreLeft}
 use Rattle.file_laws.proofs.Downloads as downloads
 use Rattle.file_laws.proofs.Files as files
 use Rattle.file_laws.proofs.Keeping as keeping
@@ -182,8 +179,7 @@ module _ (Shows : Ask → ℕ → Talk → Class → List ℕ → Type 0) (HasSt
 
     removal_ends : (how : Outcome) → HasOutcome Shows HasStatus (CallFailed calls) s dispatched coming n task how → IsShownByCalls how (IsRemoved calls n) → IsEnded excused journal start trace before after n task how
     removal_ends outcome.Done is shown =
-        let absent : IsAbsent excused after (place.File path) = (files.file_is_removed Shows s excused dispatched calls a n task path is_task removal is_dest).0 shown in
-        (
+        let absent : IsAbsent excused after (place.File path) = (files.file_is_removed Shows s excused dispatched calls a n task path is_task removal is_dest).0 shown in (
           subst (λ (k : Kind). IsNew excused s.held (states start trace) after task k) (sym removal) (subst (λ (d : Place). IsAbsent excused after d) (sym is_dest) absent),
           moves_nothing _,
         )
@@ -203,9 +199,9 @@ module _ (Shows : Ask → ℕ → Talk → Class → List ℕ → Type 0) (HasSt
   pub file_task_ends : FileTaskEnds Shows HasStatus
   file_task_ends s excused dispatched coming calls start trace part journal a r traced whole n task how is_task by source is shown = elim by.decided [
     | inl load ↦ download_ends Shows HasStatus s excused dispatched coming calls start trace part journal a r traced whole n task is_task by.path by.is_dest load (by.from load) how
-    (λ new. source new load) is (subst (λ (k : Kind). IsShownByCalls how (IsPlaced k calls n)) load shown)
+        (λ new. source new load) is (subst (λ (k : Kind). IsShownByCalls how (IsPlaced k calls n)) load shown)
     | inr removal ↦ removal_ends Shows HasStatus s excused dispatched coming calls start trace part journal a r traced whole n task is_task by.path by.is_dest removal (by.keeps removal) how is
-    (subst (λ (k : Kind). IsShownByCalls how (IsPlaced k calls n)) removal shown)
+        (subst (λ (k : Kind). IsShownByCalls how (IsPlaced k calls n)) removal shown)
   ]
 
   -- ---- moved files

@@ -1,5 +1,5 @@
 -- The temporary file of a download while it is filled: what was written to it stands in it.
-use Rattle.std.proofs.Common.{◌≡◌, ◌≢◌, ◌∙◌, ◌⊎◌, ◌+◌, ◌≤◌, ◌++◌, ℕ, Bool, true, false, List, [], ◌∷◌, Option, Some, None, Ok, refl, sym, ap, subst, inl, inr, Contains, length, take, drop, slice_get, arith}
+use Rattle.std.proofs.Common.{◌≡◌, ◌∙◌, ◌⊎◌, ◌+◌, ◌≤◌, ◌++◌, ℕ, Bool, true, false, List, [], ◌∷◌, Some, None, Ok, refl, sym, ap, subst, inl, inr, Contains, length, take, drop, slice_get, arith}
 use Rattle.std.specs.FinMap.{get}
 use Rattle.s3_model.specs.declared.answers.Class.{Class}
 use Rattle.s3_model.specs.declared.places.Place.TheVariants as place
@@ -15,7 +15,7 @@ use Rattle.run_promise.specs.Endings.{Excused}
 use Rattle.run_promise.specs.Schedule.{Setting, is_small}
 use Rattle.local_files.specs.Calls.{Call, DropTemp, IsCallRun, Leads, MakeTemp, Rename, WriteAt, written_at}
 use Rattle.world_laws.proofs.Maps.{not_both, some_is}
-use Rattle.world_laws.proofs.Members.{Has, contains_of, has-append_left, has_middle}
+use Rattle.world_laws.proofs.Members.{Has, has-append_left}
 use Rattle.file_laws.specs.FileTasks.{IsRangeIn, MayFollow, TaskCall, UsesTemp, files_after, steps_of}
 use Rattle.file_laws.specs.FileLaws.{AreCalls}
 use Rattle.file_laws.proofs.Effects.{Effect, Spares, arrives, drops, effect, goes, inserted, leaves, makes, removes, spoils, stamps, stays, writes}
@@ -103,7 +103,7 @@ module _ (Shows : Ask → ℕ → Talk → Class → List ℕ → Type 0) (s : S
       own_use uses = elim (same_number c.task n) [
         | inl e ↦ e
         | inr other ↦ absurd (temps.user_not_closed Shows s excused dispatched calls a p undownloaded front c back is uses
-        (opened.others c.task (temps.made_by_user Shows s excused dispatched calls a p undownloaded front c back is uses) other))
+            (opened.others c.task (temps.made_by_user Shows s excused dispatched calls a p undownloaded front c back is uses) other))
       ]
 
       not_last : (call : Call) → c.step.call ≡ call → UsesTemp call p → MayFollow call (Rename p d None)

@@ -1,5 +1,5 @@
 -- What the Gets of a download tell of its source, by the laws on requests.
-use Rattle.std.proofs.Common.{◌≡◌, ◌∙◌, ◌+◌, ◌-◌, ◌*◌, ◌≤◌, ℕ, Bool, true, false, min, List, Option, Some, None, refl, sym, ap, subst, Contains, length, take, drop, slice_get, arith}
+use Rattle.std.proofs.Common.{◌≡◌, ◌∙◌, ◌-◌, ◌*◌, ◌≤◌, ℕ, Bool, true, false, min, List, Option, Some, None, refl, sym, ap, subst, Contains, length, take, drop, slice_get, arith}
 use Rattle.std.proofs.lemmas.List.{length-drop, take_min}
 use Rattle.std.proofs.Math.Seq.{take_all}
 use Rattle.s3_model.specs.declared.answers.Class.{Class}
@@ -16,7 +16,7 @@ use Rattle.s3_model.specs.declared.requests.Op.TheVariants as op
 use Rattle.s3_model.specs.declared.tasks.Kind.{Kind}
 use Rattle.s3_model.specs.declared.tasks.Kind.TheVariants as kind
 use Rattle.s3_model.specs.declared.tasks.Task.{Task}
-use Rattle.s3_model.specs.Parts.{HasPieces, piece_count, piece_of, piece_range}
+use Rattle.s3_model.specs.Parts.{HasPieces, piece_count, piece_of}
 use Rattle.s3_model.specs.Talks.{Talk}
 use Rattle.s3_service.specs.ServiceState.{State}
 use Rattle.run_promise.specs.Dispatches.{Attempt, Dispatched, FitsAsk, FitsLast}

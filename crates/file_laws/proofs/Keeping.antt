@@ -1,7 +1,6 @@
 -- What the clauses on calls say of any one call and of those before it.
-use Rattle.std.proofs.Common.{◌≡◌, ◌≢◌, ◌∙◌, ◌⊎◌, ◌++◌, ℕ, Bool, true, false, List, [], ◌∷◌, Option, Some, None, Result, Ok, Err, refl, sym, ap, subst, inl, inr, Contains, slice_get, arith}
+use Rattle.std.proofs.Common.{◌≡◌, ◌⊎◌, ◌++◌, ℕ, Bool, true, false, List, [], ◌∷◌, Option, Some, None, Result, Ok, Err, refl, sym, subst, inl, inr, Contains, slice_get, arith}
 use Rattle.std.specs.Prelude.{IsSome}
-use Rattle.std.specs.FinMap.{get}
 use Rattle.s3_model.specs.declared.answers.Class.{Class}
 use Rattle.s3_model.specs.declared.places.Place.{Place}
 use Rattle.s3_model.specs.declared.places.Place.TheVariants as place
@@ -10,14 +9,13 @@ use Rattle.s3_model.specs.declared.tasks.Kind.{Kind}
 use Rattle.s3_model.specs.declared.tasks.Kind.TheVariants as kind
 use Rattle.s3_model.specs.declared.tasks.Task.{Task}
 use Rattle.s3_model.specs.Files.{HeldFile}
-use Rattle.s3_model.specs.Maps.{MapOf}
 use Rattle.s3_model.specs.Talks.{Talk}
 use Rattle.run_promise.specs.Dispatches.{Dispatched}
 use Rattle.run_promise.specs.Endings.{Excused}
 use Rattle.run_promise.specs.Schedule.{Setting}
 use Rattle.local_files.specs.Calls.{Call, DropTemp, Fault, MakeTemp, Remove, Rename, Stamp, WriteAt}
-use Rattle.world_laws.proofs.Members.{Has, contains_of, has, has-append_cases, has-append_left, has-append_right, has_middle}
-use Rattle.file_laws.specs.FileTasks.{IsCallOf, IsMade, MayFollow, TaskCall, UsesTemp}
+use Rattle.world_laws.proofs.Members.{Has, contains_of, has-append_cases, has-append_left, has_middle}
+use Rattle.file_laws.specs.FileTasks.{IsCallOf, MayFollow, TaskCall, UsesTemp}
 use Rattle.file_laws.specs.FileLaws.{AreCalls}
 
 -- ---- members

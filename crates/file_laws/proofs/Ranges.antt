@@ -5,7 +5,7 @@ use Rattle.std.proofs.Math.Nat.{mul-le-mul_right}
 use Rattle.s3_model.specs.declared.tasks.Kind.TheVariants as kind
 use Rattle.s3_model.specs.declared.tasks.Kind.{Kind}
 use Rattle.s3_model.specs.declared.tasks.Task.{Task}
-use Rattle.s3_model.specs.Parts.{HasPieces, IsTransfer, piece_count, piece_range}
+use Rattle.s3_model.specs.Parts.{HasPieces, piece_count}
 use Rattle.s3_model.specs.Validity.{IsValidConfig, IsValidLimits}
 use Rattle.run_promise.specs.Schedule.{Setting, is_small}
 use Rattle.world_laws.proofs.PieceCounts.{in_parts, pieces_are_one}

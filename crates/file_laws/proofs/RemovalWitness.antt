@@ -1,5 +1,5 @@
 -- Runs that remove a file: one that does, and one that fails to.
-use Rattle.std.proofs.Common.{◌≡◌, ◌∙◌, ◌⊎◌, ◌<◌, ◌++◌, ℕ, Bool, true, false, List, [], ◌∷◌, Option, Some, None, Ok, refl, sym, ap, subst, inl, inr, Contains, slice_get, arith}
+use Rattle.std.proofs.Common.{◌≡◌, ◌∙◌, ◌++◌, ℕ, Bool, true, false, List, [], ◌∷◌, Some, None, Ok, refl, sym, ap, subst, inl, inr, Contains, slice_get, arith}
 use Rattle.std.specs.Prelude.{IsSome}
 use Rattle.std.specs.Cmp.Lexicographic.{nat_list_cmp_total}
 use Rattle.std.specs.FinMap.{empty, get, insert, remove}
@@ -8,11 +8,9 @@ use Rattle.s3_model.specs.declared.outcomes.Cause.TheVariants as cause
 use Rattle.s3_model.specs.declared.outcomes.FileCall.TheVariants as call
 use Rattle.s3_model.specs.declared.outcomes.Outcome.{Outcome}
 use Rattle.s3_model.specs.declared.outcomes.Outcome.TheVariants as outcome
-use Rattle.s3_model.specs.declared.places.Place.{Place}
 use Rattle.s3_model.specs.declared.places.Place.TheVariants as place
 use Rattle.s3_model.specs.declared.requests.Ask.TheVariants as ask
 use Rattle.s3_model.specs.declared.requests.Op.TheVariants as op
-use Rattle.s3_model.specs.declared.tasks.Kind.{Kind}
 use Rattle.s3_model.specs.declared.tasks.Kind.TheVariants as kind
 use Rattle.s3_model.specs.declared.tasks.Task.{Task}
 use Rattle.s3_model.specs.Files.{HeldFile}
@@ -21,22 +19,21 @@ use Rattle.s3_service.specs.ServiceState.{State}
 use Rattle.run_promise.specs.Dispatches.{Dispatched, op_number}
 use Rattle.run_promise.specs.Endings.{Excused}
 use Rattle.run_promise.specs.Outcomes.{HasOutcome}
-use Rattle.run_promise.specs.Schedule.{IsBefore, IsFailed, IsObject, Setting, job_of}
+use Rattle.run_promise.specs.Schedule.{IsBefore, IsFailed, Setting, job_of}
 use Rattle.run_promise.specs.Truthful.{IsDest}
-use Rattle.local_files.specs.Calls.{Call, IsCallRun, MakeTemp, Remove, Rename}
+use Rattle.local_files.specs.Calls.{IsCallRun, MakeTemp, Remove, Rename}
 use Rattle.world_laws.specs.Premises.{IsFitting}
 use Rattle.world_laws.specs.Rounds.{Round, Told, ToldStatus, dispatch_at}
-use Rattle.world_laws.specs.Tasks.{AreApart, AreQuestions, IsScheduled}
+use Rattle.world_laws.specs.Tasks.{AreQuestions, IsScheduled}
 use Rattle.world_laws.proofs.Faithful.{bare, bare_is_faithful, rounds_fitting}
 use Rattle.world_laws.proofs.Maps.{get-insert_same, text_exact}
 use Rattle.world_laws.proofs.Members.{Has, has}
 use Rattle.world_laws.proofs.Rounds.{rounds_given}
 use Rattle.world_laws.proofs.ScheduleWitness.{config_is_valid, limits_are_valid, one_task, rounds_schedule, setting_of, the_limits}
-use Rattle.file_laws.specs.FileEnds.{CallFailed, IsPlaced, IsShownByCalls}
-use Rattle.file_laws.specs.FileLaws.{AreCalls}
-use Rattle.file_laws.specs.FileTasks.{AreFileCalls, AreFilesApart, IsMade, IsRemoved, IsRenamed, TaskCall, steps_of}
+use Rattle.file_laws.specs.FileEnds.{CallFailed, IsShownByCalls}
+use Rattle.file_laws.specs.FileTasks.{AreFileCalls, AreFilesApart, IsRemoved, TaskCall, steps_of}
 use Rattle.file_laws.specs.FileWitnesses.{FailedRemovalIsMet, IsFileTaskMet, IsMovedFileMet, MovedFileIsMet, RemovalIsMet, file_removal, moved_upload}
-use Rattle.file_laws.proofs.CallWitness.{Along, Keeps, calls_keep}
+use Rattle.file_laws.proofs.CallWitness.{calls_keep}
 use Rattle.file_laws.proofs.Keeping.{some_is_there}
 
 true_false : true ≡ false → ⊥

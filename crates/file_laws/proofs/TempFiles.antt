@@ -1,11 +1,10 @@
 -- A path where no download puts its file: it is as at the start, or absent, or the temporary file of one task, or one that stayed.
-use Rattle.std.proofs.Common.{◌≡◌, ◌≢◌, ◌∙◌, ◌⊎◌, ◌++◌, ℕ, Bool, true, false, List, [], ◌∷◌, Option, Some, None, Result, Ok, Err, refl, sym, ap, subst, inl, inr, Contains, slice_get}
+use Rattle.std.proofs.Common.{◌≡◌, ◌∙◌, ◌⊎◌, ◌++◌, ℕ, Bool, true, false, List, [], ◌∷◌, Option, Some, None, Ok, refl, sym, ap, subst, inl, inr, Contains, slice_get}
 use Rattle.std.specs.Prelude.{IsSome}
 use Rattle.std.specs.FinMap.{get}
 use Rattle.s3_model.specs.declared.answers.Class.{Class}
 use Rattle.s3_model.specs.declared.places.Place.TheVariants as place
 use Rattle.s3_model.specs.declared.requests.Ask.{Ask}
-use Rattle.s3_model.specs.declared.tasks.Kind.{Kind}
 use Rattle.s3_model.specs.declared.tasks.Kind.TheVariants as kind
 use Rattle.s3_model.specs.declared.tasks.Task.{Task}
 use Rattle.s3_model.specs.Files.{HeldFile}
@@ -15,7 +14,7 @@ use Rattle.run_promise.specs.Dispatches.{Dispatched}
 use Rattle.run_promise.specs.Endings.{Excused, IsLeft}
 use Rattle.run_promise.specs.Schedule.{Setting}
 use Rattle.local_files.specs.Calls.{Call, DropTemp, Fault, IsCallRun, MakeTemp, Remove, Rename, Stamp, WriteAt}
-use Rattle.world_laws.proofs.Members.{Has, contains_of, has, has-append_left}
+use Rattle.world_laws.proofs.Members.{Has, has, has-append_left}
 use Rattle.file_laws.specs.FileTasks.{MayFollow, TaskCall, UsesTemp, files_after, steps_of}
 use Rattle.file_laws.specs.FileLaws.{AreCalls}
 use Rattle.file_laws.proofs.Effects.{Effect, Spares, arrives, drops, effect, goes, leaves, makes, removes, spoils, stamps, stays, writes}
@@ -97,7 +96,7 @@ module _ (Shows : Ask → ℕ → Talk → Class → List ℕ → Type 0) (s : S
     ]
 
     removed_before : (c.step.call ≡ Remove p true → ⊥) → Removed longer → Removed front
-    removed_before none m = elim (last_cases front c m.0 m.1) [ | inl before ↦ (m.0, before, m.2) | inr here ↦ absurd (none (ap (λ (x : TaskCall). x.step.call) here ∙ m.2)) ]
+    removed_before none m = elim (last_cases front c m.0 m.1) [ inl before ↦ (m.0, before, m.2) | inr here ↦ absurd (none (ap (λ (x : TaskCall). x.step.call) here ∙ m.2)) ]
 
     -- closed before, or by this call
     closed_cases : (n : ℕ) → Closed longer n → Closed front n ⊎ ((c.task ≡ n) × IsClosing c.step.call)
@@ -238,10 +237,10 @@ module _ (Shows : Ask → ℕ → Talk → Class → List ℕ → Type 0) (s : S
           present = some_is_there (get new p) _ f
 
           made_cases : (m : ℕ) → Made longer m → Made front m ⊎ (c.task ≡ m)
-          made_cases m made = elim (last_cases front c made.0 made.1) [ | inl before ↦ inl (made.0, before, made.2, made.3, made.4) | inr here ↦ inr (ap (λ (x : TaskCall). x.task) here ∙ made.2) ]
+          made_cases m made = elim (last_cases front c made.0 made.1) [ inl before ↦ inl (made.0, before, made.2, made.3, made.4) | inr here ↦ inr (ap (λ (x : TaskCall). x.task) here ∙ made.2) ]
 
           others_from : ((m : ℕ) → Made front m → Closed front m) → (m : ℕ) → Made longer m → (m ≡ c.task → ⊥) → Closed longer m
-          others_from all m made other = elim (made_cases m made) [ | inl before ↦ closed_on m (all m before) | inr here ↦ absurd (other (sym here)) ]
+          others_from all m made other = elim (made_cases m made) [ inl before ↦ closed_on m (all m before) | inr here ↦ absurd (other (sym here)) ]
 
           fresh : Standing front old → Standing longer new
           fresh (Untouched g none kept) = InUse c.task present own unclosed (others_from (λ m made. absurd (none m made))) (inl (sym g ∙ absent))

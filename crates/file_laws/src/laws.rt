@@ -3,6 +3,7 @@
 ghost use Rattle.file_laws.specs.FileEnds.{FileTaskEnds, MovedFilesAreLeft};
 ghost use Rattle.file_laws.specs.FileLaws.{FileIsDownloaded, FileIsMoved, FileIsRemoved, FilesStay};
 ghost use Rattle.file_laws.specs.FileWitnesses.{DownloadIsMet, FailedRemovalIsMet, MovedFileIsMet, RefusedGetIsMet, RemovalIsMet};
+ghost use Rattle.world_laws.specs.Rounds.{AreNone, NeverFailed, Told, ToldStatus};
 
 use world_laws::{Command, Reading};
 
@@ -49,7 +50,6 @@ pub fn file_task<C: Command>()
 #[cfg(test)]
 mod tests {
     use super::*;
-    ghost use Rattle.world_laws.specs.Rounds.{AreNone, NeverFailed, Told, ToldStatus};
 
     // The reading of talks over which each law has a run.
     struct Plain;
