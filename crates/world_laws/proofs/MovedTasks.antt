@@ -92,7 +92,7 @@ module _ (Shows : Ask → ℕ → Talk → Class → List ℕ → Type 0) where
   ]
 
   pub other_objects_stay : OtherObjectsStay Shows
-  other_objects_stay s run part of begins bucket key =
+  other_objects_stay s run part bucket key of begins =
       elim (others_stay Shows s.limits run.start run.trace run.dispatched run.journal of.traced.runs of.traced.fits bucket key part begins.0 begins.1) [
         | inr rest ↦ inr (inr rest)
         | inl asked ↦

@@ -309,7 +309,7 @@ module _ (Shows : Ask → ℕ → Talk → Class → List ℕ → Type 0) (HasSt
     ]
 
     others : OthersStay shown start trace part
-    others bucket key = other_objects_stay Shows s run part of_plan (whole.0, whole.1) bucket key
+    others bucket key = other_objects_stay Shows s run part bucket key of_plan (whole.0, whole.1)
 
     moves_after : MovesAfter shown start trace
     moves_after n task front later step lane sent is_task is_copy split is_event is_delete =

@@ -33,8 +33,8 @@ pub record AreSourcesThere (held : MapOf HeldFile) (tasks : List Task) (start : 
   pub no_dest : (m n : ℕ) (a b : Task) (bucket key : List ℕ) → slice_get tasks m ≡ Some a → slice_get tasks n ≡ Some b
       → a.kind ≡ kind.Copy → IsSource a.source bucket key → IsObject b.dest bucket key → ⊥
   pub moved_once : (m n : ℕ) (a b : Task) (bucket key : List ℕ) → slice_get tasks m ≡ Some a
-      → slice_get tasks n ≡ Some b
-      → a.kind ≡ kind.Copy → IsSource a.source bucket key → b.moves ≡ true → IsSource b.source bucket key → m ≡ n
+      → slice_get tasks n ≡ Some b → a.kind ≡ kind.Copy → IsSource a.source bucket key
+      → b.moves ≡ true → IsSource b.source bucket key → m ≡ n
 
 -- only an upload or a download may be told not to replace
 abbrev pub AreFreshByKind : List Task → Type 0
@@ -55,8 +55,7 @@ module _ (Shows : Ask → ℕ → Talk → Class → List ℕ → Type 0) (HasSt
   -- a task that failed by a call on files counts as one whose file call failed
   abbrev pub AreCallsCounted : Shown → Type 0
   AreCallsCounted shown = (n : ℕ) (why : Cause) → slice_get shown.outcomes n ≡ Some (outcome.Failed why)
-      → CallFailed n why
-      → shown.setting.file_failed n ≡ true
+      → CallFailed n why → shown.setting.file_failed n ≡ true
 
   -- Over a willing service, with each answer certain, nobody else writing, the buckets and the sources there, and no
   -- cancel, an orderly run owes nothing.
@@ -64,8 +63,8 @@ module _ (Shows : Ask → ℕ → Talk → Class → List ℕ → Type 0) (HasSt
   WillingIsDone = (request_text : Ask → List ℕ → ℕ → List ℕ) (host : List ℕ) (port : ℕ) (shown : Shown)
       (dispatched coming : List Dispatched) (start : State) (trace : List Step)
       → IsOrderly Shows HasStatus Plans CallFailed request_text host port shown dispatched coming
-      → AreCallsCounted shown
-      → AreFreshByKind shown.setting.tasks → IsTraceOf Shows shown.setting (run_of shown dispatched start trace)
+      → AreCallsCounted shown → AreFreshByKind shown.setting.tasks
+      → IsTraceOf Shows shown.setting (run_of shown dispatched start trace)
       → IsWilling shown.setting.limits start trace
       → AreCertain Shows HasStatus request_text host port Plans CallFailed dispatched → IsAlone trace
       → HasDestBuckets shown.setting.tasks start → AreSourcesThere shown.setting.held shown.setting.tasks start
@@ -76,8 +75,7 @@ module _ (Shows : Ask → ℕ → Talk → Class → List ℕ → Type 0) (HasSt
   -- there is asked only where nobody else writes, since there what planning found was so from the start.
   abbrev pub OrderlyIsDone : Type 0
   OrderlyIsDone = (request_text : Ask → List ℕ → ℕ → List ℕ) (host : List ℕ) (port : ℕ) (shown : Shown)
-      → AreCallsCounted shown
-      → AreFreshByKind shown.setting.tasks
+      → AreCallsCounted shown → AreFreshByKind shown.setting.tasks
       → ((dispatched coming : List Dispatched) → IsSchedule Shows shown.setting Plans dispatched coming
       → IsCarried Shows request_text host port shown.setting shown.journal shown.logs shown.notes dispatched coming
       → IsOrderly Shows HasStatus Plans CallFailed request_text host port shown dispatched coming)

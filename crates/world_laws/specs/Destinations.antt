@@ -13,8 +13,8 @@ use Rattle.world_laws.specs.Premises.{Run, BeginsWith, HasEndedBy, IsOldAfter, m
 
 -- each dispatched request that may change the object is such a one
 abbrev pub AllThatChange : List ℕ → List ℕ → (Dispatched → Type 0) → List Dispatched → Type 0
-AllThatChange bucket key IsSuch dispatched = (c : Dispatched) → Contains dispatched c → MayChange c.ask bucket key
-    → IsSuch c
+AllThatChange bucket key IsSuch dispatched =
+    (c : Dispatched) → Contains dispatched c → MayChange c.ask bucket key → IsSuch c
 
 -- which requests were dispatched for an object
 abbrev pub Requests : Type 1

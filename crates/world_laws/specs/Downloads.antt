@@ -24,8 +24,7 @@ IsPartial answered = ⊥
 module _ (Shows : Ask → ℕ → Talk → Class → List ℕ → Type 0) where
   -- a Get of that range came with success, and its body is these bytes
   pub record IsGot (journal : List Event) (dispatched : List Dispatched) (bucket key etag : List ℕ)
-      (range : Option (ℕ × ℕ))
-      (bytes : List ℕ) : Type 0 where
+      (range : Option (ℕ × ℕ)) (bytes : List ℕ) : Type 0 where
     pub get : Dispatched
     pub known : Contains dispatched get
     pub is_get : get.ask ≡ ask.Get bucket key etag range

@@ -108,29 +108,23 @@ mark_by true = mark.Refusal
 mark_by false = mark.Success
 
 abbrev pub attempt_of : Round → Attempt
-attempt_of r =
-    record {
-      mark =
-          mark_by r.refused;
-      talk =
-          record { host = []; port = r.size; sent = []; got = r.got; ending = ending_by r.refused };
-    }
+attempt_of r = record {
+  mark = mark_by r.refused;
+  talk = record { host = []; port = r.size; sent = []; got = r.got; ending = ending_by r.refused };
+}
 
 -- the dispatch of a round, given at a place of the journal
 abbrev pub dispatch_at : ℕ → Round → Dispatched
 dispatch_at place r = record {
-  dispatch =
-      record {
-        job =
-            r.job;
-        lane = 0;
-        given_at = place;
-        came_at = Some
-            (place + 1);
-        earlier = 0;
-        is_second = false;
-        attempts = attempt_of r ∷ [];
-      };
+  dispatch = record {
+    job = r.job;
+    lane = 0;
+    given_at = place;
+    came_at = Some (place + 1);
+    earlier = 0;
+    is_second = false;
+    attempts = attempt_of r ∷ [];
+  };
   ask = r.ask;
   body = r.body;
   limit = most_body;

@@ -33,8 +33,7 @@ use Rattle.world_laws.specs.SmallTransfers.{HasSize}
 -- no two tasks have one destination, and no destination is the source of a move
 pub record AreApart (tasks : List Task) : Type 0 where
   pub destinations : (m n : ℕ) (a b : Task) (bucket key : List ℕ) → slice_get tasks m ≡ Some a
-      → slice_get tasks n ≡ Some b
-      → IsObject a.dest bucket key → IsObject b.dest bucket key → m ≡ n
+      → slice_get tasks n ≡ Some b → IsObject a.dest bucket key → IsObject b.dest bucket key → m ≡ n
   pub sources : (m n : ℕ) (a b : Task) (bucket key : List ℕ) → slice_get tasks m ≡ Some a → slice_get tasks n ≡ Some b
       → a.moves ≡ true → IsSource a.source bucket key → IsObject b.dest bucket key → ⊥
 
@@ -186,8 +185,7 @@ module _ (Shows : Ask → ℕ → Talk → Class → List ℕ → Type 0) where
   abbrev pub TaskIsOld : Type 0
   TaskIsOld = (s : Setting) (run : Run) (part : List Step) → IsRunOf s run → BeginsWith run part
       → (n : ℕ) (task : Task) (bucket key : List ℕ) → slice_get s.tasks n ≡ Some task
-      → task.dest ≡ place.Object bucket key
-      → IsRefusedIn s run.dispatched n task → IsOldAfter run part bucket key
+      → task.dest ≡ place.Object bucket key → IsRefusedIn s run.dispatched n task → IsOldAfter run part bucket key
 
   -- Whatever was answered, it is as before or new, at every moment.
   abbrev pub TaskIsWhole : Type 0
@@ -199,8 +197,7 @@ module _ (Shows : Ask → ℕ → Talk → Class → List ℕ → Type 0) where
   -- Of a copy that is moved, the destination is new from the time that the Delete of its source begins.
   abbrev pub MovedTaskIsNew : Type 0
   MovedTaskIsNew = (s : Setting) (excused : Excused) (held : MapOf HeldFile) (run : Run) (front later : List Step)
-      (step : Step)
-      → IsRunOf s run → run.trace ≡ front ++ step ∷ later
+      (step : Step) → IsRunOf s run → run.trace ≡ front ++ step ∷ later
       → (n : ℕ) (task : Task) (bucket key : List ℕ) → IsObjectTask s (moments run) n task bucket key
       → task.kind ≡ kind.Copy
       → (lane : ℕ) (sent : Request) → step.event ≡ Begin lane sent → sent.job ≡ job_of n op.Delete 0
@@ -208,16 +205,16 @@ module _ (Shows : Ask → ℕ → Talk → Class → List ℕ → Type 0) where
 
   -- After the Delete of a moved source came with success the source is gone, at the end and at every later moment.
   abbrev pub MovedSourceIsGone : Type 0
-  MovedSourceIsGone = (s : Setting) (held : MapOf HeldFile) (run : Run) (part : List Step) → IsRunOf s run
-      → HasEndedBy run part
+  MovedSourceIsGone = (s : Setting) (held : MapOf HeldFile) (run : Run) (part : List Step)
+      → IsRunOf s run → HasEndedBy run part
       → (n : ℕ) (task : Task) (bucket key : List ℕ) → slice_get s.tasks n ≡ Some task → task.moves ≡ true
       → task.source ≡ Some (place.Object bucket key) → task.kind ≢ kind.RemoveObject → HasDeleted run.dispatched n
       → IsGone run.trace (scene_after s held run part) task.source
 
   -- Nothing else is changed: every object is a destination, a moved source, written by somebody else, or as before.
   abbrev pub OtherObjectsStay : Type 0
-  OtherObjectsStay = (s : Setting) (run : Run) (part : List Step) → IsRunOf s run → BeginsWith run part
-      → (bucket key : List ℕ)
+  OtherObjectsStay = (s : Setting) (run : Run) (part : List Step) (bucket key : List ℕ)
+      → IsRunOf s run → BeginsWith run part
       → IsDest s.tasks bucket key ⊎ IsMovedSource s.tasks bucket key ⊎ IsExternal run.trace bucket key
       ⊎ IsOldAfter run part bucket key
 
@@ -226,8 +223,8 @@ module _ (Shows : Ask → ℕ → Talk → Class → List ℕ → Type 0) where
   -- the run shows of the task what its outcome asks for
   abbrev pub IsShownIn : Setting → MapOf HeldFile → Run → List Step → ℕ → Task → Outcome → Type 0
   IsShownIn s held run part n task how =
-      IsShown how (IsDecidedIn s run.dispatched n task) (IsRefusedIn s run.dispatched n task)
-      (IsTakenIn s run.dispatched n task)
+      IsShown how
+      (IsDecidedIn s run.dispatched n task) (IsRefusedIn s run.dispatched n task) (IsTakenIn s run.dispatched n task)
       (OnTrue task.moves (IsSourceGone run.dispatched held n task.source))
       (OnTrue task.moves (IsGoneOrThere (scene_before s run) (scene_after s held run part) task.source))
       (OnTrue task.moves (IsSpared n run.journal (scene_before s run) (scene_after s held run part) task.source))

@@ -46,6 +46,6 @@ IsCreatedBy step id = (sent : Request) × (bytes : List ℕ) × (step.event ≡ 
 -- An id is named by one Create alone.
 abbrev pub IdsAreCreatedOnce : Type 0
 IdsAreCreatedOnce = (limits : Limits) (start : State) (trace front front' : List Step) (step step' : Step)
-    (back back' : List Step)
-    (id : List ℕ) → IsTrace limits [] start trace → trace ≡ front ++ step ∷ back → trace ≡ front' ++ step' ∷ back'
+    (back back' : List Step) (id : List ℕ) → IsTrace limits [] start trace
+    → trace ≡ front ++ step ∷ back → trace ≡ front' ++ step' ∷ back'
     → IsCreatedBy step id → IsCreatedBy step' id → front ≡ front'

@@ -212,7 +212,8 @@ pub record IsRefusedTask (setting : Setting) (run : Run) (task : Task) : Type 0 
 abbrev pub RefusedTaskIsMet : Type 0
 RefusedTaskIsMet = (bucket key : List ℕ) → IsTaskMet bucket key IsRefusedTask
 
--- an orderly run of one task with that outcome, with an honest trace that fits
+-- an orderly run of one task with that outcome, with an honest trace that fits; as talks are read, the port is the size
+-- of the source
 pub record IsPromiseMet (task : Task) (how : Outcome) : Type 0 where
   pub shown : Shown
   pub dispatched : List Dispatched
