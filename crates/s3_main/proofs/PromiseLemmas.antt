@@ -1,5 +1,5 @@
 -- A run of today's command is truthful: it was planned and carried, or it ended before its task.
-use Rattle.std.proofs.Common.{◌≡◌, ◌∙◌, ◌==◌, ◌<◌, ℕ, Bool, true, false, List, [], ◌∷◌, Option, Some, None, refl, sym, ap, subst, inl, inr, Contains, length, slice_get, filter_map, if◌then◌else◌, arith}
+use Rattle.std.proofs.Common.{◌≡◌, ◌∙◌, ◌==◌, ◌<◌, ◌≤◌, ◌^◌, ℕ, Bool, true, false, List, [], ◌∷◌, Option, Some, None, refl, sym, ap, subst, inl, inr, Contains, length, slice_get, filter_map, if◌then◌else◌, arith}
 use Rattle.std.specs.FinMap.{get}
 use Rattle.std.proofs.lemmas.List.{take_all}
 use Rattle.s3_model.specs.declared.requests.Ask.{Ask}
@@ -22,7 +22,7 @@ use Rattle.s3_model.specs.declared.tasks.Warning.{Warning}
 use Rattle.s3_model.specs.declared.tries.Mark.{Mark}
 use Rattle.s3_model.specs.Files.{FileStore, HeldFile, is_folder, is_listed}
 use Rattle.s3_model.specs.Talks.{Talk, Note, Moment, Began}
-use Rattle.s3_model.specs.Validity.{IsValidConfig, IsValidLimits}
+use Rattle.s3_model.specs.Validity.{IsValidConfig, IsValidLimits, IsWithin}
 use Rattle.run_promise.specs.Buffers.{KeepsBuffers}
 use Rattle.run_promise.specs.Carried.{IsCarried, SaysAll, IsPrefixOf}
 use Rattle.run_promise.specs.Dispatches.{Attempt, Dispatched}
@@ -151,14 +151,17 @@ told dispatched n none how = ((λ e. absurd (false_is_true e)), (λ h. absurd h)
 upload_is_no_copy : kind.Upload ≡ kind.Copy → ⊥
 upload_is_no_copy e = cc
 
+within : (low value high : ℕ) → low ≤ value → value ≤ high → IsWithin low value high
+within low value high least most = record { least = least; most = most }
+
 default_valid : IsValidConfig default_config
 default_valid = record {
-  threshold = record { least = omega arith; most = omega arith };
-  chunk = record { least = omega arith; most = omega arith };
-  lanes = record { least = omega arith; most = omega arith };
-  queue = record { least = omega arith; most = omega arith };
-  buffers = record { least = omega arith; most = omega arith };
-  attempts = record { least = omega arith; most = omega arith };
+  threshold = within 1 first_large (2 ^ 30) (omega arith) (omega arith);
+  chunk = within 1 first_large (2 ^ 30) (omega arith) (omega arith);
+  lanes = within 1 10 1000 (omega arith) (omega arith);
+  queue = within 1 1000 100000 (omega arith) (omega arith);
+  buffers = within 1 10 64 (omega arith) (omega arith);
+  attempts = within 1 1 10 (omega arith) (omega arith);
 }
 
 module _ (words : List (List ℕ)) (keys : Keys) (before after : ℕ) (limits : Limits) (valid : IsValidLimits limits) (status : ℕ) (was now : SeenFiles) (same : now.store ≡ was.store)
