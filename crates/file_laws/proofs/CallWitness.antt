@@ -114,8 +114,8 @@ module _ (Shows : Ask → ℕ → Talk → Class → List ℕ → Type 0) (s : S
       named = λ c known. let k = kept_one c known in (task, ap (slice_get s.tasks) k.1.first ∙ first_task, k.1.is_call);
       placed = all_pairs (λ (a b : TaskCall). a.place ≤ b.place) calls places;
       dry = λ dried. absurd (clash (sym carried_out ∙ dried));
-      order = λ front back earlier later is h same. for_each (λ (x : TaskCall). MayFollow x.step.call later.step.call) front (kept front later back is).follows earlier (has front earlier h);
-      made = λ front back c temp is uses. let k = kept front c back is in subst (λ (n : ℕ). IsMade front n temp) (sym k.first) (on_use (IsMade front 0) c.step.call temp k.uses uses);
+      order = λ front earlier later is h same. for_each (λ (x : TaskCall). MayFollow x.step.call later.step.call) front (kept front later is.0 is.1).follows earlier (has front earlier h);
+      made = λ front c temp is uses. let k = kept front c is.0 is.1 in subst (λ (n : ℕ). IsMade front n temp) (sym k.first) (on_use (IsMade front 0) c.step.call temp k.uses uses);
       made_first = λ c n number known is.
           let m = made_first c known (ap (λ (j : JobId). j.op) is) in
           (m.0, m.1, some_is m.0.task n (sym m.2 ∙ ap (λ (j : JobId). j.task) is), m.3, m.4, m.5, m.6);
@@ -123,13 +123,13 @@ module _ (Shows : Ask → ℕ → Talk → Class → List ℕ → Type 0) (s : S
           let k = (kept_one c known).1 in
           let body = subst (λ (x : Call). OnWrite (λ temp at bytes. IsBody Shows s dispatched 0 task c.place at bytes) x) e k.writes in
           subst (λ (t : Task). IsBody Shows s dispatched c.task t c.place at bytes) (sym (only c.task other is_other)) (subst (λ (n : ℕ). IsBody Shows s dispatched n task c.place at bytes) (sym k.first) body);
-      renames = λ front back c other temp dest fault is is_other e.
-          let k = kept front c back is in
+      renames = λ front c other temp dest fault is is_other e.
+          let k = kept front c is.0 is.1 in
           let written = subst (λ (x : Call). OnRename (AreWritten s front 0 task) x) e k.renames in
           subst (λ (t : Task). AreWritten s front c.task t temp) (sym (only c.task other is_other)) (subst (λ (n : ℕ). AreWritten s front n task temp) (sym k.first) written);
       stamps = λ n re. let k = (kept_one re.0 re.1).1 in let zero = sym k.first ∙ re.2 in
           subst (IsStamped calls) zero (stamped (re.0, re.1, k.first, re.3, re.4, re.5));
-      stamps_last = λ front back c path micros fine is e. let k = kept front c back is in subst (IsRenamed front) (sym k.first) (subst (λ (x : Call). OnStamp (IsRenamed front 0) x) e k.stamps);
+      stamps_last = λ front c path micros fine is e. let k = kept front c is.0 is.1 in subst (IsRenamed front) (sym k.first) (subst (λ (x : Call). OnStamp (IsRenamed front 0) x) e k.stamps);
       untimed = λ c path micros known e. absurd (subst (λ (x : Call). IsFine x) e (kept_one c known).1.fine);
       drops = λ n temp made. let k = (kept_one made.0 made.1).1 in let zero = sym k.first ∙ made.2 in
           subst (λ (m : ℕ). IsRenamed calls m ⊎ IsDropped calls m) zero (dropped temp (made.0, made.1, k.first, made.3, made.4));

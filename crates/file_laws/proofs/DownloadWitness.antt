@@ -50,6 +50,7 @@ use Rattle.file_laws.specs.FileEnds.{CallFailed, IsShownByCalls}
 use Rattle.file_laws.specs.FileTasks.{AreFileCalls, AreFilesApart, AreWritten, IsBody, IsDropped, IsRangeIn, IsRenamed, TaskCall, steps_of}
 use Rattle.file_laws.specs.FileWitnesses.{DownloadIsMet, IsFileTaskMet, RefusedGetIsMet, places_written, two_bytes}
 use Rattle.file_laws.proofs.CallWitness.{all_pairs, calls_keep}
+use Rattle.file_laws.proofs.Keeping.{run_of}
 use Rattle.file_laws.proofs.Resized.{resized, resized_come, resized_fits, resized_given}
 
 -- ---- what differs
@@ -143,13 +144,13 @@ module _ (bucket key : List ℕ) (a b : ℕ) where
 
   files_apart : AreFilesApart empty (task ∷ [])
   files_apart = record {
-    destinations = λ m n x y p is_x is_y here there. (one_task task m x is_x).0 ∙ sym (one_task task n y is_y).0;
-    sources = λ m n x y p is_x is_y moves is_source is_dest. stays m x is_x moves;
-    moved_once = λ m n x y p is_x is_y moves is_source too is_too. absurd (stays m x is_x moves);
-    uploads = λ n x p is_x moves is_source. absurd (stays n x is_x moves);
-    one_way = λ m n x y p is_x is_y moves is_source load. stays m x is_x moves;
-    names = λ m n x y p is_x is_y load load_too here named. (one_task task m x is_x).0 ∙ sym (one_task task n y is_y).0;
-    there = λ n x p is_x removal is_dest. absurd (loads_or_removes (ap (λ (t : Task). t.kind) (sym (only n x is_x)) ∙ removal));
+    destinations = λ m n x y p to_x to_y. (one_task task m x to_x.0).0 ∙ sym (one_task task n y to_y.0).0;
+    sources = λ m n x y p move to_y. stays m x move.0 move.1;
+    moved_once = λ m n x y p move too. absurd (stays m x move.0 move.1);
+    uploads = λ n x p move. absurd (stays n x move.0 move.1);
+    one_way = λ m n x y p move is_y load. stays m x move.0 move.1;
+    names = λ m n x y p to_x is_y load load_too named. (one_task task m x to_x.0).0 ∙ sym (one_task task n y is_y).0;
+    there = λ n x p to_x removal. absurd (loads_or_removes (ap (λ (t : Task). t.kind) (sym (only n x to_x.0)) ∙ removal));
   }
 
   from : Origin task
@@ -290,10 +291,7 @@ module _ (bucket key : List ℕ) (a b : ℕ) where
     module _ (calls : List TaskCall) (keep : AreFileCalls Told setting excused all calls) (runs : IsCallRun empty (steps_of calls)) where
       met : (how : Outcome) → HasOutcome Told ToldStatus (CallFailed calls) setting all all 0 task how → IsShownByCalls how (IsRenamed calls 0) → IsFileTaskMet task how
       met how caused shown = record {
-        setting = setting;
-        excused = excused;
-        dispatched = all;
-        calls = calls;
+        run = run_of setting excused all calls;
         start = start;
         trace = trace;
         journal = journal_of rounds;
@@ -489,7 +487,7 @@ module _ (bucket key : List ℕ) (a b : ℕ) where
         )
       ]
 
-  done_met : (done : IsFileTaskMet task outcome.Done) × (places_written done.calls ≡ 1 ∷ 0 ∷ [])
+  done_met : (done : IsFileTaskMet task outcome.Done) × (places_written done.run.calls ≡ 1 ∷ 0 ∷ [])
   unfolding met
   done_met = (
     met 2 1 (omega arith) (omega arith) (omega arith) (omega arith) two_is_one (b ∷ []) (a ∷ []) refl false backwards_served calls keep runs outcome.Done
@@ -615,7 +613,7 @@ module _ (bucket key : List ℕ) (a b : ℕ) where
       other_code : codes "PreconditionFailed" ≡ denied → ⊥
       other_code e = let level : ◌≡◌ {A = ℕ} 18 12 = ap length e in absurd (omega arith)
 
-  refused_met : (failed : IsFileTaskMet task (outcome.Failed (cause.Service op.Get denied []))) × (places_written failed.calls ≡ 0 ∷ []) × IsDropped failed.calls 0
+  refused_met : (failed : IsFileTaskMet task (outcome.Failed (cause.Service op.Get denied []))) × (places_written failed.run.calls ≡ 0 ∷ []) × IsDropped failed.run.calls 0
   unfolding met
   refused_met = (
     met 1 2 (omega arith) (omega arith) (omega arith) (omega arith) one_is_two (a ∷ []) denied refl true half_served half_calls keep_half runs_half (outcome.Failed (cause.Service op.Get denied [])) (

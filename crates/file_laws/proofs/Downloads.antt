@@ -29,7 +29,7 @@ use Rattle.file_laws.proofs.Files.{Free, Kept, Left}
 use Rattle.file_laws.proofs.Filling as filling
 use Rattle.file_laws.proofs.Gets as gets
 use Rattle.file_laws.proofs.Keeping as keeping
-use Rattle.file_laws.proofs.Keeping.{has_last, last_cases, only_download_makes, only_download_renames, only_download_stamps, removal_downloads, same_path, same_task, who_removes}
+use Rattle.file_laws.proofs.Keeping.{has_last, last_cases, only_download_makes, only_download_renames, only_download_stamps, removal_downloads, run_of, same_path, same_task, who_removes}
 use Rattle.file_laws.proofs.Ranges.{AreSound, are_sound, last_range, range_one}
 use Rattle.file_laws.proofs.Runs.{leads_at, through}
 
@@ -39,7 +39,7 @@ stamp_renames p temp dest micros e = cc
 rename_stamps : (p temp dest : List ℕ) (micros : ℕ) → Rename temp dest None ≡ Stamp p micros true → ⊥
 rename_stamps p temp dest micros e = cc
 
-module _ (Shows : Ask → ℕ → Talk → Class → List ℕ → Type 0) (s : Setting) (excused : Excused) (dispatched : List Dispatched) (calls : List TaskCall) (a : AreCalls Shows s excused dispatched calls) where
+module _ (Shows : Ask → ℕ → Talk → Class → List ℕ → Type 0) (s : Setting) (excused : Excused) (dispatched : List Dispatched) (calls : List TaskCall) (a : AreCalls Shows (run_of s excused dispatched calls)) where
   -- a temporary file stands at no download's destination
   temp_free : (c : TaskCall) → Contains calls c → (dest p : List ℕ) → c.step.call ≡ MakeTemp dest (Ok p)
       → (m : ℕ) (other : Task) → slice_get s.tasks m ≡ Some other → other.kind ≡ kind.Download → other.dest ≡ place.File p → ⊥
@@ -63,7 +63,7 @@ module _ (Shows : Ask → ℕ → Talk → Class → List ℕ → Type 0) (s : S
       makes = only_download_makes own.task own.task.kind dest (Ok p) own.is_call
 
       alike : other ≡ own.task
-      alike = same_task other own.task (sym is ∙ ap (slice_get s.tasks) (a.apart.names m c.task other own.task p is own.is_task load makes.0 there temp.2) ∙ own.is_task)
+      alike = same_task other own.task (sym is ∙ ap (slice_get s.tasks) (a.apart.names m c.task other own.task p (is, there) own.is_task load makes.0 temp.2) ∙ own.is_task)
 
   module _ (n : ℕ) (task : Task) (path : List ℕ) (is_task : slice_get s.tasks n ≡ Some task) (load : task.kind ≡ kind.Download) (is_dest : task.dest ≡ place.File path) where
     abbrev Renamed : List TaskCall → Type 0
@@ -93,7 +93,7 @@ module _ (Shows : Ask → ℕ → Talk → Class → List ℕ → Type 0) (s : S
       own_rename temp dest e same =
           let own = keeping.named Shows s excused dispatched calls a c (Rename temp dest None) known e in
           let renames = only_download_renames own.task own.task.kind temp dest None own.is_call in
-          a.apart.destinations c.task n own.task task path own.is_task is_task (renames.1 ∙ ap place.File same) is_dest
+          a.apart.destinations c.task n own.task task path (own.is_task, renames.1 ∙ ap place.File same) (is_task, is_dest)
 
       renames_own : (temp dest : List ℕ) → c.task ≡ n → c.step.call ≡ Rename temp dest None → dest ≡ path
       renames_own temp dest same e =
@@ -111,14 +111,14 @@ module _ (Shows : Ask → ℕ → Talk → Class → List ℕ → Type 0) (s : S
       own_stamp : (micros : ℕ) → c.step.call ≡ Stamp path micros true → c.task ≡ n
       own_stamp micros e =
           let own = keeping.named Shows s excused dispatched calls a c (Stamp path micros true) known e in
-          a.apart.destinations c.task n own.task task path own.is_task is_task (only_download_stamps own.task own.task.kind path micros true own.is_call).1 is_dest
+          a.apart.destinations c.task n own.task task path (own.is_task, (only_download_stamps own.task own.task.kind path micros true own.is_call).1) (is_task, is_dest)
 
       no_make : (dest : List ℕ) → c.step.call ≡ MakeTemp dest (Ok path) → ⊥
       no_make dest e = temp_free c known dest path e n task is_task load is_dest
 
       no_use : UsesTemp c.step.call path → ⊥
       no_use uses =
-          let made = a.keep.made front back c path is uses in
+          let made = a.keep.made front c path (back, is) uses in
           temp_free made.0 (keeping.within_front Shows s excused dispatched calls a front c back made.0 is (has front made.0 made.1)) made.3 path made.4 n task is_task load is_dest
 
       uses_none : (call : Call) → c.step.call ≡ call → UsesTemp call path → ⊥
@@ -128,16 +128,16 @@ module _ (Shows : Ask → ℕ → Talk → Class → List ℕ → Type 0) (s : S
       no_removal e =
           let own = keeping.named Shows s excused dispatched calls a c (Remove path true) known e in
           elim (who_removes own.task own.task.kind path true own.is_call) [
-            | inr upload ↦ a.apart.sources c.task n own.task task path own.is_task is_task upload.1 upload.2 is_dest
+            | inr upload ↦ a.apart.sources c.task n own.task task path (own.is_task, upload.1, upload.2) (is_task, is_dest)
             | inl removal ↦
-                let one = a.apart.destinations c.task n own.task task path own.is_task is_task removal.1 is_dest in
+                let one = a.apart.destinations c.task n own.task task path (own.is_task, removal.1) (is_task, is_dest) in
                 let alike = same_task own.task task (sym own.is_task ∙ ap (slice_get s.tasks) one ∙ is_task) in
                 removal_downloads (sym removal.0 ∙ ap (λ (t : Task). t.kind) alike ∙ load)
           ]
 
       renamed_before_stamp : (micros : ℕ) → c.step.call ≡ Stamp path micros true → Renamed front
       renamed_before_stamp micros e =
-          let r = a.keep.stamps_last front back c path micros true is e in
+          let r = a.keep.stamps_last front c path micros true (back, is) e in
           (r.0, has front r.0 r.1, r.2 ∙ own_stamp micros e, r.3, r.4, r.5)
 
       -- ---- until it is renamed
@@ -188,7 +188,7 @@ module _ (Shows : Ask → ℕ → Talk → Class → List ℕ → Type 0) (s : S
           at_own = ap (slice_get s.tasks) own ∙ is_task
 
           all_written : AreWritten s front c.task task temp
-          all_written = a.keep.renames front back c task temp path None is at_own e
+          all_written = a.keep.renames front c task temp path None (back, is) at_own e
 
           pieces : HasPieces s.config s.limits task.kind task.size all_written.piece all_written.count
           pieces = all_written.pieces
@@ -197,7 +197,7 @@ module _ (Shows : Ask → ℕ → Talk → Class → List ℕ → Type 0) (s : S
           sound = are_sound s task all_written.piece all_written.count r.config r.limits load pieces
 
           made : IsMade front c.task temp
-          made = a.keep.made front back c temp is (subst (λ (x : Call). UsesTemp x temp) (sym e) refl)
+          made = a.keep.made front c temp (back, is) (subst (λ (x : Call). UsesTemp x temp) (sym e) refl)
 
           free : (m : ℕ) (other : Task) → slice_get s.tasks m ≡ Some other → other.kind ≡ kind.Download → other.dest ≡ place.File temp → ⊥
           free = temp_free made.0 (keeping.within_front Shows s excused dispatched calls a front c back made.0 is (has front made.0 made.1)) made.3 temp made.4
@@ -355,9 +355,9 @@ module _ (Shows : Ask → ℕ → Talk → Class → List ℕ → Type 0) (s : S
 
 module _ (Shows : Ask → ℕ → Talk → Class → List ℕ → Type 0) where
   pub file_is_downloaded : FileIsDownloaded Shows
-  file_is_downloaded s excused dispatched coming calls start trace journal a r traced n task path is_task load is_dest source = record {
-    old = old_until Shows s excused dispatched calls a n task path is_task load is_dest;
-    new = new_from Shows s excused dispatched calls a n task path is_task load is_dest coming start trace journal r traced source;
-    timed = timed_in_the_end Shows s excused dispatched calls a n task path is_task load is_dest coming start trace journal r traced source;
-    tidy = tidy Shows s excused dispatched calls a n task path is_task load is_dest;
+  file_is_downloaded run coming start trace journal a r traced n task path to load source = record {
+    old = old_until Shows run.setting run.excused run.dispatched run.calls a n task path to.0 load to.1;
+    new = new_from Shows run.setting run.excused run.dispatched run.calls a n task path to.0 load to.1 coming start trace journal r traced source;
+    timed = timed_in_the_end Shows run.setting run.excused run.dispatched run.calls a n task path to.0 load to.1 coming start trace journal r traced source;
+    tidy = tidy Shows run.setting run.excused run.dispatched run.calls a n task path to.0 load to.1;
   }

@@ -34,13 +34,13 @@ use Rattle.world_laws.proofs.Maps.{some_is}
 use Rattle.world_laws.proofs.Members.{has, split_of}
 use Rattle.world_laws.proofs.MovedTasks.{moved_source_is_gone}
 use Rattle.world_laws.proofs.Tasks.{replied}
-use Rattle.file_laws.specs.FileTasks.{IsRemoved, IsRenamed, TaskCall, files_after}
+use Rattle.file_laws.specs.FileTasks.{IsMoveOf, IsRemoved, IsRenamed, TaskCall, files_after}
 use Rattle.file_laws.specs.FileLaws.{AreCalls}
 use Rattle.file_laws.specs.FileEnds.{CallFailed, FileTaskEnds, IsPlaced, IsShownByCalls, MovedFilesAreLeft}
 use Rattle.file_laws.proofs.Downloads as downloads
 use Rattle.file_laws.proofs.Files as files
 use Rattle.file_laws.proofs.Keeping as keeping
-use Rattle.file_laws.proofs.Keeping.{some_place}
+use Rattle.file_laws.proofs.Keeping.{run_of, some_place}
 use Rattle.file_laws.proofs.Ranges.{are_sound, last_range}
 
 true_false : true ≡ false → ⊥
@@ -66,7 +66,7 @@ at_some : (journal : List Event) (event : Event) → Contains journal event → 
 at_some journal event h = (h.0, slice_get-get_or journal h.0 event h.1 ∙ ap Some h.2)
 
 module _ (Shows : Ask → ℕ → Talk → Class → List ℕ → Type 0) (HasStatus : Ask → ℕ → Talk → ℕ → Type 0) (s : Setting) (excused : Excused) (dispatched coming : List Dispatched) (calls : List TaskCall)
-    (start : State) (trace part : List Step) (journal : List Event) (a : AreCalls Shows s excused dispatched calls) (r : IsScheduled Shows s journal dispatched coming)
+    (start : State) (trace part : List Step) (journal : List Event) (a : AreCalls Shows (run_of s excused dispatched calls)) (r : IsScheduled Shows s journal dispatched coming)
     (traced : IsTraceOf Shows s start trace journal dispatched) (whole : HasJournal journal trace part)
     (n : ℕ) (task : Task) (is_task : slice_get s.tasks n ≡ Some task) (path : List ℕ) (is_dest : task.dest ≡ place.File path) where
   abbrev before : Scene
@@ -124,7 +124,7 @@ module _ (Shows : Ask → ℕ → Talk → Class → List ℕ → Type 0) (HasSt
     renamed_gets re =
         let split = split_of calls re.0 (has calls re.0 re.1) in
         let at_own : slice_get s.tasks re.0.task ≡ Some task = ap (slice_get s.tasks) re.2 ∙ is_task in
-        let written = a.keep.renames split.front split.back re.0 task re.3 re.4 None split.is at_own re.5 in
+        let written = a.keep.renames split.front re.0 task re.3 re.4 None (split.back, split.is) at_own re.5 in
         let sound = are_sound s task written.piece written.count r.config r.limits load written.pieces in
         let last = last_range (is_small s task) task.size written.piece written.count sound in
         let w = written.each last.0 last.1 last.2 last.3 in
@@ -179,13 +179,13 @@ module _ (Shows : Ask → ℕ → Talk → Class → List ℕ → Type 0) (HasSt
 
     removal_ends : (how : Outcome) → HasOutcome Shows HasStatus (CallFailed calls) s dispatched coming n task how → IsShownByCalls how (IsRemoved calls n) → IsEnded excused journal start trace before after n task how
     removal_ends outcome.Done is shown =
-        let absent : IsAbsent excused after (place.File path) = (files.file_is_removed Shows s excused dispatched calls a n task path is_task removal is_dest).0 shown in (
+        let absent : IsAbsent excused after (place.File path) = (files.file_is_removed Shows (run_of s excused dispatched calls) a n task path (is_task, is_dest) removal).0 shown in (
           subst (λ (k : Kind). IsNew excused s.held (states start trace) after task k) (sym removal) (subst (λ (d : Place). IsAbsent excused after d) (sym is_dest) absent),
           moves_nothing _,
         )
     removal_ends (outcome.Copied why) is shown = absurd (true_false (sym is.0 ∙ keeps))
     removal_ends (outcome.Failed why) is shown = (
-      as_before ((files.file_is_removed Shows s excused dispatched calls a n task path is_task removal is_dest).1 shown),
+      as_before ((files.file_is_removed Shows (run_of s excused dispatched calls) a n task path (is_task, is_dest) removal).1 shown),
       moves_nothing _,
     )
     removal_ends (outcome.Unknown why) is shown = absurd (subst (λ (k : Kind). IsDecidedByRequest k) removal is.0.0.2.0)
@@ -197,15 +197,16 @@ module _ (Shows : Ask → ℕ → Talk → Class → List ℕ → Type 0) (HasSt
 
 module _ (Shows : Ask → ℕ → Talk → Class → List ℕ → Type 0) (HasStatus : Ask → ℕ → Talk → ℕ → Type 0) where
   pub file_task_ends : FileTaskEnds Shows HasStatus
-  file_task_ends s excused dispatched coming calls start trace part journal a r traced whole n task how is_task by source is shown = elim by.decided [
-    | inl load ↦ download_ends Shows HasStatus s excused dispatched coming calls start trace part journal a r traced whole n task is_task by.path by.is_dest load (by.from load) how
-        (λ new. source new load) is (subst (λ (k : Kind). IsShownByCalls how (IsPlaced k calls n)) load shown)
-    | inr removal ↦ removal_ends Shows HasStatus s excused dispatched coming calls start trace part journal a r traced whole n task is_task by.path by.is_dest removal (by.keeps removal) how is
-        (subst (λ (k : Kind). IsShownByCalls how (IsPlaced k calls n)) removal shown)
+  file_task_ends run coming start trace part journal a r traced whole n task how is_task by source is shown = elim by.decided [
+    | inl load ↦ download_ends Shows HasStatus run.setting run.excused run.dispatched coming run.calls start trace part journal a r traced whole n task is_task by.path by.is_dest load (by.from load) how
+        (λ new. source new load) is (subst (λ (k : Kind). IsShownByCalls how (IsPlaced k run.calls n)) load shown)
+    | inr removal ↦ removal_ends Shows HasStatus run.setting run.excused run.dispatched coming run.calls start trace part journal a r traced whole n task is_task by.path by.is_dest removal (by.keeps removal) how is
+        (subst (λ (k : Kind). IsShownByCalls how (IsPlaced k run.calls n)) removal shown)
   ]
 
-  -- ---- moved files
+-- ---- moved files
 
+module _ (Shows : Ask → ℕ → Talk → Class → List ℕ → Type 0) where
   left_by : (how : Outcome) (removed absent same : Type 0) → (removed → absent) → (¬ removed → same) → IsFileLeft how removed (¬ removed) → IsFileLeft how absent same
   left_by outcome.Done removed absent same gone stays h = gone h
   left_by (outcome.Copied why) removed absent same gone stays h = stays h
@@ -214,10 +215,14 @@ module _ (Shows : Ask → ℕ → Talk → Class → List ℕ → Type 0) (HasSt
   left_by outcome.Dry removed absent same gone stays h = stays h
   left_by outcome.Skipped removed absent same gone stays h = stays h
 
-  pub moved_files_are_left : MovedFilesAreLeft Shows HasStatus
-  moved_files_are_left shown dispatched calls a after each n task how path is_task is_outcome moves is_source =
-      subst (λ (held : MapOf HeldFile). IsFileLeft how (get held path ≡ None) (get held path ≡ get shown.setting.held path)) (sym after)
-      (left_by how (IsRemoved calls n) _ _ law.0 law.1 (each n task how path is_task is_outcome moves is_source))
+  pub moved_files_are_left : MovedFilesAreLeft Shows
+  moved_files_are_left shown run a setting after each n task how path is_task is_outcome moves is_source =
+      subst (λ (s : Setting). IsFileLeft how (get shown.held_after path ≡ None) (get shown.held_after path ≡ get s.held path)) (sym setting)
+      (subst (λ (held : MapOf HeldFile). IsFileLeft how (get held path ≡ None) (get held path ≡ get run.setting.held path)) (sym after)
+      (left_by how (IsRemoved run.calls n) _ _ law.0 law.1 (each n task how path move is_outcome)))
     where
-      law : (IsRemoved calls n → get (files_after shown.setting.held calls) path ≡ None) × (¬ (IsRemoved calls n) → get (files_after shown.setting.held calls) path ≡ get shown.setting.held path)
-      law = let all = files.file_is_moved Shows shown.setting shown.excused dispatched calls a n task path is_task moves is_source in (all.0, all.1)
+      move : IsMoveOf run.setting.tasks n task path
+      move = (ap (λ (s : Setting). slice_get s.tasks n) (sym setting) ∙ is_task, moves, is_source)
+
+      law : (IsRemoved run.calls n → get (files_after run.setting.held run.calls) path ≡ None) × (¬ (IsRemoved run.calls n) → get (files_after run.setting.held run.calls) path ≡ get run.setting.held path)
+      law = let all = files.file_is_moved Shows run a n task path move in (all.0, all.1)

@@ -19,7 +19,7 @@ use Rattle.world_laws.proofs.Members.{Has, contains_of, has, has-append_left, ha
 use Rattle.file_laws.specs.FileTasks.{IsDecidedBefore, IsRemoved, TaskCall, files_after}
 use Rattle.file_laws.specs.FileLaws.{AreCalls, FileIsMoved, FileIsRemoved, FilesStay, IsDecidedIn}
 use Rattle.file_laws.proofs.Keeping as keeping
-use Rattle.file_laws.proofs.Keeping.{IsClosing, only_download_makes, removal_downloads, same_path, same_task, some_none, some_place, upload_downloads, upload_removes, who_removes}
+use Rattle.file_laws.proofs.Keeping.{IsClosing, only_download_makes, removal_downloads, run_of, same_path, same_task, some_none, some_place, upload_downloads, upload_removes, who_removes}
 use Rattle.file_laws.proofs.TempFiles as temps
 use Rattle.file_laws.proofs.TempFiles.{Absent, InUse, Stayed, Untouched}
 
@@ -79,7 +79,7 @@ touched_or_not tasks p = elim (one_touches tasks p) [
   | inr none ↦ inr (λ n task is touches. none task (has_at tasks n task is) touches)
 ]
 
-module _ (Shows : Ask → ℕ → Talk → Class → List ℕ → Type 0) (s : Setting) (excused : Excused) (dispatched : List Dispatched) (calls : List TaskCall) (a : AreCalls Shows s excused dispatched calls) where
+module _ (Shows : Ask → ℕ → Talk → Class → List ℕ → Type 0) (s : Setting) (excused : Excused) (dispatched : List Dispatched) (calls : List TaskCall) (a : AreCalls Shows (run_of s excused dispatched calls)) where
   -- a file that was made is a download's
   made_loads : (front late : List TaskCall) → calls ≡ front ++ late → (m : TaskCall) → Has front m → (dest temp : List ℕ) → m.step.call ≡ MakeTemp dest (Ok temp)
       → (task : Task) × (slice_get s.tasks m.task ≡ Some task) × (task.kind ≡ kind.Download)
@@ -149,7 +149,7 @@ module _ (Shows : Ask → ℕ → Talk → Class → List ℕ → Type 0) (s : S
   module _ (n : ℕ) (task : Task) (p : List ℕ) (is_task : slice_get s.tasks n ≡ Some task) (removal : task.kind ≡ kind.RemoveFile) (is_dest : task.dest ≡ place.File p) where
     only_removed : (m : ℕ) (other : Task) → slice_get s.tasks m ≡ Some other → other.kind ≡ kind.Download → other.dest ≡ place.File p → ⊥
     only_removed m other is load dest =
-        let one = a.apart.destinations m n other task p is is_task dest is_dest in
+        let one = a.apart.destinations m n other task p (is, dest) (is_task, is_dest) in
         let alike = same_task other task (sym is ∙ ap (slice_get s.tasks) one ∙ is_task) in
         removal_downloads (sym removal ∙ ap (λ (t : Task). t.kind) (sym alike) ∙ load)
 
@@ -166,8 +166,8 @@ module _ (Shows : Ask → ℕ → Talk → Class → List ℕ → Type 0) (s : S
     own_task removed =
         let own = keeping.named Shows s excused dispatched calls a removed.0 (Remove p true) (contains_of calls removed.0 removed.1) removed.2 in
         elim (who_removes own.task own.task.kind p true own.is_call) [
-          | inl is ↦ (removed.0, contains_of calls removed.0 removed.1, a.apart.destinations removed.0.task n own.task task p own.is_task is_task is.1 is_dest, p, removed.2)
-          | inr upload ↦ absurd (a.apart.sources removed.0.task n own.task task p own.is_task is_task upload.1 upload.2 is_dest)
+          | inl is ↦ (removed.0, contains_of calls removed.0 removed.1, a.apart.destinations removed.0.task n own.task task p (own.is_task, is.1) (is_task, is_dest), p, removed.2)
+          | inr upload ↦ absurd (a.apart.sources removed.0.task n own.task task p (own.is_task, upload.1, upload.2) (is_task, is_dest))
         ]
 
     after_removal : IsRemoved calls n → (get (files_after s.held calls) p ≡ None) ⊎ IsLeft excused p
@@ -182,7 +182,7 @@ module _ (Shows : Ask → ℕ → Talk → Class → List ℕ → Type 0) (s : S
     without_removal kept = by (end p only_removed)
       where
         freed_by : temps.Freed Shows s excused dispatched calls a p only_removed calls → ⊥
-        freed_by (inl none) = some_none (get s.held p) (a.apart.there n task p is_task removal is_dest) none
+        freed_by (inl none) = some_none (get s.held p) (a.apart.there n task p (is_task, is_dest) removal) none
         freed_by (inr removed) = kept (own_task removed)
 
         by : End p only_removed → get (files_after s.held calls) p ≡ get s.held p
@@ -194,7 +194,7 @@ module _ (Shows : Ask → ℕ → Talk → Class → List ℕ → Type 0) (s : S
 
   module _ (n : ℕ) (task : Task) (p : List ℕ) (is_task : slice_get s.tasks n ≡ Some task) (upload : task.kind ≡ kind.Upload) (moves : task.moves ≡ true) (is_source : task.source ≡ Some (place.File p)) where
     only_moved : (m : ℕ) (other : Task) → slice_get s.tasks m ≡ Some other → other.kind ≡ kind.Download → other.dest ≡ place.File p → ⊥
-    only_moved m other is load dest = a.apart.sources n m task other p is_task is moves is_source dest
+    only_moved m other is load dest = a.apart.sources n m task other p (is_task, moves, is_source) (is, dest)
 
     source_path : IsRemoved calls n → temps.Removed Shows s excused dispatched calls a p only_moved calls
     source_path removed =
@@ -213,12 +213,12 @@ module _ (Shows : Ask → ℕ → Talk → Class → List ℕ → Type 0) (s : S
     source_task c known e =
         let own = keeping.named Shows s excused dispatched calls a c (Remove p true) known e in
         elim (who_removes own.task own.task.kind p true own.is_call) [
-          | inl removal ↦ absurd (a.apart.sources n c.task task own.task p is_task own.is_task moves is_source removal.1)
-          | inr is ↦ a.apart.moved_once c.task n own.task task p own.is_task is_task is.1 is.2 moves is_source
+          | inl removal ↦ absurd (a.apart.sources n c.task task own.task p (is_task, moves, is_source) (own.is_task, removal.1))
+          | inr is ↦ a.apart.moved_once c.task n own.task task p (own.is_task, is.1, is.2) (is_task, moves, is_source)
         ]
 
     no_temp : (front late : List TaskCall) → calls ≡ front ++ late → (m : TaskCall) → Has front m → (dest : List ℕ) → m.step.call ≡ MakeTemp dest (Ok p) → ⊥
-    no_temp front late is m h dest e = let load = made_loads front late is m h dest p e in a.apart.one_way n m.task task load.0 p is_task load.1 moves is_source load.2
+    no_temp front late is m h dest e = let load = made_loads front late is m h dest p e in a.apart.one_way n m.task task load.0 p (is_task, moves, is_source) load.1 load.2
 
     after_move : IsRemoved calls n → get (files_after s.held calls) p ≡ None
     after_move removed = by (end p only_moved)
@@ -237,17 +237,17 @@ module _ (Shows : Ask → ℕ → Talk → Class → List ℕ → Type 0) (s : S
         by (Free e (inr removed)) = absurd (kept (removed.0, contains_of calls removed.0 removed.1, source_task removed.0 (contains_of calls removed.0 removed.1) removed.2, p, removed.2))
         by (Left excuse m made freed) = absurd (no_temp calls [] whole made.0 made.1 made.3 made.4)
 
-    until_decided : (part late : List TaskCall) → calls ≡ part ++ late → (get (files_after s.held part) p ≡ get s.held p) ⊎ IsDecidedIn Shows s dispatched part n task
+    until_decided : (part late : List TaskCall) → calls ≡ part ++ late → (get (files_after s.held part) p ≡ get s.held p) ⊎ IsDecidedIn Shows (run_of s excused dispatched calls) part n task
     until_decided part late is = by (temps.standing Shows s excused dispatched calls a p only_moved part late is)
       where
-        decided : (c : TaskCall) → Has part c → c.step.call ≡ Remove p true → IsDecidedIn Shows s dispatched part n task
+        decided : (c : TaskCall) → Has part c → c.step.call ≡ Remove p true → IsDecidedIn Shows (run_of s excused dispatched calls) part n task
         decided c h e =
             let known : Contains calls c = subst (λ (all : List TaskCall). Contains all c) (sym is) (contains_of (part ++ late) c (has-append_left part late c h)) in
             let one = source_task c known e in
             let at : slice_get s.tasks c.task ≡ Some task = ap (slice_get s.tasks) one ∙ is_task in
             (c, contains_of part c h, one, subst (λ (k : ℕ). IsDecidedBefore Shows s dispatched k task c.place) one (a.keep.moves_last c task p true known at upload e))
 
-        by : temps.Standing Shows s excused dispatched calls a p only_moved part (files_after s.held part) → (get (files_after s.held part) p ≡ get s.held p) ⊎ IsDecidedIn Shows s dispatched part n task
+        by : temps.Standing Shows s excused dispatched calls a p only_moved part (files_after s.held part) → (get (files_after s.held part) p ≡ get s.held p) ⊎ IsDecidedIn Shows (run_of s excused dispatched calls) part n task
         by (Untouched e none kept) = inl e
         by (Absent e all (inl none)) = inl (e ∙ sym none)
         by (Absent e all (inr removed)) = inr (decided removed.0 removed.1 removed.2)
@@ -256,15 +256,20 @@ module _ (Shows : Ask → ℕ → Talk → Class → List ℕ → Type 0) (s : S
 
 module _ (Shows : Ask → ℕ → Talk → Class → List ℕ → Type 0) where
   pub files_stay : FilesStay Shows
-  files_stay s excused dispatched calls a p = elim (touched_or_not s.tasks p) [ inl touched ↦ inl touched | inr untouched ↦ inr (others Shows s excused dispatched calls a p untouched) ]
+  files_stay run a p = elim (touched_or_not run.setting.tasks p) [
+    | inl touched ↦ inl touched
+    | inr untouched ↦ inr (others Shows run.setting run.excused run.dispatched run.calls a p untouched)
+  ]
 
   pub file_is_removed : FileIsRemoved Shows
-  file_is_removed s excused dispatched calls a n task p is_task removal is_dest =
-      (after_removal Shows s excused dispatched calls a n task p is_task removal is_dest, without_removal Shows s excused dispatched calls a n task p is_task removal is_dest)
+  file_is_removed run a n task p to removal = (
+    after_removal Shows run.setting run.excused run.dispatched run.calls a n task p to.0 removal to.1,
+    without_removal Shows run.setting run.excused run.dispatched run.calls a n task p to.0 removal to.1,
+  )
 
   pub file_is_moved : FileIsMoved Shows
-  file_is_moved s excused dispatched calls a n task p is_task moves is_source = let upload = a.apart.uploads n task p is_task moves is_source in (
-    after_move Shows s excused dispatched calls a n task p is_task upload moves is_source,
-    without_move Shows s excused dispatched calls a n task p is_task upload moves is_source,
-    until_decided Shows s excused dispatched calls a n task p is_task upload moves is_source,
+  file_is_moved run a n task p move = let upload = a.apart.uploads n task p move in (
+    after_move Shows run.setting run.excused run.dispatched run.calls a n task p move.0 upload move.1 move.2,
+    without_move Shows run.setting run.excused run.dispatched run.calls a n task p move.0 upload move.1 move.2,
+    until_decided Shows run.setting run.excused run.dispatched run.calls a n task p move.0 upload move.1 move.2,
   )

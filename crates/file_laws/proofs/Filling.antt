@@ -20,7 +20,7 @@ use Rattle.file_laws.specs.FileTasks.{IsRangeIn, MayFollow, TaskCall, UsesTemp, 
 use Rattle.file_laws.specs.FileLaws.{AreCalls}
 use Rattle.file_laws.proofs.Effects.{Effect, Spares, arrives, drops, effect, goes, inserted, leaves, makes, removes, spoils, stamps, stays, writes}
 use Rattle.file_laws.proofs.Keeping as keeping
-use Rattle.file_laws.proofs.Keeping.{closed_unused, first_is_make, has_last, last_cases, same_number}
+use Rattle.file_laws.proofs.Keeping.{closed_unused, first_is_make, has_last, last_cases, run_of, same_number}
 use Rattle.file_laws.proofs.Ranges.{AreSound, range_in, range_inside, ranges_apart}
 use Rattle.file_laws.proofs.Runs.{leads_at, through}
 use Rattle.file_laws.proofs.TempFiles as temps
@@ -31,7 +31,7 @@ swapped : {A B : Type 0} → A ⊎ B → B ⊎ A
 swapped (inl a) = inr a
 swapped (inr b) = inl b
 
-module _ (Shows : Ask → ℕ → Talk → Class → List ℕ → Type 0) (s : Setting) (excused : Excused) (dispatched : List Dispatched) (calls : List TaskCall) (a : AreCalls Shows s excused dispatched calls)
+module _ (Shows : Ask → ℕ → Talk → Class → List ℕ → Type 0) (s : Setting) (excused : Excused) (dispatched : List Dispatched) (calls : List TaskCall) (a : AreCalls Shows (run_of s excused dispatched calls))
     (n : ℕ) (task : Task) (is_task : slice_get s.tasks n ≡ Some task) (p d : List ℕ)
     (undownloaded : (m : ℕ) (other : Task) → slice_get s.tasks m ≡ Some other → other.kind ≡ kind.Download → other.dest ≡ place.File p → ⊥)
     (piece count : ℕ) (has : HasPieces s.config s.limits task.kind task.size piece count) (sound : AreSound (is_small s task) task.size piece count) where

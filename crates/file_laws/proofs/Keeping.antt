@@ -16,7 +16,10 @@ use Rattle.run_promise.specs.Schedule.{Setting}
 use Rattle.local_files.specs.Calls.{Call, DropTemp, Fault, MakeTemp, Remove, Rename, Stamp, WriteAt}
 use Rattle.world_laws.proofs.Members.{Has, contains_of, has-append_cases, has-append_left, has_middle}
 use Rattle.file_laws.specs.FileTasks.{IsCallOf, MayFollow, TaskCall, UsesTemp}
-use Rattle.file_laws.specs.FileLaws.{AreCalls}
+use Rattle.file_laws.specs.FileLaws.{AreCalls, FileRun}
+
+abbrev pub run_of : Setting → Excused → List Dispatched → List TaskCall → FileRun
+run_of s excused dispatched calls = record { setting = s; excused = excused; dispatched = dispatched; calls = calls }
 
 -- ---- members
 
@@ -110,7 +113,7 @@ upload_downloads e = cc
 pub upload_removes : kind.Upload ≡ kind.RemoveFile → ⊥
 upload_removes e = cc
 
-module _ (Shows : Ask → ℕ → Talk → Class → List ℕ → Type 0) (s : Setting) (excused : Excused) (dispatched : List Dispatched) (calls : List TaskCall) (a : AreCalls Shows s excused dispatched calls) where
+module _ (Shows : Ask → ℕ → Talk → Class → List ℕ → Type 0) (s : Setting) (excused : Excused) (dispatched : List Dispatched) (calls : List TaskCall) (a : AreCalls Shows (run_of s excused dispatched calls)) where
   pub within : (front : List TaskCall) (c : TaskCall) (back : List TaskCall) → calls ≡ front ++ c ∷ back → Contains calls c
   within front c back is = subst (λ (all : List TaskCall). Contains all c) (sym is) (contains_of (front ++ c ∷ back) c (has_middle front c back))
 
@@ -119,7 +122,7 @@ module _ (Shows : Ask → ℕ → Talk → Class → List ℕ → Type 0) (s : S
 
   -- a call and one before it, of one task
   pub follows : (front : List TaskCall) (c : TaskCall) (back : List TaskCall) (x : TaskCall) → calls ≡ front ++ c ∷ back → Has front x → x.task ≡ c.task → MayFollow x.step.call c.step.call
-  follows front c back x is h same = a.keep.order front back x c is (contains_of front x h) same
+  follows front c back x is h same = a.keep.order front x c (back, is) (contains_of front x h) same
 
   -- the task of a call
   pub record Named (c : TaskCall) (call : Call) : Type 0 where

@@ -34,7 +34,7 @@ use Rattle.file_laws.specs.FileEnds.{CallFailed, IsShownByCalls}
 use Rattle.file_laws.specs.FileTasks.{AreFileCalls, AreFilesApart, IsRemoved, TaskCall, steps_of}
 use Rattle.file_laws.specs.FileWitnesses.{FailedRemovalIsMet, IsFileTaskMet, IsMovedFileMet, MovedFileIsMet, RemovalIsMet, file_removal, moved_upload}
 use Rattle.file_laws.proofs.CallWitness.{calls_keep}
-use Rattle.file_laws.proofs.Keeping.{some_is_there}
+use Rattle.file_laws.proofs.Keeping.{run_of, some_is_there}
 
 true_false : true ≡ false → ⊥
 true_false e = cc
@@ -108,14 +108,14 @@ module _ (path : List ℕ) where
 
   apart : AreFilesApart held (task ∷ [])
   apart = record {
-    destinations = λ m n a b p is_a is_b here there. (one_task task m a is_a).0 ∙ sym (one_task task n b is_b).0;
-    sources = λ m n a b p is_a is_b moves is_source is_dest. stays m a is_a moves;
-    moved_once = λ m n a b p is_a is_b moves is_source moves_too too. absurd (stays m a is_a moves);
-    uploads = λ n a p is_a moves is_source. absurd (stays n a is_a moves);
-    one_way = λ m n a b p is_a is_b moves is_source load. stays m a is_a moves;
-    names = λ m n a b p is_a is_b load load_too here temp. (one_task task m a is_a).0 ∙ sym (one_task task n b is_b).0;
-    there = λ n a p is_a removal is_dest.
-        let same = same_path path p (ap (λ (t : Task). t.dest) (sym (one_task task n a is_a).1) ∙ is_dest) in
+    destinations = λ m n a b p to_a to_b. (one_task task m a to_a.0).0 ∙ sym (one_task task n b to_b.0).0;
+    sources = λ m n a b p move to_b. stays m a move.0 move.1;
+    moved_once = λ m n a b p move too. absurd (stays m a move.0 move.1);
+    uploads = λ n a p move. absurd (stays n a move.0 move.1);
+    one_way = λ m n a b p move is_b load. stays m a move.0 move.1;
+    names = λ m n a b p to_a is_b load load_too temp. (one_task task m a to_a.0).0 ∙ sym (one_task task n b is_b).0;
+    there = λ n a p to_a removal.
+        let same = same_path path p (ap (λ (t : Task). t.dest) (sym (one_task task n a to_a.0).1) ∙ to_a.1) in
         subst (λ (q : List ℕ). IsSome (get held q)) same (some_is_there (get held path) file there);
   }
     where
@@ -149,10 +149,7 @@ module _ (path : List ℕ) where
 
     met : (how : Outcome) → IsCallRun held (steps_of calls) → HasOutcome Told ToldStatus (CallFailed calls) setting [] [] 0 task how → IsShownByCalls how (IsRemoved calls 0) → IsFileTaskMet task how
     met how runs caused shown = record {
-      setting = setting;
-      excused = excused_none;
-      dispatched = [];
-      calls = calls;
+      run = run_of setting excused_none [] calls;
       start = start;
       trace = [];
       journal = [];
@@ -240,22 +237,19 @@ module _ (bucket key path : List ℕ) where
 
   moving_apart : AreFilesApart file_there (moving ∷ [])
   moving_apart = record {
-    destinations = λ m n a b p is_a is_b here there. (one_task moving m a is_a).0 ∙ sym (one_task moving n b is_b).0;
-    sources = λ m n a b p is_a is_b moves is_source is_dest. no_file p (ap (λ (t : Task). t.dest) (sym (one_task moving n b is_b).1) ∙ is_dest);
-    moved_once = λ m n a b p is_a is_b moves is_source moves_too too. (one_task moving m a is_a).0 ∙ sym (one_task moving n b is_b).0;
-    uploads = λ n a p is_a moves is_source. ap (λ (t : Task). t.kind) (one_task moving n a is_a).1;
-    one_way = λ m n a b p is_a is_b moves is_source load. uploads_or_loads (ap (λ (t : Task). t.kind) (sym (one_task moving n b is_b).1) ∙ load);
-    names = λ m n a b p is_a is_b load load_too here temp. (one_task moving m a is_a).0 ∙ sym (one_task moving n b is_b).0;
-    there = λ n a p is_a removal is_dest. absurd (uploads_or_removes (ap (λ (t : Task). t.kind) (sym (one_task moving n a is_a).1) ∙ removal));
+    destinations = λ m n a b p to_a to_b. (one_task moving m a to_a.0).0 ∙ sym (one_task moving n b to_b.0).0;
+    sources = λ m n a b p move to_b. no_file p (ap (λ (t : Task). t.dest) (sym (one_task moving n b to_b.0).1) ∙ to_b.1);
+    moved_once = λ m n a b p move too. (one_task moving m a move.0).0 ∙ sym (one_task moving n b too.0).0;
+    uploads = λ n a p move. ap (λ (t : Task). t.kind) (one_task moving n a move.0).1;
+    one_way = λ m n a b p move is_b load. uploads_or_loads (ap (λ (t : Task). t.kind) (sym (one_task moving n b is_b).1) ∙ load);
+    names = λ m n a b p to_a is_b load load_too temp. (one_task moving m a to_a.0).0 ∙ sym (one_task moving n b is_b).0;
+    there = λ n a p to_a removal. absurd (uploads_or_removes (ap (λ (t : Task). t.kind) (sym (one_task moving n a to_a.0).1) ∙ removal));
   }
 
-  moved_met : IsMovedFileMet moving
+  moved_met : IsMovedFileMet moving path
   moved_met = record {
-    setting = moving_setting;
-    excused = excused_none;
-    dispatched = put_sent;
-    calls = take_away ∷ [];
-    is_task = refl;
+    run = run_of moving_setting excused_none put_sent (take_away ∷ []);
+    is_move = (refl, refl, refl);
     are_calls = record { keep = keep_moving; runs = (refl, tt); apart = moving_apart };
     removed = (take_away, (0, omega arith, refl), refl, path, refl);
   }

@@ -19,7 +19,7 @@ use Rattle.file_laws.specs.FileTasks.{MayFollow, TaskCall, UsesTemp, files_after
 use Rattle.file_laws.specs.FileLaws.{AreCalls}
 use Rattle.file_laws.proofs.Effects.{Effect, Spares, arrives, drops, effect, goes, leaves, makes, removes, spoils, stamps, stays, writes}
 use Rattle.file_laws.proofs.Keeping as keeping
-use Rattle.file_laws.proofs.Keeping.{IsClosing, closed_unused, closes_own, first_is_make, has_last, last_cases, only_download_makes, only_download_renames, only_download_stamps, removal_downloads, same_number, same_path, same_task, some_is_there, some_none, upload_downloads, who_removes}
+use Rattle.file_laws.proofs.Keeping.{closed_unused, closes_own, first_is_make, has_last, IsClosing, last_cases, only_download_makes, only_download_renames, only_download_stamps, removal_downloads, run_of, same_number, same_path, same_task, some_is_there, some_none, upload_downloads, who_removes}
 use Rattle.file_laws.proofs.Runs.{leads_at, through}
 
 spares_make : (p dest temp : List ℕ) (call : Call) → Spares p call → call ≡ MakeTemp dest (Ok temp) → temp ≡ p → ⊥
@@ -46,7 +46,7 @@ drop_makes temp path dest fine e = cc
 remove_makes : (q path dest : List ℕ) (fine : Bool) → Remove q fine ≡ MakeTemp dest (Ok path) → ⊥
 remove_makes q path dest fine e = cc
 
-module _ (Shows : Ask → ℕ → Talk → Class → List ℕ → Type 0) (s : Setting) (excused : Excused) (dispatched : List Dispatched) (calls : List TaskCall) (a : AreCalls Shows s excused dispatched calls)
+module _ (Shows : Ask → ℕ → Talk → Class → List ℕ → Type 0) (s : Setting) (excused : Excused) (dispatched : List Dispatched) (calls : List TaskCall) (a : AreCalls Shows (run_of s excused dispatched calls))
     (p : List ℕ) (undownloaded : (n : ℕ) (task : Task) → slice_get s.tasks n ≡ Some task → task.kind ≡ kind.Download → task.dest ≡ place.File p → ⊥) where
   -- ---- of the calls so far
 
@@ -114,7 +114,7 @@ module _ (Shows : Ask → ℕ → Talk → Class → List ℕ → Type 0) (s : S
     -- ---- who uses the path
 
     pub made_by_user : UsesTemp c.step.call p → Made front c.task
-    made_by_user uses = let m = a.keep.made front back c p is uses in (m.0, has front m.0 m.1, m.2, m.3, m.4)
+    made_by_user uses = let m = a.keep.made front c p (back, is) uses in (m.0, has front m.0 m.1, m.2, m.3, m.4)
 
     pub user_not_closed : UsesTemp c.step.call p → Closed front c.task → ⊥
     user_not_closed uses closed = closed_unused closed.0.step.call c.step.call p closed.3 uses (keeping.follows Shows s excused dispatched calls a front c back closed.0 is closed.1 closed.2)
@@ -159,19 +159,19 @@ module _ (Shows : Ask → ℕ → Talk → Class → List ℕ → Type 0) (s : S
         load = downloads made.0 n (keeping.within_front Shows s excused dispatched calls a front c back made.0 is made.1) made.2 made.3 made.4
 
         one_way : (m : ℕ) (task : Task) → slice_get s.tasks m ≡ Some task → task.moves ≡ true → task.source ≡ Some (place.File p) → ⊥
-        one_way m task is_task moves source = a.apart.one_way m n task load.0 p is_task load.1 moves source load.2
+        one_way m task is_task moves source = a.apart.one_way m n task load.0 p (is_task, moves, source) load.1 load.2
 
         twice : (x : TaskCall) → Has front x → x.step.call ≡ Remove p true → x.task ≡ c.task → ⊥
         twice x h f same = subst (λ (y : Call). MayFollow y c.step.call) f (keeping.follows Shows s excused dispatched calls a front c back x is h same)
 
         by : ((own.task.kind ≡ kind.RemoveFile) × (own.task.dest ≡ place.File p)) ⊎ ((own.task.kind ≡ kind.Upload) × (own.task.moves ≡ true) × (own.task.source ≡ Some (place.File p))) → Freed front → ⊥
         by (inr upload) freed = one_way c.task own.task own.is_task upload.1 upload.2
-        by (inl removal) (inl none) = some_none (get s.held p) (a.apart.there c.task own.task p own.is_task removal.0 removal.1) none
+        by (inl removal) (inl none) = some_none (get s.held p) (a.apart.there c.task own.task p (own.is_task, removal.1) removal.0) none
         by (inl removal) (inr before) =
             let earlier = keeping.named Shows s excused dispatched calls a before.0 (Remove p true) (keeping.within_front Shows s excused dispatched calls a front c back before.0 is before.1) before.2 in
             elim (who_removes earlier.task earlier.task.kind p true earlier.is_call) [
               | inr upload ↦ one_way before.0.task earlier.task earlier.is_task upload.1 upload.2
-              | inl other ↦ twice before.0 before.1 before.2 (a.apart.destinations before.0.task c.task earlier.task own.task p earlier.is_task own.is_task other.1 removal.1)
+              | inl other ↦ twice before.0 before.1 before.2 (a.apart.destinations before.0.task c.task earlier.task own.task p (earlier.is_task, other.1) (own.is_task, removal.1))
             ]
 
     pub no_arrival : (temp : List ℕ) → c.step.call ≡ Rename temp p None → ⊥

@@ -1,5 +1,5 @@
 -- Tasks whose destination is a file end as their outcomes say, and moved files go only where their tasks are done.
-use Rattle.std.specs.Prelude.{◌≡◌, ◌⊎◌, ℕ, true, false, List, Some, Err, Contains, slice_get}
+use Rattle.std.specs.Prelude.{◌≡◌, ◌⊎◌, ℕ, false, List, Some, Err, Contains, slice_get}
 use Rattle.s3_model.specs.declared.answers.Class.{Class}
 use Rattle.s3_model.specs.declared.outcomes.Cause.{Cause}
 use Rattle.s3_model.specs.declared.outcomes.Cause.TheVariants as cause
@@ -16,16 +16,15 @@ use Rattle.s3_model.specs.declared.tasks.Task.{Task}
 use Rattle.s3_model.specs.Talks.{Talk}
 use Rattle.s3_service.specs.ServiceState.{State}
 use Rattle.run_promise.specs.Dispatches.{Dispatched}
-use Rattle.run_promise.specs.Endings.{Excused, IsEnded}
+use Rattle.run_promise.specs.Endings.{IsEnded, Scene}
 use Rattle.run_promise.specs.Outcomes.{HasOutcome}
-use Rattle.run_promise.specs.Schedule.{Setting}
 use Rattle.run_promise.specs.Traces.{Step, state_after, states}
 use Rattle.run_promise.specs.Truthful.{HasJournal, Shown}
 use Rattle.local_files.specs.Calls.{Blocked, Call, Failed, MakeTemp, Remove, Rename, WriteAt}
 use Rattle.world_laws.specs.Promises.{AreFilesLeft, IsFileLeft}
 use Rattle.world_laws.specs.Tasks.{HasSourceObject, IsScheduled, IsTraceOf, MayBeNew}
-use Rattle.file_laws.specs.FileLaws.{AreCalls}
-use Rattle.file_laws.specs.FileTasks.{IsRemoved, IsRenamed, TaskCall, files_after}
+use Rattle.file_laws.specs.FileLaws.{AreCalls, FileRun}
+use Rattle.file_laws.specs.FileTasks.{IsMoveOf, IsRemoved, IsRenamed, TaskCall, files_after}
 
 -- a task that calls on files decide: a download of an object, or the removal of a file, which moves nothing
 pub record IsByFiles (task : Task) : Type 0 where
@@ -70,22 +69,32 @@ IsShownByCalls (outcome.Copied why) placed = placed
 IsShownByCalls (outcome.Failed why) placed = ¬ placed
 IsShownByCalls how placed = Unit {0}
 
--- `Shows ask limit talk class bytes`: the talk has that class for the ask, and its answer that body;
--- `HasStatus ask limit talk status`: the talk's answer has that HTTP status
-module _ (Shows : Ask → ℕ → Talk → Class → List ℕ → Type 0) (HasStatus : Ask → ℕ → Talk → ℕ → Type 0) where
-  -- A task that calls on files decide ended as its outcome says, over every honest trace, where that outcome is what its jobs and its calls show.
-  -- The source of a download is to be as planned only where its destination may be new.
-  abbrev pub FileTaskEnds : Type 0
-  FileTaskEnds = (s : Setting) (excused : Excused) (dispatched coming : List Dispatched) (calls : List TaskCall) (start : State) (trace part : List Step) (journal : List Event)
-      → AreCalls Shows s excused dispatched calls → IsScheduled Shows s journal dispatched coming → IsTraceOf Shows s start trace journal dispatched → HasJournal journal trace part
-      → (n : ℕ) (task : Task) (how : Outcome) → slice_get s.tasks n ≡ Some task → IsByFiles task → (MayBeNew how → task.kind ≡ kind.Download → HasSourceObject (states start trace) task)
-      → HasOutcome Shows HasStatus (CallFailed calls) s dispatched coming n task how → IsShownByCalls how (IsPlaced task.kind calls n)
-      → IsEnded excused journal start trace (record { state = start; held = s.held; others = s.others }) (record { state = state_after start part; held = files_after s.held calls; others = s.others }) n task how
+-- the files and a state when the run begins, and after all of its calls
+abbrev pub scene_before : FileRun → State → Scene
+scene_before run start = record { state = start; held = run.setting.held; others = run.setting.others }
 
-  -- The file of a move goes where its task is done, and else stays, where the calls show its removal just there.
+abbrev pub scene_after : FileRun → State → Scene
+scene_after run state = record { state = state; held = files_after run.setting.held run.calls; others = run.setting.others }
+
+-- `Shows ask limit talk class bytes`: the talk has that class for the ask, and its answer that body
+module _ (Shows : Ask → ℕ → Talk → Class → List ℕ → Type 0) where
+  -- Where the calls show the removal of a moved file just where its task is done, the file goes just there.
   abbrev pub MovedFilesAreLeft : Type 0
-  MovedFilesAreLeft = (shown : Shown) (dispatched : List Dispatched) (calls : List TaskCall) → AreCalls Shows shown.setting shown.excused dispatched calls
-      → shown.held_after ≡ files_after shown.setting.held calls
-      → ((n : ℕ) (task : Task) (how : Outcome) (path : List ℕ) → slice_get shown.setting.tasks n ≡ Some task → slice_get shown.outcomes n ≡ Some how → task.moves ≡ true
-      → task.source ≡ Some (place.File path) → IsFileLeft how (IsRemoved calls n) (¬ (IsRemoved calls n)))
+  MovedFilesAreLeft = (shown : Shown) (run : FileRun) → AreCalls Shows run
+      → shown.setting ≡ run.setting → shown.held_after ≡ files_after run.setting.held run.calls
+      → ((n : ℕ) (task : Task) (how : Outcome) (path : List ℕ) → IsMoveOf run.setting.tasks n task path → slice_get shown.outcomes n ≡ Some how
+      → IsFileLeft how (IsRemoved run.calls n) (¬ (IsRemoved run.calls n)))
       → AreFilesLeft shown
+
+  -- `HasStatus ask limit talk status`: the talk's answer has that HTTP status
+  module _ (HasStatus : Ask → ℕ → Talk → ℕ → Type 0) where
+    -- A task that calls on files decide ended as its outcome says, over every honest trace, where that outcome is what its jobs and its calls show.
+    -- The source of a download is to be as planned only where its destination may be new.
+    abbrev pub FileTaskEnds : Type 0
+    FileTaskEnds = (run : FileRun) (coming : List Dispatched) (start : State) (trace part : List Step) (journal : List Event) → AreCalls Shows run
+        → IsScheduled Shows run.setting journal run.dispatched coming → IsTraceOf Shows run.setting start trace journal run.dispatched
+        → HasJournal journal trace part → (n : ℕ) (task : Task) (how : Outcome) → slice_get run.setting.tasks n ≡ Some task → IsByFiles task
+        → (MayBeNew how → task.kind ≡ kind.Download → HasSourceObject (states start trace) task)
+        → HasOutcome Shows HasStatus (CallFailed run.calls) run.setting run.dispatched coming n task how
+        → IsShownByCalls how (IsPlaced task.kind run.calls n)
+        → IsEnded run.excused journal start trace (scene_before run start) (scene_after run (state_after start part)) n task how

@@ -37,8 +37,8 @@ steps_of calls = map (λ (c : TaskCall). c.step) calls
 abbrev pub files_after : MapOf HeldFile → List TaskCall → MapOf HeldFile
 files_after held calls = held_after held (steps_of calls)
 
--- Which calls a task makes. A download makes, writes, renames or drops its temporary file and sets the time of its destination; the removal of a
--- file removes it; and the upload of a file that is moved removes its source.
+-- Which calls a task makes. A download makes, writes, renames or drops its temporary file, and sets the time of its destination. The removal
+-- of a file removes it, and an upload that moves its file removes this.
 abbrev pub IsCallOf : Task → Kind → Call → Type 0
 IsCallOf task kind.Download (MakeTemp dest answer) = task.dest ≡ place.File dest
 IsCallOf task kind.Download (WriteAt temp at bytes fine) = Unit {0}
@@ -49,7 +49,8 @@ IsCallOf task kind.RemoveFile (Remove path fine) = task.dest ≡ place.File path
 IsCallOf task kind.Upload (Remove path fine) = (task.moves ≡ true) × (task.source ≡ Some (place.File path))
 IsCallOf task of_kind call = ⊥
 
--- Which call of a task may come after which: one temporary file, each place written once, one rename, and after a failed call nothing but the drop.
+-- Which call of a task may come after which: one temporary file, each place written once, one rename, and nothing
+-- after a failed call but the drop.
 abbrev pub MayFollow : (earlier later : Call) → Type 0
 MayFollow (MakeTemp dest (Ok temp)) (WriteAt same at bytes fine) = same ≡ temp
 MayFollow (MakeTemp dest (Ok temp)) (Rename same to fault) = same ≡ temp
@@ -73,41 +74,57 @@ UsesTemp call path = ⊥
 
 -- ---- calls that were made
 
-abbrev pub IsMade : List TaskCall → ℕ → List ℕ → Type 0
-IsMade calls n temp = (c : TaskCall) × Contains calls c × (c.task ≡ n) × (dest : List ℕ) × (c.step.call ≡ MakeTemp dest (Ok temp))
+-- the call came after these, and whatever came next
+abbrev pub ComesAfter : List TaskCall → List TaskCall → TaskCall → Type 0
+ComesAfter calls front c = (back : List TaskCall) × (calls ≡ front ++ c ∷ back)
 
--- the destination was replaced
+-- a temporary file was made for the task
+abbrev pub IsMade : List TaskCall → ℕ → List ℕ → Type 0
+IsMade calls n temp =
+    (c : TaskCall) × Contains calls c × (c.task ≡ n) × (dest : List ℕ) × (c.step.call ≡ MakeTemp dest (Ok temp))
+
+-- its destination was replaced
 abbrev pub IsRenamed : List TaskCall → ℕ → Type 0
-IsRenamed calls n = (c : TaskCall) × Contains calls c × (c.task ≡ n) × (temp : List ℕ) × (dest : List ℕ) × (c.step.call ≡ Rename temp dest None)
+IsRenamed calls n =
+    (c : TaskCall) × Contains calls c × (c.task ≡ n) × (temp : List ℕ) × (dest : List ℕ) × (c.step.call ≡ Rename temp dest None)
 
 abbrev pub IsDropped : List TaskCall → ℕ → Type 0
-IsDropped calls n = (c : TaskCall) × Contains calls c × (c.task ≡ n) × (temp : List ℕ) × (fine : Bool) × (c.step.call ≡ DropTemp temp fine)
+IsDropped calls n =
+    (c : TaskCall) × Contains calls c × (c.task ≡ n) × (temp : List ℕ) × (fine : Bool) × (c.step.call ≡ DropTemp temp fine)
 
 abbrev pub IsStamped : List TaskCall → ℕ → Type 0
-IsStamped calls n = (c : TaskCall) × Contains calls c × (c.task ≡ n) × (path : List ℕ) × (micros : ℕ) × (fine : Bool) × (c.step.call ≡ Stamp path micros fine)
+IsStamped calls n =
+    (c : TaskCall) × Contains calls c × (c.task ≡ n) × (path : List ℕ) × (micros : ℕ) × (fine : Bool) × (c.step.call ≡ Stamp path micros fine)
 
--- the file that the task was to remove was removed
+-- the file that it was to remove was removed
 abbrev pub IsRemoved : List TaskCall → ℕ → Type 0
 IsRemoved calls n = (c : TaskCall) × Contains calls c × (c.task ≡ n) × (path : List ℕ) × (c.step.call ≡ Remove path true)
 
 -- ---- the plan
 
+-- a task of the plan with that file as its destination
+abbrev pub IsTaskTo : List Task → ℕ → Task → List ℕ → Type 0
+IsTaskTo tasks n task path = (slice_get tasks n ≡ Some task) × (task.dest ≡ place.File path)
+
+-- a task of the plan that moves that file
+abbrev pub IsMoveOf : List Task → ℕ → Task → List ℕ → Type 0
+IsMoveOf tasks n task path = (slice_get tasks n ≡ Some task) × (task.moves ≡ true) × (task.source ≡ Some (place.File path))
+
 -- What a plan makes sure of.
 pub record AreFilesApart (held : MapOf HeldFile) (tasks : List Task) : Type 0 where
   -- no two tasks have one destination
-  pub destinations : (m n : ℕ) (a b : Task) (path : List ℕ) → slice_get tasks m ≡ Some a → slice_get tasks n ≡ Some b → a.dest ≡ place.File path → b.dest ≡ place.File path → m ≡ n
+  pub destinations : (m n : ℕ) (a b : Task) (path : List ℕ) → IsTaskTo tasks m a path → IsTaskTo tasks n b path → m ≡ n
   -- no destination is a file that is moved, and no file is moved twice
-  pub sources : (m n : ℕ) (a b : Task) (path : List ℕ) → slice_get tasks m ≡ Some a → slice_get tasks n ≡ Some b → a.moves ≡ true → a.source ≡ Some (place.File path) → b.dest ≡ place.File path → ⊥
-  pub moved_once : (m n : ℕ) (a b : Task) (path : List ℕ) → slice_get tasks m ≡ Some a → slice_get tasks n ≡ Some b
-      → a.moves ≡ true → a.source ≡ Some (place.File path) → b.moves ≡ true → b.source ≡ Some (place.File path) → m ≡ n
+  pub sources : (m n : ℕ) (a b : Task) (path : List ℕ) → IsMoveOf tasks m a path → IsTaskTo tasks n b path → ⊥
+  pub moved_once : (m n : ℕ) (a b : Task) (path : List ℕ) → IsMoveOf tasks m a path → IsMoveOf tasks n b path → m ≡ n
   -- only an upload moves a file, and a plan that moves files downloads nothing
-  pub uploads : (n : ℕ) (task : Task) (path : List ℕ) → slice_get tasks n ≡ Some task → task.moves ≡ true → task.source ≡ Some (place.File path) → task.kind ≡ kind.Upload
-  pub one_way : (m n : ℕ) (a b : Task) (path : List ℕ) → slice_get tasks m ≡ Some a → slice_get tasks n ≡ Some b → a.moves ≡ true → a.source ≡ Some (place.File path) → b.kind ≡ kind.Download → ⊥
+  pub uploads : (n : ℕ) (task : Task) (path : List ℕ) → IsMoveOf tasks n task path → task.kind ≡ kind.Upload
+  pub one_way : (m n : ℕ) (a b : Task) (path : List ℕ) → IsMoveOf tasks m a path → slice_get tasks n ≡ Some b → b.kind ≡ kind.Download → ⊥
   -- a download to a place with the name of a temporary file is the only one
-  pub names : (m n : ℕ) (a b : Task) (path : List ℕ) → slice_get tasks m ≡ Some a → slice_get tasks n ≡ Some b → a.kind ≡ kind.Download → b.kind ≡ kind.Download
-      → a.dest ≡ place.File path → is_temp_name path ≡ true → m ≡ n
+  pub names : (m n : ℕ) (a b : Task) (path : List ℕ) → IsTaskTo tasks m a path → slice_get tasks n ≡ Some b
+      → a.kind ≡ kind.Download → b.kind ≡ kind.Download → is_temp_name path ≡ true → m ≡ n
   -- a file that is to be removed is there
-  pub there : (n : ℕ) (task : Task) (path : List ℕ) → slice_get tasks n ≡ Some task → task.kind ≡ kind.RemoveFile → task.dest ≡ place.File path → IsSome (get held path)
+  pub there : (n : ℕ) (task : Task) (path : List ℕ) → IsTaskTo tasks n task path → task.kind ≡ kind.RemoveFile → IsSome (get held path)
 
 -- place and length of what a Get of that number is to bring: the whole, or a piece
 abbrev pub IsRangeIn : Bool → (size piece count number at long : ℕ) → Type 0
@@ -115,7 +132,8 @@ IsRangeIn true size piece count number at long = (number ≡ 0) × (at ≡ 0) ×
 IsRangeIn false size piece count number at long = (1 ≤ number) × (number ≤ count) × (piece_range size piece number ≡ (at, long))
 
 abbrev pub IsRange : Setting → Task → (number at long : ℕ) → Type 0
-IsRange s task number at long = (piece : ℕ) × (count : ℕ) × HasPieces s.config s.limits task.kind task.size piece count × IsRangeIn (is_small s task) task.size piece count number at long
+IsRange s task number at long = (piece : ℕ) × (count : ℕ) × HasPieces s.config s.limits task.kind task.size piece count
+    × IsRangeIn (is_small s task) task.size piece count number at long
 
 -- each range of a download was written to that temporary file
 pub record AreWritten (s : Setting) (calls : List TaskCall) (n : ℕ) (task : Task) (temp : List ℕ) : Type 0 where
@@ -145,35 +163,43 @@ module _ (Shows : Ask → ℕ → Talk → Class → List ℕ → Type 0) where
 
   -- the request that decides a task came before that place of the journal with success
   abbrev pub IsDecidedBefore : Setting → List Dispatched → ℕ → Task → ℕ → Type 0
-  IsDecidedBefore s dispatched n task before = (c : Dispatched) × Contains dispatched c × (c.dispatch.job ≡ job_of n (deciding task.kind (is_small s task)) 0) × IsBefore c.dispatch.came_at before
-      × ((answered : Reply) × HasReply Shows c (last_of c.dispatch.attempts) answered)
+  IsDecidedBefore s dispatched n task before =
+      (c : Dispatched) × Contains dispatched c × (c.dispatch.job ≡ job_of n (deciding task.kind (is_small s task)) 0)
+      × IsBefore c.dispatch.came_at before × ((answered : Reply) × HasReply Shows c (last_of c.dispatch.attempts) answered)
 
   -- What the calls on files of a run keep to.
   pub record AreFileCalls (s : Setting) (excused : Excused) (dispatched : List Dispatched) (calls : List TaskCall) : Type 0 where
-    -- each is one of its task's; they stand in the order of the journal; and a dry run makes none
+    -- each is one that its task makes; they stand in the order of the journal; and a dry run makes none
     pub named : (c : TaskCall) → Contains calls c → (task : Task) × (slice_get s.tasks c.task ≡ Some task) × IsCallOf task task.kind c.step.call
     pub placed : AllPairs (λ (a b : TaskCall). a.place ≤ b.place) calls
     pub dry : s.dryrun ≡ true → calls ≡ []
-    pub order : (front back : List TaskCall) (earlier later : TaskCall) → calls ≡ front ++ later ∷ back → Contains front earlier → earlier.task ≡ later.task → MayFollow earlier.step.call later.step.call
+    -- those of one task follow each other as they may
+    pub order : (front : List TaskCall) (earlier later : TaskCall) → ComesAfter calls front later → Contains front earlier → earlier.task ≡ later.task
+        → MayFollow earlier.step.call later.step.call
     -- a temporary file is made before it is used, and before any Get of its task is given
-    pub made : (front back : List TaskCall) (c : TaskCall) (temp : List ℕ) → calls ≡ front ++ c ∷ back → UsesTemp c.step.call temp → IsMade front c.task temp
-    pub made_first : (c : Dispatched) (n number : ℕ) → Contains dispatched c → c.dispatch.job ≡ job_of n op.Get number
-        → (made : TaskCall) × Contains calls made × (made.task ≡ n) × (dest : List ℕ) × (temp : List ℕ) × (made.step.call ≡ MakeTemp dest (Ok temp)) × (made.place ≤ c.dispatch.given_at)
+    pub made : (front : List TaskCall) (c : TaskCall) (temp : List ℕ) → ComesAfter calls front c → UsesTemp c.step.call temp → IsMade front c.task temp
+    pub made_first : (get : Dispatched) (n number : ℕ) → Contains dispatched get → get.dispatch.job ≡ job_of n op.Get number
+        → (c : TaskCall) × Contains calls c × (c.task ≡ n) × (dest : List ℕ) × (temp : List ℕ) × (c.step.call ≡ MakeTemp dest (Ok temp))
+        × (c.place ≤ get.dispatch.given_at)
     -- what is written is the body of a Get of the task, at its place
-    pub writes : (c : TaskCall) (task : Task) (temp : List ℕ) (at : ℕ) (bytes : List ℕ) (fine : Bool) → Contains calls c → slice_get s.tasks c.task ≡ Some task
-        → c.step.call ≡ WriteAt temp at bytes fine → IsBody s dispatched c.task task c.place at bytes
+    pub writes : (c : TaskCall) (task : Task) (temp : List ℕ) (at : ℕ) (bytes : List ℕ) (fine : Bool) → Contains calls c
+        → slice_get s.tasks c.task ≡ Some task → c.step.call ≡ WriteAt temp at bytes fine → IsBody s dispatched c.task task c.place at bytes
     -- the file is renamed only once each range was written
-    pub renames : (front back : List TaskCall) (c : TaskCall) (task : Task) (temp dest : List ℕ) (fault : Option Fault) → calls ≡ front ++ c ∷ back → slice_get s.tasks c.task ≡ Some task
-        → c.step.call ≡ Rename temp dest fault → AreWritten s front c.task task temp
-    -- a renamed file has its time set then, or a warning says that this failed
+    pub renames : (front : List TaskCall) (c : TaskCall) (task : Task) (temp dest : List ℕ) (fault : Option Fault) → ComesAfter calls front c
+        → slice_get s.tasks c.task ≡ Some task → c.step.call ≡ Rename temp dest fault → AreWritten s front c.task task temp
+    -- a renamed file, and no other, has its time set, or a warning says that this failed
     pub stamps : (n : ℕ) → IsRenamed calls n → IsStamped calls n
-    pub stamps_last : (front back : List TaskCall) (c : TaskCall) (path : List ℕ) (micros : ℕ) (fine : Bool) → calls ≡ front ++ c ∷ back → c.step.call ≡ Stamp path micros fine → IsRenamed front c.task
+    pub stamps_last : (front : List TaskCall) (c : TaskCall) (path : List ℕ) (micros : ℕ) (fine : Bool) → ComesAfter calls front c
+        → c.step.call ≡ Stamp path micros fine → IsRenamed front c.task
     pub untimed : (c : TaskCall) (path : List ℕ) (micros : ℕ) → Contains calls c → c.step.call ≡ Stamp path micros false → IsUntimed excused path
-    -- a temporary file is renamed or dropped, or a warning says that this failed
+    -- a temporary file is renamed or dropped, or a warning says that the drop failed
     pub drops : (n : ℕ) (temp : List ℕ) → IsMade calls n temp → IsRenamed calls n ⊎ IsDropped calls n
     pub left : (c : TaskCall) (temp : List ℕ) → Contains calls c → c.step.call ≡ DropTemp temp false → IsLeft excused temp
-    -- the source of a move is removed only after the success that decides the task, an object's Delete only after the file was renamed
-    pub moves_last : (c : TaskCall) (task : Task) (path : List ℕ) (fine : Bool) → Contains calls c → slice_get s.tasks c.task ≡ Some task → task.kind ≡ kind.Upload
-        → c.step.call ≡ Remove path fine → IsDecidedBefore s dispatched c.task task c.place
-    pub deletes_last : (c : Dispatched) (n : ℕ) (task : Task) → Contains dispatched c → c.dispatch.job.task ≡ Some n → c.dispatch.job.op ≡ op.Delete → slice_get s.tasks n ≡ Some task → task.kind ≡ kind.Download
-        → (r : TaskCall) × Contains calls r × (r.task ≡ n) × (temp : List ℕ) × (dest : List ℕ) × (r.step.call ≡ Rename temp dest None) × (r.place ≤ c.dispatch.given_at)
+    -- a moved file is removed only after the success that decides its task
+    pub moves_last : (c : TaskCall) (task : Task) (path : List ℕ) (fine : Bool) → Contains calls c → slice_get s.tasks c.task ≡ Some task
+        → task.kind ≡ kind.Upload → c.step.call ≡ Remove path fine → IsDecidedBefore s dispatched c.task task c.place
+    -- the Delete of a downloaded object is given only after the file was renamed
+    pub deletes_last : (delete : Dispatched) (n : ℕ) (task : Task) → Contains dispatched delete → delete.dispatch.job.task ≡ Some n
+        → delete.dispatch.job.op ≡ op.Delete → slice_get s.tasks n ≡ Some task → task.kind ≡ kind.Download
+        → (c : TaskCall) × Contains calls c × (c.task ≡ n) × (temp : List ℕ) × (dest : List ℕ) × (c.step.call ≡ Rename temp dest None)
+        × (c.place ≤ delete.dispatch.given_at)

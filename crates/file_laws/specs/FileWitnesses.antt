@@ -10,18 +10,15 @@ use Rattle.s3_model.specs.declared.requests.Op.TheVariants as op
 use Rattle.s3_model.specs.declared.tasks.Kind.TheVariants as kind
 use Rattle.s3_model.specs.declared.tasks.Task.{Task}
 use Rattle.s3_service.specs.ServiceState.{State}
-use Rattle.run_promise.specs.Dispatches.{Dispatched}
-use Rattle.run_promise.specs.Endings.{Excused}
 use Rattle.run_promise.specs.Outcomes.{HasOutcome}
-use Rattle.run_promise.specs.Schedule.{Setting}
 use Rattle.run_promise.specs.Traces.{Step, states}
 use Rattle.run_promise.specs.Truthful.{HasJournal}
 use Rattle.local_files.specs.Calls.{Call, WriteAt}
 use Rattle.world_laws.specs.Rounds.{Told, ToldStatus}
 use Rattle.world_laws.specs.Tasks.{HasSourceObject, IsScheduled, IsTraceOf, MayBeNew}
 use Rattle.file_laws.specs.FileEnds.{CallFailed, IsByFiles, IsPlaced, IsShownByCalls}
-use Rattle.file_laws.specs.FileLaws.{AreCalls}
-use Rattle.file_laws.specs.FileTasks.{IsDropped, IsRemoved, TaskCall}
+use Rattle.file_laws.specs.FileLaws.{AreCalls, FileRun}
+use Rattle.file_laws.specs.FileTasks.{IsDropped, IsMoveOf, IsRemoved, TaskCall}
 
 -- an object of two bytes, under an ETag that spells them, to a file
 abbrev pub two_bytes : (bucket key : List ℕ) (a b : ℕ) → Task
@@ -72,33 +69,30 @@ place_written call = None
 abbrev pub places_written : List TaskCall → List ℕ
 places_written calls = filter_map (λ (c : TaskCall). place_written c.step.call) calls
 
--- a run of one task that meets all that the laws ask, with that outcome
+-- a run with a task that meets all that the laws ask, with that outcome
 pub record IsFileTaskMet (task : Task) (how : Outcome) : Type 0 where
-  pub setting : Setting
-  pub excused : Excused
-  pub dispatched : List Dispatched
-  pub calls : List TaskCall
+  pub run : FileRun
   pub start : State
   pub trace : List Step
   pub journal : List Event
-  pub is_task : slice_get setting.tasks 0 ≡ Some task
-  pub are_calls : AreCalls Told setting excused dispatched calls
-  pub scheduled : IsScheduled Told setting journal dispatched dispatched
-  pub traced : IsTraceOf Told setting start trace journal dispatched
+  pub is_task : slice_get run.setting.tasks 0 ≡ Some task
+  pub are_calls : AreCalls Told run
+  pub scheduled : IsScheduled Told run.setting journal run.dispatched run.dispatched
+  pub traced : IsTraceOf Told run.setting start trace journal run.dispatched
   pub whole : HasJournal journal trace trace
   pub by_files : IsByFiles task
   pub sourced : MayBeNew how → task.kind ≡ kind.Download → HasSourceObject (states start trace) task
-  pub caused : HasOutcome Told ToldStatus (CallFailed calls) setting dispatched dispatched 0 task how
-  pub shown : IsShownByCalls how (IsPlaced task.kind calls 0)
+  pub caused : HasOutcome Told ToldStatus (CallFailed run.calls) run.setting run.dispatched run.dispatched 0 task how
+  pub shown : IsShownByCalls how (IsPlaced task.kind run.calls 0)
 
 -- two ranges that came and were written in reverse order
 abbrev pub DownloadIsMet : Type 0
-DownloadIsMet = (bucket key : List ℕ) (a b : ℕ) → (met : IsFileTaskMet (two_bytes bucket key a b) outcome.Done) × (places_written met.calls ≡ 1 ∷ 0 ∷ [])
+DownloadIsMet = (bucket key : List ℕ) (a b : ℕ) → (met : IsFileTaskMet (two_bytes bucket key a b) outcome.Done) × (places_written met.run.calls ≡ 1 ∷ 0 ∷ [])
 
 -- the second Get was refused, and the temporary file was dropped
 abbrev pub RefusedGetIsMet : Type 0
 RefusedGetIsMet = (bucket key : List ℕ) (a b : ℕ) → (met : IsFileTaskMet (two_bytes bucket key a b) (outcome.Failed (cause.Service op.Get (codes "AccessDenied") [])))
-    × (places_written met.calls ≡ 0 ∷ []) × IsDropped met.calls 0
+    × (places_written met.run.calls ≡ 0 ∷ []) × IsDropped met.run.calls 0
 
 -- a file that was removed, and one that could not be
 abbrev pub RemovalIsMet : Type 0
@@ -107,15 +101,12 @@ RemovalIsMet = (path : List ℕ) → IsFileTaskMet (file_removal path) outcome.D
 abbrev pub FailedRemovalIsMet : Type 0
 FailedRemovalIsMet = (path : List ℕ) → IsFileTaskMet (file_removal path) (outcome.Failed (cause.Files call.Remove))
 
--- a run of one task that removed the file that it moves
-pub record IsMovedFileMet (task : Task) : Type 0 where
-  pub setting : Setting
-  pub excused : Excused
-  pub dispatched : List Dispatched
-  pub calls : List TaskCall
-  pub is_task : slice_get setting.tasks 0 ≡ Some task
-  pub are_calls : AreCalls Told setting excused dispatched calls
-  pub removed : IsRemoved calls 0
+-- a run that removed the file that it moves
+pub record IsMovedFileMet (task : Task) (path : List ℕ) : Type 0 where
+  pub run : FileRun
+  pub is_move : IsMoveOf run.setting.tasks 0 task path
+  pub are_calls : AreCalls Told run
+  pub removed : IsRemoved run.calls 0
 
 abbrev pub MovedFileIsMet : Type 0
-MovedFileIsMet = (bucket key path : List ℕ) → IsMovedFileMet (moved_upload bucket key path)
+MovedFileIsMet = (bucket key path : List ℕ) → IsMovedFileMet (moved_upload bucket key path) path

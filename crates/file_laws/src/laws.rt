@@ -32,9 +32,9 @@ pub fn download<R: Reading>()
 
 /// The file of a move is there until the success that decides its task, gone after its removal went well, and else as
 /// before. So it goes just where its task is done, where the calls show its removal just there.
-pub fn moved_file<C: Command>()
-    ensures moved { FileIsMoved C.shows }
-    ensures left { MovedFilesAreLeft C.shows C.has_status }
+pub fn moved_file<R: Reading>()
+    ensures moved { FileIsMoved R.shows }
+    ensures left { MovedFilesAreLeft R.shows }
     ensures met { MovedFileIsMet }
 {}
 
