@@ -1,21 +1,28 @@
 -- Calls that are written out keep their clauses, where each does by itself and beside those before it.
 use Rattle.std.proofs.Common.{append_assoc, ◌≡◌, ◌∙◌, ◌⊎◌, ◌≤◌, ◌++◌, ℕ, true, false, List, [], ◌∷◌, Some, Ok, sym, ap, subst, inl, inr, AllPairs, Contains, get_or, slice_get, arith}
+use Rattle.std.specs.Prelude.{IsSome}
+use Rattle.std.specs.FinMap.{get}
 use Rattle.std.proofs.lemmas.List.{append-nil}
 use Rattle.std.proofs.lemmas.List.Elements.{Contains-get_or}
 use Rattle.std.proofs.lemmas.List.Kept.{AllPairs-cons}
 use Rattle.s3_model.specs.declared.answers.Class.{Class}
 use Rattle.s3_model.specs.declared.outcomes.JobId.{JobId}
+use Rattle.s3_model.specs.declared.places.Place.TheVariants as place
 use Rattle.s3_model.specs.declared.requests.Ask.{Ask}
 use Rattle.s3_model.specs.declared.requests.Op.TheVariants as op
 use Rattle.s3_model.specs.declared.tasks.Kind.TheVariants as kind
 use Rattle.s3_model.specs.declared.tasks.Task.{Task}
+use Rattle.s3_model.specs.Files.{HeldFile}
+use Rattle.s3_model.specs.Maps.{MapOf}
 use Rattle.s3_model.specs.Talks.{Talk}
 use Rattle.run_promise.specs.Dispatches.{Dispatched}
 use Rattle.run_promise.specs.Endings.{Excused}
 use Rattle.run_promise.specs.Schedule.{Setting}
 use Rattle.local_files.specs.Calls.{Call, DropTemp, MakeTemp, Rename, Stamp, WriteAt}
 use Rattle.world_laws.proofs.Members.{Has, has, head_is, split_of, tail_is}
-use Rattle.file_laws.specs.FileTasks.{AreFileCalls, AreWritten, IsBody, IsCallOf, IsDecidedBefore, IsDropped, IsMade, IsRenamed, IsStamped, MayFollow, TaskCall, UsesTemp}
+use Rattle.world_laws.proofs.ScheduleWitness.{one_task}
+use Rattle.file_laws.proofs.Keeping.{true_false}
+use Rattle.file_laws.specs.FileTasks.{AreFileCalls, AreFilesApart, AreWritten, IsBody, IsCallOf, IsDecidedBefore, IsDropped, IsMade, IsRenamed, IsStamped, MayFollow, TaskCall, UsesTemp}
 
 -- ---- lists that are written out
 
@@ -52,6 +59,24 @@ along_from P [] before (y ∷ xs) x back all is = subst (P (before ++ [])) (head
 along_from P (z ∷ front) before (y ∷ xs) x back all is =
     subst (λ (l : List _). P l x) (append_assoc before (y ∷ []) front ∙ ap (λ (w : _). before ++ w ∷ front) (head_is y z xs (front ++ x ∷ back) is))
     (along_from P front (before ++ y ∷ []) xs x back all.1 (tail_is y z xs (front ++ x ∷ back) is))
+
+-- ---- a plan of one task that moves nothing
+
+pub still_apart : (held : MapOf HeldFile) (task : Task) → task.moves ≡ false → ((path : List ℕ) → task.kind ≡ kind.RemoveFile → task.dest ≡ place.File path → IsSome (get held path)) → AreFilesApart held (task ∷ [])
+still_apart held task still there = record {
+  destinations = λ m n x y p to_x to_y. (one_task task m x to_x.0).0 ∙ sym (one_task task n y to_y.0).0;
+  sources = λ m n x y p move to_y. stays m x move.0 move.1;
+  moved_once = λ m n x y p move too. absurd (stays m x move.0 move.1);
+  uploads = λ n x p move. absurd (stays n x move.0 move.1);
+  one_way = λ m n x y p move is_y load. stays m x move.0 move.1;
+  names = λ m n x y p to_x is_y load load_too named. (one_task task m x to_x.0).0 ∙ sym (one_task task n y is_y).0;
+  there = λ n x p to_x removal.
+      let only = sym (one_task task n x to_x.0).1 in
+      there p (ap (λ (t : Task). t.kind) only ∙ removal) (ap (λ (t : Task). t.dest) only ∙ to_x.1);
+}
+  where
+    stays : (n : ℕ) (x : Task) → slice_get (task ∷ []) n ≡ Some x → x.moves ≡ true → ⊥
+    stays n x is moves = true_false (sym moves ∙ ap (λ (t : Task). t.moves) (one_task task n x is).1 ∙ still)
 
 -- ---- what a call is to be, by what it is
 

@@ -1,5 +1,5 @@
 -- Runs that download two bytes in two ranges: one in which they came in reverse order, and one whose second Get was refused.
-use Rattle.std.proofs.Common.{◌≡◌, ◌∙◌, ◌⊎◌, ◌≤◌, ℕ, zero, suc, Bool, true, false, List, [], ◌∷◌, Option, Some, None, Ok, refl, sym, ap, subst, inl, inr, AllPairs, Contains, length, slice_get, arith}
+use Rattle.std.proofs.Common.{◌<◌, ◌+◌, ◌≡◌, ◌∙◌, ◌⊎◌, ◌≤◌, ℕ, zero, suc, Bool, true, false, List, [], ◌∷◌, Option, Some, None, Ok, refl, sym, ap, subst, inl, inr, AllPairs, Contains, length, slice_get, arith}
 use Rattle.std.specs.Prelude.{codes}
 use Rattle.std.specs.Cmp.Lexicographic.{nat_list_cmp_total, slice_cmp}
 use Rattle.std.specs.Ordering.{nat_cmp}
@@ -49,8 +49,8 @@ use Rattle.world_laws.proofs.ScheduleWitness.{limits_are_valid, one_task, settin
 use Rattle.file_laws.specs.FileEnds.{CallFailed, IsShownByCalls}
 use Rattle.file_laws.specs.FileTasks.{AreFileCalls, AreFilesApart, AreWritten, IsBody, IsDropped, IsRangeIn, IsRenamed, TaskCall, steps_of}
 use Rattle.file_laws.specs.FileWitnesses.{DownloadIsMet, IsFileTaskMet, RefusedGetIsMet, places_written, two_bytes}
-use Rattle.file_laws.proofs.CallWitness.{all_pairs, calls_keep}
-use Rattle.file_laws.proofs.Keeping.{run_of}
+use Rattle.file_laws.proofs.CallWitness.{all_pairs, calls_keep, still_apart}
+use Rattle.file_laws.proofs.Keeping.{removal_downloads, run_of, true_false, upload_downloads}
 use Rattle.file_laws.proofs.Resized.{resized, resized_come, resized_fits, resized_given}
 
 -- ---- what differs
@@ -58,23 +58,11 @@ use Rattle.file_laws.proofs.Resized.{resized, resized_come, resized_fits, resize
 other_op : (a b : Op) → (op_number a ≡ op_number b → ⊥) → a ≡ b → ⊥
 other_op a b apart e = apart (ap op_number e)
 
-true_false : true ≡ false → ⊥
-true_false e = cc
-
 some_none : (n : ℕ) → ◌≡◌ {A = Option ℕ} (Some n) None → ⊥
 some_none n e = cc
 
 some_is : (m n : ℕ) → Some m ≡ Some n → m ≡ n
 some_is m n e = cc
-
-loads_or_moves : kind.Download ≡ kind.Upload → ⊥
-loads_or_moves e = cc
-
-upload_or_load : kind.Upload ≡ kind.Download → ⊥
-upload_or_load e = cc
-
-loads_or_removes : kind.Download ≡ kind.RemoveFile → ⊥
-loads_or_removes e = cc
 
 refused_or_fine : mark.Refusal ≡ mark.Success → ⊥
 refused_or_fine e = cc
@@ -143,15 +131,7 @@ module _ (bucket key : List ℕ) (a b : ℕ) where
   stays n other is moves = true_false (sym moves ∙ ap (λ (t : Task). t.moves) (only n other is))
 
   files_apart : AreFilesApart empty (task ∷ [])
-  files_apart = record {
-    destinations = λ m n x y p to_x to_y. (one_task task m x to_x.0).0 ∙ sym (one_task task n y to_y.0).0;
-    sources = λ m n x y p move to_y. stays m x move.0 move.1;
-    moved_once = λ m n x y p move too. absurd (stays m x move.0 move.1);
-    uploads = λ n x p move. absurd (stays n x move.0 move.1);
-    one_way = λ m n x y p move is_y load. stays m x move.0 move.1;
-    names = λ m n x y p to_x is_y load load_too named. (one_task task m x to_x.0).0 ∙ sym (one_task task n y is_y).0;
-    there = λ n x p to_x removal. absurd (loads_or_removes (ap (λ (t : Task). t.kind) (sym (only n x to_x.0)) ∙ removal));
-  }
+  files_apart = still_apart empty task refl (λ path removal is_dest. absurd (removal_downloads (sym removal)))
 
   from : Origin task
   from = record { bucket = bucket; key = key; is_source = (refl, refl) }
@@ -165,6 +145,32 @@ module _ (bucket key : List ℕ) (a b : ℕ) where
     got = got;
     size = 2;
     after = start;
+  }
+
+  -- ---- a Get that came well
+
+  well : (at number : ℕ) (got : List ℕ) → length got ≡ 1 → IsCompletedWell Told (resized 1 2 (dispatch_at at (get_round number false got)))
+  well at number got long = (
+    refl,
+    λ shown bytes told. subst (λ (x : Class). FitsAsk (resized 1 2 (dispatch_at at (get_round number false got))) (ask.Get bucket key etag (Some (asked_range 2 1 number))) x) (sym told.0) (refl, refl, long),
+  )
+
+  body_of : (at number : ℕ) (got : List ℕ) (dispatched : List Dispatched) → length got ≡ 1 → 1 ≤ number → number ≤ 2 → Contains dispatched (resized 1 2 (dispatch_at at (get_round number false got)))
+      → (before from_byte : ℕ) → at + 1 < before → piece_range 2 1 number ≡ (from_byte, length got) → IsBody Told setting dispatched 0 task before from_byte got
+  body_of at number got dispatched long low high known before from_byte later range = record {
+    get = resized 1 2 (dispatch_at at (get_round number false got));
+    known = known;
+    number = number;
+    is_get = refl;
+    came = later;
+    well = well at number got long;
+    attempt = attempt_of (get_round number false got);
+    is_last = refl;
+    status = 206;
+    told = Some ((asked_range 2 1 number).0, (asked_range 2 1 number).1, 2);
+    size = length got;
+    shows = (refl, refl);
+    range = (1, 2, two_pieces, (low, high, range));
   }
 
   -- ---- two Gets, the first of which came well
@@ -212,7 +218,7 @@ module _ (bucket key : List ℕ) (a b : ℕ) where
     no_op of_op apart c known is = other_op op.Get of_op apart (sym (is_get c known) ∙ is)
 
     first_well : IsCompletedWell Told one
-    first_well = (refl, λ shown bytes told. subst (λ (x : Class). FitsAsk one one.ask x) (sym told.0) (refl, refl, long))
+    first_well = well 0 m got_m long
 
     failed_is : (c : Dispatched) → IsFailed Told setting all c → Contains all c
     failed_is c failed = contains_of all c (subst (λ (xs : List Dispatched). Has xs c) (sym failed.2) (has_middle failed.0 c failed.1))
@@ -300,7 +306,7 @@ module _ (bucket key : List ℕ) (a b : ℕ) where
         scheduled = scheduled;
         traced = record { runs = fitting.runs; honest = fitting.honest; fits = resized_fits 1 2 _ (journal_of rounds) (dispatched_from 0 rounds) fitting.fits };
         whole = ([], sym (append-nil trace), fitting.fits.moves);
-        by_files = record { path = dest; is_dest = refl; decided = inl refl; from = λ load. (bucket, key, refl); keeps = λ removal. absurd (loads_or_removes removal) };
+        by_files = record { path = dest; is_dest = refl; decided = inl refl; from = λ load. (bucket, key, refl); keeps = λ removal. absurd (removal_downloads (sym removal)) };
         sourced = λ may load. source;
         caused = caused;
         shown = shown;
@@ -370,42 +376,14 @@ module _ (bucket key : List ℕ) (a b : ℕ) where
   abbrev calls : List TaskCall
   calls = make ∷ write_two ∷ write_one ∷ rename ∷ stamp ∷ []
 
-  body_two : IsBody Told setting reversed 0 task 2 1 (b ∷ [])
-  body_two = record {
-    get = resized 1 2 (dispatch_at 0 (get_round 2 false (b ∷ [])));
-    known = (0, omega arith, refl);
-    number = 2;
-    is_get = refl;
-    came = omega arith;
-    well = first_well 2 1 (omega arith) (omega arith) (omega arith) (omega arith) two_is_one (b ∷ []) (a ∷ []) refl false backwards_served;
-    attempt = attempt_of (get_round 2 false (b ∷ []));
-    is_last = refl;
-    status = 206;
-    told = Some ((asked_range 2 1 2).0, (asked_range 2 1 2).1, 2);
-    size = 1;
-    shows = (refl, refl);
-    range = (1, 2, two_pieces, (omega arith, omega arith, refl));
-  }
-
   last_well : IsCompletedWell Told (resized 1 2 (dispatch_at 2 (get_round 1 false (a ∷ []))))
-  last_well = (refl, λ shown bytes told. subst (λ (x : Class). FitsAsk (resized 1 2 (dispatch_at 2 (get_round 1 false (a ∷ [])))) (ask.Get bucket key etag (Some (asked_range 2 1 1))) x) (sym told.0) (refl, refl, refl))
+  last_well = well 2 1 (a ∷ []) refl
+
+  body_two : IsBody Told setting reversed 0 task 2 1 (b ∷ [])
+  body_two = body_of 0 2 (b ∷ []) reversed refl (omega arith) (omega arith) (0, omega arith, refl) 2 1 (omega arith) refl
 
   body_one : IsBody Told setting reversed 0 task 4 0 (a ∷ [])
-  body_one = record {
-    get = resized 1 2 (dispatch_at 2 (get_round 1 false (a ∷ [])));
-    known = (1, omega arith, refl);
-    number = 1;
-    is_get = refl;
-    came = omega arith;
-    well = last_well;
-    attempt = attempt_of (get_round 1 false (a ∷ []));
-    is_last = refl;
-    status = 206;
-    told = Some ((asked_range 2 1 1).0, (asked_range 2 1 1).1, 2);
-    size = 1;
-    shows = (refl, refl);
-    range = (1, 2, two_pieces, (omega arith, omega arith, refl));
-  }
+  body_one = body_of 2 1 (a ∷ []) reversed refl (omega arith) (omega arith) (1, omega arith, refl) 4 0 (omega arith) refl
 
   abbrev written : List TaskCall
   written = make ∷ write_two ∷ write_one ∷ []
@@ -441,7 +419,7 @@ module _ (bucket key : List ℕ) (a b : ℕ) where
       ),
     ),
   )
-      refl (λ c known upload. absurd (loads_or_moves upload))
+      refl (λ c known upload. absurd (upload_downloads (sym upload)))
       ((omega arith, (omega arith, (omega arith, (omega arith, tt)))), ((omega arith, (omega arith, (omega arith, tt))), ((omega arith, (omega arith, tt)), ((omega arith, tt), (tt, tt)))))
       (λ c known is. no_op 2 1 (omega arith) (omega arith) (omega arith) (omega arith) two_is_one (b ∷ []) (a ∷ []) refl false backwards_served op.Delete (λ e. absurd (omega arith)) c known is)
       (λ c known is_get. (make, (0, omega arith, refl), of_first_task 2 1 (omega arith) (omega arith) (omega arith) (omega arith) two_is_one (b ∷ []) (a ∷ []) refl false backwards_served c known, dest, temp, refl, omega arith))
@@ -529,21 +507,7 @@ module _ (bucket key : List ℕ) (a b : ℕ) where
   half_calls = make ∷ write_half ∷ drop_temp ∷ []
 
   body_half : IsBody Told setting halved 0 task 2 0 (a ∷ [])
-  body_half = record {
-    get = resized 1 2 (dispatch_at 0 (get_round 1 false (a ∷ [])));
-    known = (0, omega arith, refl);
-    number = 1;
-    is_get = refl;
-    came = omega arith;
-    well = first_well 1 2 (omega arith) (omega arith) (omega arith) (omega arith) one_is_two (a ∷ []) denied refl true half_served;
-    attempt = attempt_of (get_round 1 false (a ∷ []));
-    is_last = refl;
-    status = 206;
-    told = Some ((asked_range 2 1 1).0, (asked_range 2 1 1).1, 2);
-    size = 1;
-    shows = (refl, refl);
-    range = (1, 2, two_pieces, (omega arith, omega arith, refl));
-  }
+  body_half = body_of 0 1 (a ∷ []) halved refl (omega arith) (omega arith) (0, omega arith, refl) 2 0 (omega arith) refl
 
   none_renamed : IsRenamed half_calls 0 → ⊥
   none_renamed re = by (has half_calls re.0 re.1)
@@ -571,7 +535,7 @@ module _ (bucket key : List ℕ) (a b : ℕ) where
       (record { first = refl; is_call = tt; fine = tt; follows = (refl, (tt, tt)); uses = (make, (0, omega arith, refl), refl, dest, refl); writes = tt; renames = tt; stamps = tt }, tt),
     ),
   )
-      refl (λ c known upload. absurd (loads_or_moves upload))
+      refl (λ c known upload. absurd (upload_downloads (sym upload)))
       ((omega arith, (omega arith, tt)), ((omega arith, tt), (tt, tt)))
       (λ c known is. no_op 1 2 (omega arith) (omega arith) (omega arith) (omega arith) one_is_two (a ∷ []) denied refl true half_served op.Delete (λ e. absurd (omega arith)) c known is)
       (λ c known is_get. (make, (0, omega arith, refl), of_first_task 1 2 (omega arith) (omega arith) (omega arith) (omega arith) one_is_two (a ∷ []) denied refl true half_served c known, dest, temp, refl, omega arith))
@@ -619,7 +583,7 @@ module _ (bucket key : List ℕ) (a b : ℕ) where
     met 1 2 (omega arith) (omega arith) (omega arith) (omega arith) one_is_two (a ∷ []) denied refl true half_served half_calls keep_half runs_half (outcome.Failed (cause.Service op.Get denied [])) (
       λ decided. decided.2.0,
       λ left_open. left_open.0.2.0,
-      ((refused_get, first_failure, (refl, (denied, (refl, refl)), not_changed)), λ skipped. loads_or_moves skipped.1),
+      ((refused_get, first_failure, (refl, (denied, (refl, refl)), not_changed)), λ skipped. upload_downloads (sym skipped.1)),
     )
         none_renamed,
     refl,

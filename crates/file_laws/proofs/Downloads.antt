@@ -27,7 +27,7 @@ use Rattle.file_laws.proofs.Effects.{Effect, Spares, arrives, drops, effect, goe
 use Rattle.file_laws.proofs.Files as files
 use Rattle.file_laws.proofs.Files.{Free, Kept, Left}
 use Rattle.file_laws.proofs.Filling as filling
-use Rattle.file_laws.proofs.Gets as gets
+use Rattle.file_laws.proofs.Requests as requests
 use Rattle.file_laws.proofs.Keeping as keeping
 use Rattle.file_laws.proofs.Keeping.{has_last, last_cases, only_download_makes, only_download_renames, only_download_stamps, removal_downloads, run_of, same_path, same_task, who_removes}
 use Rattle.file_laws.proofs.Ranges.{AreSound, are_sound, last_range, range_one}
@@ -182,7 +182,7 @@ module _ (Shows : Ask → ℕ → Talk → Class → List ℕ → Type 0) (s : S
       whole : (front : List TaskCall) (c : TaskCall) (back : List TaskCall) → calls ≡ front ++ c ∷ back → c.task ≡ n → (temp : List ℕ) → c.step.call ≡ Rename temp path None
           → (file : HeldFile) → get (files_after s.held front) temp ≡ Some file → IsContent file.bytes
       whole front c back is own temp e file there =
-          gets.has_content Shows s journal dispatched coming r start trace traced n task is_task load source all_written.piece all_written.count pieces file.bytes sized bodies
+          requests.has_content Shows s journal dispatched coming r start trace traced n task is_task load source all_written.piece all_written.count pieces file.bytes sized bodies
         where
           at_own : slice_get s.tasks c.task ≡ Some task
           at_own = ap (slice_get s.tasks) own ∙ is_task
@@ -239,7 +239,7 @@ module _ (Shows : Ask → ℕ → Talk → Class → List ℕ → Type 0) (s : S
               let fits = b.fits in
               omega arith
 
-          bodies : gets.AreBodies Shows s journal dispatched coming r start trace traced n task is_task load source all_written.piece all_written.count pieces file.bytes
+          bodies : requests.AreBodies Shows s journal dispatched coming r start trace traced n task is_task load source all_written.piece all_written.count pieces file.bytes
           bodies number at long range =
               let b = brought number at long range in
               let body = a.keep.writes b.w task temp at b.bytes true b.known (ap (slice_get s.tasks) b.of ∙ is_task) b.is_write in

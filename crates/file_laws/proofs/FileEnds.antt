@@ -32,38 +32,18 @@ use Rattle.world_laws.specs.Promises.{IsFileLeft}
 use Rattle.world_laws.specs.Tasks.{HasSourceObject, IsScheduled, IsTraceOf, MayBeNew}
 use Rattle.world_laws.proofs.Maps.{some_is}
 use Rattle.world_laws.proofs.Members.{has, split_of}
-use Rattle.world_laws.proofs.MovedTasks.{moved_source_is_gone}
-use Rattle.world_laws.proofs.Tasks.{replied}
 use Rattle.file_laws.specs.FileTasks.{IsMoveOf, IsRemoved, IsRenamed, TaskCall, files_after}
 use Rattle.file_laws.specs.FileLaws.{AreCalls}
 use Rattle.file_laws.specs.FileEnds.{CallFailed, FileTaskEnds, IsPlaced, IsShownByCalls, MovedFilesAreLeft}
 use Rattle.file_laws.proofs.Downloads as downloads
 use Rattle.file_laws.proofs.Files as files
 use Rattle.file_laws.proofs.Keeping as keeping
-use Rattle.file_laws.proofs.Keeping.{run_of, some_place}
+use Rattle.file_laws.proofs.Keeping.{removal_downloads, run_of, some_place, true_false, upload_downloads, upload_removes}
 use Rattle.file_laws.proofs.Ranges.{are_sound, last_range}
-
-true_false : true ≡ false → ⊥
-true_false e = cc
+use Rattle.file_laws.proofs.Requests as requests
 
 none_task : (n : ℕ) → ◌≡◌ {A = Option ℕ} None (Some n) → ⊥
 none_task n e = cc
-
-upload_is_none : kind.Upload ≡ kind.Download → ⊥
-upload_is_none e = cc
-
-upload_is_no_removal : kind.Upload ≡ kind.RemoveFile → ⊥
-upload_is_no_removal e = cc
-
-download_removes : kind.Download ≡ kind.RemoveFile → ⊥
-download_removes e = cc
-
-download_removes_object : kind.Download ≡ kind.RemoveObject → ⊥
-download_removes_object e = cc
-
--- a place of a list
-at_some : (journal : List Event) (event : Event) → Contains journal event → (place : ℕ) × (slice_get journal place ≡ Some event)
-at_some journal event h = (h.0, slice_get-get_or journal h.0 event h.1 ∙ ap Some h.2)
 
 module _ (Shows : Ask → ℕ → Talk → Class → List ℕ → Type 0) (HasStatus : Ask → ℕ → Talk → ℕ → Type 0) (s : Setting) (excused : Excused) (dispatched coming : List Dispatched) (calls : List TaskCall)
     (start : State) (trace part : List Step) (journal : List Event) (a : AreCalls Shows (run_of s excused dispatched calls)) (r : IsScheduled Shows s journal dispatched coming)
@@ -92,9 +72,7 @@ module _ (Shows : Ask → ℕ → Talk → Class → List ℕ → Type 0) (HasSt
     where
       never : IsSpared n journal before after (Some (place.Object bucket key))
       never number lane h =
-          let job : JobId = record { task = Some n; op = op.Delete; number = number } in
-          let at = at_some journal (entry.Given job lane) h in
-          let given = r.given.each_given at.0 lane job at.1 in
+          let given = requests.given_is_dispatched Shows s journal dispatched coming r (record { task = Some n; op = op.Delete; number = number }) lane h in
           none given.0 given.1 (ap (λ (j : JobId). j.task) given.2) (ap (λ (j : JobId). j.op) given.2)
 
   -- ---- downloads
@@ -137,14 +115,13 @@ module _ (Shows : Ask → ℕ → Talk → Class → List ℕ → Type 0) (HasSt
     gone deleted = OnTrue_from task.moves _ (λ moves.
         let is = deleted moves (subst (λ (o : Option Place). IsObjectPlace o) (sym from.2) tt) in
         let c = is.1 in
-        moved_source_is_gone Shows s (files_after s.held calls) start trace part journal dispatched coming r traced whole n task from.0 from.1 is_task moves from.2 c.0 c.1 c.2
-        (λ removal. download_removes_object (sym load ∙ removal)) (replied Shows c.0 is.0 c.3).0)
+        requests.deleted_is_gone Shows s journal dispatched coming r (files_after s.held calls) start trace part traced whole n task from.0 from.1 is_task load moves from.2 c.0 c.1 c.2 is.0 c.3)
 
     gone_or_there : OnTrue task.moves (IsGoneOrThere before after task.source)
     gone_or_there = OnTrue_from task.moves _ (λ moves. subst (λ (o : Option Place). IsGoneOrThere before after o) (sym from.2) tt)
 
     no_upload : task.kind ≡ kind.Upload → ⊥
-    no_upload is = upload_is_none (sym is ∙ load)
+    no_upload is = upload_downloads (sym is ∙ load)
 
     undecided : IsDecidedByRequest task.kind → ⊥
     undecided is = subst (λ (k : Kind). IsDecidedByRequest k) load is
@@ -191,8 +168,8 @@ module _ (Shows : Ask → ℕ → Talk → Class → List ℕ → Type 0) (HasSt
     removal_ends (outcome.Unknown why) is shown = absurd (subst (λ (k : Kind). IsDecidedByRequest k) removal is.0.0.2.0)
     removal_ends outcome.Dry is shown = (as_before (dry_stays is), moves_nothing _)
     removal_ends outcome.Skipped is shown = elim is.1 [
-      | inl by_request ↦ absurd (upload_is_no_removal (sym by_request.1 ∙ removal))
-      | inr by_file ↦ absurd (download_removes (sym by_file.1 ∙ removal))
+      | inl by_request ↦ absurd (upload_removes (sym by_request.1 ∙ removal))
+      | inr by_file ↦ absurd (removal_downloads (sym removal ∙ by_file.1))
     ]
 
 module _ (Shows : Ask → ℕ → Talk → Class → List ℕ → Type 0) (HasStatus : Ask → ℕ → Talk → ℕ → Type 0) where

@@ -19,7 +19,7 @@ use Rattle.world_laws.proofs.Members.{Has, contains_of, has, has-append_left, ha
 use Rattle.file_laws.specs.FileTasks.{IsDecidedBefore, IsRemoved, TaskCall, files_after}
 use Rattle.file_laws.specs.FileLaws.{AreCalls, FileIsMoved, FileIsRemoved, FilesStay, IsDecidedIn}
 use Rattle.file_laws.proofs.Keeping as keeping
-use Rattle.file_laws.proofs.Keeping.{IsClosing, only_download_makes, removal_downloads, run_of, same_path, same_task, some_none, some_place, upload_downloads, upload_removes, who_removes}
+use Rattle.file_laws.proofs.Keeping.{IsClosing, only_download_makes, removal_downloads, run_of, same_path, same_task, some_none, some_place, true_false, upload_downloads, upload_removes, who_removes}
 use Rattle.file_laws.proofs.TempFiles as temps
 use Rattle.file_laws.proofs.TempFiles.{Absent, InUse, Stayed, Untouched}
 
@@ -41,9 +41,6 @@ is_that_source (Some q) p = elim (is_that_file q p) [ inl e ↦ inl (ap Some e) 
 
 Touches : Task → List ℕ → Type 0
 Touches task p = (task.dest ≡ place.File p) ⊎ (task.moves ≡ true) × (task.source ≡ Some (place.File p))
-
-true_false : true ≡ false → ⊥
-true_false e = cc
 
 moves_or_not : (b : Bool) → (b ≡ true) ⊎ (b ≡ true → ⊥)
 moves_or_not true = inl refl

@@ -104,6 +104,9 @@ who_removes task kind.RemoveFile path fine h = inl (refl, h)
 who_removes task kind.Upload path fine h = inr (refl, h.0, h.1)
 who_removes task of_kind path fine h = absurd h
 
+pub true_false : true ≡ false → ⊥
+true_false e = cc
+
 pub removal_downloads : kind.RemoveFile ≡ kind.Download → ⊥
 removal_downloads e = cc
 

@@ -5,10 +5,10 @@ pub mod Effects
 pub mod FileEnds
 pub mod Files
 pub mod Filling
-pub mod Gets
 pub mod Keeping
 pub mod Ranges
 pub mod RemovalWitness
+pub mod Requests
 pub mod Resized
 pub mod Runs
 pub mod TempFiles

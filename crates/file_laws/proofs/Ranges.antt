@@ -19,13 +19,17 @@ AreSound small size piece count = small ≡ false → (1 ≤ piece) × (count �
 covered : (size piece : ℕ) → 1 ≤ piece → size ≤ piece_count size piece * piece
 covered size piece some = omega arith
 
+one_more : (piece k : ℕ) → 1 ≤ k → (k - 1) * piece + piece ≡ k * piece
+one_more piece zero low = absurd (omega arith)
+one_more piece (suc k) low = let back : suc k - 1 ≡ k = omega arith in rw back (omega arith)
+
 -- a piece ends where the next one begins
 next_begins : (piece m n : ℕ) → 1 ≤ m → m < n → (m - 1) * piece + piece ≤ (n - 1) * piece
-next_begins piece m n low before = let on : m ≤ n - 1 = omega arith in let up : m * piece ≤ (n - 1) * piece = mul-le-mul_right piece on in let same = one_more m low in omega arith
-  where
-    one_more : (k : ℕ) → 1 ≤ k → (k - 1) * piece + piece ≡ k * piece
-    one_more zero l = absurd (omega arith)
-    one_more (suc k) l = let back : suc k - 1 ≡ k = omega arith in rw back (omega arith)
+next_begins piece m n low before =
+    let on : m ≤ n - 1 = omega arith in
+    let up : m * piece ≤ (n - 1) * piece = mul-le-mul_right piece on in
+    let same = one_more piece m low in
+    omega arith
 
 pub ranges_apart : (small : Bool) (size piece count m at l n from k : ℕ) → IsRangeIn small size piece count m at l → IsRangeIn small size piece count n from k → (from ≢ at)
     → (from + k ≤ at) ⊎ (at + l ≤ from)
@@ -90,12 +94,8 @@ last_range false size piece count sound = (count, (count - 1) * piece, min piece
         let is = sound refl in
         let begins = begins_inside size piece count is.0 is.2 some (subst (λ (c : ℕ). count ≤ c) is.1 (omega arith)) in
         let all : size ≤ count * piece = subst (λ (c : ℕ). size ≤ c * piece) (sym is.1) (covered size piece is.0) in
-        let next : (count - 1) * piece + piece ≡ count * piece = one_more count some in
+        let next : (count - 1) * piece + piece ≡ count * piece = one_more piece count some in
         omega arith
-      where
-        one_more : (k : ℕ) → 1 ≤ k → (k - 1) * piece + piece ≡ k * piece
-        one_more zero l = absurd (omega arith)
-        one_more (suc k) l = let back : suc k - 1 ≡ k = omega arith in rw back (omega arith)
 
 -- the pieces of a download are sound
 pub are_sound : (s : Setting) (task : Task) (piece count : ℕ) → IsValidConfig s.config → IsValidLimits s.limits → task.kind ≡ kind.Download

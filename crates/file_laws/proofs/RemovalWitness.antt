@@ -33,17 +33,8 @@ use Rattle.world_laws.proofs.ScheduleWitness.{config_is_valid, limits_are_valid,
 use Rattle.file_laws.specs.FileEnds.{CallFailed, IsShownByCalls}
 use Rattle.file_laws.specs.FileTasks.{AreFileCalls, AreFilesApart, IsRemoved, TaskCall, steps_of}
 use Rattle.file_laws.specs.FileWitnesses.{FailedRemovalIsMet, IsFileTaskMet, IsMovedFileMet, MovedFileIsMet, RemovalIsMet, file_removal, moved_upload}
-use Rattle.file_laws.proofs.CallWitness.{calls_keep}
-use Rattle.file_laws.proofs.Keeping.{run_of, some_is_there}
-
-true_false : true ≡ false → ⊥
-true_false e = cc
-
-removes_or_moves : kind.RemoveFile ≡ kind.Upload → ⊥
-removes_or_moves e = cc
-
-removes_or_loads : kind.RemoveFile ≡ kind.Download → ⊥
-removes_or_loads e = cc
+use Rattle.file_laws.proofs.CallWitness.{calls_keep, still_apart}
+use Rattle.file_laws.proofs.Keeping.{removal_downloads, run_of, same_path, some_is_there, true_false, upload_downloads, upload_removes}
 
 makes_or_removes : (path dest temp : List ℕ) (fine : Bool) → Remove path fine ≡ MakeTemp dest (Ok temp) → ⊥
 makes_or_removes path dest temp fine e = cc
@@ -107,23 +98,7 @@ module _ (path : List ℕ) where
   fitting = rounds_fitting the_limits start [] tt tt (bare_is_faithful []) tt (IsDest (task ∷ []))
 
   apart : AreFilesApart held (task ∷ [])
-  apart = record {
-    destinations = λ m n a b p to_a to_b. (one_task task m a to_a.0).0 ∙ sym (one_task task n b to_b.0).0;
-    sources = λ m n a b p move to_b. stays m a move.0 move.1;
-    moved_once = λ m n a b p move too. absurd (stays m a move.0 move.1);
-    uploads = λ n a p move. absurd (stays n a move.0 move.1);
-    one_way = λ m n a b p move is_b load. stays m a move.0 move.1;
-    names = λ m n a b p to_a is_b load load_too temp. (one_task task m a to_a.0).0 ∙ sym (one_task task n b is_b).0;
-    there = λ n a p to_a removal.
-        let same = same_path path p (ap (λ (t : Task). t.dest) (sym (one_task task n a to_a.0).1) ∙ to_a.1) in
-        subst (λ (q : List ℕ). IsSome (get held q)) same (some_is_there (get held path) file there);
-  }
-    where
-      stays : (m : ℕ) (a : Task) → slice_get (task ∷ []) m ≡ Some a → a.moves ≡ true → ⊥
-      stays m a is moves = true_false (sym moves ∙ ap (λ (t : Task). t.moves) (one_task task m a is).1)
-
-      same_path : (p q : List ℕ) → place.File p ≡ place.File q → p ≡ q
-      same_path p q e = cc
+  apart = still_apart held task refl (λ p removal is_dest. subst (λ (q : List ℕ). IsSome (get held q)) (same_path path p is_dest) (some_is_there (get held path) file there))
 
   -- the one call
   module _ (fine : Bool) (after : MapOf HeldFile) where
@@ -143,7 +118,7 @@ module _ (path : List ℕ) where
     keep : AreFileCalls Told setting excused_none [] calls
     keep = calls_keep Told setting excused_none [] task (λ n other is. (one_task task n other is).1) refl calls
         (record { first = refl; is_call = refl; fine = tt; follows = tt; uses = tt; writes = tt; renames = tt; stamps = tt }, tt)
-        refl (λ c known upload. absurd (removes_or_moves upload)) (tt, tt) (λ c known is. no_dispatched c known) (λ c known is_get. absurd (no_dispatched c known))
+        refl (λ c known upload. absurd (upload_removes (sym upload))) (tt, tt) (λ c known is. no_dispatched c known) (λ c known is_get. absurd (no_dispatched c known))
         (λ re. absurd (renames_or_removes path re.3 re.4 fine (ap (λ (c : TaskCall). c.step.call) (only re.0 re.1) ∙ re.5)))
         (λ temp made. absurd (makes_or_removes path made.3 temp fine (ap (λ (c : TaskCall). c.step.call) (only made.0 made.1) ∙ made.4)))
 
@@ -158,8 +133,8 @@ module _ (path : List ℕ) where
       scheduled = scheduled;
       traced = record { runs = fitting.runs; honest = fitting.honest; fits = fitting.fits };
       whole = ([], refl, refl);
-      by_files = record { path = path; is_dest = refl; decided = inr refl; from = λ load. absurd (removes_or_loads load); keeps = λ removal. refl };
-      sourced = λ may load. absurd (removes_or_loads load);
+      by_files = record { path = path; is_dest = refl; decided = inr refl; from = λ load. absurd (removal_downloads load); keeps = λ removal. refl };
+      sourced = λ may load. absurd (removal_downloads load);
       caused = caused;
       shown = shown;
     }
@@ -194,12 +169,6 @@ module _ (bucket key path : List ℕ) where
 
   abbrev take_away : TaskCall
   take_away = record { task = 0; place = 2; step = record { call = Remove path true; held = remove file_there path } }
-
-  uploads_or_loads : kind.Upload ≡ kind.Download → ⊥
-  uploads_or_loads e = cc
-
-  uploads_or_removes : kind.Upload ≡ kind.RemoveFile → ⊥
-  uploads_or_removes e = cc
 
   no_file : (p : List ℕ) → place.Object bucket key ≡ place.File p → ⊥
   no_file p e = cc
@@ -241,9 +210,9 @@ module _ (bucket key path : List ℕ) where
     sources = λ m n a b p move to_b. no_file p (ap (λ (t : Task). t.dest) (sym (one_task moving n b to_b.0).1) ∙ to_b.1);
     moved_once = λ m n a b p move too. (one_task moving m a move.0).0 ∙ sym (one_task moving n b too.0).0;
     uploads = λ n a p move. ap (λ (t : Task). t.kind) (one_task moving n a move.0).1;
-    one_way = λ m n a b p move is_b load. uploads_or_loads (ap (λ (t : Task). t.kind) (sym (one_task moving n b is_b).1) ∙ load);
+    one_way = λ m n a b p move is_b load. upload_downloads (ap (λ (t : Task). t.kind) (sym (one_task moving n b is_b).1) ∙ load);
     names = λ m n a b p to_a is_b load load_too temp. (one_task moving m a to_a.0).0 ∙ sym (one_task moving n b is_b).0;
-    there = λ n a p to_a removal. absurd (uploads_or_removes (ap (λ (t : Task). t.kind) (sym (one_task moving n a to_a.0).1) ∙ removal));
+    there = λ n a p to_a removal. absurd (upload_removes (ap (λ (t : Task). t.kind) (sym (one_task moving n a to_a.0).1) ∙ removal));
   }
 
   moved_met : IsMovedFileMet moving path

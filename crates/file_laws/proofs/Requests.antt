@@ -1,11 +1,14 @@
--- What the Gets of a download tell of its source, by the laws on requests.
+-- What the laws on requests give to those on files: what the Gets of a download tell of its source, and that a deleted source is gone.
 use Rattle.std.proofs.Common.{◌≡◌, ◌∙◌, ◌-◌, ◌*◌, ◌≤◌, ℕ, Bool, true, false, min, List, Option, Some, None, refl, sym, ap, subst, Contains, length, take, drop, slice_get, arith}
 use Rattle.std.proofs.lemmas.List.{length-drop, take_min}
+use Rattle.std.proofs.lemmas.Option.{slice_get-get_or}
 use Rattle.std.proofs.Math.Seq.{take_all}
 use Rattle.s3_model.specs.declared.answers.Class.{Class}
 use Rattle.s3_model.specs.declared.answers.Class.TheVariants as class
+use Rattle.s3_model.specs.declared.answers.Reply.{Reply}
 use Rattle.s3_model.specs.declared.answers.Reply.TheVariants as reply
 use Rattle.s3_model.specs.declared.outcomes.Event.{Event}
+use Rattle.s3_model.specs.declared.outcomes.Event.TheVariants as entry
 use Rattle.s3_model.specs.declared.outcomes.JobId.{JobId}
 use Rattle.s3_model.specs.declared.places.Place.{Place}
 use Rattle.s3_model.specs.declared.places.Place.TheVariants as place
@@ -16,13 +19,16 @@ use Rattle.s3_model.specs.declared.requests.Op.TheVariants as op
 use Rattle.s3_model.specs.declared.tasks.Kind.{Kind}
 use Rattle.s3_model.specs.declared.tasks.Kind.TheVariants as kind
 use Rattle.s3_model.specs.declared.tasks.Task.{Task}
+use Rattle.s3_model.specs.Files.{HeldFile}
+use Rattle.s3_model.specs.Maps.{MapOf}
 use Rattle.s3_model.specs.Parts.{HasPieces, piece_count, piece_of}
 use Rattle.s3_model.specs.Talks.{Talk}
 use Rattle.s3_service.specs.ServiceState.{State}
-use Rattle.run_promise.specs.Dispatches.{Attempt, Dispatched, FitsAsk, FitsLast}
-use Rattle.run_promise.specs.Endings.{HasContent}
-use Rattle.run_promise.specs.Schedule.{Gained, IsSource, IsTaskAsk, Known, Origin, Setting, asked_range, gained_before, is_small, source_bytes}
-use Rattle.run_promise.specs.Traces.{Step, states}
+use Rattle.run_promise.specs.Dispatches.{Attempt, Dispatched, FitsAsk, FitsLast, last_of}
+use Rattle.run_promise.specs.Endings.{HasContent, IsGone}
+use Rattle.run_promise.specs.Schedule.{Gained, HasReply, IsSource, IsTaskAsk, Known, Origin, Setting, asked_range, gained_before, is_small, job_of, source_bytes}
+use Rattle.run_promise.specs.Traces.{Step, state_after, states}
+use Rattle.run_promise.specs.Truthful.{HasJournal}
 use Rattle.world_laws.specs.Downloads.{IsGot, IsPartial}
 use Rattle.world_laws.specs.Multipart.{joined}
 use Rattle.world_laws.specs.Premises.{HasSucceeded, IsFitting}
@@ -31,10 +37,34 @@ use Rattle.world_laws.specs.Tasks.{HasSourceObject, IsScheduled, IsTraceOf}
 use Rattle.world_laws.proofs.Downloads.{ranges_tell, whole_tells}
 use Rattle.world_laws.proofs.PieceCounts.{pieces_are_one}
 use Rattle.world_laws.proofs.Pieces.{pieces_make_whole}
-use Rattle.world_laws.proofs.Tasks.{last_place}
+use Rattle.world_laws.proofs.MovedTasks.{moved_source_is_gone}
+use Rattle.world_laws.proofs.Tasks.{last_place, replied}
 use Rattle.file_laws.specs.FileTasks.{IsBody, IsRangeIn}
 use Rattle.file_laws.proofs.Keeping.{same_task, some_place}
 use Rattle.file_laws.proofs.Ranges.{AreSound, are_sound, range_in, range_one}
+
+-- ---- jobs and moved sources
+
+download_removes_object : kind.Download ≡ kind.RemoveObject → ⊥
+download_removes_object e = cc
+
+module _ (Shows : Ask → ℕ → Talk → Class → List ℕ → Type 0) (s : Setting) (journal : List Event) (dispatched coming : List Dispatched) (r : IsScheduled Shows s journal dispatched coming) where
+  -- what the journal gave was dispatched
+  pub given_is_dispatched : (job : JobId) (lane : ℕ) → Contains journal (entry.Given job lane) → (c : Dispatched) × Contains dispatched c × (c.dispatch.job ≡ job)
+  given_is_dispatched job lane h =
+      let given = r.given.each_given h.0 lane job (slice_get-get_or journal h.0 (entry.Given job lane) h.1 ∙ ap Some h.2) in
+      (given.0, given.1, given.2)
+
+  -- the source of a moved download is gone once its Delete came with success
+  pub deleted_is_gone : (held : MapOf HeldFile) (start : State) (trace part : List Step) → IsTraceOf Shows s start trace journal dispatched → HasJournal journal trace part
+      → (n : ℕ) (task : Task) (bucket key : List ℕ) → slice_get s.tasks n ≡ Some task → task.kind ≡ kind.Download → task.moves ≡ true → task.source ≡ Some (place.Object bucket key)
+      → (c : Dispatched) → Contains dispatched c → c.dispatch.job ≡ job_of n op.Delete 0 → (answered : Reply) → HasReply Shows c (last_of c.dispatch.attempts) answered
+      → IsGone trace (record { state = state_after start part; held = held; others = s.others }) task.source
+  deleted_is_gone held start trace part traced whole n task bucket key is_task load moves source c known is answered replies =
+      moved_source_is_gone Shows s held start trace part journal dispatched coming r traced whole n task bucket key is_task moves source c known is
+      (λ removal. download_removes_object (sym load ∙ removal)) (replied Shows c answered replies).0
+
+-- ---- Gets
 
 -- the range that a Get asks for
 abbrev range_for : Bool → ℕ → ℕ → ℕ → Option (ℕ × ℕ)
