@@ -342,6 +342,9 @@ module _ (Shows : Ask → ℕ → Talk → Class → List ℕ → Type 0) (s : S
 
     -- ---- temporary files
 
+    unopened : (c : TaskCall) (at : ℕ) (bytes : List ℕ) (fine : Bool) → Contains calls c → c.step.call ≡ WriteAt path at bytes fine → ⊥
+    unopened c at bytes fine known e = let split = split_of calls c (has calls c known) in uses_none split.front c split.back split.is (WriteAt path at bytes fine) e refl
+
     tidy : (temp : List ℕ) → IsMade calls n temp → (get (files_after s.held calls) temp ≡ None) ⊎ IsLeft excused temp
     tidy temp made = by (files.end Shows s excused dispatched calls a temp free)
       where
@@ -359,5 +362,6 @@ module _ (Shows : Ask → ℕ → Talk → Class → List ℕ → Type 0) where
     old = old_until Shows run.setting run.excused run.dispatched run.calls a n task path to.0 load to.1;
     new = new_from Shows run.setting run.excused run.dispatched run.calls a n task path to.0 load to.1 coming start trace journal r traced source;
     timed = timed_in_the_end Shows run.setting run.excused run.dispatched run.calls a n task path to.0 load to.1 coming start trace journal r traced source;
+    unopened = unopened Shows run.setting run.excused run.dispatched run.calls a n task path to.0 load to.1;
     tidy = tidy Shows run.setting run.excused run.dispatched run.calls a n task path to.0 load to.1;
   }

@@ -1,5 +1,5 @@
 -- What the calls on files of a run leave of the files.
-use Rattle.std.specs.Prelude.{◌≡◌, ◌⊎◌, ◌++◌, ℕ, List, Option, Some, None, Contains}
+use Rattle.std.specs.Prelude.{◌≡◌, ◌⊎◌, ◌++◌, ℕ, Bool, List, Option, Some, None, Contains}
 use Rattle.std.specs.FinMap.{get}
 use Rattle.s3_model.specs.declared.answers.Class.{Class}
 use Rattle.s3_model.specs.declared.outcomes.Event.{Event}
@@ -14,7 +14,7 @@ use Rattle.run_promise.specs.Endings.{Excused, HasContent, IsLeft, IsLeftover, I
 use Rattle.run_promise.specs.Schedule.{Setting}
 use Rattle.run_promise.specs.Traces.{Step, states}
 use Rattle.run_promise.specs.Truthful.{IsTouchedFile}
-use Rattle.local_files.specs.Calls.{IsCallRun}
+use Rattle.local_files.specs.Calls.{IsCallRun, WriteAt}
 use Rattle.world_laws.specs.Tasks.{HasSourceObject, IsScheduled, IsTraceOf}
 use Rattle.file_laws.specs.FileTasks.{AreFileCalls, AreFilesApart, IsDecidedBefore, IsMade, IsMoveOf, IsRemoved, IsRenamed, IsTaskTo, TaskCall, files_after, steps_of}
 
@@ -45,6 +45,8 @@ pub record IsDownloaded (run : FileRun) (moments : List State) (n : ℕ) (task :
   -- in the end it has the planned time, or a warning says that this failed
   pub timed : IsRenamed run.calls n
       → (file : HeldFile) × (in_the_end run path ≡ Some file) × ((file.micros ≡ task.micros) ⊎ IsUntimed run.excused path)
+  -- no call writes to it
+  pub unopened : (c : TaskCall) (at : ℕ) (bytes : List ℕ) (fine : Bool) → Contains run.calls c → c.step.call ≡ WriteAt path at bytes fine → ⊥
   -- no temporary file of it stays but one that a warning names
   pub tidy : (temp : List ℕ) → IsMade run.calls n temp → (in_the_end run temp ≡ None) ⊎ IsLeft run.excused temp
 

@@ -13,7 +13,7 @@ use Rattle.s3_model.specs.TempNames.{is_temp_name}
 pub data Fault : Type 0 where
   Failed : Fault
   Blocked : (length : ℕ) → Fault
-  NoMemory : Fault
+  Memory : Fault
 
 -- A call with its answer: the path of the temporary file or why none was made, whether the call succeeded, or why the file was not renamed.
 pub data Call : Type 0 where
