@@ -16,7 +16,7 @@ use Rattle.s3_model.specs.Files.{HeldFile}
 use Rattle.s3_model.specs.Maps.{MapOf}
 use Rattle.s3_model.specs.Talks.{Talk}
 use Rattle.run_promise.specs.Dispatches.{Dispatched}
-use Rattle.run_promise.specs.Endings.{Excused}
+use Rattle.run_promise.specs.Endings.{Excused, IsLeft, IsUntimed}
 use Rattle.run_promise.specs.Schedule.{Setting}
 use Rattle.local_files.specs.Calls.{Call, DropTemp, MakeTemp, Rename, Stamp, WriteAt}
 use Rattle.world_laws.proofs.Members.{Has, has, head_is, split_of, tail_is}
@@ -98,11 +98,11 @@ OnUse P (Rename temp dest fault) = P temp
 OnUse P (DropTemp temp fine) = P temp
 OnUse P call = Unit {0}
 
--- no call but a removal is left to a failure
-abbrev pub IsFine : Call → Type 0
-IsFine (DropTemp temp false) = ⊥
-IsFine (Stamp path micros false) = ⊥
-IsFine call = Unit {0}
+-- a drop or a time that failed has its warning
+abbrev pub IsWarned : Excused → Call → Type 0
+IsWarned excused (DropTemp temp false) = IsLeft excused temp
+IsWarned excused (Stamp path micros false) = IsUntimed excused path
+IsWarned excused call = Unit {0}
 
 on_use : (P : List ℕ → Type 0) (call : Call) (temp : List ℕ) → OnUse P call → UsesTemp call temp → P temp
 on_use P (WriteAt q at bytes fine) temp h e = subst P e h
@@ -115,7 +115,7 @@ module _ (Shows : Ask → ℕ → Talk → Class → List ℕ → Type 0) (s : S
   pub record Keeps (front : List TaskCall) (c : TaskCall) : Type 0 where
     pub first : c.task ≡ 0
     pub is_call : IsCallOf task task.kind c.step.call
-    pub fine : IsFine c.step.call
+    pub warned : IsWarned excused c.step.call
     pub follows : ForAll (λ (earlier : TaskCall). MayFollow earlier.step.call c.step.call) front
     pub uses : OnUse (IsMade front 0) c.step.call
     pub writes : OnWrite (λ temp at bytes. IsBody Shows s dispatched 0 task c.place at bytes) c.step.call
@@ -155,10 +155,10 @@ module _ (Shows : Ask → ℕ → Talk → Class → List ℕ → Type 0) (s : S
       stamps = λ n re. let k = (kept_one re.0 re.1).1 in let zero = sym k.first ∙ re.2 in
           subst (IsStamped calls) zero (stamped (re.0, re.1, k.first, re.3, re.4, re.5));
       stamps_last = λ front c path micros fine is e. let k = kept front c is.0 is.1 in subst (IsRenamed front) (sym k.first) (subst (λ (x : Call). OnStamp (IsRenamed front 0) x) e k.stamps);
-      untimed = λ c path micros known e. absurd (subst (λ (x : Call). IsFine x) e (kept_one c known).1.fine);
+      untimed = λ c path micros known e. subst (λ (x : Call). IsWarned excused x) e (kept_one c known).1.warned;
       drops = λ n temp made. let k = (kept_one made.0 made.1).1 in let zero = sym k.first ∙ made.2 in
           subst (λ (m : ℕ). IsRenamed calls m ⊎ IsDropped calls m) zero (dropped temp (made.0, made.1, k.first, made.3, made.4));
-      left = λ c temp known e. absurd (subst (λ (x : Call). IsFine x) e (kept_one c known).1.fine);
+      left = λ c temp known e. subst (λ (x : Call). IsWarned excused x) e (kept_one c known).1.warned;
       moves_last = λ c other path fine known is_other upload e.
           let by = decided c known (ap (λ (t : Task). t.kind) (sym (only c.task other is_other)) ∙ upload) in
           subst (λ (t : Task). IsDecidedBefore Shows s dispatched c.task t c.place) (sym (only c.task other is_other))

@@ -1,6 +1,6 @@
 -- Runs that download two bytes in two ranges: one in which they came in reverse order, and one whose second Get was refused.
 use Rattle.std.proofs.Common.{◌<◌, ◌+◌, ◌≡◌, ◌∙◌, ◌⊎◌, ◌≤◌, ℕ, zero, suc, Bool, true, false, List, [], ◌∷◌, Option, Some, None, Ok, refl, sym, ap, subst, inl, inr, AllPairs, Contains, length, slice_get, arith}
-use Rattle.std.specs.Prelude.{codes}
+use Rattle.std.specs.Prelude.{IsSome, codes}
 use Rattle.std.specs.Cmp.Lexicographic.{nat_list_cmp_total, slice_cmp}
 use Rattle.std.specs.Ordering.{nat_cmp}
 use Rattle.std.specs.FinMap.{empty, get, get-empty, insert, remove}
@@ -29,12 +29,12 @@ use Rattle.s3_model.specs.Validity.{IsValidConfig}
 use Rattle.s3_service.specs.ServiceState.{State, with_object}
 use Rattle.s3_service.specs.Serves.{IsThere, LiesWithin}
 use Rattle.run_promise.specs.Dispatches.{Dispatched, FitsAsk, IsCompletedWell, IsCut, op_number}
-use Rattle.run_promise.specs.Endings.{Excused}
+use Rattle.run_promise.specs.Endings.{Excused, IsLeftover}
 use Rattle.run_promise.specs.Outcomes.{HasOutcome, IsFirstFailure, SaysChanged, came_with}
 use Rattle.run_promise.specs.Schedule.{IsBefore, IsBeforeAny, IsDecided, IsFailed, IsSchedule, IsTaskAsk, Origin, Setting, asked_range, gained_before, is_small, job_of, limit_of, source_bytes}
 use Rattle.run_promise.specs.Traces.{Step, states}
 use Rattle.run_promise.specs.Truthful.{IsDest}
-use Rattle.local_files.specs.Calls.{DropTemp, IsCallRun, IsTempFor, MakeTemp, Rename, Stamp, WriteAt, written_at}
+use Rattle.local_files.specs.Calls.{DropTemp, IsCallRun, IsTempFor, Leads, MakeTemp, Rename, Stamp, WriteAt, written_at}
 use Rattle.world_laws.specs.Premises.{IsFitting}
 use Rattle.world_laws.specs.Rounds.{AreServed, Round, Told, ToldStatus, attempt_of, dispatch_at, dispatched_from, journal_of, steps_from}
 use Rattle.world_laws.specs.SmallTransfers.{HadContent}
@@ -48,9 +48,10 @@ use Rattle.world_laws.proofs.Rounds.{AreApart as AreOtherJobs, rounds_come, roun
 use Rattle.world_laws.proofs.ScheduleWitness.{limits_are_valid, one_task, setting_of, the_limits}
 use Rattle.file_laws.specs.FileEnds.{CallFailed, IsShownByCalls}
 use Rattle.file_laws.specs.FileTasks.{AreFileCalls, AreFilesApart, AreWritten, IsBody, IsDropped, IsRangeIn, IsRenamed, TaskCall, steps_of}
-use Rattle.file_laws.specs.FileWitnesses.{DownloadIsMet, IsFileTaskMet, RefusedGetIsMet, places_written, two_bytes}
-use Rattle.file_laws.proofs.CallWitness.{all_pairs, calls_keep, still_apart}
-use Rattle.file_laws.proofs.Keeping.{removal_downloads, run_of, true_false, upload_downloads}
+use Rattle.file_laws.specs.FileLaws.{in_the_end}
+use Rattle.file_laws.specs.FileWitnesses.{DownloadIsMet, IsFileTaskMet, LeftFileIsMet, RefusedGetIsMet, places_written, two_bytes}
+use Rattle.file_laws.proofs.CallWitness.{IsWarned, all_pairs, calls_keep, still_apart}
+use Rattle.file_laws.proofs.Keeping.{removal_downloads, run_of, some_is_there, true_false, upload_downloads}
 use Rattle.file_laws.proofs.Resized.{resized, resized_come, resized_fits, resized_given}
 
 -- ---- what differs
@@ -294,7 +295,7 @@ module _ (bucket key : List ℕ) (a b : ℕ) where
             ap length (sym had.4 ∙ sym faithful ∙ had.3.etag)
 
     -- a run with these calls
-    module _ (calls : List TaskCall) (keep : AreFileCalls Told setting excused all calls) (runs : IsCallRun empty (steps_of calls)) where
+    module _ (excused : Excused) (calls : List TaskCall) (keep : AreFileCalls Told setting excused all calls) (runs : IsCallRun empty (steps_of calls)) where
       met : (how : Outcome) → HasOutcome Told ToldStatus (CallFailed calls) setting all all 0 task how → IsShownByCalls how (IsRenamed calls 0) → IsFileTaskMet task how
       met how caused shown = record {
         run = run_of setting excused all calls;
@@ -404,15 +405,15 @@ module _ (bucket key : List ℕ) (a b : ℕ) where
 
   keep : AreFileCalls Told setting excused reversed calls
   keep = calls_keep Told setting excused reversed task only refl calls (
-    record { first = refl; is_call = refl; fine = tt; follows = tt; uses = tt; writes = tt; renames = tt; stamps = tt },
+    record { first = refl; is_call = refl; warned = tt; follows = tt; uses = tt; writes = tt; renames = tt; stamps = tt },
     (
-      record { first = refl; is_call = tt; fine = tt; follows = (refl, tt); uses = (make, (0, omega arith, refl), refl, dest, refl); writes = body_two; renames = tt; stamps = tt },
+      record { first = refl; is_call = tt; warned = tt; follows = (refl, tt); uses = (make, (0, omega arith, refl), refl, dest, refl); writes = body_two; renames = tt; stamps = tt },
       (
-        record { first = refl; is_call = tt; fine = tt; follows = (refl, ((λ e. absurd (omega arith)), tt)); uses = (make, (0, omega arith, refl), refl, dest, refl); writes = body_one; renames = tt; stamps = tt },
+        record { first = refl; is_call = tt; warned = tt; follows = (refl, ((λ e. absurd (omega arith)), tt)); uses = (make, (0, omega arith, refl), refl, dest, refl); writes = body_one; renames = tt; stamps = tt },
         (
-          record { first = refl; is_call = refl; fine = tt; follows = (refl, (tt, (tt, tt))); uses = (make, (0, omega arith, refl), refl, dest, refl); writes = tt; renames = all_written; stamps = tt },
+          record { first = refl; is_call = refl; warned = tt; follows = (refl, (tt, (tt, tt))); uses = (make, (0, omega arith, refl), refl, dest, refl); writes = tt; renames = all_written; stamps = tt },
           (
-            record { first = refl; is_call = (refl, refl); fine = tt; follows = (tt, (tt, (tt, (tt, tt)))); uses = tt; writes = tt; renames = tt; stamps = (rename, (3, omega arith, refl), refl, temp, dest, refl) },
+            record { first = refl; is_call = (refl, refl); warned = tt; follows = (tt, (tt, (tt, (tt, tt)))); uses = tt; writes = tt; renames = tt; stamps = (rename, (3, omega arith, refl), refl, temp, dest, refl) },
             tt,
           ),
         ),
@@ -468,7 +469,7 @@ module _ (bucket key : List ℕ) (a b : ℕ) where
   done_met : (done : IsFileTaskMet task outcome.Done) × (places_written done.run.calls ≡ 1 ∷ 0 ∷ [])
   unfolding met
   done_met = (
-    met 2 1 (omega arith) (omega arith) (omega arith) (omega arith) two_is_one (b ∷ []) (a ∷ []) refl false backwards_served calls keep runs outcome.Done
+    met 2 1 (omega arith) (omega arith) (omega arith) (omega arith) two_is_one (b ∷ []) (a ∷ []) refl false backwards_served excused calls keep runs outcome.Done
         (λ c failed. none_fails c failed.0, decided, λ moves. absurd (true_false (sym moves)), λ fresh. absurd (true_false (sym fresh)))
         (rename, (3, omega arith, refl), refl, temp, dest, refl),
     refl,
@@ -500,98 +501,114 @@ module _ (bucket key : List ℕ) (a b : ℕ) where
   abbrev write_half : TaskCall
   write_half = record { task = 0; place = 2; step = record { call = WriteAt temp 0 (a ∷ []) true; held = half_files } }
 
-  abbrev drop_temp : TaskCall
-  drop_temp = record { task = 0; place = 4; step = record { call = DropTemp temp true; held = remove half_files temp } }
-
-  abbrev half_calls : List TaskCall
-  half_calls = make ∷ write_half ∷ drop_temp ∷ []
-
   body_half : IsBody Told setting halved 0 task 2 0 (a ∷ [])
   body_half = body_of 0 1 (a ∷ []) halved refl (omega arith) (omega arith) (0, omega arith, refl) 2 0 (omega arith) refl
 
-  none_renamed : IsRenamed half_calls 0 → ⊥
-  none_renamed re = by (has half_calls re.0 re.1)
-    where
-      made_is : MakeTemp dest (Ok temp) ≡ Rename re.3 re.4 None → ⊥
-      made_is e = cc
+  -- the drop went well, or a warning says that it did not
+  module _ (fine : Bool) (warnings : Excused) (warned : IsWarned warnings (DropTemp temp fine)) (after : MapOf HeldFile) (leads : Leads (DropTemp temp fine) half_files after) where
+    abbrev drop_temp : TaskCall
+    drop_temp = record { task = 0; place = 4; step = record { call = DropTemp temp fine; held = after } }
 
-      write_is : WriteAt temp 0 (a ∷ []) true ≡ Rename re.3 re.4 None → ⊥
-      write_is e = cc
+    abbrev half_calls : List TaskCall
+    half_calls = make ∷ write_half ∷ drop_temp ∷ []
 
-      drop_is : DropTemp temp true ≡ Rename re.3 re.4 None → ⊥
-      drop_is e = cc
+    none_renamed : IsRenamed half_calls 0 → ⊥
+    none_renamed re = by (has half_calls re.0 re.1)
+      where
+        made_is : MakeTemp dest (Ok temp) ≡ Rename re.3 re.4 None → ⊥
+        made_is e = cc
 
-      by : Has half_calls re.0 → ⊥
-      by (inl e) = made_is (ap (λ (c : TaskCall). c.step.call) e ∙ re.5)
-      by (inr (inl e)) = write_is (ap (λ (c : TaskCall). c.step.call) e ∙ re.5)
-      by (inr (inr (inl e))) = drop_is (ap (λ (c : TaskCall). c.step.call) e ∙ re.5)
-      by (inr (inr (inr h))) = h
+        write_is : WriteAt temp 0 (a ∷ []) true ≡ Rename re.3 re.4 None → ⊥
+        write_is e = cc
 
-  keep_half : AreFileCalls Told setting excused halved half_calls
-  keep_half = calls_keep Told setting excused halved task only refl half_calls (
-    record { first = refl; is_call = refl; fine = tt; follows = tt; uses = tt; writes = tt; renames = tt; stamps = tt },
-    (
-      record { first = refl; is_call = tt; fine = tt; follows = (refl, tt); uses = (make, (0, omega arith, refl), refl, dest, refl); writes = body_half; renames = tt; stamps = tt },
-      (record { first = refl; is_call = tt; fine = tt; follows = (refl, (tt, tt)); uses = (make, (0, omega arith, refl), refl, dest, refl); writes = tt; renames = tt; stamps = tt }, tt),
-    ),
-  )
-      refl (λ c known upload. absurd (upload_downloads (sym upload)))
-      ((omega arith, (omega arith, tt)), ((omega arith, tt), (tt, tt)))
-      (λ c known is. no_op 1 2 (omega arith) (omega arith) (omega arith) (omega arith) one_is_two (a ∷ []) denied refl true half_served op.Delete (λ e. absurd (omega arith)) c known is)
-      (λ c known is_get. (make, (0, omega arith, refl), of_first_task 1 2 (omega arith) (omega arith) (omega arith) (omega arith) one_is_two (a ∷ []) denied refl true half_served c known, dest, temp, refl, omega arith))
-      (λ re. absurd (none_renamed re))
-      (λ path made. inr (drop_temp, (2, omega arith, refl), refl, temp, true, refl))
+        drop_is : DropTemp temp fine ≡ Rename re.3 re.4 None → ⊥
+        drop_is e = cc
 
-  runs_half : IsCallRun empty (steps_of half_calls)
-  runs_half = (
-    (is_temp, get-empty (slice_cmp nat_cmp) temp, (0, refl)),
-    ((empty_file, found empty temp empty_file, (0, refl)), (refl, tt)),
-  )
+        by : Has half_calls re.0 → ⊥
+        by (inl e) = made_is (ap (λ (c : TaskCall). c.step.call) e ∙ re.5)
+        by (inr (inl e)) = write_is (ap (λ (c : TaskCall). c.step.call) e ∙ re.5)
+        by (inr (inr (inl e))) = drop_is (ap (λ (c : TaskCall). c.step.call) e ∙ re.5)
+        by (inr (inr (inr h))) = h
 
-  not_cut : (Stopped : Type 0) → IsCut Told 1 refused_get [] Stopped → ⊥
-  not_cut Stopped (inl again) = has [] again.0 again.1
-  not_cut Stopped (inr cut) = let left = cut.3.4 in absurd (omega arith)
-
-  second_fails : IsFailed Told setting halved refused_get
-  second_fails = (resized 1 2 (dispatch_at 0 (get_round 1 false (a ∷ []))) ∷ [], [], refl, λ cut. not_cut _ cut, λ well. refused_or_fine well.0)
-
-  first_failure : IsFirstFailure Told ToldStatus (CallFailed half_calls) setting halved halved 0 refused_get
-  first_failure = (
-    (second_fails, refl),
-    λ other failing. inl (sym (ap (λ (c : Dispatched). c.dispatch)
-        (only_second_fails 1 2 (omega arith) (omega arith) (omega arith) (omega arith) one_is_two (a ∷ []) denied refl true half_served other failing.0))),
-  )
-
-  not_changed : SaysChanged Told ToldStatus refused_get (attempt_of (get_round 2 true denied)) → ⊥
-  not_changed changed = elim changed.1.4 [
-    | inl status ↦ other_status status
-    | inr code ↦ other_code (sym code ∙ code_is changed.1.0 changed.1.1 changed.1.3.0)
-  ]
-    where
-      other_status : ◌≡◌ {A = ℕ} 412 403 → ⊥
-      other_status e = omega arith
-
-      code_is : (code message : List ℕ) → class.Refusal code message ≡ class.Refusal denied [] → code ≡ denied
-      code_is code message e = cc
-
-      other_code : codes "PreconditionFailed" ≡ denied → ⊥
-      other_code e = let level : ◌≡◌ {A = ℕ} 18 12 = ap length e in absurd (omega arith)
-
-  refused_met : (failed : IsFileTaskMet task (outcome.Failed (cause.Service op.Get denied []))) × (places_written failed.run.calls ≡ 0 ∷ []) × IsDropped failed.run.calls 0
-  unfolding met
-  refused_met = (
-    met 1 2 (omega arith) (omega arith) (omega arith) (omega arith) one_is_two (a ∷ []) denied refl true half_served half_calls keep_half runs_half (outcome.Failed (cause.Service op.Get denied [])) (
-      λ decided. decided.2.0,
-      λ left_open. left_open.0.2.0,
-      ((refused_get, first_failure, (refl, (denied, (refl, refl)), not_changed)), λ skipped. upload_downloads (sym skipped.1)),
+    keep_half : AreFileCalls Told setting warnings halved half_calls
+    keep_half = calls_keep Told setting warnings halved task only refl half_calls (
+      record { first = refl; is_call = refl; warned = tt; follows = tt; uses = tt; writes = tt; renames = tt; stamps = tt },
+      (
+        record { first = refl; is_call = tt; warned = tt; follows = (refl, tt); uses = (make, (0, omega arith, refl), refl, dest, refl); writes = body_half; renames = tt; stamps = tt },
+        (record { first = refl; is_call = tt; warned = warned; follows = (refl, (tt, tt)); uses = (make, (0, omega arith, refl), refl, dest, refl); writes = tt; renames = tt; stamps = tt }, tt),
+      ),
     )
-        none_renamed,
-    refl,
-    (drop_temp, (2, omega arith, refl), refl, temp, true, refl),
+        refl (λ c known upload. absurd (upload_downloads (sym upload)))
+        ((omega arith, (omega arith, tt)), ((omega arith, tt), (tt, tt)))
+        (λ c known is. no_op 1 2 (omega arith) (omega arith) (omega arith) (omega arith) one_is_two (a ∷ []) denied refl true half_served op.Delete (λ e. absurd (omega arith)) c known is)
+        (λ c known is_get. (make, (0, omega arith, refl), of_first_task 1 2 (omega arith) (omega arith) (omega arith) (omega arith) one_is_two (a ∷ []) denied refl true half_served c known, dest, temp, refl, omega arith))
+        (λ re. absurd (none_renamed re))
+        (λ path made. inr (drop_temp, (2, omega arith, refl), refl, temp, fine, refl))
+
+    runs_half : IsCallRun empty (steps_of half_calls)
+    runs_half = (
+      (is_temp, get-empty (slice_cmp nat_cmp) temp, (0, refl)),
+      ((empty_file, found empty temp empty_file, (0, refl)), (leads, tt)),
+    )
+
+    not_cut : (Stopped : Type 0) → IsCut Told 1 refused_get [] Stopped → ⊥
+    not_cut Stopped (inl again) = has [] again.0 again.1
+    not_cut Stopped (inr cut) = let left = cut.3.4 in absurd (omega arith)
+
+    second_fails : IsFailed Told setting halved refused_get
+    second_fails = (resized 1 2 (dispatch_at 0 (get_round 1 false (a ∷ []))) ∷ [], [], refl, λ cut. not_cut _ cut, λ well. refused_or_fine well.0)
+
+    first_failure : IsFirstFailure Told ToldStatus (CallFailed half_calls) setting halved halved 0 refused_get
+    first_failure = (
+      (second_fails, refl),
+      λ other failing. inl (sym (ap (λ (c : Dispatched). c.dispatch)
+          (only_second_fails 1 2 (omega arith) (omega arith) (omega arith) (omega arith) one_is_two (a ∷ []) denied refl true half_served other failing.0))),
+    )
+
+    not_changed : SaysChanged Told ToldStatus refused_get (attempt_of (get_round 2 true denied)) → ⊥
+    not_changed changed = elim changed.1.4 [
+      | inl status ↦ other_status status
+      | inr code ↦ other_code (sym code ∙ code_is changed.1.0 changed.1.1 changed.1.3.0)
+    ]
+      where
+        other_status : ◌≡◌ {A = ℕ} 412 403 → ⊥
+        other_status e = omega arith
+
+        code_is : (code message : List ℕ) → class.Refusal code message ≡ class.Refusal denied [] → code ≡ denied
+        code_is code message e = cc
+
+        other_code : codes "PreconditionFailed" ≡ denied → ⊥
+        other_code e = let level : ◌≡◌ {A = ℕ} 18 12 = ap length e in absurd (omega arith)
+
+    refused_met : (failed : IsFileTaskMet task (outcome.Failed (cause.Service op.Get denied []))) × (places_written failed.run.calls ≡ 0 ∷ []) × IsDropped failed.run.calls 0
+    unfolding met
+    refused_met = (
+      met 1 2 (omega arith) (omega arith) (omega arith) (omega arith) one_is_two (a ∷ []) denied refl true half_served warnings half_calls keep_half runs_half (outcome.Failed (cause.Service op.Get denied [])) (
+        λ decided. decided.2.0,
+        λ left_open. left_open.0.2.0,
+        ((refused_get, first_failure, (refl, (denied, (refl, refl)), not_changed)), λ skipped. upload_downloads (sym skipped.1)),
+      )
+          none_renamed,
+      refl,
+      (drop_temp, (2, omega arith, refl), refl, temp, fine, refl),
+    )
+
+  abbrev warnings_of_temp : Excused
+  warnings_of_temp = record { left = temp ∷ []; untimed = []; wanted_memory = false }
+
+  left_met : (failed : IsFileTaskMet task (outcome.Failed (cause.Service op.Get denied [])))
+      × ((path : List ℕ) × IsLeftover failed.run.excused failed.run.setting.held path × IsSome (in_the_end failed.run path))
+  unfolding refused_met met
+  left_met = (
+    (refused_met false warnings_of_temp (refl, inl (0, omega arith, refl)) half_files refl).0,
+    (temp, ((refl, inl (0, omega arith, refl)), get-empty (slice_cmp nat_cmp) temp), some_is_there (get half_files temp) (with_bytes (written_at 0 (a ∷ []) [])) (found made_files temp (with_bytes (written_at 0 (a ∷ []) [])))),
   )
 
 pub download_is_met : DownloadIsMet
 download_is_met bucket key a b = done_met bucket key a b
 
 pub refused_get_is_met : RefusedGetIsMet
-refused_get_is_met bucket key a b = refused_met bucket key a b
+refused_get_is_met bucket key a b = refused_met bucket key a b true excused tt _ refl
+
+pub left_file_is_met : LeftFileIsMet
+left_file_is_met bucket key a b = left_met bucket key a b

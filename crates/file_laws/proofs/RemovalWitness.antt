@@ -116,7 +116,7 @@ module _ (path : List ℕ) where
 
     keep : AreFileCalls Told setting excused_none [] calls
     keep = calls_keep Told setting excused_none [] task (λ n other is. (one_task task n other is).1) refl calls
-        (record { first = refl; is_call = refl; fine = tt; follows = tt; uses = tt; writes = tt; renames = tt; stamps = tt }, tt)
+        (record { first = refl; is_call = refl; warned = tt; follows = tt; uses = tt; writes = tt; renames = tt; stamps = tt }, tt)
         refl (λ c known upload. absurd (upload_removes (sym upload))) (tt, tt) (λ c known is. no_dispatched c known) (λ c known is_get. absurd (no_dispatched c known))
         (λ re. absurd (renames_or_removes path re.3 re.4 fine (ap (λ (c : TaskCall). c.step.call) (only re.0 re.1) ∙ re.5)))
         (λ temp made. absurd (makes_or_removes path made.3 temp fine (ap (λ (c : TaskCall). c.step.call) (only made.0 made.1) ∙ made.4)))
@@ -188,7 +188,7 @@ module _ (bucket key path : List ℕ) where
 
   keep_moving : AreFileCalls Told moving_setting excused_none put_sent (take_away ∷ [])
   keep_moving = calls_keep Told moving_setting excused_none put_sent moving (λ n other is. (one_task moving n other is).1) refl (take_away ∷ [])
-      (record { first = refl; is_call = (refl, refl); fine = tt; follows = tt; uses = tt; writes = tt; renames = tt; stamps = tt }, tt)
+      (record { first = refl; is_call = (refl, refl); warned = tt; follows = tt; uses = tt; writes = tt; renames = tt; stamps = tt }, tt)
       refl
       (λ c known upload. (dispatch_at 0 put, (0, omega arith, refl), refl, subst (λ (x : TaskCall). IsBefore (Some 1) x.place) (only_call c known) (omega arith), (reply.Stored, (refl, [], (refl, refl)))))
       (tt, tt)

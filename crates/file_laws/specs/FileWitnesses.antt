@@ -1,5 +1,5 @@
 -- Runs that meet the premises of the laws on files.
-use Rattle.std.specs.Prelude.{◌≡◌, ℕ, true, false, List, [], ◌∷◌, Option, Some, None, codes, filter_map, slice_get}
+use Rattle.std.specs.Prelude.{◌≡◌, ℕ, true, false, List, [], ◌∷◌, Option, Some, None, codes, filter_map, slice_get, IsSome}
 use Rattle.s3_model.specs.declared.outcomes.Cause.TheVariants as cause
 use Rattle.s3_model.specs.declared.outcomes.Event.{Event}
 use Rattle.s3_model.specs.declared.outcomes.FileCall.TheVariants as call
@@ -10,6 +10,7 @@ use Rattle.s3_model.specs.declared.requests.Op.TheVariants as op
 use Rattle.s3_model.specs.declared.tasks.Kind.TheVariants as kind
 use Rattle.s3_model.specs.declared.tasks.Task.{Task}
 use Rattle.s3_service.specs.ServiceState.{State}
+use Rattle.run_promise.specs.Endings.{IsLeftover}
 use Rattle.run_promise.specs.Outcomes.{HasOutcome}
 use Rattle.run_promise.specs.Traces.{Step, states}
 use Rattle.run_promise.specs.Truthful.{HasJournal}
@@ -17,7 +18,7 @@ use Rattle.local_files.specs.Calls.{Call, WriteAt}
 use Rattle.world_laws.specs.Rounds.{Told, ToldStatus}
 use Rattle.world_laws.specs.Tasks.{HasSourceObject, IsScheduled, IsTraceOf, MayBeNew}
 use Rattle.file_laws.specs.FileEnds.{CallFailed, IsByFiles, IsPlaced, IsShownByCalls}
-use Rattle.file_laws.specs.FileLaws.{AreCalls, FileRun}
+use Rattle.file_laws.specs.FileLaws.{AreCalls, FileRun, in_the_end}
 use Rattle.file_laws.specs.FileTasks.{IsDropped, IsMoveOf, IsRemoved, TaskCall}
 
 -- an object of two bytes, under an ETag that spells them, to a file
@@ -93,6 +94,11 @@ DownloadIsMet = (bucket key : List ℕ) (a b : ℕ) → (met : IsFileTaskMet (tw
 abbrev pub RefusedGetIsMet : Type 0
 RefusedGetIsMet = (bucket key : List ℕ) (a b : ℕ) → (met : IsFileTaskMet (two_bytes bucket key a b) (outcome.Failed (cause.Service op.Get (codes "AccessDenied") [])))
     × (places_written met.run.calls ≡ 0 ∷ []) × IsDropped met.run.calls 0
+
+-- so it was, but it could not be dropped, and stays with a warning
+abbrev pub LeftFileIsMet : Type 0
+LeftFileIsMet = (bucket key : List ℕ) (a b : ℕ) → (met : IsFileTaskMet (two_bytes bucket key a b) (outcome.Failed (cause.Service op.Get (codes "AccessDenied") [])))
+    × ((path : List ℕ) × IsLeftover met.run.excused met.run.setting.held path × IsSome (in_the_end met.run path))
 
 -- a file that was removed, and one that could not be
 abbrev pub RemovalIsMet : Type 0

@@ -2,7 +2,7 @@
 
 ghost use Rattle.file_laws.specs.FileEnds.{FileTaskEnds, MovedFilesAreLeft};
 ghost use Rattle.file_laws.specs.FileLaws.{FileIsDownloaded, FileIsMoved, FileIsRemoved, FilesStay};
-ghost use Rattle.file_laws.specs.FileWitnesses.{DownloadIsMet, FailedRemovalIsMet, MovedFileIsMet, RefusedGetIsMet, RemovalIsMet};
+ghost use Rattle.file_laws.specs.FileWitnesses.{DownloadIsMet, FailedRemovalIsMet, LeftFileIsMet, MovedFileIsMet, RefusedGetIsMet, RemovalIsMet};
 ghost use Rattle.world_laws.specs.Rounds.{AreNone, NeverFailed, Told, ToldStatus};
 
 use world_laws::{Command, Reading};
@@ -11,7 +11,7 @@ use world_laws::{Command, Reading};
 /// file that could not be dropped may stay, and a warning names it.
 pub fn other_files<R: Reading>()
     ensures stay { FilesStay R.shows }
-    ensures met { RefusedGetIsMet }
+    ensures met { LeftFileIsMet }
 {}
 
 /// A file that is to be removed is absent after its removal went well, and else as before.

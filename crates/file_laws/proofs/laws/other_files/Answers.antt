@@ -1,4 +1,4 @@
-use Rattle.file_laws.proofs.DownloadWitness.{refused_get_is_met}
+use Rattle.file_laws.proofs.DownloadWitness.{left_file_is_met}
 use Rattle.file_laws.proofs.Files as files
 use Rattle.file_laws.proofs.laws.other_files.Goals as goal
 
@@ -6,4 +6,4 @@ pub returns-clause-stay : goal.returns-clause-stay
 returns-clause-stay g c = files.files_stay g.R.Reading.shows
 
 pub returns-clause-met : goal.returns-clause-met
-returns-clause-met g c = refused_get_is_met
+returns-clause-met g c = left_file_is_met
