@@ -95,8 +95,45 @@ none_later bucket key = record {
     longer : length (0 ∷ bucket) ≡ length bucket → ⊥
     longer e = absurd (omega arith)
 
-module _ (limits : Limits) (bucket key : List ℕ) (start : State) (ready : IsReady start bucket) (pieces : ℕ → List ℕ) (part_ask : ℕ → Ask) (part_body : ℕ → List ℕ)
-    (more : State → List Round) (later : AreLater bucket key more) (size : ℕ) where
+-- an upload in two parts: what each part has, asks and carries, what follows the Complete, and the size of its source
+pub record TwoParts : Type 0 where
+  pub limits : Limits
+  pub bucket : List ℕ
+  pub key : List ℕ
+  pub start : State
+  pub ready : IsReady start bucket
+  pub pieces : ℕ → List ℕ
+  pub part_ask : ℕ → Ask
+  pub part_body : ℕ → List ℕ
+  pub more : State → List Round
+  pub later : AreLater bucket key more
+  pub size : ℕ
+
+module _ (two : TwoParts) where
+  abbrev limits : Limits
+  limits = two.limits
+
+  abbrev bucket : List ℕ
+  bucket = two.bucket
+
+  abbrev key : List ℕ
+  key = two.key
+
+  abbrev start : State
+  start = two.start
+
+  abbrev pieces : ℕ → List ℕ
+  pieces = two.pieces
+
+  abbrev part_ask : ℕ → Ask
+  part_ask = two.part_ask
+
+  abbrev part_body : ℕ → List ℕ
+  part_body = two.part_body
+
+  abbrev more : State → List Round
+  more = two.more
+
   -- ---- the states
 
   abbrev pub begun : Upload
@@ -136,7 +173,7 @@ module _ (limits : Limits) (bucket key : List ℕ) (start : State) (ready : IsRe
 
   -- a request of a task whose source has that size
   abbrev pub sized_round : JobId → Ask → List ℕ → State → Round
-  sized_round job asked body after = record (round job asked body [] after) { size = size }
+  sized_round job asked body after = record (round job asked body [] after) { size = two.size }
 
   abbrev pub create : Round
   create = sized_round (job_of 0 op.Create 0) (ask.Create bucket key None) [] created
@@ -169,21 +206,21 @@ module _ (limits : Limits) (bucket key : List ℕ) (start : State) (ready : IsRe
   two_is_there = get-insert_same nat_cmp_total nat_cmp-IsAntisymmetric one_part.parts 2 (part 2)
 
   served_create : Succeeds limits start (ask.Create bucket key None) [] (reply.Created []) [] created
-  served_create = (ready.is_there, is_nothing (get start.uploads []) ready.not_open, is_nothing (get start.ended []) ready.not_ended, begun, record { bucket = refl; key = refl; parts = refl }, refl)
+  served_create = (two.ready.is_there, is_nothing (get start.uploads []) two.ready.not_open, is_nothing (get start.ended []) two.ready.not_ended, begun, record { bucket = refl; key = refl; parts = refl }, refl)
 
   served_complete : limits.min_part ≤ length (pieces 1) → Succeeds limits after_two completing (document_of completing) reply.Completed [] completed
   served_complete long =
       inl (two_parts, whole, stored, open_two, λ never. absurd (false_true never), (pieces 1 ∷ pieces 2 ∷ [], (one_is_there, (two_is_there, refl)), (long, tt), omega arith, refl), (object_of whole, refl, refl), refl)
 
   pub all_faithful : AreFaithful upload
-  all_faithful = (ready.first, (ready.first, (ready.first, (faithful_with after_two bucket key whole ready.first, later.faithful completed (faithful_with after_two bucket key whole ready.first)))))
+  all_faithful = (two.ready.first, (two.ready.first, (two.ready.first, (faithful_with after_two bucket key whole two.ready.first, two.later.faithful completed (faithful_with after_two bucket key whole two.ready.first)))))
 
   -- a Delete is apart from the others
   from_later : (job : JobId) → (op_number job.op ≡ 4 → ⊥) → (other : Round) → Has (more completed) other → job ≡ other.job → ⊥
-  from_later job apart other h same = apart (ap (λ (j : JobId). op_number j.op) (same ∙ later.is_job completed other h))
+  from_later job apart other h same = apart (ap (λ (j : JobId). op_number j.op) (same ∙ two.later.is_job completed other h))
 
   pub upload_apart : AreApart upload
-  upload_apart = ((λ other h. from_create other h), ((λ other h. from_one other h), ((λ other h. from_two other h), ((λ other h. from_later (job_of 0 op.Complete 0) (λ e. absurd (omega arith)) other h), later.apart completed))))
+  upload_apart = ((λ other h. from_create other h), ((λ other h. from_one other h), ((λ other h. from_two other h), ((λ other h. from_later (job_of 0 op.Complete 0) (λ e. absurd (omega arith)) other h), two.later.apart completed))))
     where
       from_create : (other : Round) → Has (part_round 1 after_one ∷ part_round 2 after_two ∷ complete ∷ more completed) other → job_of 0 op.Create 0 ≡ other.job → ⊥
       from_create other (inl e) same = apart_by_op (job_of 0 op.Create 0) (job_of 0 op.Part 1) (omega arith) (same ∙ sym (ap (λ (r : Round). r.job) e))
@@ -214,7 +251,7 @@ module _ (limits : Limits) (bucket key : List ℕ) (start : State) (ready : IsRe
 
   -- what holds of these four requests, and of the Delete of another object, holds of all
   each_of : (IsSuch : Dispatched → Type 0) → IsSuch (dispatch_at 0 create) → IsSuch (dispatch_at 2 (part_round 1 after_one)) → IsSuch (dispatch_at 4 (part_round 2 after_two)) → IsSuch (dispatch_at 6 complete)
-      → ((c : Dispatched) → c.ask ≡ ask.Delete later.place.0 later.place.1 → IsSuch c) → (c : Dispatched) → Contains (dispatched_from 0 upload) c → IsSuch c
+      → ((c : Dispatched) → c.ask ≡ ask.Delete two.later.place.0 two.later.place.1 → IsSuch c) → (c : Dispatched) → Contains (dispatched_from 0 upload) c → IsSuch c
   each_of IsSuch a b d e f c known = which (has (dispatched_from 0 upload) c known)
     where
       which : Has (dispatched_from 0 upload) c → IsSuch c
@@ -222,17 +259,17 @@ module _ (limits : Limits) (bucket key : List ℕ) (start : State) (ready : IsRe
       which (inr (inl is)) = subst IsSuch is b
       which (inr (inr (inl is))) = subst IsSuch is d
       which (inr (inr (inr (inl is)))) = subst IsSuch is e
-      which (inr (inr (inr (inr h)))) = let found = round_of (more completed) 8 c h in f c (sym (ap (λ (x : Dispatched). x.ask) found.3) ∙ later.is_ask completed found.0 found.2)
+      which (inr (inr (inr (inr h)))) = let found = round_of (more completed) 8 c h in f c (sym (ap (λ (x : Dispatched). x.ask) found.3) ∙ two.later.is_ask completed found.0 found.2)
 
   completes_here : CompletesHere Told bucket key 2 (journal_of upload) (dispatched_from 0 upload) (dispatch_at 6 complete)
   completes_here = record { id = []; etags = etags; fresh = false; is_complete = refl; counted = refl; created = is_created }
 
-  pub upload_served : Serves limits created (part_ask 1) (part_body 1) (answer_by false (part_ask 1) [] size) after_one → Serves limits after_one (part_ask 2) (part_body 2) (answer_by false (part_ask 2) [] size) after_two
+  pub upload_served : Serves limits created (part_ask 1) (part_body 1) (answer_by false (part_ask 1) [] two.size) after_one → Serves limits after_one (part_ask 2) (part_body 2) (answer_by false (part_ask 2) [] two.size) after_two
       → limits.min_part ≤ length (pieces 1) → AreServed limits completed (more completed) → AreServed limits start upload
-  upload_served one two long rest = (served_create, (one, (two, (served_complete long, rest))))
+  upload_served first second long rest = (served_create, (first, (second, (served_complete long, rest))))
 
   upload_met : (AreOurs : Requests) → AreOurs (journal_of upload) (dispatched_from 0 upload) → AreServed limits start upload → IsDestMet limits bucket key AreOurs
-  upload_met AreOurs ours served = met limits bucket key AreOurs start upload served upload_apart ready.first all_faithful ours 6 complete refl (inr (inr (inr (inl refl)))) (refl, refl)
+  upload_met AreOurs ours served = met limits bucket key AreOurs start upload served upload_apart two.ready.first all_faithful ours 6 complete refl (inr (inr (inr (inl refl)))) (refl, refl)
 
 -- ---- parts with their bytes
 
@@ -243,32 +280,41 @@ module _ (limits : Limits) (bucket key : List ℕ) (pieces : ℕ → List ℕ) (
   abbrev part_of : ℕ → Ask
   part_of n = ask.Part bucket key [] n
 
-  one_ready : IsReady one_bucket bucket
-  one_ready = bucket_is_ready bucket
+  abbrev in_two : TwoParts
+  in_two = record {
+    limits = limits;
+    bucket = bucket;
+    key = key;
+    start = one_bucket;
+    ready = bucket_is_ready bucket;
+    pieces = pieces;
+    part_ask = part_of;
+    part_body = pieces;
+    more = λ t. [];
+    later = none_later bucket key;
+    size = 0;
+  }
 
   abbrev rounds : List Round
-  rounds = upload limits bucket key one_bucket one_ready pieces part_of pieces (λ t. []) (none_later bucket key) 0
+  rounds = upload in_two
 
   rounds_served : AreServed limits one_bucket rounds
-  rounds_served =
-      upload_served limits bucket key one_bucket one_ready pieces part_of pieces (λ t. []) (none_later bucket key) 0
-      (begun limits bucket key one_bucket one_ready pieces part_of pieces (λ t. []) (none_later bucket key) 0, open_created limits bucket key one_bucket one_ready pieces part_of pieces (λ t. []) (none_later bucket key) 0, refl)
-      (one_part limits bucket key one_bucket one_ready pieces part_of pieces (λ t. []) (none_later bucket key) 0, open_one limits bucket key one_bucket one_ready pieces part_of pieces (λ t. []) (none_later bucket key) 0, refl) long tt
+  rounds_served = upload_served in_two (begun in_two, open_created in_two, refl) (one_part in_two, open_one in_two, refl) long tt
 
   only_completes : (c : Dispatched) → Contains (dispatched_from 0 rounds) c → MayChange c.ask bucket key → CompletesHere Told bucket key 2 (journal_of rounds) (dispatched_from 0 rounds) c
   only_completes =
-      each_of limits bucket key one_bucket one_ready pieces part_of pieces (λ t. []) (none_later bucket key) 0 (λ (c : Dispatched). MayChange c.ask bucket key → CompletesHere Told bucket key 2 (journal_of rounds) (dispatched_from 0 rounds) c)
-      (λ may. absurd may) (λ may. absurd may) (λ may. absurd may) (λ may. completes_here limits bucket key one_bucket one_ready pieces part_of pieces (λ t. []) (none_later bucket key) 0)
+      each_of in_two (λ (c : Dispatched). MayChange c.ask bucket key → CompletesHere Told bucket key 2 (journal_of rounds) (dispatched_from 0 rounds) c)
+      (λ may. absurd may) (λ may. absurd may) (λ may. absurd may) (λ may. completes_here in_two)
       (λ c is may. absurd ((none_later bucket key).elsewhere (subst (λ (a : Ask). MayChange a bucket key) is may)))
 
   has_piece : (c : Dispatched) → Contains (dispatched_from 0 rounds) c → (id : List ℕ) (number : ℕ) → c.ask ≡ ask.Part bucket key id number → c.body ≡ pieces number
   has_piece =
-      each_of limits bucket key one_bucket one_ready pieces part_of pieces (λ t. []) (none_later bucket key) 0 (λ (c : Dispatched). (id : List ℕ) (number : ℕ) → c.ask ≡ ask.Part bucket key id number → c.body ≡ pieces number)
+      each_of in_two (λ (c : Dispatched). (id : List ℕ) (number : ℕ) → c.ask ≡ ask.Part bucket key id number → c.body ≡ pieces number)
       (λ id number e. absurd (create_part e)) (λ id number e. ap pieces (part_number e)) (λ id number e. ap pieces (part_number e)) (λ id number e. absurd (complete_part e)) (λ c is id number e. absurd (delete_part (sym is ∙ e)))
 
   no_copies : (c : Dispatched) → Contains (dispatched_from 0 rounds) c → (id : List ℕ) (number : ℕ) (b k under : List ℕ) (range : ℕ × ℕ) → c.ask ≡ ask.PartCopy bucket key id number b k under range → ⊥
   no_copies =
-      each_of limits bucket key one_bucket one_ready pieces part_of pieces (λ t. []) (none_later bucket key) 0 (λ (c : Dispatched). (id : List ℕ) (number : ℕ) (b k under : List ℕ) (range : ℕ × ℕ) → c.ask ≡ ask.PartCopy bucket key id number b k under range → ⊥)
+      each_of in_two (λ (c : Dispatched). (id : List ℕ) (number : ℕ) (b k under : List ℕ) (range : ℕ × ℕ) → c.ask ≡ ask.PartCopy bucket key id number b k under range → ⊥)
       (λ id number b k under range e. create_copy e) (λ id number b k under range e. part_copy e) (λ id number b k under range e. part_copy e) (λ id number b k under range e. complete_copy e)
       (λ c is id number b k under range e. delete_copy (sym is ∙ e))
 
@@ -280,7 +326,7 @@ module _ (limits : Limits) (bucket key : List ℕ) (pieces : ℕ → List ℕ) (
   }
 
   parts_met : IsDestMet limits bucket key (AreParts Told bucket key pieces 2)
-  parts_met = upload_met limits bucket key one_bucket one_ready pieces part_of pieces (λ t. []) (none_later bucket key) 0 (AreParts Told bucket key pieces 2) are_parts rounds_served
+  parts_met = upload_met in_two (AreParts Told bucket key pieces 2) are_parts rounds_served
 
 pub parts_are_met : PartsAreMet
 parts_are_met limits bucket key pieces long = parts_met limits bucket key pieces long
@@ -310,51 +356,66 @@ module _ (limits : Limits) (bucket key from_bucket from_key etag : List ℕ) (ra
     first = source_is_faithful limits bucket key from_bucket from_key etag;
   }
 
+  abbrev copied_in_two : TwoParts
+  copied_in_two = record {
+    limits = limits;
+    bucket = bucket;
+    key = key;
+    start = source_there;
+    ready = source_ready;
+    pieces = range_of;
+    part_ask = copy_of;
+    part_body = no_body;
+    more = more;
+    later = later;
+    size = 0;
+  }
+
   abbrev copied_rounds : List Round
-  copied_rounds = upload limits bucket key source_there source_ready range_of copy_of no_body more later 0
+  copied_rounds = upload copied_in_two
 
   copied_served : AreServed limits source_there copied_rounds
   copied_served =
-      upload_served limits bucket key source_there source_ready range_of copy_of no_body more later 0 (
-        begun limits bucket key source_there source_ready range_of copy_of no_body more later 0,
+      upload_served copied_in_two (
+        begun copied_in_two,
         object_of etag,
-        open_created limits bucket key source_there source_ready range_of copy_of no_body more later 0,
+        open_created copied_in_two,
         source_there_still,
         inside_one,
         refl,
       ) (
-        one_part limits bucket key source_there source_ready range_of copy_of no_body more later 0,
+        one_part copied_in_two,
         object_of etag,
-        open_one limits bucket key source_there source_ready range_of copy_of no_body more later 0,
+        open_one copied_in_two,
         source_there_again,
         inside_two,
         refl,
-      ) long (rest_served (completed limits bucket key source_there source_ready range_of copy_of no_body more later 0) still_there)
+      ) long (rest_served (completed copied_in_two) still_there)
     where
-      still_there : HasBucket (completed limits bucket key source_there source_ready range_of copy_of no_body more later 0) from_bucket
+      still_there : HasBucket (completed copied_in_two) from_bucket
       still_there =
-          has_bucket_still (after_two limits bucket key source_there source_ready range_of copy_of no_body more later 0) bucket
-          (insert (objects_in (after_two limits bucket key source_there source_ready range_of copy_of no_body more later 0) bucket) key (object_of (whole limits bucket key source_there source_ready range_of copy_of no_body more later 0)))
+          has_bucket_still (after_two copied_in_two) bucket
+          (insert (objects_in (after_two copied_in_two) bucket) key (object_of (whole copied_in_two)))
           from_bucket (has_bucket_after (two_buckets limits bucket key from_bucket from_key etag) from_bucket (insert (objects_in (two_buckets limits bucket key from_bucket from_key etag) from_bucket) from_key (object_of etag)))
 
       is_source : IsThere source_there from_bucket from_key etag (object_of etag)
       is_source = source_is_there limits bucket key from_bucket from_key etag
 
-      source_there_still : IsThere (created limits bucket key source_there source_ready range_of copy_of no_body more later 0) from_bucket from_key etag (object_of etag)
+      source_there_still : IsThere (created copied_in_two) from_bucket from_key etag (object_of etag)
       source_there_still = record { held = is_source.held; etag = refl }
 
-      source_there_again : IsThere (after_one limits bucket key source_there source_ready range_of copy_of no_body more later 0) from_bucket from_key etag (object_of etag)
+      source_there_again : IsThere (after_one copied_in_two) from_bucket from_key etag (object_of etag)
       source_there_again = record { held = is_source.held; etag = refl }
 
   copied_completes : (c : Dispatched) → Contains (dispatched_from 0 copied_rounds) c → MayChange c.ask bucket key → CompletesHere Told bucket key 2 (journal_of copied_rounds) (dispatched_from 0 copied_rounds) c
   copied_completes =
-      each_of limits bucket key source_there source_ready range_of copy_of no_body more later 0 (λ (c : Dispatched). MayChange c.ask bucket key → CompletesHere Told bucket key 2 (journal_of copied_rounds) (dispatched_from 0 copied_rounds) c)
-      (λ may. absurd may) (λ may. absurd may) (λ may. absurd may) (λ may. completes_here limits bucket key source_there source_ready range_of copy_of no_body more later 0)
+      each_of copied_in_two (λ (c : Dispatched). MayChange c.ask bucket key → CompletesHere Told bucket key 2 (journal_of copied_rounds) (dispatched_from 0 copied_rounds) c)
+      (λ may. absurd may) (λ may. absurd may) (λ may. absurd may) (λ may. completes_here copied_in_two)
       (λ c is may. absurd (later.elsewhere (subst (λ (a : Ask). MayChange a bucket key) is may)))
 
   no_parts : (c : Dispatched) → Contains (dispatched_from 0 copied_rounds) c → (id : List ℕ) (number : ℕ) → c.ask ≡ ask.Part bucket key id number → ⊥
   no_parts =
-      each_of limits bucket key source_there source_ready range_of copy_of no_body more later 0 (λ (c : Dispatched). (id : List ℕ) (number : ℕ) → c.ask ≡ ask.Part bucket key id number → ⊥)
+      each_of copied_in_two (λ (c : Dispatched). (id : List ℕ) (number : ℕ) → c.ask ≡ ask.Part bucket key id number → ⊥)
       (λ id number e. create_part e) (λ id number e. part_copy (sym e)) (λ id number e. part_copy (sym e)) (λ id number e. complete_part e) (λ c is id number e. delete_part (sym is ∙ e))
 
   abbrev IsOfSource : Dispatched → Type 0
@@ -363,7 +424,7 @@ module _ (limits : Limits) (bucket key from_bucket from_key etag : List ℕ) (ra
 
   of_source : (c : Dispatched) → Contains (dispatched_from 0 copied_rounds) c → IsOfSource c
   of_source =
-      each_of limits bucket key source_there source_ready range_of copy_of no_body more later 0 IsOfSource
+      each_of copied_in_two IsOfSource
       (λ id number b k under range e. absurd (create_copy e))
       (λ id number b k under range e. let is = copy_is e in (is.0, is.1, is.2, is.3 ∙ ap ranges is.4))
       (λ id number b k under range e. let is = copy_is e in (is.0, is.1, is.2, is.3 ∙ ap ranges is.4))
@@ -372,7 +433,7 @@ module _ (limits : Limits) (bucket key from_bucket from_key etag : List ℕ) (ra
 
   copied_met : IsDestMet limits bucket key (AreCopiedParts Told bucket key from_bucket from_key etag ranges 2)
   copied_met =
-      upload_met limits bucket key source_there source_ready range_of copy_of no_body more later 0 (AreCopiedParts Told bucket key from_bucket from_key etag ranges 2)
+      upload_met copied_in_two (AreCopiedParts Told bucket key from_bucket from_key etag ranges 2)
       (record {
         completes = copied_completes;
         no_parts = λ c id number known e. no_parts c known id number e;

@@ -79,45 +79,47 @@ module _ (bucket key path : List ℕ) where
   abbrev part_of : ℕ → Ask
   part_of n = ask.Part bucket key [] n
 
+  abbrev two : parts.TwoParts
+  two = record {
+    limits = the_limits;
+    bucket = bucket;
+    key = key;
+    start = start;
+    ready = bucket_is_ready bucket;
+    pieces = pieces;
+    part_ask = part_of;
+    part_body = pieces;
+    more = λ t. [];
+    later = none_later bucket key;
+    size = 2;
+  }
+
   abbrev rounds : List Round
-  rounds = parts.upload the_limits bucket key start (bucket_is_ready bucket) pieces part_of pieces (λ t. []) (none_later bucket key) 2
+  rounds = parts.upload two
 
   abbrev create : Round
-  create = parts.create the_limits bucket key start (bucket_is_ready bucket) pieces part_of pieces (λ t. []) (none_later bucket key) 2
+  create = parts.create two
 
   abbrev first : Round
-  first = parts.part_round the_limits bucket key start (bucket_is_ready bucket) pieces part_of pieces (λ t. []) (none_later bucket key) 2 1
-      (parts.after_one the_limits bucket key start (bucket_is_ready bucket) pieces part_of pieces (λ t. []) (none_later bucket key) 2)
+  first = parts.part_round two 1 (parts.after_one two)
 
   abbrev second : Round
-  second = parts.part_round the_limits bucket key start (bucket_is_ready bucket) pieces part_of pieces (λ t. []) (none_later bucket key) 2 2
-      (parts.after_two the_limits bucket key start (bucket_is_ready bucket) pieces part_of pieces (λ t. []) (none_later bucket key) 2)
+  second = parts.part_round two 2 (parts.after_two two)
 
   abbrev complete : Round
-  complete = parts.complete the_limits bucket key start (bucket_is_ready bucket) pieces part_of pieces (λ t. []) (none_later bucket key) 2
+  complete = parts.complete two
 
   abbrev all : List Dispatched
   all = dispatched_from 0 rounds
 
   served : AreServed the_limits start rounds
-  served =
-      parts.upload_served the_limits bucket key start (bucket_is_ready bucket) pieces part_of pieces (λ t. []) (none_later bucket key) 2 (
-        parts.begun the_limits bucket key start (bucket_is_ready bucket) pieces part_of pieces (λ t. []) (none_later bucket key) 2,
-        parts.open_created the_limits bucket key start (bucket_is_ready bucket) pieces part_of pieces (λ t. []) (none_later bucket key) 2,
-        refl,
-      ) (
-        parts.one_part the_limits bucket key start (bucket_is_ready bucket) pieces part_of pieces (λ t. []) (none_later bucket key) 2,
-        parts.open_one the_limits bucket key start (bucket_is_ready bucket) pieces part_of pieces (λ t. []) (none_later bucket key) 2,
-        refl,
-      ) (omega arith) tt
+  served = parts.upload_served two (parts.begun two, parts.open_created two, refl) (parts.one_part two, parts.open_one two, refl) (omega arith) tt
 
   other_jobs : AreOtherJobs rounds
-  other_jobs = parts.upload_apart the_limits bucket key start (bucket_is_ready bucket) pieces part_of pieces (λ t. []) (none_later bucket key) 2
+  other_jobs = parts.upload_apart two
 
   fitting : IsFitting Told the_limits (run_by start rounds) (IsDest (task ∷ []))
-  fitting =
-      rounds_fitting the_limits start rounds served other_jobs (bucket_is_ready bucket).first
-      (parts.all_faithful the_limits bucket key start (bucket_is_ready bucket) pieces part_of pieces (λ t. []) (none_later bucket key) 2) (IsDest (task ∷ []))
+  fitting = rounds_fitting the_limits start rounds served other_jobs (bucket_is_ready bucket).first (parts.all_faithful two) (IsDest (task ∷ []))
 
   -- what holds of these four holds of each
   each : (IsSuch : Dispatched → Type 0) → IsSuch (dispatch_at 0 create) → IsSuch (dispatch_at 2 first) → IsSuch (dispatch_at 4 second) → IsSuch (dispatch_at 6 complete)
