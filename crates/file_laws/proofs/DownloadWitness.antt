@@ -39,7 +39,7 @@ use Rattle.world_laws.specs.Premises.{IsFitting}
 use Rattle.world_laws.specs.Rounds.{AreServed, Round, Told, ToldStatus, attempt_of, dispatch_at, dispatched_from, journal_of, steps_from}
 use Rattle.world_laws.specs.SmallTransfers.{HadContent}
 use Rattle.world_laws.specs.Tasks.{AreQuestions, HasSourceObject, IsScheduled}
-use Rattle.world_laws.proofs.Faithful.{IsFaithful, bare, bare_is_faithful, faithful_with, object_of, rounds_fitting, states_faithful}
+use Rattle.world_laws.proofs.Faithful.{IsFaithful, bare, bare_is_faithful, faithful_with, object_of, rounds_fitting, run_by, states_faithful}
 use Rattle.world_laws.proofs.Maps.{get-insert_same, text_exact}
 use Rattle.world_laws.proofs.Members.{Has, contains_of, has, has_middle}
 use Rattle.world_laws.proofs.Objects.{object_at-with_object}
@@ -283,7 +283,7 @@ module _ (bucket key : List ℕ) (a b : ℕ) where
     abbrev trace : List Step
     trace = steps_from 0 start rounds
 
-    fitting : IsFitting Told the_limits start trace (journal_of rounds) (dispatched_from 0 rounds) (IsDest (task ∷ []))
+    fitting : IsFitting Told the_limits (run_by start rounds) (IsDest (task ∷ []))
     fitting = rounds_fitting the_limits start rounds served other_jobs is_faithful (is_faithful, (is_faithful, tt)) (IsDest (task ∷ []))
 
     source : HasSourceObject (states start trace) task

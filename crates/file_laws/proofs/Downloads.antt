@@ -162,7 +162,7 @@ module _ (Shows : Ask → ℕ → Talk → Class → List ℕ → Type 0) (s : S
 
     -- ---- from then on
 
-    module _ (coming : List Dispatched) (start : State) (trace : List Step) (journal : List Event) (r : IsScheduled Shows s journal dispatched coming) (traced : IsTraceOf Shows s start trace journal dispatched)
+    module _ (coming : List Dispatched) (start : State) (trace : List Step) (journal : List Event) (r : IsScheduled Shows s journal dispatched coming) (traced : IsTraceOf Shows s (record { start = start; trace = trace; journal = journal; dispatched = dispatched }))
         (source : HasSourceObject (states start trace) task) where
       abbrev IsContent : List ℕ → Type 0
       IsContent all = HasContent s.held (states start trace) task.etag task.source all

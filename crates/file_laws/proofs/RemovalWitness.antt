@@ -24,11 +24,11 @@ use Rattle.local_files.specs.Calls.{IsCallRun, MakeTemp, Remove, Rename}
 use Rattle.world_laws.specs.Premises.{IsFitting}
 use Rattle.world_laws.specs.Rounds.{Round, Told, ToldStatus, dispatch_at}
 use Rattle.world_laws.specs.Tasks.{AreQuestions, IsScheduled}
-use Rattle.world_laws.proofs.Faithful.{bare, bare_is_faithful, rounds_fitting}
+use Rattle.world_laws.proofs.Faithful.{bare, bare_is_faithful, rounds_fitting, run_by}
 use Rattle.world_laws.proofs.Maps.{get-insert_same, text_exact}
 use Rattle.world_laws.proofs.Members.{Has, has}
 use Rattle.world_laws.proofs.Rounds.{rounds_given}
-use Rattle.world_laws.proofs.ScheduleWitness.{config_is_valid, limits_are_valid, one_task, rounds_schedule, setting_of, the_limits}
+use Rattle.world_laws.proofs.ScheduleWitness.{config_is_valid, limits_are_valid, none_created, one_task, rounds_schedule, setting_of, the_limits}
 use Rattle.file_laws.specs.FileEnds.{CallFailed, IsShownByCalls}
 use Rattle.file_laws.specs.FileTasks.{AreFileCalls, AreFilesApart, IsRemoved, TaskCall, steps_of}
 use Rattle.file_laws.specs.FileWitnesses.{FailedRemovalIsMet, IsFileTaskMet, IsMovedFileMet, MovedFileIsMet, RemovalIsMet, file_removal, moved_upload}
@@ -82,7 +82,7 @@ module _ (path : List ℕ) where
   scheduled : IsScheduled Told setting [] [] []
   scheduled = record {
     schedule = rounds_schedule setting [] tt (λ r h. absurd h) AreQuestions (λ c known. absurd (no_dispatched c known)) refl (λ failed c is_failed known before. not_failed failed is_failed)
-        (λ c n known of. absurd (no_dispatched c known)) (λ c n other known of is moves is_op. absurd (no_dispatched c known));
+        (none_created setting [] tt (λ r h. absurd h) (λ r h. absurd h)) (λ c n known of. absurd (no_dispatched c known)) (λ c n other known of is moves is_op. absurd (no_dispatched c known));
     given = rounds_given [] start tt;
     come = λ c known. absurd (no_dispatched c known);
     apart = record {
@@ -93,7 +93,7 @@ module _ (path : List ℕ) where
     limits = limits_are_valid;
   }
 
-  fitting : IsFitting Told the_limits start [] [] [] (IsDest (task ∷ []))
+  fitting : IsFitting Told the_limits (run_by start []) (IsDest (task ∷ []))
   fitting = rounds_fitting the_limits start [] tt tt (bare_is_faithful []) tt (IsDest (task ∷ []))
 
   apart : AreFilesApart held (task ∷ [])

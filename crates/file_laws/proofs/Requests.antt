@@ -31,7 +31,7 @@ use Rattle.run_promise.specs.Traces.{Step, state_after, states}
 use Rattle.run_promise.specs.Truthful.{HasJournal}
 use Rattle.world_laws.specs.Downloads.{IsGot, IsPartial}
 use Rattle.world_laws.specs.Multipart.{joined}
-use Rattle.world_laws.specs.Premises.{HasSucceeded, IsFitting}
+use Rattle.world_laws.specs.Premises.{HasSucceeded, IsFitting, IsNoPlace}
 use Rattle.world_laws.specs.SmallTransfers.{HadContent}
 use Rattle.world_laws.specs.Tasks.{HasSourceObject, IsScheduled, IsTraceOf}
 use Rattle.world_laws.proofs.Downloads.{ranges_tell, whole_tells}
@@ -56,13 +56,14 @@ module _ (Shows : Ask → ℕ → Talk → Class → List ℕ → Type 0) (s : S
       (given.0, given.1, given.2)
 
   -- the source of a moved download is gone once its Delete came with success
-  pub deleted_is_gone : (held : MapOf HeldFile) (start : State) (trace part : List Step) → IsTraceOf Shows s start trace journal dispatched → HasJournal journal trace part
+  pub deleted_is_gone : (held : MapOf HeldFile) (start : State) (trace part : List Step) → IsTraceOf Shows s (record { start = start; trace = trace; journal = journal; dispatched = dispatched }) → HasJournal journal trace part
       → (n : ℕ) (task : Task) (bucket key : List ℕ) → slice_get s.tasks n ≡ Some task → task.kind ≡ kind.Download → task.moves ≡ true → task.source ≡ Some (place.Object bucket key)
       → (c : Dispatched) → Contains dispatched c → c.dispatch.job ≡ job_of n op.Delete 0 → (answered : Reply) → HasReply Shows c (last_of c.dispatch.attempts) answered
       → IsGone trace (record { state = state_after start part; held = held; others = s.others }) task.source
   deleted_is_gone held start trace part traced whole n task bucket key is_task load moves source c known is answered replies =
-      moved_source_is_gone Shows s held start trace part journal dispatched coming r traced whole n task bucket key is_task moves source c known is
-      (λ removal. download_removes_object (sym load ∙ removal)) (replied Shows c answered replies).0
+      moved_source_is_gone Shows s held (record { start = start; trace = trace; journal = journal; dispatched = dispatched }) part
+      (record { coming = coming; scheduled = r; traced = traced }) whole n task bucket key is_task moves source
+      (λ removal. download_removes_object (sym load ∙ removal)) (c, known, is, (replied Shows c answered replies).0)
 
 -- ---- Gets
 
@@ -92,7 +93,7 @@ part_fits : (c : Dispatched) (asked : Ask) (bucket key etag : List ℕ) (range :
 part_fits c asked bucket key etag range status size told is fits = (subst (λ (x : Ask). FitsAsk c x (class.Success (reply.Got status told size))) is fits).0
 
 module _ (Shows : Ask → ℕ → Talk → Class → List ℕ → Type 0) (s : Setting) (journal : List Event) (dispatched coming : List Dispatched) (r : IsScheduled Shows s journal dispatched coming)
-    (start : State) (trace : List Step) (traced : IsTraceOf Shows s start trace journal dispatched) (n : ℕ) (task : Task) (is_task : slice_get s.tasks n ≡ Some task) (load : task.kind ≡ kind.Download)
+    (start : State) (trace : List Step) (traced : IsTraceOf Shows s (record { start = start; trace = trace; journal = journal; dispatched = dispatched })) (n : ℕ) (task : Task) (is_task : slice_get s.tasks n ≡ Some task) (load : task.kind ≡ kind.Download)
     (source : HasSourceObject (states start trace) task) (piece count : ℕ) (has : HasPieces s.config s.limits task.kind task.size piece count) where
   abbrev bucket : List ℕ
   bucket = source.0
@@ -106,7 +107,7 @@ module _ (Shows : Ask → ℕ → Talk → Class → List ℕ → Type 0) (s : S
   sound : AreSound small task.size piece count
   sound = are_sound s task piece count r.config r.limits load has
 
-  fitting : IsFitting Shows s.limits start trace journal dispatched (λ b k. ⊥)
+  fitting : IsFitting Shows s.limits (record { start = start; trace = trace; journal = journal; dispatched = dispatched }) IsNoPlace
   fitting = record {
     runs = traced.runs;
     honest = record { one_content = traced.honest.one_content; not_written = λ b k object h kept. kept; not_removed = λ b k h kept. kept };
@@ -144,7 +145,7 @@ module _ (Shows : Ask → ℕ → Talk → Class → List ℕ → Type 0) (s : S
         let at_last = last_place body.get.dispatch.attempts body.attempt body.is_last in
         record { place = at_last.0; attempt = body.attempt; reply = reply.Got body.status body.told body.size; bytes = bytes; is_attempt = at_last.1; shows = body.shows }
 
-    abbrev got_by : (range : Option (ℕ × ℕ)) → body.get.ask ≡ ask.Get bucket key task.etag range → IsGot Shows dispatched journal bucket key task.etag range bytes
+    abbrev got_by : (range : Option (ℕ × ℕ)) → body.get.ask ≡ ask.Get bucket key task.etag range → IsGot Shows journal dispatched bucket key task.etag range bytes
     got_by range is = record { get = body.get; known = body.known; is_get = is; come = r.come body.get body.known; succeeded = succeeded; is_body = refl }
 
     partial : (range : ℕ × ℕ) → body.get.ask ≡ ask.Get bucket key task.etag (Some range) → body.status ≡ 206
@@ -153,7 +154,7 @@ module _ (Shows : Ask → ℕ → Talk → Class → List ℕ → Type 0) (s : S
         last_fits : FitsLast Shows body.get (Some body.attempt)
         last_fits = subst (λ (o : Option Attempt). FitsLast Shows body.get o) body.is_last body.well.1
 
-    part_by : (range : ℕ × ℕ) → body.get.ask ≡ ask.Get bucket key task.etag (Some range) → (got : IsGot Shows dispatched journal bucket key task.etag (Some range) bytes) × IsPartial got.succeeded.reply
+    part_by : (range : ℕ × ℕ) → body.get.ask ≡ ask.Get bucket key task.etag (Some range) → (got : IsGot Shows journal dispatched bucket key task.etag (Some range) bytes) × IsPartial got.succeeded.reply
     part_by range is = (got_by (Some range) is, partial range is)
 
   -- each range of these bytes is the body of a Get
@@ -178,11 +179,11 @@ module _ (Shows : Ask → ℕ → Talk → Class → List ℕ → Type 0) (s : S
           let body = bodies 0 0 task.size range in
           let whole : take task.size (drop 0 all) ≡ all = take_all task.size all (omega arith) in
           subst (λ (xs : List ℕ). HadContent (states start trace) bucket key task.etag xs) whole
-          (whole_tells Shows s.limits start trace journal dispatched bucket key task.etag (take task.size (drop 0 all)) fitting
+          (whole_tells Shows s.limits (record { start = start; trace = trace; journal = journal; dispatched = dispatched }) bucket key task.etag (take task.size (drop 0 all)) fitting
           (got_by 0 0 (take task.size (drop 0 all)) body.0 body.1 (number_of 0 0 task.size range) None
           (asks_of 0 0 task.size range ∙ ap (λ (b : Bool). ask.Get bucket key task.etag (range_for b task.size piece 0)) is)))
       by false is = subst (λ (xs : List ℕ). HadContent (states start trace) bucket key task.etag xs) joined_is
-          (ranges_tell Shows s.limits start trace journal dispatched bucket key task.etag task.size piece (piece_of all piece) fitting whole.2 whole.0 source.3 each)
+          (ranges_tell Shows s.limits (record { start = start; trace = trace; journal = journal; dispatched = dispatched }) bucket key task.etag task.size piece (piece_of all piece) fitting whole.2 whole.0 source.3 each)
         where
           whole : (1 ≤ piece) × (count ≡ piece_count task.size piece) × (1 ≤ task.size)
           whole = sound is
@@ -190,7 +191,7 @@ module _ (Shows : Ask → ℕ → Talk → Class → List ℕ → Type 0) (s : S
           joined_is : joined (piece_of all piece) 1 (piece_count task.size piece) ≡ all
           joined_is = ap (λ (k : ℕ). joined (piece_of all piece) 1 (piece_count k piece)) (sym sized) ∙ pieces_make_whole all piece whole.0
 
-          each : (k : ℕ) → 1 ≤ k → k ≤ piece_count task.size piece → (got : IsGot Shows dispatched journal bucket key task.etag (Some (asked_range task.size piece k)) (piece_of all piece k)) × IsPartial got.succeeded.reply
+          each : (k : ℕ) → 1 ≤ k → k ≤ piece_count task.size piece → (got : IsGot Shows journal dispatched bucket key task.etag (Some (asked_range task.size piece k)) (piece_of all piece k)) × IsPartial got.succeeded.reply
           each k low high =
               let at = (k - 1) * piece in
               let long = min piece (task.size - (k - 1) * piece) in
@@ -201,7 +202,7 @@ module _ (Shows : Ask → ℕ → Talk → Class → List ℕ → Type 0) (s : S
               asks_of k at long range ∙ ap (λ (b : Bool). ask.Get bucket key task.etag (range_for b task.size piece k)) is in
               let bytes_is : take long (drop at all) ≡ piece_of all piece k =
               ap (λ (l : ℕ). take (min piece l) (drop at all)) (ap (λ (l : ℕ). l - at) (sym sized) ∙ sym (length-drop at all)) ∙ take_min piece (drop at all) in
-              subst (λ (xs : List ℕ). (got : IsGot Shows dispatched journal bucket key task.etag (Some (asked_range task.size piece k)) xs) × IsPartial got.succeeded.reply) bytes_is
+              subst (λ (xs : List ℕ). (got : IsGot Shows journal dispatched bucket key task.etag (Some (asked_range task.size piece k)) xs) × IsPartial got.succeeded.reply) bytes_is
               (part_by k at (take long (drop at all)) body.0 body.1 (number_of k at long range) (asked_range task.size piece k) asked)
 
   pub has_content : (all : List ℕ) → length all ≡ task.size → AreBodies all → HasContent s.held (states start trace) task.etag task.source all

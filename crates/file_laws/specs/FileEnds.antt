@@ -23,7 +23,7 @@ use Rattle.run_promise.specs.Truthful.{HasJournal, Shown}
 use Rattle.local_files.specs.Calls.{Blocked, Call, Failed, MakeTemp, Remove, Rename, WriteAt}
 use Rattle.world_laws.specs.Promises.{AreFilesLeft, IsFileLeft}
 use Rattle.world_laws.specs.Tasks.{HasSourceObject, IsScheduled, IsTraceOf, MayBeNew}
-use Rattle.file_laws.specs.FileLaws.{AreCalls, FileRun}
+use Rattle.file_laws.specs.FileLaws.{AreCalls, FileRun, with_trace}
 use Rattle.file_laws.specs.FileTasks.{IsMoveOf, IsRemoved, IsRenamed, TaskCall, files_after}
 
 -- a task that calls on files decide: a download of an object, or the removal of a file, which moves nothing
@@ -92,7 +92,7 @@ module _ (Shows : Ask → ℕ → Talk → Class → List ℕ → Type 0) where
     -- The source of a download is to be as planned only where its destination may be new.
     abbrev pub FileTaskEnds : Type 0
     FileTaskEnds = (run : FileRun) (coming : List Dispatched) (start : State) (trace part : List Step) (journal : List Event) → AreCalls Shows run
-        → IsScheduled Shows run.setting journal run.dispatched coming → IsTraceOf Shows run.setting start trace journal run.dispatched
+        → IsScheduled Shows run.setting journal run.dispatched coming → IsTraceOf Shows run.setting (with_trace run journal start trace)
         → HasJournal journal trace part → (n : ℕ) (task : Task) (how : Outcome) → slice_get run.setting.tasks n ≡ Some task → IsByFiles task
         → (MayBeNew how → task.kind ≡ kind.Download → HasSourceObject (states start trace) task)
         → HasOutcome Shows HasStatus (CallFailed run.calls) run.setting run.dispatched coming n task how

@@ -15,6 +15,7 @@ use Rattle.run_promise.specs.Schedule.{Setting}
 use Rattle.run_promise.specs.Traces.{Step, states}
 use Rattle.run_promise.specs.Truthful.{IsTouchedFile}
 use Rattle.local_files.specs.Calls.{IsCallRun, WriteAt}
+use Rattle.world_laws.specs.Premises.{Run}
 use Rattle.world_laws.specs.Tasks.{HasSourceObject, IsScheduled, IsTraceOf}
 use Rattle.file_laws.specs.FileTasks.{AreFileCalls, AreFilesApart, IsDecidedBefore, IsMade, IsMoveOf, IsRemoved, IsRenamed, IsTaskTo, TaskCall, files_after, steps_of}
 
@@ -34,6 +35,10 @@ after_calls run part path = get (files_after run.setting.held part) path
 
 abbrev pub in_the_end : FileRun → List ℕ → Option HeldFile
 in_the_end run path = after_calls run run.calls path
+
+-- the same run, as a trace of a service shows it
+abbrev pub with_trace : FileRun → List Event → State → List Step → Run
+with_trace run journal start trace = record { start = start; trace = trace; journal = journal; dispatched = run.dispatched }
 
 -- What became of the destination of a download.
 pub record IsDownloaded (run : FileRun) (moments : List State) (n : ℕ) (task : Task) (path : List ℕ) : Type 0 where
@@ -85,6 +90,6 @@ module _ (Shows : Ask → ℕ → Talk → Class → List ℕ → Type 0) where
   -- A download leaves its destination as it was until it is renamed, and then with the content of its source.
   abbrev pub FileIsDownloaded : Type 0
   FileIsDownloaded = (run : FileRun) (coming : List Dispatched) (start : State) (trace : List Step) (journal : List Event) → AreCalls run
-      → IsScheduled Shows run.setting journal run.dispatched coming → IsTraceOf Shows run.setting start trace journal run.dispatched
+      → IsScheduled Shows run.setting journal run.dispatched coming → IsTraceOf Shows run.setting (with_trace run journal start trace)
       → (n : ℕ) (task : Task) (path : List ℕ) → IsTaskTo run.setting.tasks n task path → task.kind ≡ kind.Download → HasSourceObject (states start trace) task
       → IsDownloaded run (states start trace) n task path

@@ -18,7 +18,7 @@ use Rattle.local_files.specs.Calls.{Call, WriteAt}
 use Rattle.world_laws.specs.Rounds.{Told, ToldStatus}
 use Rattle.world_laws.specs.Tasks.{HasSourceObject, IsScheduled, IsTraceOf, MayBeNew}
 use Rattle.file_laws.specs.FileEnds.{CallFailed, IsByFiles, IsPlaced, IsShownByCalls}
-use Rattle.file_laws.specs.FileLaws.{AreCalls, FileRun, in_the_end}
+use Rattle.file_laws.specs.FileLaws.{AreCalls, FileRun, in_the_end, with_trace}
 use Rattle.file_laws.specs.FileTasks.{IsDropped, IsMoveOf, IsRemoved, TaskCall}
 
 -- an object of two bytes, under an ETag that spells them, to a file
@@ -79,7 +79,7 @@ pub record IsFileTaskMet (task : Task) (how : Outcome) : Type 0 where
   pub is_task : slice_get run.setting.tasks 0 ≡ Some task
   pub are_calls : AreCalls Told run
   pub scheduled : IsScheduled Told run.setting journal run.dispatched run.dispatched
-  pub traced : IsTraceOf Told run.setting start trace journal run.dispatched
+  pub traced : IsTraceOf Told run.setting (with_trace run journal start trace)
   pub whole : HasJournal journal trace trace
   pub by_files : IsByFiles task
   pub sourced : MayBeNew how → task.kind ≡ kind.Download → HasSourceObject (states start trace) task
