@@ -18,7 +18,8 @@ use Rattle.run_promise.specs.Dispatches.{Dispatched}
 use Rattle.run_promise.specs.Fits.{Fits}
 use Rattle.run_promise.specs.Schedule.{IsObject, IsSource, IsSchedule}
 use Rattle.run_promise.specs.Traces.{Step, IsTrace, IsHonest, IsWilling, events_of}
-use Rattle.run_promise.specs.Truthful.{Shown, AreCertain, IsAlone, HasDestBuckets, IsDest, IsDoneWhereWilling, IsFinished, MayBeFresh, WasTaken}
+use Rattle.run_promise.specs.Truthful.{Shown, AreCertain, IsAlone, HasDestBuckets, IsDest, IsDoneWhereWilling}
+use Rattle.run_promise.specs.Truthful.{IsFinished, MayBeFresh, WasTaken}
 use Rattle.world_laws.specs.Promises.{IsOrderly, run_of}
 use Rattle.world_laws.specs.Tasks.{HasSourceFile, IsTraceOf}
 

@@ -1,5 +1,6 @@
 -- What a run that keeps to the clauses on given and carried jobs leaves of each task whose destination is an object.
-use Rattle.std.specs.Prelude.{◌≡◌, ◌≢◌, ◌++◌, ◌⊎◌, ℕ, Bool, true, false, List, ◌∷◌, Option, Some, None, Contains, length, slice_get}
+use Rattle.std.specs.Prelude.{◌≡◌, ◌≢◌, ◌++◌, ◌⊎◌, ℕ, Bool, true, false, List, ◌∷◌, Option, Some, None, Contains}
+use Rattle.std.specs.Prelude.{length, slice_get}
 use Rattle.std.specs.Bool.{OnTrue}
 use Rattle.std.specs.FinMap.{get}
 use Rattle.s3_model.specs.declared.requests.Ask.{Ask}
@@ -27,7 +28,8 @@ use Rattle.run_promise.specs.Schedule.{Setting, IsObject, IsSource, IsSchedule, 
 use Rattle.run_promise.specs.Outcomes.{deciding}
 use Rattle.run_promise.specs.Endings.{Excused, Scene, IsNew, IsGone, IsGoneOrThere, IsSpared, IsEnded}
 use Rattle.run_promise.specs.Truthful.{IsDest, IsMovedSource, IsExternal}
-use Rattle.world_laws.specs.Premises.{Run, moments, BeginsWith, HasEndedBy, IsOldAfter, IsFitting, AreGiven, HasCome, HasSucceeded, AllRefused}
+use Rattle.world_laws.specs.Premises.{Run, moments, BeginsWith, HasEndedBy, IsOldAfter, IsFitting, AreGiven, HasCome}
+use Rattle.world_laws.specs.Premises.{HasSucceeded, AllRefused}
 use Rattle.world_laws.specs.SmallTransfers.{HasSize}
 
 -- no two tasks have one destination, and no destination is the source of a move

@@ -20,7 +20,8 @@ use Rattle.run_promise.specs.Schedule.{Setting, is_small, job_of}
 use Rattle.run_promise.specs.Truthful.{Shown, AreCertain, HasDestBuckets, HasJournal, IsAlone, IsDest, IsExternal}
 use Rattle.s3_model.specs.Parts.{HasPieces}
 use Rattle.world_laws.specs.ExampleTasks.{moved_copy, removal, upload}
-use Rattle.world_laws.specs.Premises.{Run, moments, HasBegun, HasEndedBy, HasTrace, IsFitting, IsPlace, IsNoPlace, AreGiven, HasSuccess, AllRefused}
+use Rattle.world_laws.specs.Premises.{Run, moments, HasBegun, HasEndedBy, HasTrace, IsFitting, IsPlace, IsNoPlace}
+use Rattle.world_laws.specs.Premises.{AreGiven, HasSuccess, AllRefused}
 use Rattle.world_laws.specs.Completeness.{AreCallsCounted, AreFreshByKind, AreSourcesThere}
 use Rattle.world_laws.specs.Destinations.{AllThatChange, Requests}
 use Rattle.world_laws.specs.Frame.{IsAskedOf}
