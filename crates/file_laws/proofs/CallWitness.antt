@@ -19,7 +19,8 @@ use Rattle.run_promise.specs.Dispatches.{Dispatched}
 use Rattle.run_promise.specs.Endings.{Excused, IsLeft, IsUntimed}
 use Rattle.run_promise.specs.Schedule.{Setting}
 use Rattle.local_files.specs.Calls.{Call, DropTemp, MakeTemp, Rename, Stamp, WriteAt}
-use Rattle.world_laws.proofs.Members.{Has, has, head_is, split_of, tail_is}
+use Rattle.shared_lemmas.proofs.Lists.{head_is, no_middle, tail_is}
+use Rattle.shared_lemmas.proofs.Members.{Has, has, split_of}
 use Rattle.world_laws.proofs.ScheduleWitness.{one_task}
 use Rattle.file_laws.proofs.Keeping.{true_false}
 use Rattle.file_laws.specs.FileTasks.{AreFileCalls, AreFilesApart, AreWritten, IsBody, IsCallOf, IsDecidedBefore, IsDropped, IsMade, IsRenamed, IsStamped, MayFollow, TaskCall, UsesTemp}
@@ -49,12 +50,8 @@ abbrev pub Along : {X : Type 0} → (List X → X → Type 0) → List X → Lis
 Along P before [] = Unit {0}
 Along P before (x ∷ xs) = P before x × Along P (before ++ x ∷ []) xs
 
-none_there : {Y : Type 0} (front : List Y) (y : Y) (back : List Y) → [] ≡ front ++ y ∷ back → ⊥
-none_there [] y back e = cc
-none_there (z ∷ front) y back e = cc
-
 along_from : {X : Type 0} (P : List X → X → Type 0) (front before xs : List X) (x : X) (back : List X) → Along P before xs → xs ≡ front ++ x ∷ back → P (before ++ front) x
-along_from P front before [] x back all is = absurd (none_there front x back is)
+along_from P front before [] x back all is = absurd (no_middle front x back is)
 along_from P [] before (y ∷ xs) x back all is = subst (P (before ++ [])) (head_is y x xs back is) (subst (λ (l : List _). P l y) (sym (append-nil before)) all.0)
 along_from P (z ∷ front) before (y ∷ xs) x back all is =
     subst (λ (l : List _). P l x) (append_assoc before (y ∷ []) front ∙ ap (λ (w : _). before ++ w ∷ front) (head_is y z xs (front ++ x ∷ back) is))

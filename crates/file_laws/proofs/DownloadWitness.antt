@@ -40,8 +40,8 @@ use Rattle.world_laws.specs.Rounds.{AreServed, Round, Told, ToldStatus, attempt_
 use Rattle.world_laws.specs.SmallTransfers.{HadContent}
 use Rattle.world_laws.specs.Tasks.{AreQuestions, HasSourceObject, IsScheduled}
 use Rattle.world_laws.proofs.Faithful.{IsFaithful, bare, bare_is_faithful, faithful_with, object_of, rounds_fitting, run_by, states_faithful}
-use Rattle.world_laws.proofs.Maps.{get-insert_same, text_exact}
-use Rattle.world_laws.proofs.Members.{Has, contains_of, has, has_middle}
+use Rattle.shared_lemmas.proofs.Maps.{get-insert_same, text_exact}
+use Rattle.shared_lemmas.proofs.Members.{contains_of, Has, has, has_middle}
 use Rattle.world_laws.proofs.Objects.{object_at-with_object}
 use Rattle.world_laws.proofs.PieceCounts.{pieces_are_one}
 use Rattle.world_laws.proofs.Rounds.{AreApart as AreOtherJobs, rounds_come, rounds_given}

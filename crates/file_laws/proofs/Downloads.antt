@@ -19,8 +19,8 @@ use Rattle.run_promise.specs.Schedule.{Setting, is_small}
 use Rattle.run_promise.specs.Traces.{Step, states}
 use Rattle.local_files.specs.Calls.{Call, DropTemp, IsCallRun, IsTempFor, Leads, MakeTemp, Remove, Rename, Stamp, WriteAt}
 use Rattle.world_laws.specs.Tasks.{HasSourceObject, IsScheduled, IsTraceOf}
-use Rattle.world_laws.proofs.Maps.{some_is}
-use Rattle.world_laws.proofs.Members.{Has, contains_of, has, has-append_left, split_of}
+use Rattle.shared_lemmas.proofs.Clashes.{some_is}
+use Rattle.shared_lemmas.proofs.Members.{contains_of, Has, has, has-append_left, split_of}
 use Rattle.file_laws.specs.FileTasks.{AreWritten, IsBody, IsMade, IsRangeIn, IsRenamed, IsStamped, MayFollow, TaskCall, UsesTemp, files_after, steps_of}
 use Rattle.file_laws.specs.FileLaws.{AreCalls, FileIsDownloaded}
 use Rattle.file_laws.proofs.Effects.{Effect, Spares, arrives, drops, effect, goes, leaves, makes, removes, spoils, stamps, stays, writes}

@@ -5,7 +5,7 @@ use Rattle.std.specs.FinMap.{get, insert, remove}
 use Rattle.s3_model.specs.Files.{HeldFile}
 use Rattle.s3_model.specs.Maps.{MapOf}
 use Rattle.local_files.specs.Calls.{Call, DropTemp, IsTempFor, Leads, MakeTemp, Remove, Rename, Stamp, WriteAt, written_at}
-use Rattle.world_laws.proofs.Maps.{get-insert_other, get-insert_same, get-remove_other, get-remove_same, text_decided, text_exact}
+use Rattle.shared_lemmas.proofs.Maps.{get-insert_other, get-insert_same, get-remove_other, get-remove_same, text_decided, text_exact}
 
 -- the call neither makes nor changes the file there, nor is it a drop of it
 abbrev pub Spares : List ℕ → Call → Type 0

@@ -28,8 +28,8 @@ use Rattle.run_promise.specs.Traces.{Step, state_after, states}
 use Rattle.run_promise.specs.Truthful.{HasJournal}
 use Rattle.world_laws.specs.Promises.{IsFileLeft}
 use Rattle.world_laws.specs.Tasks.{HasSourceObject, IsScheduled, IsTraceOf, MayBeNew}
-use Rattle.world_laws.proofs.Maps.{some_is}
-use Rattle.world_laws.proofs.Members.{has, split_of}
+use Rattle.shared_lemmas.proofs.Clashes.{some_is}
+use Rattle.shared_lemmas.proofs.Members.{has, split_of}
 use Rattle.file_laws.specs.FileTasks.{IsMoveOf, IsRemoved, IsRenamed, TaskCall, files_after}
 use Rattle.file_laws.specs.FileLaws.{AreCalls}
 use Rattle.file_laws.specs.FileEnds.{CallFailed, FileTaskEnds, IsPlaced, IsShownByCalls, MovedFilesAreLeft}

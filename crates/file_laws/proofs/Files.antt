@@ -14,8 +14,8 @@ use Rattle.run_promise.specs.Endings.{Excused, IsLeft, IsLeftover}
 use Rattle.run_promise.specs.Schedule.{Setting}
 use Rattle.run_promise.specs.Truthful.{IsTouchedFile}
 use Rattle.local_files.specs.Calls.{Call, MakeTemp, Remove}
-use Rattle.world_laws.proofs.Maps.{text_decided}
-use Rattle.world_laws.proofs.Members.{Has, contains_of, has, has-append_left, has_at}
+use Rattle.shared_lemmas.proofs.Maps.{text_decided}
+use Rattle.shared_lemmas.proofs.Members.{contains_of, Has, has, has-append_left, has_at}
 use Rattle.file_laws.specs.FileTasks.{IsDecidedBefore, IsRemoved, TaskCall, files_after}
 use Rattle.file_laws.specs.FileLaws.{AreCalls, FileIsMoved, FileIsRemoved, FilesStay, IsDecidedIn}
 use Rattle.file_laws.proofs.Keeping as keeping

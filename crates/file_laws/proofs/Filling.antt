@@ -14,8 +14,9 @@ use Rattle.run_promise.specs.Dispatches.{Dispatched}
 use Rattle.run_promise.specs.Endings.{Excused}
 use Rattle.run_promise.specs.Schedule.{Setting, is_small}
 use Rattle.local_files.specs.Calls.{Call, DropTemp, IsCallRun, Leads, MakeTemp, Rename, WriteAt, written_at}
-use Rattle.world_laws.proofs.Maps.{not_both, some_is}
-use Rattle.world_laws.proofs.Members.{Has, has-append_left}
+use Rattle.shared_lemmas.proofs.Clashes.{some_is}
+use Rattle.shared_lemmas.proofs.Maps.{not_both}
+use Rattle.shared_lemmas.proofs.Members.{Has, has-append_left}
 use Rattle.file_laws.specs.FileTasks.{IsRangeIn, MayFollow, TaskCall, UsesTemp, files_after, steps_of}
 use Rattle.file_laws.specs.FileLaws.{AreCalls}
 use Rattle.file_laws.proofs.Effects.{Effect, Spares, arrives, drops, effect, goes, inserted, leaves, makes, removes, spoils, stamps, stays, writes}

@@ -14,7 +14,7 @@ use Rattle.run_promise.specs.Dispatches.{Dispatched}
 use Rattle.run_promise.specs.Endings.{Excused}
 use Rattle.run_promise.specs.Schedule.{Setting}
 use Rattle.local_files.specs.Calls.{Call, DropTemp, Fault, MakeTemp, Remove, Rename, Stamp, WriteAt}
-use Rattle.world_laws.proofs.Members.{Has, contains_of, has-append_cases, has-append_left, has_middle}
+use Rattle.shared_lemmas.proofs.Members.{contains_of, Has, has-append_cases, has-append_left, has_middle}
 use Rattle.file_laws.specs.FileTasks.{IsCallOf, MayFollow, TaskCall, UsesTemp}
 use Rattle.file_laws.specs.FileLaws.{AreCalls, FileRun}
 

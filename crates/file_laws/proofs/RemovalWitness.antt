@@ -1,5 +1,6 @@
 -- Runs that remove a file: one that does, and one that fails to.
-use Rattle.std.proofs.Common.{◌≡◌, ◌∙◌, ◌++◌, ℕ, Bool, true, false, List, [], ◌∷◌, Some, None, Ok, refl, sym, ap, subst, inl, inr, Contains, arith}
+use Rattle.shared_lemmas.proofs.Lists.{no_middle}
+use Rattle.std.proofs.Common.{◌≡◌, ◌∙◌, ℕ, Bool, true, false, List, [], ◌∷◌, Some, None, Ok, refl, sym, ap, subst, inl, inr, Contains, arith}
 use Rattle.std.specs.Prelude.{IsSome}
 use Rattle.std.specs.Cmp.Lexicographic.{nat_list_cmp_total}
 use Rattle.std.specs.FinMap.{empty, get, insert, remove}
@@ -25,8 +26,8 @@ use Rattle.world_laws.specs.Premises.{IsFitting}
 use Rattle.world_laws.specs.Rounds.{Round, Told, ToldStatus, dispatch_at}
 use Rattle.world_laws.specs.Tasks.{AreQuestions, IsScheduled}
 use Rattle.world_laws.proofs.Faithful.{bare, bare_is_faithful, rounds_fitting, run_by}
-use Rattle.world_laws.proofs.Maps.{get-insert_same, text_exact}
-use Rattle.world_laws.proofs.Members.{Has, has}
+use Rattle.shared_lemmas.proofs.Maps.{get-insert_same, text_exact}
+use Rattle.shared_lemmas.proofs.Members.{Has, has}
 use Rattle.world_laws.proofs.Rounds.{rounds_given}
 use Rattle.world_laws.proofs.ScheduleWitness.{config_is_valid, limits_are_valid, none_created, one_task, rounds_schedule, setting_of, the_limits}
 use Rattle.file_laws.specs.FileEnds.{CallFailed, IsShownByCalls}
@@ -46,10 +47,6 @@ failed_or_fine path other e = cc
 
 same_removal : (path other : List ℕ) (fine : Bool) → Remove path fine ≡ Remove other fine → path ≡ other
 same_removal path other fine e = cc
-
-none_before : {X : Type 0} (front : List X) (x : X) (back : List X) → [] ≡ front ++ x ∷ back → ⊥
-none_before [] x back e = cc
-none_before (y ∷ front) x back e = cc
 
 abbrev excused_none : Excused
 excused_none = record { left = []; untimed = []; wanted_memory = false }
@@ -77,7 +74,7 @@ module _ (path : List ℕ) where
   no_dispatched c known = has [] c known
 
   not_failed : (c : Dispatched) → IsFailed Told setting [] c → ⊥
-  not_failed c failed = none_before failed.0 c failed.1 failed.2
+  not_failed c failed = no_middle failed.0 c failed.1 failed.2
 
   scheduled : IsScheduled Told setting [] [] []
   scheduled = record {

@@ -12,7 +12,7 @@ use Rattle.run_promise.specs.Fits.{Fits, IsCertain, Names, request_at, requests_
 use Rattle.run_promise.specs.Traces.{Came, Request, Serve, TraceEvent, event_of}
 use Rattle.world_laws.specs.Premises.{AreGiven, HasCome}
 use Rattle.world_laws.specs.Rounds.{Told}
-use Rattle.world_laws.proofs.Members.{Has, contains_of, has, has-map, mapped}
+use Rattle.shared_lemmas.proofs.Members.{contains_of, Has, has, has-map, mapped}
 
 module _ (limit size : ℕ) where
   abbrev pub resized : Dispatched → Dispatched

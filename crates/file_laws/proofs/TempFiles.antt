@@ -14,7 +14,7 @@ use Rattle.run_promise.specs.Dispatches.{Dispatched}
 use Rattle.run_promise.specs.Endings.{Excused, IsLeft}
 use Rattle.run_promise.specs.Schedule.{Setting}
 use Rattle.local_files.specs.Calls.{Call, DropTemp, Fault, IsCallRun, MakeTemp, Remove, Rename, Stamp, WriteAt}
-use Rattle.world_laws.proofs.Members.{Has, has, has-append_left}
+use Rattle.shared_lemmas.proofs.Members.{Has, has, has-append_left}
 use Rattle.file_laws.specs.FileTasks.{MayFollow, TaskCall, UsesTemp, files_after, steps_of}
 use Rattle.file_laws.specs.FileLaws.{AreCalls}
 use Rattle.file_laws.proofs.Effects.{Effect, Spares, arrives, drops, effect, goes, leaves, makes, removes, spoils, stamps, stays, writes}

@@ -1,9 +1,10 @@
 -- A statement on each member, place or cut of a list that is written out, from one component for each.
+use Rattle.shared_lemmas.proofs.Lists.{head_is, tail_is}
 use Rattle.std.proofs.Common.{◌≡◌, ◌++◌, ℕ, zero, suc, Bool, true, List, [], ◌∷◌, Some, subst, inl, inr, All, AllPairs, Contains, slice_get, filter, arith}
 use Rattle.std.proofs.lemmas.List.Kept.{AllPairs-cons}
-pub use Rattle.world_laws.proofs.Clashes.{none_is_some, some_is}
-pub use Rattle.world_laws.proofs.Members.{Has, has, contains_of, has_middle}
-use Rattle.world_laws.proofs.Members.{has_at, has-filter}
+pub use Rattle.shared_lemmas.proofs.Clashes.{none_is_some, some_is}
+pub use Rattle.shared_lemmas.proofs.Members.{Has, has, contains_of, has_middle}
+use Rattle.shared_lemmas.proofs.Members.{has-filter, has_at}
 
 -- ---- members
 
@@ -56,12 +57,6 @@ pairs R [] all = λ i j d before within. absurd (omega arith)
 pairs R (x ∷ xs) all = AllPairs-cons R x xs (all_of (R x) xs all.0) (pairs R xs all.1)
 
 -- ---- cuts
-
-head_is : {X : Type 0} (x y : X) (xs ys : List X) → x ∷ xs ≡ y ∷ ys → x ≡ y
-head_is x y xs ys e = cc
-
-tail_is : {X : Type 0} (x y : X) (xs ys : List X) → x ∷ xs ≡ y ∷ ys → xs ≡ ys
-tail_is x y xs ys e = cc
 
 nil_cons : {X : Type 0} (y : X) (ys : List X) → [] ≡ y ∷ ys → ⊥
 nil_cons y ys e = cc

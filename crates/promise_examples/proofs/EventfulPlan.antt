@@ -26,7 +26,8 @@ use Rattle.run_promise.specs.Dispatches.{Dispatched, IsCut, last_of}
 use Rattle.run_promise.specs.Outcomes.{HasOutcome, IsFirstFailure}
 use Rattle.run_promise.specs.Schedule.{HasReply, IsSchedule, IsFailed, IsUpload, IsDecided, IsBefore, AreETags, Target, Origin, bytes_of, gained_before, job_of}
 use Rattle.run_promise.specs.Truthful.{IsDest}
-use Rattle.world_laws.proofs.Clashes.{false_true as never}
+use Rattle.shared_lemmas.proofs.Clashes.{false_true as never}
+use Rattle.shared_lemmas.proofs.Maps.{get-insert_same, text_exact}
 use Rattle.promise_examples.specs.Reading.{Reads, HasNoStatus, NeverFailed}
 use Rattle.promise_examples.specs.Runs.{Example, IsMet}
 use Rattle.promise_examples.specs.Everything.{EverythingIsMet, bucket, uploaded, source, copied, path, bytes, id, first_etag, second_etag, upload, copy, create_job, part_job, complete_job, copy_job, delete_job, copy_answered, complete_again, events, eventful_run, start, eventful_trace}
@@ -34,7 +35,6 @@ use Rattle.promise_examples.proofs.Concrete.{at, each, front_of, none_is_some, s
 use Rattle.promise_examples.proofs.EventfulJobs.{well, create_sent, copy_sent, part_sent, other_sent, part_again, delete_sent, complete_sent, jobs, coming}
 use Rattle.promise_examples.proofs.EventfulTrace.{runs, is_honest, fits}
 use Rattle.promise_examples.proofs.EventfulWires.{carried}
-use Rattle.world_laws.proofs.Maps.{text_exact, get-insert_same}
 use Rattle.promise_examples.proofs.Scheduling as scheduling
 use Rattle.promise_examples.proofs.Scheduling.{other_op}
 use Rattle.promise_examples.proofs.Repeats.{other_job}

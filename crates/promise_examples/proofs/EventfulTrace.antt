@@ -18,7 +18,8 @@ use Rattle.run_promise.specs.Fits.{Fits, IsAnswered, Names, requests_of}
 use Rattle.run_promise.specs.Dispatches.{Dispatched}
 use Rattle.run_promise.specs.Schedule.{most_body}
 use Rattle.run_promise.specs.Traces.{IsTrace, IsHonest, begun_in, events_of}
-use Rattle.world_laws.proofs.Clashes.{false_true as never}
+use Rattle.shared_lemmas.proofs.Clashes.{false_true as never}
+use Rattle.shared_lemmas.proofs.Maps.{get-insert_same, is_nothing, text_exact}
 use Rattle.promise_examples.specs.Reading.{Reads}
 use Rattle.promise_examples.specs.Services.{object_of, one_bucket}
 use Rattle.promise_examples.specs.Everything.{bucket, uploaded, source, copied, bytes, source_etag, lost_id, id, first_etag, second_etag, limits, create_job, part_job, complete_job, copy_job, delete_job, create_lost, create_answered, copy_answered, part_lost, part_stored, other_stored, delete_lost, delete_again, complete_lost, complete_again, events, unused, first_part, second_part, with_second, with_both, once_more, start, once_created, twice_created, after_copy, after_second, after_first, after_delete, after_late, joined, completed, after_all, create_request, copy_request, part_request, other_request, delete_request, complete_request, eventful_trace}
@@ -27,7 +28,6 @@ use Rattle.promise_examples.proofs.EventfulJobs.{lost, well, create_sent, copy_s
 use Rattle.promise_examples.proofs.Fitting as fitting
 use Rattle.promise_examples.proofs.Honest.{one_bucket_is_faithful, has_bucket, honest}
 use Rattle.world_laws.proofs.Faithful.{IsFaithful, faithful_with, faithful_without}
-use Rattle.world_laws.proofs.Maps.{is_nothing, text_exact, get-insert_same}
 use Rattle.world_laws.proofs.Objects.{object_at-with_object}
 use Rattle.promise_examples.proofs.Readings.{names, same_uncertain}
 use Rattle.promise_examples.proofs.Repeats.{other_job}

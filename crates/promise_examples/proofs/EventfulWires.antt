@@ -8,7 +8,7 @@ use Rattle.s3_model.specs.declared.answers.Listed.{Listed}
 use Rattle.s3_model.specs.declared.tries.Mark.TheVariants as mark
 use Rattle.s3_model.specs.Talks.{Talk, Note, Moment, Pause, Began}
 use Rattle.run_promise.specs.Carried.{IsCarried, IsSaid, MayStop}
-use Rattle.world_laws.proofs.Clashes.{false_true as never}
+use Rattle.shared_lemmas.proofs.Clashes.{false_true as never}
 use Rattle.promise_examples.specs.Reading.{Reads, signed_body}
 use Rattle.promise_examples.specs.Runs.{Example}
 use Rattle.promise_examples.specs.Everything.{document, create_lost, create_answered, copy_answered, part_lost, part_stored, other_stored, delete_lost, delete_again, complete_lost, complete_again, events, eventful_run}

@@ -34,7 +34,8 @@ use Rattle.run_promise.specs.Outcomes.{HasOutcome, HasDeciding, IsFirstFailure}
 use Rattle.run_promise.specs.Schedule.{IsSchedule, IsBefore, IsBeforeAny, IsBeforePlace, IsFailed, IsUpload, Target, bytes_of, gained_before, job_of, most_body}
 use Rattle.run_promise.specs.Traces.{IsTrace, begun_in, events_of}
 use Rattle.run_promise.specs.Truthful.{IsDest}
-use Rattle.world_laws.proofs.Clashes.{false_true as never}
+use Rattle.shared_lemmas.proofs.Clashes.{false_true as never}
+use Rattle.shared_lemmas.proofs.Maps.{get-insert_same, is_nothing, text_exact}
 use Rattle.promise_examples.specs.Reading.{Reads, HasNoStatus, NeverFailed, signed_body}
 use Rattle.promise_examples.specs.Runs.{Example, IsMet}
 use Rattle.promise_examples.specs.Everything.{bucket, uploaded, path, bytes, id, second_etag, upload, create_job, part_job, create, part, create_answered, unused, second_part, create_request, part_request, other_request}
@@ -47,7 +48,6 @@ use Rattle.promise_examples.proofs.EventfulJobs.{lost, well, sent_as}
 use Rattle.promise_examples.proofs.Fitting as fitting
 use Rattle.promise_examples.proofs.Honest.{one_bucket_is_faithful, has_bucket, honest}
 use Rattle.world_laws.proofs.Faithful.{IsFaithful}
-use Rattle.world_laws.proofs.Maps.{is_nothing, text_exact, get-insert_same}
 use Rattle.promise_examples.proofs.Readings.{names, same_uncertain, says_whole}
 use Rattle.promise_examples.proofs.Repeats.{all_repeats, no_third, other_job}
 use Rattle.promise_examples.proofs.Scheduling as scheduling

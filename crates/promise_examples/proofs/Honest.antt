@@ -11,7 +11,7 @@ use Rattle.run_promise.specs.Traces.{Step, TraceEvent, External, IsHonest, state
 use Rattle.promise_examples.specs.Services.{one_bucket}
 use Rattle.promise_examples.proofs.Concrete.{Each, each}
 use Rattle.world_laws.proofs.Faithful.{IsFaithful}
-use Rattle.world_laws.proofs.Maps.{text_exact, found_in_empty, found_after_insert, get-insert_same}
+use Rattle.shared_lemmas.proofs.Maps.{found_after_insert, found_in_empty, get-insert_same, text_exact}
 
 -- ---- a service with one bucket that is empty
 

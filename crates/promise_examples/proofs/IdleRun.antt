@@ -1,5 +1,5 @@
 -- The run that gave up untried, and the trace in which nothing happens.
-use Rattle.std.proofs.Common.{◌≡◌, ◌⊎◌, ◌++◌, ℕ, true, false, List, [], ◌∷◌, refl, subst, inl, inr}
+use Rattle.std.proofs.Common.{◌≡◌, ◌⊎◌, ℕ, true, false, List, [], ◌∷◌, refl, subst, inl, inr}
 use Rattle.std.specs.FinMap.{empty}
 use Rattle.std.proofs.lemmas.List.Sorted.{IsPermutation-refl}
 use Rattle.s3_model.specs.declared.answers.Listed.{Listed}
@@ -33,10 +33,6 @@ Plans planning = planning ≡ []
 
 false_is_true : false ≡ true → ⊥
 false_is_true e = cc
-
-nil_middle : {X : Type 0} (front : List X) (x : X) (back : List X) → [] ≡ front ++ x ∷ back → ⊥
-nil_middle [] x back e = cc
-nil_middle (y ∷ front) x back e = cc
 
 object_bucket : (b k c l : List ℕ) → place.Object b k ≡ place.Object c l → b ≡ c
 object_bucket b k c l e = cc

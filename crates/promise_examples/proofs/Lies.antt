@@ -20,7 +20,7 @@ use Rattle.s3_model.specs.Talks.{Talk}
 use Rattle.run_promise.specs.Dispatches.{Attempt, Dispatched, dispatches}
 use Rattle.run_promise.specs.Outcomes.{HasOutcome, HasDeciding, IsLastCause}
 use Rattle.run_promise.specs.Schedule.{IsSchedule}
-use Rattle.world_laws.proofs.Clashes.{false_true as never}
+use Rattle.shared_lemmas.proofs.Clashes.{false_true as never}
 use Rattle.promise_examples.specs.Everything.{create_job, part_job, complete_job, create_answered, upload}
 use Rattle.promise_examples.specs.FailedUpload.{failed_run, other_lost}
 use Rattle.promise_examples.specs.GivenAgain.{put_job}

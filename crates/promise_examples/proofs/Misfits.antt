@@ -1,4 +1,5 @@
 -- Traces with one thing changed do not fit.
+use Rattle.shared_lemmas.proofs.Lists.{head_is, no_cons}
 use Rattle.std.proofs.Common.{◌≡◌, ◌++◌, ℕ, false, List, [], ◌∷◌, Some, refl, sym, ap, Contains, length, slice_get, arith}
 use Rattle.std.specs.Prelude.{codes}
 use Rattle.s3_model.specs.declared.requests.Ask.{Ask}
@@ -24,12 +25,6 @@ use Rattle.promise_examples.proofs.Concrete.{has, at, each, slot}
 use Rattle.promise_examples.proofs.Readings.{reads, shown_by}
 use Rattle.promise_examples.proofs.Shown.{made, of_shown}
 use Rattle.promise_examples.proofs.WholePut.{met}
-
-no_cons : {X : Type 0} (x : X) (xs : List X) → x ∷ xs ≡ [] → ⊥
-no_cons x xs e = cc
-
-head_is : {X : Type 0} (x y : X) (xs ys : List X) → x ∷ xs ≡ y ∷ ys → x ≡ y
-head_is x y xs ys e = cc
 
 given_serve : (j : JobId) (l : ℕ) (s : Request) (a : Answer) → Given j l ≡ Serve s a → ⊥
 given_serve j l s a e = cc

@@ -19,7 +19,7 @@ use Rattle.s3_model.specs.Talks.{Talk}
 use Rattle.run_promise.specs.Carried.{IsCarried}
 use Rattle.run_promise.specs.Dispatches.{Dispatched, IsCut}
 use Rattle.run_promise.specs.Schedule.{Gained, IsSchedule, IsTaskAsk, IsUpload, IsBefore, IsBeforeAny, gained_before, is_small, source_bytes}
-use Rattle.world_laws.proofs.Clashes.{false_true as never}
+use Rattle.shared_lemmas.proofs.Clashes.{false_true as never}
 use Rattle.promise_examples.specs.Everything.{create_job, part_job, complete_job, copy_job, delete_job, create_answered, copy_answered, part_stored, other_stored, upload, copy, id, limits, eventful_run}
 use Rattle.promise_examples.specs.Orders as specs
 use Rattle.promise_examples.specs.Orders.{OrdersAreRefused, abort_job, part_denied, complete_answered, abort_answered, delete_answered}

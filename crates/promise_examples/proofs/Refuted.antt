@@ -1,4 +1,5 @@
 -- Runs with one thing changed are refused.
+use Rattle.shared_lemmas.proofs.Lists.{head_is, no_cons, no_middle, tail_is}
 use Rattle.std.proofs.Common.{◌≡◌, ◌∙◌, ◌⊎◌, ◌<◌, ◌≤◌, ◌++◌, ℕ, Bool, true, false, List, [], ◌∷◌, Option, Some, None, refl, sym, ap, subst, inl, inr, Contains, length, filter_map, slice_get, arith}
 use Rattle.std.specs.Prelude.{codes}
 use Rattle.std.specs.Cmp.Lexicographic.{nat_list_cmp_total}
@@ -20,7 +21,8 @@ use Rattle.s3_model.specs.Talks.{Talk, Note, Ending, Finished, Moment, Pause, Be
 use Rattle.run_promise.specs.Carried.{IsCarried, IsSaid, MayStop, Numbered, SaysAll, pause_of}
 use Rattle.run_promise.specs.Dispatches.{Attempt, Dispatched, IsCut, IsFailing, IsSuccessLast, dispatches, last_of}
 use Rattle.run_promise.specs.Schedule.{Setting, Gained, IsBeforeAny, IsSchedule, IsStopped, IsTaskAsk, bytes_of, gained_before, is_small, source_bytes}
-use Rattle.world_laws.proofs.Clashes.{false_true as never}
+use Rattle.shared_lemmas.proofs.Clashes.{false_true as never}
+use Rattle.shared_lemmas.proofs.Maps.{get-insert_same, text_exact}
 use Rattle.promise_examples.specs.GivenAgain.{put_job, bytes}
 use Rattle.promise_examples.specs.Reading.{Reads, class_by, signed_body}
 use Rattle.promise_examples.specs.Runs.{Example}
@@ -28,7 +30,6 @@ use Rattle.promise_examples.specs.Refused as specs
 use Rattle.promise_examples.specs.Refused.{IsRefused, WiresAreRefused, JobsAreRefused, setting, task, path, stored_at, lost_at, denied_at}
 use Rattle.promise_examples.proofs.Carrying.{same_again}
 use Rattle.promise_examples.proofs.Concrete.{has, contains_of, each, none_is_some, some_is}
-use Rattle.world_laws.proofs.Maps.{text_exact, get-insert_same}
 use Rattle.promise_examples.proofs.Readings.{reads, shown_by, same_mark}
 use Rattle.promise_examples.proofs.Shown.{made, Whatever, of_shown, alone}
 
@@ -36,19 +37,6 @@ use Rattle.promise_examples.proofs.Shown.{made, Whatever, of_shown, alone}
 
 first : {X : Type 0} (x : X) (xs : List X) → Contains (x ∷ xs) x
 first x xs = contains_of (x ∷ xs) x (inl refl)
-
-head_is : {X : Type 0} (x y : X) (xs ys : List X) → x ∷ xs ≡ y ∷ ys → x ≡ y
-head_is x y xs ys e = cc
-
-tail_is : {X : Type 0} (x y : X) (xs ys : List X) → x ∷ xs ≡ y ∷ ys → xs ≡ ys
-tail_is x y xs ys e = cc
-
-no_cons : {X : Type 0} (x : X) (xs : List X) → x ∷ xs ≡ [] → ⊥
-no_cons x xs e = cc
-
-no_middle : {X : Type 0} (front : List X) (x : X) (back : List X) → [] ≡ front ++ x ∷ back → ⊥
-no_middle [] x back e = no_cons x back (sym e)
-no_middle (y ∷ front) x back e = no_cons y (front ++ x ∷ back) (sym e)
 
 moments : (a b : ℕ) → Moment a ≡ Moment b → a ≡ b
 moments a b e = cc

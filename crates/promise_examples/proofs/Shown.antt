@@ -1,4 +1,5 @@
 -- What holds of each reading of a run's jobs, from what holds of each ask, body, limit and size.
+use Rattle.shared_lemmas.proofs.Lists.{head_is, tail_is}
 use Rattle.std.proofs.Common.{◌≡◌, ◌∙◌, ◌+◌, ◌++◌, ℕ, List, [], ◌∷◌, refl, sym, ap, subst, inl, inr, map, length, Contains, arith}
 use Rattle.std.specs.Prelude.{IsPermutation}
 use Rattle.std.proofs.lemmas.List.{length-append}
@@ -14,12 +15,6 @@ made d asked body limit size = record { dispatch = d; ask = asked; body = body; 
 abbrev pub Whatever : List Dispatch → (List Dispatched → Type 0) → Type 0
 Whatever [] P = P []
 Whatever (d ∷ ds) P = (asked : Ask) (body : List ℕ) (limit size : ℕ) → Whatever ds (λ later. P (made d asked body limit size ∷ later))
-
-head_is : {X : Type 0} (x y : X) (xs ys : List X) → x ∷ xs ≡ y ∷ ys → x ≡ y
-head_is x y xs ys e = cc
-
-tail_is : {X : Type 0} (x y : X) (xs ys : List X) → x ∷ xs ≡ y ∷ ys → xs ≡ ys
-tail_is x y xs ys e = cc
 
 pub of_shown : (ds : List Dispatch) (P : List Dispatched → Type 0) → Whatever ds P → (xs : List Dispatched) → map (λ (c : Dispatched). c.dispatch) xs ≡ ds → P xs
 of_shown [] P all [] e = all

@@ -27,7 +27,8 @@ use Rattle.run_promise.specs.Planning.{Listing, PlansFor}
 use Rattle.run_promise.specs.Schedule.{most_body, IsSchedule, IsFailed, job_of}
 use Rattle.run_promise.specs.Truthful.{IsDest}
 use Rattle.run_promise.specs.Traces.{IsTrace, begun_in, events_of}
-use Rattle.world_laws.proofs.Clashes.{false_true as never}
+use Rattle.shared_lemmas.proofs.Clashes.{false_true as never}
+use Rattle.shared_lemmas.proofs.Maps.{entries-empty, get-insert_same, is_nothing, text_exact}
 use Rattle.promise_examples.specs.Reading.{Reads, signed_body}
 use Rattle.promise_examples.specs.Services.{one_bucket}
 use Rattle.promise_examples.specs.Runs.{Example, IsMet}
@@ -37,7 +38,6 @@ use Rattle.promise_examples.proofs.Carrying as carrying
 use Rattle.promise_examples.proofs.Fitting as fitting
 use Rattle.promise_examples.proofs.Honest.{one_bucket_is_faithful, has_bucket, honest}
 use Rattle.world_laws.proofs.Faithful.{IsFaithful, faithful_with}
-use Rattle.world_laws.proofs.Maps.{entries-empty, text_exact, get-insert_same, is_nothing}
 use Rattle.world_laws.proofs.Objects.{objects_in_same}
 use Rattle.promise_examples.proofs.Readings.{names, reads, says_whole}
 use Rattle.promise_examples.proofs.Repeats.{other_job}

@@ -27,7 +27,8 @@ use Rattle.run_promise.specs.Outcomes.{HasOutcome}
 use Rattle.run_promise.specs.Schedule.{most_body, IsSchedule, IsFailed, IsTaskAsk, Target, bytes_of, gained_before, job_of, source_bytes}
 use Rattle.run_promise.specs.Traces.{IsTrace, begun_in, events_of}
 use Rattle.run_promise.specs.Truthful.{IsDest}
-use Rattle.world_laws.proofs.Clashes.{false_true as never}
+use Rattle.shared_lemmas.proofs.Clashes.{false_true as never}
+use Rattle.shared_lemmas.proofs.Maps.{get-insert_same, text_exact}
 use Rattle.promise_examples.specs.Reading.{Reads, HasNoStatus, NeverFailed, signed_body}
 use Rattle.promise_examples.specs.Services.{object_of}
 use Rattle.promise_examples.specs.Runs.{Example, IsMet}
@@ -39,7 +40,6 @@ use Rattle.promise_examples.proofs.Carrying as carrying
 use Rattle.promise_examples.proofs.Fitting as fitting
 use Rattle.promise_examples.proofs.Honest.{one_bucket_is_faithful, has_bucket, honest}
 use Rattle.world_laws.proofs.Faithful.{IsFaithful, faithful_with}
-use Rattle.world_laws.proofs.Maps.{text_exact, get-insert_same}
 use Rattle.promise_examples.proofs.Readings.{names, says_whole}
 use Rattle.promise_examples.proofs.Scheduling as scheduling
 

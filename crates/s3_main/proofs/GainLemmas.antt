@@ -1,15 +1,10 @@
 -- What a wire gains in one call after the other.
+use Rattle.shared_lemmas.proofs.Clashes.{none_is_some, some_is}
 use Rattle.std.proofs.Common.{◌≡◌, ◌∙◌, ◌++◌, ℕ, List, [], ◌∷◌, Option, Some, None, refl, sym, ap, inl, inr, append_assoc, append-nil}
 use Rattle.s3_model.specs.Talks.{Talk, Note, Began, WireLog}
 use Rattle.s3_outside.specs.Seen.{IsSeenAfter}
 use Rattle.http_exchange.specs.Seen.{with_talk}
 use Rattle.s3_main.specs.Carrying.{Gains}
-
-none_some : {A : Type 0} (x : A) → ◌≡◌ {A = Option A} None (Some x) → ⊥
-none_some x e = cc
-
-some_same : {A : Type 0} (x y : A) → Some x ≡ Some y → x ≡ y
-some_same x y e = cc
 
 -- nothing was called
 pub gains_nothing : (P : List Talk → List Note → Type 0) (seen : Option WireLog) → P [] [] → Gains seen seen P
@@ -21,11 +16,11 @@ gains_step : (P : List Talk → List Note → Type 0) (step : WireLog → WireLo
     → ((log : WireLog) → ((step log).talks ≡ log.talks ++ talks) × ((step log).notes ≡ log.notes ++ notes))
     → (before after : Option WireLog) (b a : ℕ) → IsSeenAfter step before after b a → P talks notes → Gains before after P
 gains_step P step talks notes adds before None b a seen p = tt
-gains_step P step talks notes adds None (Some after) b a (inl e) p = absurd (none_some after (sym e))
+gains_step P step talks notes adds None (Some after) b a (inl e) p = absurd (none_is_some after (sym e))
 gains_step P step talks notes adds (Some before) (Some after) b a (inl e) p =
-    let same = some_same _ _ e in
+    let same = some_is _ _ e in
     (talks, notes, ap (λ (log : WireLog). log.talks) same ∙ (adds before).0, ap (λ (log : WireLog). log.notes) same ∙ (adds before).1, p)
-gains_step P step talks notes adds before (Some after) b a (inr stops) p = absurd (none_some after (sym stops.0))
+gains_step P step talks notes adds before (Some after) b a (inr stops) p = absurd (none_is_some after (sym stops.0))
 
 pub gains_talk : (P : List Talk → List Note → Type 0) (talk : Talk) (before after : Option WireLog) (b a : ℕ) → IsSeenAfter (with_talk talk) before after b a
     → P (talk ∷ []) (Began ∷ []) → Gains before after P

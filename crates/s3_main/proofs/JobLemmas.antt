@@ -21,8 +21,9 @@ use Rattle.run_promise.specs.Buffers.{KeepsBuffers, buffers_out}
 use Rattle.run_promise.specs.Dispatches.{Attempt, Dispatch, Dispatched}
 use Rattle.run_promise.specs.Schedule.{Setting, Gained, Known, IsTaskAsk, IsSchedule, IsBefore, job_of, limit_of, most_body, source_bytes, gained_before, is_small}
 use Rattle.s3_outside.specs.Files.{SeenFiles}
-use Rattle.world_laws.proofs.Maps.{none_is_some, some_is}
-use Rattle.world_laws.proofs.Members.{Has, has, contains_of, head_is, tail_is}
+use Rattle.shared_lemmas.proofs.Clashes.{none_is_some, some_is}
+use Rattle.shared_lemmas.proofs.Lists.{head_is, no_cons, tail_is}
+use Rattle.shared_lemmas.proofs.Members.{contains_of, Has, has}
 use Rattle.s3_main.specs.Puts.{put_job}
 use Rattle.s3_main.specs.Runs.{setting_by}
 use Rattle.s3_main.specs.Sources.{first_large}
@@ -50,9 +51,6 @@ first_only at (suc k) a e = absurd (none_is_some a e)
 nil_cons : {X : Type 0} (x : X) (rest : List X) → [] ≡ x ∷ rest → ⊥
 nil_cons x rest e = cc
 
-pub cons_nil : {X : Type 0} (x : X) (rest : List X) → x ∷ rest ≡ [] → ⊥
-cons_nil x rest e = cc
-
 -- one or none, in any order
 one_coming : {X : Type 0} (x : X) (ys : List X) → IsPermutation (x ∷ []) ys → ys ≡ x ∷ []
 one_coming {X} x ys p = go ys (length_permutation (x ∷ []) ys p) (has ys x (Contains-permutation (x ∷ []) ys x p (in_one x)))
@@ -76,11 +74,11 @@ none_coming {X} ys p = go ys (length_permutation [] ys p)
 single : (xs : List Dispatched) (d : Dispatch) → map (λ (c : Dispatched). c.dispatch) xs ≡ d ∷ [] → (c : Dispatched) × (xs ≡ c ∷ []) × (c.dispatch ≡ d)
 single [] d e = absurd (nil_cons d [] e)
 single (c ∷ []) d e = (c, refl, head_is _ _ _ _ e)
-single (a ∷ b ∷ rest) d e = absurd (cons_nil _ _ (tail_is _ _ _ _ e))
+single (a ∷ b ∷ rest) d e = absurd (no_cons _ _ (tail_is _ _ _ _ e))
 
 none_dispatched : (xs : List Dispatched) → map (λ (c : Dispatched). c.dispatch) xs ≡ [] → xs ≡ []
 none_dispatched [] e = refl
-none_dispatched (x ∷ xs) e = absurd (cons_nil _ _ e)
+none_dispatched (x ∷ xs) e = absurd (no_cons _ _ e)
 
 dispatched_is : (d e : Dispatch) (p q : Ask) (a b : List ℕ) (l m x y : ℕ) → d ≡ e → p ≡ q → a ≡ b → l ≡ m → x ≡ y
     → ◌≡◌ {A = Dispatched} (record { dispatch = d; ask = p; body = a; limit = l; size = x }) (record { dispatch = e; ask = q; body = b; limit = m; size = y })

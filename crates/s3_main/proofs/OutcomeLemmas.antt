@@ -17,8 +17,8 @@ use Rattle.run_promise.specs.Schedule.{Setting, IsFailed, IsStopped, job_of}
 use Rattle.run_promise.specs.Outcomes.{HasOutcome, HasDeciding, HasMark, IsDecidingJob, IsFailureOf, IsFirstFailure, IsLastCause, deciding}
 use Rattle.run_promise.specs.Settled.{cause_of, is_memory}
 use Rattle.s3_outside.specs.Files.{SeenFiles}
-use Rattle.world_laws.proofs.Maps.{none_is_some}
-use Rattle.world_laws.proofs.Members.{Has, contains_of, has_middle}
+use Rattle.shared_lemmas.proofs.Clashes.{none_is_some}
+use Rattle.shared_lemmas.proofs.Members.{contains_of, Has, has_middle}
 use Rattle.s3_main.specs.Puts.{IsJudged, stored, refused, open_ended, unread, put_job}
 use Rattle.s3_main.specs.Runs.{tells_file_failed}
 use Rattle.s3_main.specs.Sources.{first_large}

@@ -32,7 +32,7 @@ use Rattle.run_promise.specs.Settled.{HasFileFailed, IsSettingOf, NoneSaysChange
 use Rattle.run_promise.specs.Truthful.{Shown, IsTruthful, IsDoneWhereWilling}
 use Rattle.world_laws.specs.Promises.{IsByRequests}
 use Rattle.world_laws.specs.Tasks.{HasSource, HasSourceFile}
-use Rattle.world_laws.proofs.Maps.{none_is_some}
+use Rattle.shared_lemmas.proofs.Clashes.{none_is_some}
 use Rattle.s3_outside.specs.Env.{SeenEnv}
 use Rattle.s3_outside.specs.Files.{SeenFiles, shape_of}
 use Rattle.s3_outside.specs.declared.files.Shape.TheVariants as shape

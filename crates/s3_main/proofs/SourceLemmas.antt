@@ -1,4 +1,5 @@
 -- Files over a call, and the bytes that came of one.
+use Rattle.shared_lemmas.proofs.Clashes.{none_is_some, some_is}
 use Rattle.std.proofs.Common.{◌≡◌, ◌≤◌, ◌+◌, ◌-◌, ◌∙◌, ◌++◌, ℕ, List, [], ◌∷◌, Option, Result, refl, append_assoc, append-nil, Some, None, IfSome, length, take, drop, sym, ap, subst, inl, inr, arith, length-drop}
 use Rattle.std.proofs.lemmas.List.{length-take-le, take-append-le}
 use Rattle.std.proofs.Math.Seq.{take-append-add, take-add}
@@ -10,12 +11,6 @@ use Rattle.s3_outside.specs.declared.files.FileNote.TheVariants as note
 use Rattle.s3_outside.specs.declared.files.Shape.{Shape}
 use Rattle.s3_outside.specs.declared.wire.Failed.{Failed}
 use Rattle.s3_main.specs.Sources.{AreFirstBytes, AskFor, LooksAt}
-
-none_some : {A : Type 0} (x : A) → ◌≡◌ {A = Option A} None (Some x) → ⊥
-none_some x e = cc
-
-some_same : {A : Type 0} (x y : A) → Some x ≡ Some y → x ≡ y
-some_same x y e = cc
 
 append_asks : (path : List ℕ) (calls more : List FileNote) → AskFor path calls → AskFor path more → AskFor path (calls ++ more)
 append_asks path [] more asks others = others
@@ -42,11 +37,11 @@ looks_both path (Some first) (Some before) (Some after) looked looks = (
 pub looks_called : (path : List ℕ) (call : FileNote) (step : SeenFiles → SeenFiles) → ((seen : SeenFiles) → step seen ≡ called call seen) → AskFor path (call ∷ [])
     → (before after : Option SeenFiles) (b a : ℕ) → IsSeenAfter step before after b a → LooksAt path before after
 looks_called path call step is asks before None b a seen = tt
-looks_called path call step is asks None (Some after) b a (inl e) = absurd (none_some after (sym e))
+looks_called path call step is asks None (Some after) b a (inl e) = absurd (none_is_some after (sym e))
 looks_called path call step is asks (Some before) (Some after) b a (inl e) =
-    let same : after ≡ called call before = some_same _ _ e ∙ is before in
+    let same : after ≡ called call before = some_is _ _ e ∙ is before in
     (ap (λ (files : SeenFiles). files.store) same, call ∷ [], ap (λ (files : SeenFiles). files.calls) same, asks)
-looks_called path call step is asks before (Some after) b a (inr stops) = absurd (none_some after (sym stops.0))
+looks_called path call step is asks before (Some after) b a (inr stops) = absurd (none_is_some after (sym stops.0))
 
 pub looked_kind : (path : List ℕ) (answer : Result Shape Failed) (before after : Option SeenFiles) (b a : ℕ) → IsSeenAfter (asked_kind path answer) before after b a → LooksAt path before after
 looked_kind path answer = looks_called path (note.Kind path answer) (asked_kind path answer) (λ seen. refl) (refl, tt)
@@ -58,15 +53,15 @@ module _ (step : SeenFiles → SeenFiles) (same : (seen : SeenFiles) → (step s
   -- what was seen before holds of the same files
   pub seen_before : (P : FileStore → Type 0) (before after : Option SeenFiles) (b a : ℕ) → IfSome before (λ seen. P seen.store) → IsSeenAfter step before after b a → IfSome after (λ seen. P seen.store)
   seen_before P before None b a holds seen = tt
-  seen_before P None (Some after) b a holds (inl e) = absurd (none_some after (sym e))
-  seen_before P (Some before) (Some after) b a holds (inl e) = rw (ap (λ (t : SeenFiles). t.store) (some_same _ _ e) ∙ same before) holds
-  seen_before P before (Some after) b a holds (inr stops) = absurd (none_some after (sym stops.0))
+  seen_before P None (Some after) b a holds (inl e) = absurd (none_is_some after (sym e))
+  seen_before P (Some before) (Some after) b a holds (inl e) = rw (ap (λ (t : SeenFiles). t.store) (some_is _ _ e) ∙ same before) holds
+  seen_before P before (Some after) b a holds (inr stops) = absurd (none_is_some after (sym stops.0))
 
 -- bytes that were read behind the first of a file make more of its first bytes
 pub reads_on : (store : FileStore) (path : List ℕ) (at count : ℕ) (old into behind : List ℕ) → at ≤ length old → count ≤ length into → Reads store path at into count
     → AreFirstBytes store path (take at old) → AreFirstBytes store path (take (at + count) (take at old ++ (into ++ behind)))
 reads_on store path at count old into behind inside fits reads first = λ file held.
-    let same : reads.file ≡ file = some_same _ _ (sym reads.held ∙ held) in
+    let same : reads.file ≡ file = some_is _ _ (sym reads.held ∙ held) in
     let came : take count into ≡ take count (drop at file.bytes) = subst (λ (f : HeldFile). take count into ≡ take count (drop at f.bytes)) same reads.bytes in
     let more : count ≤ length (drop at file.bytes) = subst (λ (f : HeldFile). count ≤ length (drop at f.bytes)) same reads.inside in
     let n : length (take at old) ≡ at = length-take-le at old inside in

@@ -1,4 +1,5 @@
 -- What the wires show of the one job of an upload, or of none.
+use Rattle.shared_lemmas.proofs.Lists.{no_cons}
 use Rattle.std.proofs.Common.{◌≡◌, ◌∙◌, ◌⊎◌, ◌==◌, ◌+◌, ◌<◌, ◌≤◌, ℕ, zero, suc, true, false, List, [], ◌∷◌, Some, refl, sym, ap, subst, inl, inr, Contains, length, slice_get, arith}
 use Rattle.std.specs.Prelude.{flat_map}
 use Rattle.std.proofs.lemmas.List.{append-nil}
@@ -17,11 +18,11 @@ use Rattle.s3_model.specs.Talks.{Talk, Note, Moment, Began}
 use Rattle.run_promise.specs.Dispatches.{Attempt, Dispatched, last_of, paired}
 use Rattle.run_promise.specs.Schedule.{Setting, most_body}
 use Rattle.run_promise.specs.Carried.{IsCarried, IsSaid, AreNoted, Numbered, in_lane, numbered_from, talks_of, mark_of}
-use Rattle.world_laws.proofs.Maps.{none_is_some, some_is}
+use Rattle.shared_lemmas.proofs.Clashes.{none_is_some, some_is}
 use Rattle.s3_main.specs.Puts.{AreIdle, IsJudged, stored, refused, open_ended, unread}
 use Rattle.s3_main.specs.Runs.{in_first}
 use Rattle.s3_main.specs.Uploading.{put_events, upload_ask}
-use Rattle.s3_main.proofs.JobLemmas.{Planned, cons_nil, each, first_only, in_none, in_one, put_dispatch, put_with, setting_of}
+use Rattle.s3_main.proofs.JobLemmas.{Planned, each, first_only, in_none, in_one, put_dispatch, put_with, setting_of}
 
 given_came : (j k : JobId) (l m : ℕ) (tries : List Mark) → entry.Given j l ≡ entry.Came k m tries → ⊥
 given_came j k l m tries e = cc
@@ -210,5 +211,5 @@ module _ (Shows : Ask → ℕ → Talk → Class → List ℕ → Type 0) (reque
             marked = λ k a at_k.
                 let is = first_only attempt k a at_k in
                 (let e = is.0 in omega arith, subst (λ (b : Attempt). IsMarked b.talk b.mark) is.1 (judged_mark attempt.talk attempt.mark u.how judged));
-            silent = λ e. absurd (cons_nil attempt [] e);
+            silent = λ e. absurd (no_cons attempt [] e);
           })

@@ -12,7 +12,7 @@ use Rattle.s3_model.specs.Maps.{MapOf}
 use Rattle.s3_service.specs.ServiceState.{State, Object, HasBucket, objects_in}
 use Rattle.s3_service.specs.Listing.{Name, Remembers}
 use Rattle.s3_service.specs.Serves.{Succeeds, Gains, ExternalWrite, Writes, Removes, after_external}
-use Rattle.world_laws.proofs.Maps.{text_exact, text_decided, get-insert_same, get-insert_other}
+use Rattle.shared_lemmas.proofs.Maps.{get-insert_other, get-insert_same, text_decided, text_exact}
 use Rattle.world_laws.proofs.Traces.{IsStable}
 
 module _ (bucket : List ℕ) where

@@ -11,7 +11,7 @@ use Rattle.run_promise.specs.Dispatches.{Dispatched}
 use Rattle.s3_model.specs.Validity.{IsValidConfig, IsValidLimits}
 use Rattle.run_promise.specs.Schedule.{Setting, IsSchedule, planning_of}
 use Rattle.run_promise.specs.Carried.{IsCarried}
-use Rattle.world_laws.proofs.Clashes.{some_is}
+use Rattle.shared_lemmas.proofs.Clashes.{some_is}
 use Rattle.world_laws.specs.Premises.{AreGiven, HasCome}
 use Rattle.world_laws.specs.Tasks.{AreApart, AreQuestions, IsScheduled}
 use Rattle.world_laws.proofs.Given.{stands, given_is_dispatched}

@@ -15,10 +15,10 @@ use Rattle.run_promise.specs.Schedule.{IsBefore, IsBeforeAny}
 use Rattle.s3_service.specs.ServiceState.{State}
 use Rattle.s3_model.specs.Maps.{MapOf}
 use Rattle.s3_model.specs.Files.{HeldFile}
-use Rattle.world_laws.proofs.Clashes.{some_is}
+use Rattle.shared_lemmas.proofs.Clashes.{some_is}
+use Rattle.shared_lemmas.proofs.Members.{Has, has}
 use Rattle.world_laws.specs.Rounds.{Round, Told, attempt_of, body_by, class_by, dispatch_at, dispatched_from, ending_by, journal_of, mark_by, no_text, reply_to}
 use Rattle.world_laws.proofs.Jobs.{either_way}
-use Rattle.world_laws.proofs.Members.{Has, has}
 use Rattle.world_laws.proofs.Rounds.{AreApart as AreOtherJobs, first_attempt, round_of, rounds_given, stands_at}
 use Rattle.world_laws.proofs.ScheduleWitness.{AllPlain, in_order, same_place, setting_with}
 

@@ -41,7 +41,9 @@ use Rattle.run_promise.specs.Outcomes.{HasDeciding, HasOutcome, IsCauseOf, IsDec
 use Rattle.run_promise.specs.Schedule.{Setting, IsObject, IsTaskAsk, Known, Target, gained_before, is_small, job_of, source_bytes, IsUpload}
 use Rattle.run_promise.specs.Traces.{Step, TraceEvent, Serve, IsWilling, Steps, state_after}
 use Rattle.run_promise.specs.Truthful.{Shown, AreCertain, HasDestBuckets, IsAlone, IsFinished, MayBeFresh, WasTaken}
-use Rattle.world_laws.proofs.Clashes.{some_is, true_is_false}
+use Rattle.shared_lemmas.proofs.Clashes.{some_is, true_is_false}
+use Rattle.shared_lemmas.proofs.Maps.{get-insert_other, get-insert_same, not_both, text_decided, text_exact}
+use Rattle.shared_lemmas.proofs.Members.{found_or_not}
 use Rattle.world_laws.specs.Completeness.{AreCallsCounted, AreSourcesThere, IsOwed, AreFreshByKind, OrderlyIsDone, WillingIsDone}
 use Rattle.world_laws.specs.Promises.{run_of, IsByRequests, IsOrderly}
 use Rattle.world_laws.specs.Tasks.{IsScheduled, IsTraceOf}
@@ -49,8 +51,6 @@ use Rattle.world_laws.proofs.Early as early
 use Rattle.world_laws.proofs.Early.{reached}
 use Rattle.world_laws.proofs.Fitting as fitting
 use Rattle.world_laws.proofs.Jobs.{either_way}
-use Rattle.world_laws.proofs.Maps.{some_is, text_exact, text_decided, not_both, get-insert_same, get-insert_other}
-use Rattle.world_laws.proofs.Members.{found_or_not}
 use Rattle.world_laws.proofs.Promises as promises
 use Rattle.world_laws.proofs.Requests.{may_change_decided, success_elsewhere}
 use Rattle.world_laws.proofs.Rows as rows

@@ -15,7 +15,7 @@ use Rattle.run_promise.specs.Traces.{Request, Step, Serve, External, IsTrace, st
 use Rattle.run_promise.specs.Fits.{Fits, request_at}
 use Rattle.run_promise.specs.Truthful.{IsExternal}
 use Rattle.world_laws.specs.Premises.{HasCome, HasSucceeded, AllRefused}
-use Rattle.world_laws.proofs.Members.{Has}
+use Rattle.shared_lemmas.proofs.Members.{Has}
 use Rattle.world_laws.proofs.Traces.{step_of, state_after_step}
 use Rattle.world_laws.proofs.Requests.{IsWriteOf, may_change_decided, write_decided, success_elsewhere, external_elsewhere}
 use Rattle.world_laws.proofs.Fitting.{IsServed, IsKept, holds_at, holds_from, success_is_served, success_at}

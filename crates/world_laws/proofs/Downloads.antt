@@ -20,7 +20,7 @@ use Rattle.world_laws.specs.Premises.{Run, moments, IsFitting, IsNoPlace, HasCom
 use Rattle.world_laws.specs.SmallTransfers.{HadContent}
 use Rattle.world_laws.specs.Multipart.{joined}
 use Rattle.world_laws.specs.Downloads.{IsPartial, IsGot, GetTells, RangesTell}
-use Rattle.world_laws.proofs.Members.{Has, contains_of}
+use Rattle.shared_lemmas.proofs.Members.{contains_of, Has}
 use Rattle.world_laws.proofs.Traces.{begun_through, step_of, has_state_after}
 use Rattle.world_laws.proofs.Fitting as fitting
 use Rattle.world_laws.proofs.Kept.{one_content}

@@ -15,7 +15,7 @@ use Rattle.run_promise.specs.Traces.{Request, Step, TraceEvent, Given, Begin, Se
 use Rattle.run_promise.specs.Fits.{Fits}
 use Rattle.run_promise.specs.Truthful.{IsAlone}
 use Rattle.world_laws.specs.Premises.{AreGiven}
-use Rattle.world_laws.proofs.Members.{Has, contains_of}
+use Rattle.shared_lemmas.proofs.Members.{contains_of, Has}
 use Rattle.world_laws.proofs.Traces.{begun_through, state_after_step, step_of}
 use Rattle.world_laws.proofs.Order.{begun_is_after}
 use Rattle.world_laws.proofs.Fitting as fitting

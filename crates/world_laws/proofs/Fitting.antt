@@ -19,7 +19,7 @@ use Rattle.run_promise.specs.Traces.{Request, Step, TraceEvent, Given, Begin, Se
 use Rattle.run_promise.specs.Fits.{Fits, IsCertain, Names, request_at, requests_from, requests_of}
 use Rattle.run_promise.specs.Truthful.{HasJournal}
 use Rattle.world_laws.specs.Premises.{HasCome, HasSucceeded}
-use Rattle.world_laws.proofs.Members.{Has, has, contains_of, has-append_left, has-filter_map, kept, gathered, split_at}
+use Rattle.shared_lemmas.proofs.Members.{contains_of, gathered, Has, has, has-append_left, has-filter_map, kept, split_at}
 use Rattle.world_laws.proofs.Traces.{begun_through, begun_from, state_after_step, step_within, event_within, has_state_after, beginning_of}
 
 -- ---- requests of a dispatch

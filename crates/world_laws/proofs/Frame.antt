@@ -12,7 +12,7 @@ use Rattle.run_promise.specs.Traces.{Step, TraceEvent, Given, Begin, Serve, Exte
 use Rattle.run_promise.specs.Fits.{Fits}
 use Rattle.run_promise.specs.Truthful.{IsExternal}
 use Rattle.world_laws.specs.Frame.{IsAskedOf}
-use Rattle.world_laws.proofs.Members.{Has, has, contains_of}
+use Rattle.shared_lemmas.proofs.Members.{contains_of, Has, has}
 use Rattle.world_laws.proofs.Requests.{IsWriteOf, may_change_decided, write_decided, success_elsewhere, external_elsewhere}
 use Rattle.world_laws.proofs.Fitting.{holds_at}
 

@@ -7,7 +7,7 @@ use Rattle.std.specs.Cmp.Lexicographic.{slice_cmp, nat_list_cmp_total}
 use Rattle.std.specs.FinMap.{get, keys, contains_key-keys}
 use Rattle.s3_model.specs.Maps.{MapOf}
 use Rattle.s3_service.specs.ServiceState.{State}
-use Rattle.world_laws.proofs.Maps.{other_key, text_exact}
+use Rattle.shared_lemmas.proofs.Maps.{other_key, text_exact}
 
 -- the length of all texts together
 abbrev total : List (List ℕ) → ℕ

@@ -22,7 +22,8 @@ use Rattle.s3_model.specs.declared.requests.Op.{Op}
 use Rattle.s3_model.specs.declared.outcomes.JobId.{JobId}
 use Rattle.s3_model.specs.Maps.{MapOf}
 use Rattle.s3_service.specs.Listing.{Name, Key, IsPage, listing, name_of, once}
-use Rattle.world_laws.proofs.Maps.{entries-empty}
+use Rattle.shared_lemmas.proofs.Maps.{entries-empty}
+use Rattle.shared_lemmas.proofs.Members.{has}
 use Rattle.world_laws.specs.ExampleTasks.{removal}
 use Rattle.world_laws.specs.SmallTransfers.{HasSize}
 use Rattle.world_laws.specs.Downloads.{AreGotInParts, IsGot, IsPartial}
@@ -32,7 +33,6 @@ use Rattle.world_laws.specs.Premises.{Run, IsNoPlace}
 use Rattle.run_promise.specs.Truthful.{IsDest}
 use Rattle.world_laws.proofs.ScheduleWitness.{setting_of, the_limits}
 use Rattle.world_laws.specs.Witnesses.{HeadIsMet, IsFoundMet, PageIsMet, AreRangesGot, IsMet, GetIsMet, RangesAreMet}
-use Rattle.world_laws.proofs.Members.{has}
 use Rattle.world_laws.proofs.Objects.{objects_in_same, object_at-with_object}
 use Rattle.world_laws.proofs.Rounds.{AreApart, rounds_come}
 use Rattle.world_laws.proofs.Faithful.{bare_objects, has_bucket_after, IsFaithful, object_of, bare, bare_is_faithful, faithful_with, run_by, states_faithful, rounds_fitting}

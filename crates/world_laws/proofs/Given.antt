@@ -1,5 +1,6 @@
 -- Where the dispatches of a journal stand in it.
-use Rattle.world_laws.proofs.Clashes.{some_is}
+use Rattle.shared_lemmas.proofs.Clashes.{some_is}
+use Rattle.shared_lemmas.proofs.Members.{contains_of, Has, has, has-map, in_reverse, mapped, place_middle, reversed}
 use Rattle.std.proofs.Common.{append_assoc, ◌≡◌, ◌∙◌, ◌+◌, ◌<◌, ◌≤◌, ℕ, zero, suc, Bool, true, false, cond, List, [], ◌∷◌, ◌++◌, Option, Some, None, refl, sym, ap, subst, inl, inr, Contains, length, map, slice_get, arith}
 use Rattle.std.proofs.lemmas.List.{length-append}
 use Rattle.s3_model.specs.declared.outcomes.JobId.{JobId}
@@ -8,7 +9,6 @@ use Rattle.s3_model.specs.declared.outcomes.Event.TheVariants as entry
 use Rattle.s3_model.specs.declared.tries.Mark.{Mark}
 use Rattle.s3_model.specs.Talks.{Talk}
 use Rattle.run_promise.specs.Dispatches.{Dispatch, Dispatched, is_job, next_came, place_of, dispatches_from, dispatches}
-use Rattle.world_laws.proofs.Members.{Has, has, contains_of, has-map, mapped, reversed, in_reverse, place_middle}
 
 -- ---- where a job comes next
 

@@ -16,8 +16,8 @@ use Rattle.world_laws.specs.Premises.{Run, moments, IsFitting, IsPlace}
 use Rattle.world_laws.specs.Destinations.{IsNewOnceCome}
 use Rattle.world_laws.specs.SmallTransfers.{HadContent, IsStored}
 use Rattle.world_laws.specs.Multipart.{joined, IsCopiedInParts, AreParts, AreCopiedParts, PartsAreStored, PartsAreWhole, CopiedPartsAreStored, CopiedPartsAreWhole, AbortsAreFinal}
-use Rattle.world_laws.proofs.Maps.{is_nothing}
-use Rattle.world_laws.proofs.Members.{Has, contains_of}
+use Rattle.shared_lemmas.proofs.Maps.{is_nothing}
+use Rattle.shared_lemmas.proofs.Members.{contains_of, Has}
 use Rattle.world_laws.proofs.Traces.{begun_through, trace_parts, IsStable, stable_along}
 use Rattle.world_laws.proofs.SmallTransfers.{after_success}
 use Rattle.world_laws.proofs.Kept.{unwritten, one_content}

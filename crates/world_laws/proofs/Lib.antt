@@ -2,7 +2,6 @@ pub mod Assembled
 pub mod Buckets
 pub mod Carried
 pub mod CarriedWitness
-pub mod Clashes
 pub mod Completeness
 pub mod Destinations
 pub mod Downloads
@@ -17,9 +16,7 @@ pub mod InParts
 pub mod Jobs
 pub mod Kept
 pub mod Listings
-pub mod Maps
 pub mod Marks
-pub mod Members
 pub mod MovedTasks
 pub mod Moves
 pub mod Multipart

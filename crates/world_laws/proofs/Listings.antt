@@ -12,8 +12,8 @@ use Rattle.s3_model.specs.declared.places.Entry.{Entry}
 use Rattle.s3_model.specs.declared.answers.Listed.{Listed}
 use Rattle.s3_service.specs.ServiceState.{State, Object, object_at, objects_in}
 use Rattle.s3_service.specs.Listing.{Name, Key, Prefix, IsEntryOf, IsPage, IsSplit, after, cut_at, listing, name_of, once, text_of}
-use Rattle.world_laws.proofs.Maps.{other_key, text_exact}
-use Rattle.world_laws.proofs.Members.{Has, has-append_left, kept, mapped}
+use Rattle.shared_lemmas.proofs.Maps.{other_key, text_exact}
+use Rattle.shared_lemmas.proofs.Members.{Has, has-append_left, kept, mapped}
 
 -- ---- entries of a map
 

@@ -18,10 +18,10 @@ use Rattle.run_promise.specs.Carried.{IsCarried, mark_of}
 use Rattle.run_promise.specs.Dispatches.{Attempt, Dispatched, FitsAsk, FitsLast, IsSuccessLast, last_of}
 use Rattle.run_promise.specs.Outcomes.{HasMark}
 use Rattle.run_promise.specs.Schedule.{Setting, IsBefore, IsBeforeAny, IsFailed, IsSchedule, HasReply}
-use Rattle.world_laws.proofs.Clashes.{some_is}
+use Rattle.shared_lemmas.proofs.Clashes.{some_is}
+use Rattle.shared_lemmas.proofs.Members.{contains_of, found_or_not, Has, has, has-append_cases, place_in_front, place_middle}
 use Rattle.world_laws.specs.Premises.{AreGiven, HasCome, HasSucceeded, AllRefused}
 use Rattle.world_laws.specs.Promises.{ShowsOneClass}
-use Rattle.world_laws.proofs.Members.{Has, has, contains_of, has-append_cases, place_in_front, place_middle, found_or_not}
 use Rattle.world_laws.proofs.Tasks.{last_place}
 
 -- ---- marks and classes

@@ -23,13 +23,13 @@ use Rattle.run_promise.specs.Schedule.{Setting, Gained, IsObject, IsSource, IsTa
 use Rattle.run_promise.specs.Endings.{IsGone}
 use Rattle.s3_model.specs.Maps.{MapOf}
 use Rattle.s3_model.specs.Files.{HeldFile}
-use Rattle.world_laws.proofs.Clashes.{some_is}
+use Rattle.shared_lemmas.proofs.Clashes.{some_is}
+use Rattle.shared_lemmas.proofs.Members.{contains_of, found_or_not, has_at}
 use Rattle.world_laws.specs.Premises.{Run, moments, HasEndedBy, HasSucceeded}
 use Rattle.world_laws.specs.Destinations.{AllThatChange}
 use Rattle.world_laws.specs.SmallTransfers.{AsksDelete}
 use Rattle.world_laws.specs.Tasks.{scene_after, IsRunOf, IsScheduled, IsTaskNew, MovedTaskIsNew, MovedSourceIsGone, OtherObjectsStay}
 use Rattle.run_promise.specs.Outcomes.{deciding}
-use Rattle.world_laws.proofs.Members.{found_or_not, has_at, contains_of}
 use Rattle.world_laws.proofs.Traces.{state_after_step}
 use Rattle.world_laws.proofs.Frame.{others_stay}
 use Rattle.world_laws.proofs.Order.{begun_is_after, came_before}

@@ -24,7 +24,7 @@ use Rattle.world_laws.specs.Destinations.{AllThatChange, Making, Requests, IsNew
 use Rattle.world_laws.specs.Multipart.{AreCopiedParts, IsCopiedInParts}
 use Rattle.world_laws.specs.SmallTransfers.{AsksCopy, AsksDelete, AreAll, IsCopied}
 use Rattle.world_laws.specs.Moves.{IsNewOnceBegun, IsWritten, CopyComesFirst, CopiedPartsComeFirst, SourceIsGone}
-use Rattle.world_laws.proofs.Members.{Has, has, contains_of, place_in_front}
+use Rattle.shared_lemmas.proofs.Members.{contains_of, Has, has, place_in_front}
 use Rattle.world_laws.proofs.Objects.{object_at-without_object, place_decided}
 use Rattle.world_laws.proofs.Requests.{IsWriteOf}
 use Rattle.world_laws.proofs.Traces.{begun_through, step_of, event_of_whole}

@@ -24,8 +24,8 @@ use Rattle.run_promise.specs.Fits.{request_at}
 use Rattle.world_laws.specs.Premises.{Run, IsFitting, IsPlace, HasCome}
 use Rattle.world_laws.specs.Destinations.{AllThatChange}
 use Rattle.world_laws.specs.Multipart.{IsCreated, CompletesHere}
-use Rattle.world_laws.proofs.Maps.{text_exact, not_both, nothing_is, found_after_insert, found_after_remove, found_in_empty, get-insert_same}
-use Rattle.world_laws.proofs.Members.{Has, ordered}
+use Rattle.shared_lemmas.proofs.Maps.{found_after_insert, found_after_remove, found_in_empty, get-insert_same, not_both, nothing_is, text_exact}
+use Rattle.shared_lemmas.proofs.Members.{Has, ordered}
 use Rattle.world_laws.proofs.Objects.{object_at-with_object}
 use Rattle.world_laws.proofs.Traces.{begun_through, step_of, state_after_step}
 use Rattle.world_laws.proofs.Requests.{may_change_decided, success_elsewhere, external_elsewhere}

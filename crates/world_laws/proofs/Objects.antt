@@ -4,7 +4,7 @@ use Rattle.std.specs.Cmp.Lexicographic.{nat_list_cmp_total}
 use Rattle.std.specs.FinMap.{get, insert, remove, empty}
 use Rattle.s3_model.specs.Maps.{MapOf}
 use Rattle.s3_service.specs.ServiceState.{Object, State, objects_in, object_at, with_object, without_object}
-use Rattle.world_laws.proofs.Maps.{text_exact, text_decided, get-insert_same, get-insert_other, get-remove_same, get-remove_other}
+use Rattle.shared_lemmas.proofs.Maps.{get-insert_other, get-insert_same, get-remove_other, get-remove_same, text_decided, text_exact}
 
 -- a place is this one or another
 pub place_decided : (b k bucket key : List ℕ) → ((b ≡ bucket) × (k ≡ key)) ⊎ ((b ≡ bucket) × (k ≡ key) → ⊥)

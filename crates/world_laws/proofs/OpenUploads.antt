@@ -28,7 +28,10 @@ use Rattle.run_promise.specs.Fits.{request_at}
 use Rattle.run_promise.specs.Schedule.{Setting, AreETags, Gained, HasReply, IsTaskAsk, IsUpload, Known, Target, asked_range, gained_before, is_small, job_of, source_bytes}
 use Rattle.run_promise.specs.Traces.{Request, Step, TraceEvent, Serve, Steps, state_after, states, events_of, event_of}
 use Rattle.run_promise.specs.Truthful.{IsAlone}
-use Rattle.world_laws.proofs.Clashes.{some_is}
+use Rattle.shared_lemmas.proofs.Clashes.{some_is}
+use Rattle.shared_lemmas.proofs.Lists.{head_is, tail_is}
+use Rattle.shared_lemmas.proofs.Maps.{get-insert_other, get-insert_same, key_decided, text_exact}
+use Rattle.shared_lemmas.proofs.Members.{found_or_not, Has}
 use Rattle.world_laws.specs.Premises.{HasCome}
 use Rattle.world_laws.specs.Tasks.{AreQuestions, IsPlanning, IsScheduled, IsTraceOf}
 use Rattle.world_laws.proofs.Early as early
@@ -36,9 +39,7 @@ use Rattle.world_laws.proofs.Early.{reached}
 use Rattle.world_laws.proofs.Fitting as fitting
 use Rattle.world_laws.proofs.Fitting.{IsServed}
 use Rattle.world_laws.proofs.Jobs.{job_is, op_same}
-use Rattle.world_laws.proofs.Maps.{text_exact, some_is, key_decided, get-insert_same, get-insert_other}
 use Rattle.world_laws.proofs.Marks as marks
-use Rattle.world_laws.proofs.Members.{Has, found_or_not, head_is, tail_is}
 use Rattle.world_laws.proofs.Multipart as multi
 use Rattle.world_laws.proofs.Rows as rows
 use Rattle.world_laws.proofs.TaskLaws as laws

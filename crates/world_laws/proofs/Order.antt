@@ -19,7 +19,7 @@ use Rattle.run_promise.specs.Traces.{Request, Step, TraceEvent, Given, Begin, Se
 use Rattle.run_promise.specs.Fits.{Fits}
 use Rattle.run_promise.specs.Schedule.{IsBefore}
 use Rattle.world_laws.specs.Premises.{AreGiven, HasCome}
-use Rattle.world_laws.proofs.Members.{Has, has_at, has-append_left, has-append_right, has-append_cases, has_filtered, split_of, place_middle, place_in_front, place_within_front}
+use Rattle.shared_lemmas.proofs.Members.{Has, has-append_cases, has-append_left, has-append_right, has_at, has_filtered, place_in_front, place_middle, place_within_front, split_of}
 use Rattle.world_laws.proofs.Jobs.{either_way, job_itself, job_same, job_decided}
 use Rattle.world_laws.proofs.Fitting.{begin_is_dispatched}
 use Rattle.world_laws.proofs.Traces.{event_within}

@@ -16,14 +16,14 @@ use Rattle.run_promise.specs.Dispatches.{Dispatched, op_number}
 use Rattle.run_promise.specs.Schedule.{job_of, IsBefore}
 use Rattle.run_promise.specs.Fits.{request_at}
 use Rattle.s3_model.specs.Documents.{document_of}
-use Rattle.world_laws.proofs.Clashes.{false_true}
+use Rattle.shared_lemmas.proofs.Clashes.{false_true}
+use Rattle.shared_lemmas.proofs.Maps.{get-insert_other, get-insert_same, is_nothing, not_both, text_exact}
+use Rattle.shared_lemmas.proofs.Members.{Has, has}
 use Rattle.world_laws.specs.Destinations.{Requests}
 use Rattle.world_laws.specs.Multipart.{AreParts, AreCopiedParts, CompletesHere, IsCreated}
 use Rattle.world_laws.specs.Uploads.{NamesUpload}
 use Rattle.world_laws.specs.Rounds.{Told, Round, answer_by, dispatch_at, dispatched_from, journal_of, steps_from, AreServed}
 use Rattle.world_laws.specs.Witnesses.{IsDestMet, IsMoveMet, IsOtherUploadMet, PartsAreMet, CopiedPartsAreMet, CopiedMoveIsMet, AbortIsMet, OtherUploadIsMet}
-use Rattle.world_laws.proofs.Maps.{is_nothing, not_both, text_exact, get-insert_same, get-insert_other}
-use Rattle.world_laws.proofs.Members.{Has, has}
 use Rattle.world_laws.proofs.Rounds.{AreApart, round_of, rounds_trace, rounds_fit, rounds_come}
 use Rattle.world_laws.proofs.Faithful.{run_by, IsFaithful, AreFaithful, object_of, bare, bare_is_faithful, bare_has, bare_uploads, bare_ended, faithful_with, faithful_without, has_bucket_after, has_bucket_still}
 use Rattle.world_laws.proofs.Witnesses.{moved_by, round, succeeds, met, by_op, two_buckets, with_source, source_is_there, bucket_is_there, source_is_faithful}

@@ -30,7 +30,8 @@ use Rattle.run_promise.specs.Traces.{External, IsWilling, events_of, states}
 use Rattle.run_promise.specs.Truthful.{AreCertain, HasDestBuckets, IsAlone, IsDest, Shown}
 use Rattle.s3_model.specs.Maps.{MapOf}
 use Rattle.s3_model.specs.Files.{HeldFile}
-use Rattle.world_laws.proofs.Clashes.{false_true, some_is}
+use Rattle.shared_lemmas.proofs.Clashes.{false_true, some_is}
+use Rattle.shared_lemmas.proofs.Members.{Has, has}
 use Rattle.world_laws.specs.ExampleTasks.{upload, moved_copy, removal}
 use Rattle.world_laws.specs.Completeness.{AreSourcesThere}
 use Rattle.world_laws.specs.Premises.{IsFitting}
@@ -40,7 +41,6 @@ use Rattle.world_laws.specs.Tasks.{AreApart, HasSource, MayBeNew}
 use Rattle.world_laws.specs.Witnesses.{CompleteIsMet, DoneIsMet, FailedIsMet, IsCompleteMet, IsPromiseMet, SkippedIsMet}
 use Rattle.world_laws.proofs.CarriedWitness.{logs_of, notes_of, rounds_carried}
 use Rattle.world_laws.proofs.Faithful.{nobody_writes, IsFaithful, bare, bare_is_faithful, faithful_with, object_of, run_by}
-use Rattle.world_laws.proofs.Members.{Has, has}
 use Rattle.world_laws.proofs.Objects.{object_at-with_object}
 use Rattle.world_laws.proofs.Rounds.{AreApart as AreOtherJobs, first_attempt, round_of, same_reply}
 use Rattle.world_laws.proofs.ScheduleWitness as sched

@@ -38,7 +38,7 @@ use Rattle.world_laws.proofs.Carried.{are_given, has_come, is_scheduled}
 use Rattle.world_laws.proofs.Frame.{others_stay}
 use Rattle.world_laws.proofs.InParts.{aborts_are_final}
 use Rattle.world_laws.proofs.Marks as marks
-use Rattle.world_laws.proofs.Members.{has, contains_of, kept, passes, found_or_not}
+use Rattle.shared_lemmas.proofs.Members.{contains_of, found_or_not, has, kept, passes}
 use Rattle.world_laws.proofs.MovedTasks.{moved_task_is_new, other_objects_stay}
 use Rattle.world_laws.proofs.Order.{begun_is_after}
 use Rattle.world_laws.proofs.Rows as rows

@@ -45,7 +45,9 @@ use Rattle.run_promise.specs.Outcomes.{HasMark, IsDecidedByRequest, deciding}
 use Rattle.run_promise.specs.Schedule.{Setting, Gained, IsFailed, IsObject, IsSource, IsTaskAsk, Known, Target, gained_before, is_small, job_of, source_bytes, HasReply, IsBefore, IsPart, IsUpload, asked_range, bytes_of}
 use Rattle.run_promise.specs.Traces.{Step, IsTrace, IsWilling, SaysTaken, state_after, events_of, event_of, states}
 use Rattle.run_promise.specs.Truthful.{Shown, AreCertain, HasDestBuckets, IsAlone, MayBeFresh}
-use Rattle.world_laws.proofs.Clashes.{some_is, true_is_false}
+use Rattle.shared_lemmas.proofs.Clashes.{none_is_some, some_is, true_is_false}
+use Rattle.shared_lemmas.proofs.Maps.{found_in_empty}
+use Rattle.shared_lemmas.proofs.Members.{contains_of, found_or_not, Has, has_at, has_middle}
 use Rattle.world_laws.specs.Completeness.{AreSourcesThere}
 use Rattle.world_laws.specs.Premises.{HasCome}
 use Rattle.world_laws.specs.Promises.{run_of, IsByRequests, IsOrderly}
@@ -54,9 +56,7 @@ use Rattle.world_laws.proofs.Buckets.{bucket_is_stable}
 use Rattle.world_laws.proofs.Early as early
 use Rattle.world_laws.proofs.Early.{reached}
 use Rattle.world_laws.proofs.Jobs.{either_way, job_is, op_same}
-use Rattle.world_laws.proofs.Maps.{found_in_empty, none_is_some, some_is}
 use Rattle.world_laws.proofs.Marks as marks
-use Rattle.world_laws.proofs.Members.{Has, contains_of, has_at, has_middle, found_or_not}
 use Rattle.world_laws.proofs.Possible as possible
 use Rattle.world_laws.proofs.Possible.{IsInVain}
 use Rattle.world_laws.proofs.Promises as promises

@@ -21,10 +21,11 @@ use Rattle.s3_service.specs.Serves.{Answer}
 use Rattle.run_promise.specs.Dispatches.{Attempt, Dispatched, is_job}
 use Rattle.run_promise.specs.Traces.{Request, TraceEvent, Given, Begin, Serve, Came, IsTrace, IsSameAttempt, events_of, event_of, begun_in, served_in, is_begin_of, marks_come}
 use Rattle.run_promise.specs.Fits.{Fits, Names, request_at, requests_of}
-use Rattle.world_laws.proofs.Clashes.{some_is}
+use Rattle.shared_lemmas.proofs.Clashes.{some_is}
+use Rattle.shared_lemmas.proofs.Lists.{head_is, tail_is}
+use Rattle.shared_lemmas.proofs.Members.{contains_of, Has, has, has_middle, place_middle}
 use Rattle.world_laws.specs.Premises.{AreGiven, HasCome}
 use Rattle.world_laws.specs.Rounds.{reply_to, Told, Round, answer_by, mark_by, ending_by, attempt_of, dispatch_at, dispatched_from, journal_of, steps_from, AreServed}
-use Rattle.world_laws.proofs.Members.{Has, has, contains_of, has_middle, head_is, tail_is, place_middle}
 use Rattle.world_laws.proofs.Jobs.{job_itself}
 
 -- ---- events that differ

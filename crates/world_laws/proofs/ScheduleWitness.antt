@@ -26,14 +26,14 @@ use Rattle.s3_model.specs.Validity.{IsValidConfig, IsValidLimits}
 use Rattle.run_promise.specs.Schedule.{IsUpload, Setting, limit_of, Target, Origin, IsSchedule, IsTaskAsk, IsBefore, IsBeforeAny, IsDecided, IsObject, IsSource, IsFailed, gained_before, is_planning, planning_of, is_small, job_of, source_bytes}
 use Rattle.s3_model.specs.Maps.{MapOf}
 use Rattle.s3_model.specs.Files.{HeldFile}
-use Rattle.world_laws.proofs.Clashes.{false_true, some_is}
+use Rattle.shared_lemmas.proofs.Clashes.{false_true, some_is}
+use Rattle.shared_lemmas.proofs.Members.{contains_of, Has, has, has_at, has_middle, kept, passes}
 use Rattle.world_laws.specs.ExampleTasks.{moved_copy, removal}
 use Rattle.world_laws.specs.Premises.{IsFitting, AllRefused}
 use Rattle.world_laws.specs.Rounds.{AreServed, Told, Round, mark_by, dispatch_at, dispatched_from, journal_of, steps_from}
 use Rattle.world_laws.specs.Tasks.{AreApart, AreQuestions, HasSource, IsScheduled}
 use Rattle.world_laws.specs.Witnesses.{IsTaskMet, IsMovedCopy, IsRefusedTask, TaskIsMet, RefusedTaskIsMet}
 use Rattle.world_laws.proofs.Tasks.{planned_none}
-use Rattle.world_laws.proofs.Members.{Has, has, kept, passes, has_at, has_middle, contains_of}
 use Rattle.world_laws.proofs.Faithful.{run_by, IsFaithful, bare_is_faithful, faithful_without, rounds_fitting}
 use Rattle.world_laws.proofs.Witnesses.{succeeds, with_source, source_is_faithful, copied, copy, source_gone, move, move_served, move_apart, copied_is_faithful, one_bucket, refused_delete, is_refused, alone}
 use Rattle.world_laws.proofs.Rounds.{AreApart as AreOtherJobs, round_of, rounds_numbered, rounds_given, rounds_come}

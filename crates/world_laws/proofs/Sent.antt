@@ -10,7 +10,7 @@ use Rattle.s3_service.specs.Serves.{Answer}
 use Rattle.run_promise.specs.Dispatches.{Dispatched}
 use Rattle.run_promise.specs.Traces.{Request, Step, Begin, Serve, IsTrace, events_of}
 use Rattle.run_promise.specs.Fits.{Fits}
-use Rattle.world_laws.proofs.Members.{has, contains_of}
+use Rattle.shared_lemmas.proofs.Members.{contains_of, has}
 use Rattle.world_laws.proofs.Fitting as fitting
 
 -- the request of a dispatch

@@ -15,7 +15,7 @@ use Rattle.run_promise.specs.Traces.{Step, event_of, events_of, states}
 use Rattle.world_laws.specs.Premises.{moments, HasCome, HasSuccess, IsPlace}
 use Rattle.world_laws.specs.Destinations.{AllThatChange, Making, Requests, IsNewOnceCome, IsNewAfterSuccess, IsOldOrNew, IsOldAfterRefusals}
 use Rattle.world_laws.specs.SmallTransfers.{AsksPut, AsksCopy, AsksDelete, AreAll, HadContent, IsStored, IsCopied, IsRemoved, UploadStores, UploadIsWhole, CopyStores, CopyIsWhole, DeleteRemoves, DeleteIsWhole}
-use Rattle.world_laws.proofs.Members.{contains_of}
+use Rattle.shared_lemmas.proofs.Members.{contains_of}
 use Rattle.world_laws.proofs.Objects.{object_at-with_object, object_at-without_object}
 use Rattle.world_laws.proofs.Fitting.{IsServed, come_by}
 use Rattle.world_laws.proofs.Kept.{unwritten}

@@ -21,7 +21,7 @@ use Rattle.world_laws.specs.Sources.{TellsOf, FoundHasSize, FoundIsSource}
 use Rattle.world_laws.proofs.Listings.{entry_is_there}
 use Rattle.world_laws.proofs.Fitting as fitting
 use Rattle.world_laws.proofs.Kept.{one_content}
-use Rattle.world_laws.proofs.Members.{Has, has, contains_of}
+use Rattle.shared_lemmas.proofs.Members.{contains_of, Has, has}
 use Rattle.world_laws.proofs.Traces.{begun_through, has_state_after, step_of}
 
 there_at : (t : State) (object : Object) (b k under bucket key etag : List ℕ) → b ≡ bucket → k ≡ key → under ≡ etag → IsThere t b k under object → IsThere t bucket key etag object

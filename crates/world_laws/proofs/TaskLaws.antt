@@ -28,7 +28,7 @@ use Rattle.world_laws.specs.SmallTransfers.{AsksPut, AsksCopy, AsksDelete, HadCo
 use Rattle.world_laws.specs.Multipart.{AreParts, AreCopiedParts, IsCopiedInParts, joined}
 use Rattle.world_laws.specs.Tasks.{HasSource, IsRefusedIn, IsScheduled, IsTaskNew, IsTraceOf, TaskIsNew, TaskIsOld, TaskIsWhole}
 use Rattle.run_promise.specs.Outcomes.{deciding}
-use Rattle.world_laws.proofs.Members.{has_at, contains_of}
+use Rattle.shared_lemmas.proofs.Members.{contains_of, has_at}
 use Rattle.world_laws.proofs.Frame.{asked_decided}
 use Rattle.world_laws.proofs.Kept.{kept_at}
 use Rattle.world_laws.proofs.Fitting.{come_by}

@@ -7,7 +7,7 @@ use Rattle.s3_model.specs.declared.settings.Limits.{Limits}
 use Rattle.s3_service.specs.ServiceState.{State}
 use Rattle.s3_service.specs.Serves.{Replied, Refused, Succeeds, ExternalWrite, after_external}
 use Rattle.run_promise.specs.Traces.{Request, Step, TraceEvent, Given, Begin, Serve, External, Came, IsTrace, Steps, begun_after, state_after, states, events_of}
-use Rattle.world_laws.proofs.Members.{Has, has-append_left, has_middle, mapped, split_of}
+use Rattle.shared_lemmas.proofs.Members.{Has, has-append_left, has_middle, mapped, split_of}
 
 -- all that was begun by the end of a trace
 abbrev pub begun_through : List Request → List Step → List Request

@@ -14,8 +14,8 @@ use Rattle.s3_service.specs.ServiceState.{State, Ended, CompletedBy, Aborted}
 use Rattle.s3_service.specs.Serves.{Replied, Succeeds}
 use Rattle.run_promise.specs.Traces.{Request, Step, TraceEvent, Serve, IsTrace, Steps, begun_after, state_after}
 use Rattle.world_laws.specs.Uploads.{IsFree, NamesUpload, IsSameUpload, OtherUploadsStay, IdsAreCreatedOnce}
-use Rattle.world_laws.proofs.Maps.{text_exact, not_both, nothing_is, get-insert_same, get-insert_other, get-remove_other}
-use Rattle.world_laws.proofs.Members.{ordered}
+use Rattle.shared_lemmas.proofs.Maps.{get-insert_other, get-insert_same, get-remove_other, not_both, nothing_is, text_exact}
+use Rattle.shared_lemmas.proofs.Members.{ordered}
 use Rattle.world_laws.proofs.Traces.{begun_through, trace_parts, step_within, state_after-append, IsStable, stable_along}
 use Rattle.world_laws.proofs.Uploads as up
 use Rattle.world_laws.proofs.Uploads.{Change, StoresPart, EndsUpload}

@@ -20,7 +20,9 @@ use Rattle.run_promise.specs.Outcomes.{HasOutcome}
 use Rattle.run_promise.specs.Schedule.{AreETags, IsSchedule, IsUpload, Target, bytes_of, gained_before, job_of}
 use Rattle.run_promise.specs.Traces.{IsWilling}
 use Rattle.run_promise.specs.Truthful.{IsDest}
-use Rattle.world_laws.proofs.Clashes.{some_is, false_true}
+use Rattle.shared_lemmas.proofs.Clashes.{false_true, none_is_some, some_is}
+use Rattle.shared_lemmas.proofs.Maps.{get-insert_same, text_exact}
+use Rattle.shared_lemmas.proofs.Members.{Has, has}
 use Rattle.world_laws.specs.ExampleTasks.{upload}
 use Rattle.world_laws.specs.Completeness.{AreSourcesThere}
 use Rattle.world_laws.specs.Premises.{IsFitting}
@@ -29,8 +31,6 @@ use Rattle.world_laws.specs.Rounds.{AreNone, AreServed, NeverFailed, Round, Told
 use Rattle.world_laws.specs.Tasks.{AreApart, HasSourceFile}
 use Rattle.world_laws.specs.Witnesses.{IsPromiseMet, IsUploadMet, UploadIsComplete}
 use Rattle.world_laws.proofs.Faithful.{bare, bare_has, rounds_fitting, run_by}
-use Rattle.world_laws.proofs.Maps.{none_is_some, text_exact, get-insert_same}
-use Rattle.world_laws.proofs.Members.{Has, has}
 use Rattle.world_laws.proofs.PartsWitness as parts
 use Rattle.world_laws.proofs.PartsWitness.{bucket_is_ready, none_later}
 use Rattle.world_laws.proofs.PromiseWitness.{alone_trace, bucket_of, certain_at, orderly, run}

@@ -12,7 +12,8 @@ use Rattle.s3_service.specs.ServiceState.{State, Object, Upload, StoredPart, End
 use Rattle.s3_service.specs.Listing.{Name, Remembers}
 use Rattle.s3_service.specs.Serves.{Succeeds, IsOpen, IsUnused, IsThere, bytes_within, ExternalWrite, Writes, Removes, after_external}
 use Rattle.world_laws.specs.Uploads.{IsFree}
-use Rattle.world_laws.proofs.Maps.{some_is, text_decided, text_exact, not_both, nothing_is, get-insert_same, get-insert_other, get-remove_same, get-remove_other}
+use Rattle.shared_lemmas.proofs.Clashes.{some_is}
+use Rattle.shared_lemmas.proofs.Maps.{get-insert_other, get-insert_same, get-remove_other, get-remove_same, not_both, nothing_is, text_decided, text_exact}
 
 -- the request stores these bytes as that part
 abbrev pub StoresPart : Ask → List ℕ → State → List ℕ → List ℕ → List ℕ → ℕ → List ℕ → Type 0

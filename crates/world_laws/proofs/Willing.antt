@@ -14,7 +14,8 @@ use Rattle.run_promise.specs.Dispatches.{Attempt, Dispatched}
 use Rattle.run_promise.specs.Traces.{Step, TraceEvent, Serve, Came, IsTrace, IsWilling, IsWillingAt, SaysTaken, state_after, events_of, event_of}
 use Rattle.run_promise.specs.Fits.{Fits, request_at}
 use Rattle.world_laws.specs.Premises.{HasCome}
-use Rattle.world_laws.proofs.Members.{Has, has, head_is, tail_is, split_at}
+use Rattle.shared_lemmas.proofs.Lists.{head_is, tail_is}
+use Rattle.shared_lemmas.proofs.Members.{Has, has, split_at}
 use Rattle.world_laws.proofs.Traces.{step_of}
 use Rattle.world_laws.proofs.Fitting.{came_event}
 use Rattle.world_laws.proofs.Early.{reached, reached_before}

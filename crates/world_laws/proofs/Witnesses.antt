@@ -11,7 +11,8 @@ use Rattle.s3_service.specs.Serves.{MayChange, IsThere}
 use Rattle.run_promise.specs.Dispatches.{Attempt, Dispatched, op_number}
 use Rattle.run_promise.specs.Schedule.{job_of, IsBefore}
 use Rattle.run_promise.specs.Fits.{request_at}
-use Rattle.world_laws.proofs.Clashes.{false_true}
+use Rattle.shared_lemmas.proofs.Clashes.{false_true}
+use Rattle.shared_lemmas.proofs.Members.{contains_of, Has, has}
 use Rattle.run_promise.specs.Traces.{Begin, Request, events_of}
 use Rattle.world_laws.specs.Moves.{IsGivenAfter}
 use Rattle.world_laws.specs.Premises.{Run, HasSucceeded, IsPlace, AllRefused}
@@ -20,7 +21,6 @@ use Rattle.world_laws.specs.Frame.{IsAskedOf}
 use Rattle.world_laws.specs.SmallTransfers.{AsksPut, AsksCopy, AsksDelete}
 use Rattle.world_laws.specs.Rounds.{Told, Round, reply_to, body_by, class_by, ending_by, attempt_of, dispatch_at, dispatched_from, journal_of, AreServed}
 use Rattle.world_laws.specs.Witnesses.{IsMet, IsDestMet, UploadIsMet, CopyIsMet, DeleteIsMet, RefusalIsMet, IsMoveMet, FrameIsMet, MoveIsMet}
-use Rattle.world_laws.proofs.Members.{Has, has, contains_of}
 use Rattle.world_laws.proofs.Objects.{object_at-with_object}
 use Rattle.world_laws.proofs.Rounds.{AreApart, rounds_given, rounds_come}
 use Rattle.world_laws.proofs.Faithful.{IsFaithful, AreFaithful, object_of, bare, bare_is_faithful, bare_has, faithful_with, faithful_without, run_by, has_bucket_after, has_bucket_still, rounds_fitting, rounds_whole, rounds_unwritten}

@@ -1,5 +1,5 @@
 -- Maps at one key: what is there after a change.
-pub use Rattle.world_laws.proofs.Clashes.{none_is_some, some_is}
+use Rattle.shared_lemmas.proofs.Clashes.{none_is_some, some_is}
 use Rattle.std.proofs.Common.{[], ◌∷◌, length, arith, ◌≡◌, ◌∙◌, ◌⊎◌, ℕ, Bool, true, false, cond, List, Option, Some, None, refl, sym, ap, inl, inr}
 use Rattle.std.specs.Prelude.{IsNone}
 use Rattle.std.specs.Ordering.{eq_by_cmp, is_eq, nat_cmp}

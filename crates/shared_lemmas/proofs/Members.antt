@@ -1,5 +1,6 @@
 -- What a list contains, by recursion on the list.
-use Rattle.world_laws.proofs.Clashes.{none_is_some, some_is}
+use Rattle.shared_lemmas.proofs.Clashes.{none_is_some, some_is}
+use Rattle.shared_lemmas.proofs.Lists.{cons_is, head_is, tail_is}
 use Rattle.std.proofs.Common.{◌≡◌, ◌∙◌, ◌⊎◌, ◌<◌, ℕ, zero, suc, Bool, true, false, cond, List, [], ◌∷◌, ◌++◌, Option, Some, None, refl, sym, ap, inl, inr, Contains, length, get_or, map, reverse, subst, filter, filter_map, slice_get, arith}
 use Rattle.std.specs.Prelude.{flat_map}
 use Rattle.std.proofs.lemmas.List.{reverse-append}
@@ -38,15 +39,6 @@ has-append_cases (z ∷ zs) ys x (inl e) = inl (inl e)
 has-append_cases (z ∷ zs) ys x (inr h) = elim (has-append_cases zs ys x h) [ inl a ↦ inl (inr a) | inr b ↦ inr b ]
 
 -- ---- by a split
-
-pub head_is : {X : Type 0} (x y : X) (xs ys : List X) → x ∷ xs ≡ y ∷ ys → x ≡ y
-head_is x y xs ys e = cc
-
-pub tail_is : {X : Type 0} (x y : X) (xs ys : List X) → x ∷ xs ≡ y ∷ ys → xs ≡ ys
-tail_is x y xs ys e = cc
-
-cons_is : {X : Type 0} (x y : X) (xs ys : List X) → x ≡ y → xs ≡ ys → x ∷ xs ≡ y ∷ ys
-cons_is x y xs ys p q = cc
 
 pub has_middle : {X : Type 0} (front : List X) (x : X) (back : List X) → Has (front ++ x ∷ back) x
 has_middle [] x back = inl refl
