@@ -31,7 +31,8 @@ pub record IsByFiles (task : Task) : Type 0 where
   pub path : List ℕ
   pub is_dest : task.dest ≡ place.File path
   pub decided : (task.kind ≡ kind.Download) ⊎ (task.kind ≡ kind.RemoveFile)
-  pub from : task.kind ≡ kind.Download → (bucket : List ℕ) × (key : List ℕ) × (task.source ≡ Some (place.Object bucket key))
+  pub from : task.kind ≡ kind.Download → (bucket : List ℕ) × (key : List ℕ)
+      × (task.source ≡ Some (place.Object bucket key))
   pub keeps : task.kind ≡ kind.RemoveFile → task.moves ≡ false
 
 -- ---- what calls show
@@ -52,8 +53,10 @@ IsBlockedCall length other = ⊥
 
 -- A call of the task failed so. Reads are no part of these calls.
 abbrev pub CallFailed : List TaskCall → ℕ → Cause → Type 0
-CallFailed calls n (cause.Files of_call) = (c : TaskCall) × Contains calls c × (c.task ≡ n) × IsFailedCall of_call c.step.call
-CallFailed calls n (cause.Blocked length) = (c : TaskCall) × Contains calls c × (c.task ≡ n) × IsBlockedCall length c.step.call
+CallFailed calls n (cause.Files of_call) = (c : TaskCall) × Contains calls c × (c.task ≡ n)
+    × IsFailedCall of_call c.step.call
+CallFailed calls n (cause.Blocked length) = (c : TaskCall) × Contains calls c × (c.task ≡ n)
+    × IsBlockedCall length c.step.call
 CallFailed calls n other = ⊥
 
 -- the destination was replaced, or removed
@@ -82,18 +85,22 @@ module _ (Shows : Ask → ℕ → Talk → Class → List ℕ → Type 0) where
   abbrev pub MovedFilesAreLeft : Type 0
   MovedFilesAreLeft = (shown : Shown) (run : FileRun) → AreCalls Shows run
       → shown.setting ≡ run.setting → shown.held_after ≡ files_after run.setting.held run.calls
-      → ((n : ℕ) (task : Task) (how : Outcome) (path : List ℕ) → IsMoveOf run.setting.tasks n task path → slice_get shown.outcomes n ≡ Some how
+      → ((n : ℕ) (task : Task) (how : Outcome) (path : List ℕ) → IsMoveOf run.setting.tasks n task path
+      → slice_get shown.outcomes n ≡ Some how
       → IsFileLeft how (IsRemoved run.calls n) (¬ (IsRemoved run.calls n)))
       → AreFilesLeft shown
 
   -- `HasStatus ask limit talk status`: the talk's answer has that HTTP status
   module _ (HasStatus : Ask → ℕ → Talk → ℕ → Type 0) where
-    -- A task that calls on files decide ended as its outcome says, over every honest trace, where that outcome is what its jobs and its calls show.
+    -- A task that calls on files decide ended as its outcome says, over every honest trace, where that outcome is what
+    -- its jobs and its calls show.
     -- The source of a download is to be as planned only where its destination may be new.
     abbrev pub FileTaskEnds : Type 0
     FileTaskEnds = (run : FileRun) (coming : List Dispatched) (start : State) (trace part : List Step) (journal : List Event) → AreCalls Shows run
-        → IsScheduled Shows run.setting journal run.dispatched coming → IsTraceOf Shows run.setting (with_trace run journal start trace)
-        → HasJournal journal trace part → (n : ℕ) (task : Task) (how : Outcome) → slice_get run.setting.tasks n ≡ Some task → IsByFiles task
+        → IsScheduled Shows run.setting journal run.dispatched coming
+        → IsTraceOf Shows run.setting (with_trace run journal start trace)
+        → HasJournal journal trace part → (n : ℕ) (task : Task) (how : Outcome)
+        → slice_get run.setting.tasks n ≡ Some task → IsByFiles task
         → (MayBeNew how → task.kind ≡ kind.Download → HasSourceObject (states start trace) task)
         → HasOutcome Shows HasStatus (CallFailed run.calls) run.setting run.dispatched coming n task how
         → IsShownByCalls how (IsPlaced task.kind run.calls n)

@@ -38,20 +38,25 @@ in_the_end run path = after_calls run run.calls path
 
 -- the same run, as a trace of a service shows it
 abbrev pub with_trace : FileRun → List Event → State → List Step → Run
-with_trace run journal start trace = record { start = start; trace = trace; journal = journal; dispatched = run.dispatched }
+with_trace run journal start trace =
+    record { start = start; trace = trace; journal = journal; dispatched = run.dispatched }
 
 -- What became of the destination of a download.
 pub record IsDownloaded (run : FileRun) (moments : List State) (n : ℕ) (task : Task) (path : List ℕ) : Type 0 where
   -- it is as at the start until its temporary file was renamed
-  pub old : (part late : List TaskCall) → run.calls ≡ part ++ late → ¬ (IsRenamed part n) → after_calls run part path ≡ at_first run path
+  pub old : (part late : List TaskCall) → run.calls ≡ part ++ late → ¬ (IsRenamed part n)
+      → after_calls run part path ≡ at_first run path
   -- from then on it has what its source had at some moment under the planned ETag
   pub new : (part late : List TaskCall) → run.calls ≡ part ++ late → IsRenamed part n
-      → (file : HeldFile) × (after_calls run part path ≡ Some file) × HasContent run.setting.held moments task.etag task.source file.bytes
+      → (file : HeldFile) × (after_calls run part path ≡ Some file)
+      × HasContent run.setting.held moments task.etag task.source file.bytes
   -- in the end it has the planned time, or a warning says that this failed
   pub timed : IsRenamed run.calls n
-      → (file : HeldFile) × (in_the_end run path ≡ Some file) × ((file.micros ≡ task.micros) ⊎ IsUntimed run.excused path)
+      → (file : HeldFile) × (in_the_end run path ≡ Some file)
+      × ((file.micros ≡ task.micros) ⊎ IsUntimed run.excused path)
   -- no call writes to it
-  pub unopened : (c : TaskCall) (at : ℕ) (bytes : List ℕ) (fine : Bool) → Contains run.calls c → c.step.call ≡ WriteAt path at bytes fine → ⊥
+  pub unopened : (c : TaskCall) (at : ℕ) (bytes : List ℕ) (fine : Bool) → Contains run.calls c
+      → c.step.call ≡ WriteAt path at bytes fine → ⊥
   -- no temporary file of it stays but one that a warning names
   pub tidy : (temp : List ℕ) → IsMade run.calls n temp → (in_the_end run temp ≡ None) ⊎ IsLeft run.excused temp
 
@@ -65,31 +70,40 @@ module _ (Shows : Ask → ℕ → Talk → Class → List ℕ → Type 0) where
 
   -- the task made one of these calls after the success that decides it
   abbrev pub IsDecidedIn : FileRun → List TaskCall → ℕ → Task → Type 0
-  IsDecidedIn run part n task = (c : TaskCall) × Contains part c × (c.task ≡ n) × IsDecidedBefore Shows run.setting run.dispatched n task c.place
+  IsDecidedIn run part n task = (c : TaskCall) × Contains part c × (c.task ≡ n)
+      × IsDecidedBefore Shows run.setting run.dispatched n task c.place
 
   -- ---- the laws
 
   -- Every file is a destination, the source of a move, a temporary file that a warning names, or as at the start.
   abbrev pub FilesStay : Type 0
   FilesStay = (run : FileRun) → AreCalls run → (path : List ℕ)
-      → IsTouchedFile run.setting.tasks path ⊎ IsLeftover run.excused run.setting.held path ⊎ (in_the_end run path ≡ at_first run path)
+      → IsTouchedFile run.setting.tasks path ⊎ IsLeftover run.excused run.setting.held path
+      ⊎ (in_the_end run path ≡ at_first run path)
 
-  -- After a removal that went well the file is absent, unless a temporary file that a warning names has its name; else it is as before.
+  -- After a removal that went well the file is absent, unless a temporary file that a warning names has its name; else
+  -- it is as before.
   abbrev pub FileIsRemoved : Type 0
-  FileIsRemoved = (run : FileRun) → AreCalls run → (n : ℕ) (task : Task) (path : List ℕ) → IsTaskTo run.setting.tasks n task path → task.kind ≡ kind.RemoveFile
+  FileIsRemoved = (run : FileRun) → AreCalls run → (n : ℕ) (task : Task) (path : List ℕ)
+      → IsTaskTo run.setting.tasks n task path → task.kind ≡ kind.RemoveFile
       → (IsRemoved run.calls n → (in_the_end run path ≡ None) ⊎ IsLeft run.excused path)
       × (¬ (IsRemoved run.calls n) → in_the_end run path ≡ at_first run path)
 
-  -- The file of a move is gone after its removal went well, and else as before; and it goes only after the success that decides its task.
+  -- The file of a move is gone after its removal went well, and else as before; and it goes only after the success that
+  -- decides its task.
   abbrev pub FileIsMoved : Type 0
-  FileIsMoved = (run : FileRun) → AreCalls run → (n : ℕ) (task : Task) (path : List ℕ) → IsMoveOf run.setting.tasks n task path
+  FileIsMoved = (run : FileRun) → AreCalls run → (n : ℕ) (task : Task) (path : List ℕ)
+      → IsMoveOf run.setting.tasks n task path
       → (IsRemoved run.calls n → in_the_end run path ≡ None)
       × (¬ (IsRemoved run.calls n) → in_the_end run path ≡ at_first run path)
-      × ((part late : List TaskCall) → run.calls ≡ part ++ late → (after_calls run part path ≡ at_first run path) ⊎ IsDecidedIn run part n task)
+      × ((part late : List TaskCall) → run.calls ≡ part ++ late → (after_calls run part path ≡ at_first run path)
+      ⊎ IsDecidedIn run part n task)
 
   -- A download leaves its destination as it was until it is renamed, and then with the content of its source.
   abbrev pub FileIsDownloaded : Type 0
   FileIsDownloaded = (run : FileRun) (coming : List Dispatched) (start : State) (trace : List Step) (journal : List Event) → AreCalls run
-      → IsScheduled Shows run.setting journal run.dispatched coming → IsTraceOf Shows run.setting (with_trace run journal start trace)
-      → (n : ℕ) (task : Task) (path : List ℕ) → IsTaskTo run.setting.tasks n task path → task.kind ≡ kind.Download → HasSourceObject (states start trace) task
+      → IsScheduled Shows run.setting journal run.dispatched coming
+      → IsTraceOf Shows run.setting (with_trace run journal start trace)
+      → (n : ℕ) (task : Task) (path : List ℕ) → IsTaskTo run.setting.tasks n task path → task.kind ≡ kind.Download
+      → HasSourceObject (states start trace) task
       → IsDownloaded run (states start trace) n task path

@@ -37,8 +37,8 @@ steps_of calls = map (λ (c : TaskCall). c.step) calls
 abbrev pub files_after : MapOf HeldFile → List TaskCall → MapOf HeldFile
 files_after held calls = held_after held (steps_of calls)
 
--- Which calls a task makes. A download makes, writes, renames or drops its temporary file, and sets the time of its destination. The removal
--- of a file removes it, and an upload that moves its file removes this.
+-- Which calls a task makes. A download makes, writes, renames or drops its temporary file, and sets the time of its
+-- destination. The removal of a file removes it, and an upload that moves its file removes this.
 abbrev pub IsCallOf : Task → Kind → Call → Type 0
 IsCallOf task kind.Download (MakeTemp dest answer) = task.dest ≡ place.File dest
 IsCallOf task kind.Download (WriteAt temp at bytes fine) = Unit {0}
@@ -86,19 +86,23 @@ IsMade calls n temp =
 -- its destination was replaced
 abbrev pub IsRenamed : List TaskCall → ℕ → Type 0
 IsRenamed calls n =
-    (c : TaskCall) × Contains calls c × (c.task ≡ n) × (temp : List ℕ) × (dest : List ℕ) × (c.step.call ≡ Rename temp dest None)
+    (c : TaskCall) × Contains calls c × (c.task ≡ n) × (temp : List ℕ) × (dest : List ℕ)
+    × (c.step.call ≡ Rename temp dest None)
 
 abbrev pub IsDropped : List TaskCall → ℕ → Type 0
 IsDropped calls n =
-    (c : TaskCall) × Contains calls c × (c.task ≡ n) × (temp : List ℕ) × (fine : Bool) × (c.step.call ≡ DropTemp temp fine)
+    (c : TaskCall) × Contains calls c × (c.task ≡ n) × (temp : List ℕ) × (fine : Bool)
+    × (c.step.call ≡ DropTemp temp fine)
 
 abbrev pub IsStamped : List TaskCall → ℕ → Type 0
 IsStamped calls n =
-    (c : TaskCall) × Contains calls c × (c.task ≡ n) × (path : List ℕ) × (micros : ℕ) × (fine : Bool) × (c.step.call ≡ Stamp path micros fine)
+    (c : TaskCall) × Contains calls c × (c.task ≡ n) × (path : List ℕ) × (micros : ℕ) × (fine : Bool)
+    × (c.step.call ≡ Stamp path micros fine)
 
 -- the file that it was to remove was removed
 abbrev pub IsRemoved : List TaskCall → ℕ → Type 0
-IsRemoved calls n = (c : TaskCall) × Contains calls c × (c.task ≡ n) × (path : List ℕ) × (c.step.call ≡ Remove path true)
+IsRemoved calls n = (c : TaskCall) × Contains calls c × (c.task ≡ n) × (path : List ℕ)
+    × (c.step.call ≡ Remove path true)
 
 -- ---- the plan
 
@@ -108,7 +112,8 @@ IsTaskTo tasks n task path = (slice_get tasks n ≡ Some task) × (task.dest ≡
 
 -- a task of the plan that moves that file
 abbrev pub IsMoveOf : List Task → ℕ → Task → List ℕ → Type 0
-IsMoveOf tasks n task path = (slice_get tasks n ≡ Some task) × (task.moves ≡ true) × (task.source ≡ Some (place.File path))
+IsMoveOf tasks n task path = (slice_get tasks n ≡ Some task) × (task.moves ≡ true)
+    × (task.source ≡ Some (place.File path))
 
 -- What a plan makes sure of.
 pub record AreFilesApart (held : MapOf HeldFile) (tasks : List Task) : Type 0 where
@@ -119,17 +124,20 @@ pub record AreFilesApart (held : MapOf HeldFile) (tasks : List Task) : Type 0 wh
   pub moved_once : (m n : ℕ) (a b : Task) (path : List ℕ) → IsMoveOf tasks m a path → IsMoveOf tasks n b path → m ≡ n
   -- only an upload moves a file, and a plan that moves files downloads nothing
   pub uploads : (n : ℕ) (task : Task) (path : List ℕ) → IsMoveOf tasks n task path → task.kind ≡ kind.Upload
-  pub one_way : (m n : ℕ) (a b : Task) (path : List ℕ) → IsMoveOf tasks m a path → slice_get tasks n ≡ Some b → b.kind ≡ kind.Download → ⊥
+  pub one_way : (m n : ℕ) (a b : Task) (path : List ℕ) → IsMoveOf tasks m a path → slice_get tasks n ≡ Some b
+      → b.kind ≡ kind.Download → ⊥
   -- a download to a place with the name of a temporary file is the only one
   pub names : (m n : ℕ) (a b : Task) (path : List ℕ) → IsTaskTo tasks m a path → slice_get tasks n ≡ Some b
       → a.kind ≡ kind.Download → b.kind ≡ kind.Download → is_temp_name path ≡ true → m ≡ n
   -- a file that is to be removed is there
-  pub there : (n : ℕ) (task : Task) (path : List ℕ) → IsTaskTo tasks n task path → task.kind ≡ kind.RemoveFile → IsSome (get held path)
+  pub there : (n : ℕ) (task : Task) (path : List ℕ) → IsTaskTo tasks n task path → task.kind ≡ kind.RemoveFile
+      → IsSome (get held path)
 
 -- place and length of what a Get of that number is to bring: the whole, or a piece
 abbrev pub IsRangeIn : Bool → (size piece count number at long : ℕ) → Type 0
 IsRangeIn true size piece count number at long = (number ≡ 0) × (at ≡ 0) × (long ≡ size)
-IsRangeIn false size piece count number at long = (1 ≤ number) × (number ≤ count) × (piece_range size piece number ≡ (at, long))
+IsRangeIn false size piece count number at long = (1 ≤ number) × (number ≤ count)
+    × (piece_range size piece number ≡ (at, long))
 
 abbrev pub IsRange : Setting → Task → (number at long : ℕ) → Type 0
 IsRange s task number at long = (piece : ℕ) × (count : ℕ) × HasPieces s.config s.limits task.kind task.size piece count
@@ -165,41 +173,56 @@ module _ (Shows : Ask → ℕ → Talk → Class → List ℕ → Type 0) where
   abbrev pub IsDecidedBefore : Setting → List Dispatched → ℕ → Task → ℕ → Type 0
   IsDecidedBefore s dispatched n task before =
       (c : Dispatched) × Contains dispatched c × (c.dispatch.job ≡ job_of n (deciding task.kind (is_small s task)) 0)
-      × IsBefore c.dispatch.came_at before × ((answered : Reply) × HasReply Shows c (last_of c.dispatch.attempts) answered)
+      × IsBefore c.dispatch.came_at before
+      × ((answered : Reply) × HasReply Shows c (last_of c.dispatch.attempts) answered)
 
   -- What the calls on files of a run keep to.
   pub record AreFileCalls (s : Setting) (excused : Excused) (dispatched : List Dispatched) (calls : List TaskCall) : Type 0 where
     -- each is one that its task makes; they stand in the order of the journal; and a dry run makes none
-    pub named : (c : TaskCall) → Contains calls c → (task : Task) × (slice_get s.tasks c.task ≡ Some task) × IsCallOf task task.kind c.step.call
+    pub named : (c : TaskCall) → Contains calls c → (task : Task) × (slice_get s.tasks c.task ≡ Some task)
+        × IsCallOf task task.kind c.step.call
     pub placed : AllPairs (λ (a b : TaskCall). a.place ≤ b.place) calls
     pub dry : s.dryrun ≡ true → calls ≡ []
     -- those of one task follow each other as they may
-    pub order : (front : List TaskCall) (earlier later : TaskCall) → ComesAfter calls front later → Contains front earlier → earlier.task ≡ later.task
+    pub order : (front : List TaskCall) (earlier later : TaskCall) → ComesAfter calls front later
+        → Contains front earlier → earlier.task ≡ later.task
         → MayFollow earlier.step.call later.step.call
     -- a temporary file is made before it is used, and before any Get of its task is given
-    pub made : (front : List TaskCall) (c : TaskCall) (temp : List ℕ) → ComesAfter calls front c → UsesTemp c.step.call temp → IsMade front c.task temp
-    pub made_first : (get : Dispatched) (n number : ℕ) → Contains dispatched get → get.dispatch.job ≡ job_of n op.Get number
-        → (c : TaskCall) × Contains calls c × (c.task ≡ n) × (dest : List ℕ) × (temp : List ℕ) × (c.step.call ≡ MakeTemp dest (Ok temp))
+    pub made : (front : List TaskCall) (c : TaskCall) (temp : List ℕ) → ComesAfter calls front c
+        → UsesTemp c.step.call temp → IsMade front c.task temp
+    pub made_first : (get : Dispatched) (n number : ℕ) → Contains dispatched get
+        → get.dispatch.job ≡ job_of n op.Get number
+        → (c : TaskCall) × Contains calls c × (c.task ≡ n) × (dest : List ℕ) × (temp : List ℕ)
+        × (c.step.call ≡ MakeTemp dest (Ok temp))
         × (c.place ≤ get.dispatch.given_at)
     -- what is written is the body of a Get of the task, at its place
     pub writes : (c : TaskCall) (task : Task) (temp : List ℕ) (at : ℕ) (bytes : List ℕ) (fine : Bool) → Contains calls c
-        → slice_get s.tasks c.task ≡ Some task → c.step.call ≡ WriteAt temp at bytes fine → IsBody s dispatched c.task task c.place at bytes
+        → slice_get s.tasks c.task ≡ Some task → c.step.call ≡ WriteAt temp at bytes fine
+        → IsBody s dispatched c.task task c.place at bytes
     -- the file is renamed only once each range was written
-    pub renames : (front : List TaskCall) (c : TaskCall) (task : Task) (temp dest : List ℕ) (fault : Option Fault) → ComesAfter calls front c
-        → slice_get s.tasks c.task ≡ Some task → c.step.call ≡ Rename temp dest fault → AreWritten s front c.task task temp
+    pub renames : (front : List TaskCall) (c : TaskCall) (task : Task) (temp dest : List ℕ) (fault : Option Fault)
+        → ComesAfter calls front c
+        → slice_get s.tasks c.task ≡ Some task → c.step.call ≡ Rename temp dest fault
+        → AreWritten s front c.task task temp
     -- a renamed file, and no other, has its time set, or a warning says that this failed
     pub stamps : (n : ℕ) → IsRenamed calls n → IsStamped calls n
-    pub stamps_last : (front : List TaskCall) (c : TaskCall) (path : List ℕ) (micros : ℕ) (fine : Bool) → ComesAfter calls front c
+    pub stamps_last : (front : List TaskCall) (c : TaskCall) (path : List ℕ) (micros : ℕ) (fine : Bool)
+        → ComesAfter calls front c
         → c.step.call ≡ Stamp path micros fine → IsRenamed front c.task
-    pub untimed : (c : TaskCall) (path : List ℕ) (micros : ℕ) → Contains calls c → c.step.call ≡ Stamp path micros false → IsUntimed excused path
+    pub untimed : (c : TaskCall) (path : List ℕ) (micros : ℕ) → Contains calls c → c.step.call ≡ Stamp path micros false
+        → IsUntimed excused path
     -- a temporary file is renamed or dropped, or a warning says that the drop failed
     pub drops : (n : ℕ) (temp : List ℕ) → IsMade calls n temp → IsRenamed calls n ⊎ IsDropped calls n
-    pub left : (c : TaskCall) (temp : List ℕ) → Contains calls c → c.step.call ≡ DropTemp temp false → IsLeft excused temp
+    pub left : (c : TaskCall) (temp : List ℕ) → Contains calls c → c.step.call ≡ DropTemp temp false
+        → IsLeft excused temp
     -- a moved file is removed only after the success that decides its task
-    pub moves_last : (c : TaskCall) (task : Task) (path : List ℕ) (fine : Bool) → Contains calls c → slice_get s.tasks c.task ≡ Some task
+    pub moves_last : (c : TaskCall) (task : Task) (path : List ℕ) (fine : Bool) → Contains calls c
+        → slice_get s.tasks c.task ≡ Some task
         → task.kind ≡ kind.Upload → c.step.call ≡ Remove path fine → IsDecidedBefore s dispatched c.task task c.place
     -- the Delete of a downloaded object is given only after the file was renamed
-    pub deletes_last : (delete : Dispatched) (n : ℕ) (task : Task) → Contains dispatched delete → delete.dispatch.job.task ≡ Some n
+    pub deletes_last : (delete : Dispatched) (n : ℕ) (task : Task) → Contains dispatched delete
+        → delete.dispatch.job.task ≡ Some n
         → delete.dispatch.job.op ≡ op.Delete → slice_get s.tasks n ≡ Some task → task.kind ≡ kind.Download
-        → (c : TaskCall) × Contains calls c × (c.task ≡ n) × (temp : List ℕ) × (dest : List ℕ) × (c.step.call ≡ Rename temp dest None)
+        → (c : TaskCall) × Contains calls c × (c.task ≡ n) × (temp : List ℕ) × (dest : List ℕ)
+        × (c.step.call ≡ Rename temp dest None)
         × (c.place ≤ delete.dispatch.given_at)

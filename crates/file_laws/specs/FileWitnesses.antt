@@ -88,16 +88,19 @@ pub record IsFileTaskMet (task : Task) (how : Outcome) : Type 0 where
 
 -- two ranges that came and were written in reverse order
 abbrev pub DownloadIsMet : Type 0
-DownloadIsMet = (bucket key : List ℕ) (a b : ℕ) → (met : IsFileTaskMet (two_bytes bucket key a b) outcome.Done) × (places_written met.run.calls ≡ 1 ∷ 0 ∷ [])
+DownloadIsMet = (bucket key : List ℕ) (a b : ℕ) → (met : IsFileTaskMet (two_bytes bucket key a b) outcome.Done)
+    × (places_written met.run.calls ≡ 1 ∷ 0 ∷ [])
 
 -- the second Get was refused, and the temporary file was dropped
 abbrev pub RefusedGetIsMet : Type 0
-RefusedGetIsMet = (bucket key : List ℕ) (a b : ℕ) → (met : IsFileTaskMet (two_bytes bucket key a b) (outcome.Failed (cause.Service op.Get (codes "AccessDenied") [])))
+RefusedGetIsMet = (bucket key : List ℕ) (a b : ℕ)
+    → (met : IsFileTaskMet (two_bytes bucket key a b) (outcome.Failed (cause.Service op.Get (codes "AccessDenied") [])))
     × (places_written met.run.calls ≡ 0 ∷ []) × IsDropped met.run.calls 0
 
 -- so it was, but it could not be dropped, and stays with a warning
 abbrev pub LeftFileIsMet : Type 0
-LeftFileIsMet = (bucket key : List ℕ) (a b : ℕ) → (met : IsFileTaskMet (two_bytes bucket key a b) (outcome.Failed (cause.Service op.Get (codes "AccessDenied") [])))
+LeftFileIsMet = (bucket key : List ℕ) (a b : ℕ)
+    → (met : IsFileTaskMet (two_bytes bucket key a b) (outcome.Failed (cause.Service op.Get (codes "AccessDenied") [])))
     × ((path : List ℕ) × IsLeftover met.run.excused met.run.setting.held path × IsSome (in_the_end met.run path))
 
 -- a file that was removed, and one that could not be

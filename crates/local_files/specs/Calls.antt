@@ -1,4 +1,4 @@
--- The calls that change local files, each with its answer: what it makes of the files, and what it leaves where it failed.
+-- Calls that change local files, with their answers: what each makes of the files, and what it leaves where it failed.
 use Rattle.std.specs.Prelude.{◌≡◌, ◌≢◌, ◌⊎◌, ◌+◌, ◌-◌, ◌++◌, ◌==◌, ℕ, Bool, true, false, List, [], ◌∷◌, Option, Some, None, Result, Ok, length, take, drop, replicate, if◌then◌else◌}
 use Rattle.std.specs.FinMap.{get, insert, remove}
 use Rattle.std.specs.List.{list_any}
@@ -8,14 +8,15 @@ use Rattle.s3_model.specs.TempNames.{is_temp_name}
 
 -- ---- calls
 
--- why a call did not succeed: a fault of the disk, something that stands in the way of the destination, which the first `length` bytes
--- of its path name, or memory that ran out
+-- why a call did not succeed: a fault of the disk, something that stands in the way of the destination, named by the
+-- first `length` bytes of its path, or memory that ran out
 pub data Fault : Type 0 where
   Failed : Fault
   Blocked : (length : ℕ) → Fault
   Memory : Fault
 
--- A call with its answer: the path of the temporary file or why none was made, whether the call succeeded, or why the file was not renamed.
+-- A call with its answer: the path of the temporary file or why none was made, whether the call succeeded, or why the
+-- file was not renamed.
 pub data Call : Type 0 where
   MakeTemp : (dest : List ℕ) → (answer : Result (List ℕ) Fault) → Call
   WriteAt : (temp : List ℕ) → (at : ℕ) → (bytes : List ℕ) → (fine : Bool) → Call
@@ -43,15 +44,19 @@ written_at at bytes old = take at (old ++ replicate (at - length old) 0) ++ byte
 abbrev pub Puts : List ℕ → List ℕ → MapOf HeldFile → MapOf HeldFile → Type 0
 Puts path bytes old new = (micros : ℕ) × (new ≡ insert old path (record { bytes = bytes; micros = micros }))
 
--- The files before and after a call. A call that failed leaves them as they were; only a write that failed may leave any bytes in its temporary file.
+-- The files before and after a call. A call that failed leaves them as they were; only a write that failed may leave
+-- any bytes in its temporary file.
 abbrev pub Leads : Call → MapOf HeldFile → MapOf HeldFile → Type 0
 Leads (MakeTemp dest (Ok temp)) old new = IsTempFor dest temp × (get old temp ≡ None) × Puts temp [] old new
-Leads (WriteAt temp at bytes true) old new = (file : HeldFile) × (get old temp ≡ Some file) × Puts temp (written_at at bytes file.bytes) old new
+Leads (WriteAt temp at bytes true) old new = (file : HeldFile) × (get old temp ≡ Some file)
+    × Puts temp (written_at at bytes file.bytes) old new
 Leads (WriteAt temp at bytes false) old new = (new ≡ old) ⊎ ((any : List ℕ) × Puts temp any old new)
-Leads (Rename temp dest None) old new = (file : HeldFile) × (get old temp ≡ Some file) × (new ≡ insert (remove old temp) dest file)
+Leads (Rename temp dest None) old new = (file : HeldFile) × (get old temp ≡ Some file)
+    × (new ≡ insert (remove old temp) dest file)
 Leads (DropTemp temp true) old new = new ≡ remove old temp
 Leads (Remove path true) old new = new ≡ remove old path
-Leads (Stamp path micros true) old new = (file : HeldFile) × (get old path ≡ Some file) × (new ≡ insert old path (record file { micros = micros }))
+Leads (Stamp path micros true) old new = (file : HeldFile) × (get old path ≡ Some file)
+    × (new ≡ insert old path (record file { micros = micros }))
 Leads call old new = new ≡ old
 
 -- ---- runs of calls
