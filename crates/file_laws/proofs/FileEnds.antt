@@ -21,18 +21,18 @@ use Rattle.s3_model.specs.Maps.{MapOf}
 use Rattle.s3_model.specs.Talks.{Talk}
 use Rattle.s3_service.specs.ServiceState.{State}
 use Rattle.run_promise.specs.Dispatches.{Dispatched}
-use Rattle.run_promise.specs.Endings.{Excused, Holds, IsAbsent, IsAsBefore, IsEnded, IsGone, IsGoneOrThere, IsNew, IsSpared, IsThereIn, IsUntimed, Scene}
+use Rattle.run_promise.specs.Endings.{Excused, Holds, IsLeftover, IsAbsent, IsAsBefore, IsEnded, IsGone, IsGoneOrThere, IsNew, IsSpared, IsThereIn, IsUntimed, Scene}
 use Rattle.run_promise.specs.Outcomes.{HasOutcome, IsDecidedByRequest, IsObjectPlace, IsSourceDeleted, StoodAt}
 use Rattle.run_promise.specs.Schedule.{Setting, is_small}
 use Rattle.run_promise.specs.Traces.{Step, state_after, states}
-use Rattle.run_promise.specs.Truthful.{HasJournal}
+use Rattle.run_promise.specs.Truthful.{HasJournal, IsTouchedFile}
 use Rattle.world_laws.specs.Promises.{IsFileLeft}
 use Rattle.world_laws.specs.Tasks.{HasSourceObject, IsScheduled, IsTraceOf, MayBeNew}
 use Rattle.shared_lemmas.proofs.Clashes.{some_is}
 use Rattle.shared_lemmas.proofs.Members.{has, split_of}
 use Rattle.file_laws.specs.FileTasks.{IsMoveOf, IsRemoved, IsRenamed, TaskCall, files_after}
 use Rattle.file_laws.specs.FileLaws.{AreCalls}
-use Rattle.file_laws.specs.FileEnds.{CallFailed, FileTaskEnds, IsPlaced, IsShownByCalls, MovedFilesAreLeft}
+use Rattle.file_laws.specs.FileEnds.{CallFailed, FileTaskEnds, IsPlaced, IsShownByCalls, MovedFilesAreLeft, PromisedFilesStay, run_shown}
 use Rattle.file_laws.proofs.Downloads as downloads
 use Rattle.file_laws.proofs.Files as files
 use Rattle.file_laws.proofs.Keeping as keeping
@@ -191,13 +191,14 @@ module _ (Shows : Ask → ℕ → Talk → Class → List ℕ → Type 0) where
   left_by outcome.Skipped removed absent same gone stays h = stays h
 
   pub moved_files_are_left : MovedFilesAreLeft Shows
-  moved_files_are_left shown run a setting after each n task how path is_task is_outcome moves is_source =
-      subst (λ (s : Setting). IsFileLeft how (get shown.held_after path ≡ None) (get shown.held_after path ≡ get s.held path)) (sym setting)
-      (subst (λ (held : MapOf HeldFile). IsFileLeft how (get held path ≡ None) (get held path ≡ get run.setting.held path)) (sym after)
-      (left_by how (IsRemoved run.calls n) _ _ law.0 law.1 (each n task how path move is_outcome)))
+  moved_files_are_left shown dispatched calls a after each n task how path is_task is_outcome moves is_source =
+      subst (λ (held : MapOf HeldFile). IsFileLeft how (get held path ≡ None) (get held path ≡ get shown.setting.held path)) (sym after)
+      (left_by how (IsRemoved calls n) _ _ law.0 law.1 (each n task how path (is_task, moves, is_source) is_outcome))
     where
-      move : IsMoveOf run.setting.tasks n task path
-      move = (ap (λ (s : Setting). slice_get s.tasks n) (sym setting) ∙ is_task, moves, is_source)
+      law : (IsRemoved calls n → get (files_after shown.setting.held calls) path ≡ None) × (¬ (IsRemoved calls n) → get (files_after shown.setting.held calls) path ≡ get shown.setting.held path)
+      law = let all = files.file_is_moved Shows (run_shown shown dispatched calls) a n task path (is_task, moves, is_source) in (all.0, all.1)
 
-      law : (IsRemoved run.calls n → get (files_after run.setting.held run.calls) path ≡ None) × (¬ (IsRemoved run.calls n) → get (files_after run.setting.held run.calls) path ≡ get run.setting.held path)
-      law = let all = files.file_is_moved Shows run a n task path move in (all.0, all.1)
+  pub promised_files_stay : PromisedFilesStay Shows
+  promised_files_stay shown dispatched calls a after path =
+      subst (λ (held : MapOf HeldFile). IsTouchedFile shown.setting.tasks path ⊎ IsLeftover shown.excused shown.setting.held path ⊎ (get held path ≡ get shown.setting.held path)) (sym after)
+      (files.files_stay Shows (run_shown shown dispatched calls) a path)

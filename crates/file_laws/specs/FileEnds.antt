@@ -19,7 +19,7 @@ use Rattle.run_promise.specs.Dispatches.{Dispatched}
 use Rattle.run_promise.specs.Endings.{IsEnded, Scene}
 use Rattle.run_promise.specs.Outcomes.{HasOutcome}
 use Rattle.run_promise.specs.Traces.{Step, state_after, states}
-use Rattle.run_promise.specs.Truthful.{HasJournal, Shown}
+use Rattle.run_promise.specs.Truthful.{HasJournal, OtherFilesStay, Shown}
 use Rattle.local_files.specs.Calls.{Blocked, Call, Failed, MakeTemp, Remove, Rename, WriteAt}
 use Rattle.world_laws.specs.Promises.{AreFilesLeft, IsFileLeft}
 use Rattle.world_laws.specs.Tasks.{HasSourceObject, IsScheduled, IsTraceOf, MayBeNew}
@@ -72,6 +72,11 @@ IsShownByCalls (outcome.Copied why) placed = placed
 IsShownByCalls (outcome.Failed why) placed = ¬ placed
 IsShownByCalls how placed = Unit {0}
 
+-- what a run shows, with its dispatched requests and its calls
+abbrev pub run_shown : Shown → List Dispatched → List TaskCall → FileRun
+run_shown shown dispatched calls =
+    record { setting = shown.setting; excused = shown.excused; dispatched = dispatched; calls = calls }
+
 -- the files and a state when the run begins, and after all of its calls
 abbrev pub scene_before : FileRun → State → Scene
 scene_before run start = record { state = start; held = run.setting.held; others = run.setting.others }
@@ -81,13 +86,17 @@ scene_after run state = record { state = state; held = files_after run.setting.h
 
 -- `Shows ask limit talk class bytes`: the talk has that class for the ask, and its answer that body
 module _ (Shows : Ask → ℕ → Talk → Class → List ℕ → Type 0) where
+  -- So a run that ends with the files that its calls left keeps what it promises of all other files.
+  abbrev pub PromisedFilesStay : Type 0
+  PromisedFilesStay = (shown : Shown) (dispatched : List Dispatched) (calls : List TaskCall)
+      → AreCalls Shows (run_shown shown dispatched calls) → shown.held_after ≡ files_after shown.setting.held calls → OtherFilesStay shown
+
   -- Where the calls show the removal of a moved file just where its task is done, the file goes just there.
   abbrev pub MovedFilesAreLeft : Type 0
-  MovedFilesAreLeft = (shown : Shown) (run : FileRun) → AreCalls Shows run
-      → shown.setting ≡ run.setting → shown.held_after ≡ files_after run.setting.held run.calls
-      → ((n : ℕ) (task : Task) (how : Outcome) (path : List ℕ) → IsMoveOf run.setting.tasks n task path
-      → slice_get shown.outcomes n ≡ Some how
-      → IsFileLeft how (IsRemoved run.calls n) (¬ (IsRemoved run.calls n)))
+  MovedFilesAreLeft = (shown : Shown) (dispatched : List Dispatched) (calls : List TaskCall)
+      → AreCalls Shows (run_shown shown dispatched calls) → shown.held_after ≡ files_after shown.setting.held calls
+      → ((n : ℕ) (task : Task) (how : Outcome) (path : List ℕ) → IsMoveOf shown.setting.tasks n task path
+      → slice_get shown.outcomes n ≡ Some how → IsFileLeft how (IsRemoved calls n) (¬ (IsRemoved calls n)))
       → AreFilesLeft shown
 
   -- `HasStatus ask limit talk status`: the talk's answer has that HTTP status

@@ -1,6 +1,6 @@
 //! The laws on local files, each a function that does nothing.
 
-ghost use Rattle.file_laws.specs.FileEnds.{FileTaskEnds, MovedFilesAreLeft};
+ghost use Rattle.file_laws.specs.FileEnds.{FileTaskEnds, MovedFilesAreLeft, PromisedFilesStay};
 ghost use Rattle.file_laws.specs.FileLaws.{FileIsDownloaded, FileIsMoved, FileIsRemoved, FilesStay};
 ghost use Rattle.file_laws.specs.FileWitnesses.{DownloadIsMet, FailedRemovalIsMet, LeftFileIsMet, MovedFileIsMet, RefusedGetIsMet, RemovalIsMet};
 ghost use Rattle.world_laws.specs.Rounds.{AreNone, NeverFailed, Told, ToldStatus};
@@ -11,6 +11,7 @@ use world_laws::{Command, Reading};
 /// file that could not be dropped may stay, and a warning names it.
 pub fn other_files<R: Reading>()
     ensures stay { FilesStay R.shows }
+    ensures promised { PromisedFilesStay R.shows }
     ensures met { LeftFileIsMet }
 {}
 
