@@ -30,7 +30,7 @@ use Rattle.world_laws.specs.Promises.{IsFileLeft}
 use Rattle.world_laws.specs.Tasks.{HasSourceObject, IsScheduled, IsTraceOf, MayBeNew}
 use Rattle.shared_lemmas.proofs.Clashes.{some_is}
 use Rattle.shared_lemmas.proofs.Members.{has, split_of}
-use Rattle.file_laws.specs.FileTasks.{IsMoveOf, IsRemoved, IsRenamed, TaskCall, files_after}
+use Rattle.file_laws.specs.FileTasks.{IsRemoved, IsRenamed, TaskCall, files_after}
 use Rattle.file_laws.specs.FileLaws.{AreCalls}
 use Rattle.file_laws.specs.FileEnds.{CallFailed, FileTaskEnds, IsPlaced, IsShownByCalls, MovedFilesAreLeft, PromisedFilesStay, run_shown}
 use Rattle.file_laws.proofs.Downloads as downloads
