@@ -1,8 +1,8 @@
 //! What each of the twelve asks says as a request, before it is escaped and signed.
 ghost use Rattle.std.specs.Prelude.{◌≡◌};
 ghost use Rattle.std.specs.Option.{option_copied};
-ghost use Rattle.s3_requests.specs.Descriptions.{path_in, request_in, source_in};
-ghost use Rattle.s3_requests.specs.Requests.{copy_source, object_path, request_of};
+ghost use Rattle.s3_requests.specs.Descriptions.{body_in, has_body_in, own_in, path_in, query_in, request_in, source_in};
+ghost use Rattle.s3_requests.specs.Requests.{copy_source, request_of};
 
 use s3_model::{Ask, Text, Texts};
 
@@ -80,32 +80,6 @@ pub fn lent(text: &Option<Text>) -> Option<&str>
     }
 }
 
-/// A request on a resource: no query, no own headers and no body.
-fn plain<'a>(method: &'static str, resource: Resource<'a>) -> Description<'a>
-    ensures { result
-        ≡ record {
-          method = method.entry;
-          resource = resource.entry;
-          query = Query.Empty;
-          own_headers = OwnHeaders.Nothing;
-          body = Body.Absent;
-        } }
-{
-    Description {
-        method,
-        resource,
-        query: Query::Empty,
-        own_headers: OwnHeaders::Nothing,
-        body: Body::Absent,
-    }
-}
-
-fn object<'a>(bucket: &'a Text, key: &'a Text) -> Resource<'a>
-    ensures { path_in result ≡ object_path bucket.now key.now }
-{
-    Resource::Object(bucket.as_str(), key.as_str())
-}
-
 fn source_of<'a>(bucket: &'a Text, key: &'a Text, etag: &'a Text) -> Source<'a>
     ensures { source_in result ≡ copy_source bucket.now key.now etag.now }
 {
@@ -116,123 +90,118 @@ fn source_of<'a>(bucket: &'a Text, key: &'a Text, etag: &'a Text) -> Source<'a>
     }
 }
 
+fn method_of(ask: &Ask) -> &'static str
+    ensures { result.now ≡ (request_of ask.now).method }
+{
+    match ask {
+        Ask::Head { .. } => "HEAD",
+        Ask::Get { .. } | Ask::List { .. } | Ask::Buckets => "GET",
+        Ask::Put { .. } | Ask::Copy { .. } | Ask::Part { .. } | Ask::PartCopy { .. } => "PUT",
+        Ask::Create { .. } | Ask::Complete { .. } => "POST",
+        Ask::Delete { .. } | Ask::Abort { .. } => "DELETE",
+    }
+}
+
+fn resource_of(ask: &Ask) -> Resource<'_>
+    ensures { path_in result ≡ (request_of ask.now).path }
+{
+    match ask {
+        Ask::Head { bucket, key }
+        | Ask::Get { bucket, key, .. }
+        | Ask::Put { bucket, key, .. }
+        | Ask::Copy { bucket, key, .. }
+        | Ask::Delete { bucket, key }
+        | Ask::Create { bucket, key, .. }
+        | Ask::Part { bucket, key, .. }
+        | Ask::PartCopy { bucket, key, .. }
+        | Ask::Complete { bucket, key, .. }
+        | Ask::Abort { bucket, key, .. } => Resource::Object(bucket.as_str(), key.as_str()),
+        Ask::List { bucket, .. } => Resource::Bucket(bucket.as_str()),
+        Ask::Buckets => Resource::Service,
+    }
+}
+
+fn query_of(ask: &Ask) -> Query<'_>
+    ensures { query_in result ≡ (request_of ask.now).query }
+{
+    match ask {
+        Ask::Create { .. } => Query::Uploads,
+        Ask::Part { upload, number, .. } | Ask::PartCopy { upload, number, .. } => {
+            Query::Part(*number, upload.as_str())
+        }
+        Ask::Complete { upload, .. } | Ask::Abort { upload, .. } => Query::Upload(upload.as_str()),
+        Ask::List {
+            prefix,
+            delimited,
+            token,
+            ..
+        } => Query::Listing {
+            prefix: prefix.as_str(),
+            delimited: *delimited,
+            token: lent(token),
+        },
+        _ => Query::Empty,
+    }
+}
+
+fn upload_headers(content: Option<&str>, fresh: bool) -> OwnHeaders<'_>
+    ensures { result ≡ OwnHeaders.Upload content.entry fresh }
+{
+    OwnHeaders::Upload { content, fresh }
+}
+
+fn own_headers_of(ask: &Ask) -> OwnHeaders<'_>
+    ensures { own_in result ≡ (request_of ask.now).own_headers }
+{
+    match ask {
+        Ask::Get { etag, range, .. } => OwnHeaders::Read {
+            etag: etag.as_str(),
+            range: *range,
+        },
+        Ask::Put { content, fresh, .. } => upload_headers(lent(content), *fresh),
+        Ask::Create { content, .. } => upload_headers(lent(content), false),
+        Ask::Complete { fresh, .. } => upload_headers(None, *fresh),
+        Ask::Copy {
+            from_bucket,
+            from_key,
+            etag,
+            ..
+        } => OwnHeaders::Copy(source_of(from_bucket, from_key, etag)),
+        Ask::PartCopy {
+            from_bucket,
+            from_key,
+            etag,
+            range,
+            ..
+        } => OwnHeaders::RangeCopy(source_of(from_bucket, from_key, etag), *range),
+        _ => OwnHeaders::Nothing,
+    }
+}
+
+fn body_of(ask: &Ask) -> Body<'_>
+    ensures has { has_body_in result ≡ (request_of ask.now).has_body }
+    ensures body { body_in result ≡ (request_of ask.now).body }
+{
+    match ask {
+        Ask::Put { .. }
+        | Ask::Copy { .. }
+        | Ask::Create { .. }
+        | Ask::Part { .. }
+        | Ask::PartCopy { .. } => Body::Bytes,
+        Ask::Complete { etags, .. } => Body::Document(etags),
+        _ => Body::Absent,
+    }
+}
+
 /// The request of an ask.
 pub fn describe(ask: &Ask) -> Description<'_>
     ensures { request_in result ≡ request_of ask.now }
 {
-    match ask {
-        Ask::Head { bucket, key } => plain("HEAD", object(bucket, key)),
-        Ask::Get {
-            bucket,
-            key,
-            etag,
-            range,
-        } => Description {
-            own_headers: OwnHeaders::Read {
-                etag: etag.as_str(),
-                range: *range,
-            },
-            ..plain("GET", object(bucket, key))
-        },
-        Ask::Put {
-            bucket,
-            key,
-            content,
-            fresh,
-        } => Description {
-            own_headers: OwnHeaders::Upload {
-                content: lent(content),
-                fresh: *fresh,
-            },
-            body: Body::Bytes,
-            ..plain("PUT", object(bucket, key))
-        },
-        Ask::Copy {
-            bucket,
-            key,
-            from_bucket,
-            from_key,
-            etag,
-        } => Description {
-            own_headers: OwnHeaders::Copy(source_of(from_bucket, from_key, etag)),
-            body: Body::Bytes,
-            ..plain("PUT", object(bucket, key))
-        },
-        Ask::Delete { bucket, key } => plain("DELETE", object(bucket, key)),
-        Ask::Create {
-            bucket,
-            key,
-            content,
-        } => Description {
-            query: Query::Uploads,
-            own_headers: OwnHeaders::Upload {
-                content: lent(content),
-                fresh: false,
-            },
-            body: Body::Bytes,
-            ..plain("POST", object(bucket, key))
-        },
-        Ask::Part {
-            bucket,
-            key,
-            upload,
-            number,
-        } => Description {
-            query: Query::Part(*number, upload.as_str()),
-            body: Body::Bytes,
-            ..plain("PUT", object(bucket, key))
-        },
-        Ask::PartCopy {
-            bucket,
-            key,
-            upload,
-            number,
-            from_bucket,
-            from_key,
-            etag,
-            range,
-        } => Description {
-            query: Query::Part(*number, upload.as_str()),
-            own_headers: OwnHeaders::RangeCopy(source_of(from_bucket, from_key, etag), *range),
-            body: Body::Bytes,
-            ..plain("PUT", object(bucket, key))
-        },
-        Ask::Complete {
-            bucket,
-            key,
-            upload,
-            etags,
-            fresh,
-        } => Description {
-            query: Query::Upload(upload.as_str()),
-            own_headers: OwnHeaders::Upload {
-                content: None,
-                fresh: *fresh,
-            },
-            body: Body::Document(etags),
-            ..plain("POST", object(bucket, key))
-        },
-        Ask::Abort {
-            bucket,
-            key,
-            upload,
-        } => Description {
-            query: Query::Upload(upload.as_str()),
-            ..plain("DELETE", object(bucket, key))
-        },
-        Ask::List {
-            bucket,
-            prefix,
-            delimited,
-            token,
-        } => Description {
-            query: Query::Listing {
-                prefix: prefix.as_str(),
-                delimited: *delimited,
-                token: lent(token),
-            },
-            ..plain("GET", Resource::Bucket(bucket.as_str()))
-        },
-        Ask::Buckets => plain("GET", Resource::Service),
+    Description {
+        method: method_of(ask),
+        resource: resource_of(ask),
+        query: query_of(ask),
+        own_headers: own_headers_of(ask),
+        body: body_of(ask),
     }
 }

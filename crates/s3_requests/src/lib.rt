@@ -3,14 +3,8 @@
 
 mod body;
 mod description;
-#[cfg(test)]
-mod document_tests;
 mod escapes;
-#[cfg(test)]
-mod fixtures;
 mod head;
-#[cfg(test)]
-mod head_tests;
 mod headers;
 mod hmac;
 mod names;
@@ -19,8 +13,6 @@ mod query;
 mod signer;
 mod signing;
 mod target;
-#[cfg(test)]
-mod tests;
 mod times;
 
 pub use body::body_text;
