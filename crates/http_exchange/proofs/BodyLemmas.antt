@@ -1,107 +1,120 @@
--- A body by its framing, from the bytes that came with the head and those that were taken after it.
-use Rattle.std.proofs.Common.{◌≡◌, ◌≢◌, ℕ, ◌<◌, ◌≤◌, min, List, [], ◌∷◌, ◌++◌, length, take, drop, sym, refl, ap, subst, ◌∙◌, arith, inl, inr, Result, Ok, Err}
-use Rattle.std.proofs.lemmas.Bool.{cases_lt}
-use Rattle.std.proofs.lemmas.List.{append-nil, length-append, length-take, take_all, drop_all, take-append-drop}
+-- Content that comes in pieces, and the CRLF behind it.
+use Rattle.std.proofs.Common.{◌≡◌, ◌≢◌, ◌⊎◌, ℕ, ◌+◌, ◌-◌, ◌<◌, ◌≤◌, List, [], ◌∷◌, ◌++◌, length, take, drop, replicate, get_or, sym, refl, ap, subst, ◌∙◌, arith, append_assoc, inl, inr, length-append, Result, Ok, Err}
+use Rattle.std.proofs.lemmas.List.{append-nil, take-append-drop, length-replicate}
+use Rattle.httparse.specs.Ascii.{crlf_bytes}
 use Rattle.s3_model.specs.Talks.{Ending, Failed, Closed, Finished}
 use Rattle.s3_model.specs.declared.answers.Why.{Why}
 use Rattle.s3_model.specs.declared.answers.Why.TheVariants as why
-use Rattle.http_exchange.specs.declared.framing.Framing.TheVariants as framing
-use Rattle.http_exchange.specs.Answer.{HasBody}
-use Rattle.http_exchange.specs.Steps.{LacksBody, Closes, TakesBody}
+use Rattle.answer_grammar.specs.declared.framing.Framing.TheVariants as framing
+use Rattle.answer_grammar.specs.Chunks.{BreaksOff, CannotBeContent, BeginsContent}
+use Rattle.answer_grammar.proofs.ChunkLemmas.{same_front}
+use Rattle.http_exchange.specs.Forms.{HasLineEnd, CannotBeLineEnd, BeginsLineEnd}
+use Rattle.http_exchange.specs.Steps.{ContentComes, IsOpenBody, TakesBody, TakesContent, TakesChunk, TakesForm}
+use Rattle.http_exchange.proofs.PieceLemmas.{pieces_as, pieces_after, joined, finished_fine}
 
--- as many of the first bytes as may be in the body
-abbrev pub front : ℕ → List ℕ → List ℕ
-front most first = take (min (length first) most) first
+-- some bytes more, of which the first n are moved
+pub shifted : (before got more content kept next : List ℕ) (n : ℕ) → before ++ got ≡ content ++ kept → next ≡ kept ++ more → before ++ (got ++ more) ≡ (content ++ take n next) ++ drop n next
+shifted before got more content kept next n split grew =
+    joined before got content kept more split ∙ ap (λ (b : List ℕ). content ++ b) (sym grew ∙ sym (take-append-drop n next)) ∙ sym (append_assoc content (take n next) (drop n next))
 
-empty : (xs : List ℕ) → length xs ≡ 0 → xs ≡ []
-empty [] none = refl
-empty (x ∷ xs) none = absurd (omega (arith, none))
+no_bytes : (bytes : List ℕ) → length bytes < 1 → bytes ≡ []
+no_bytes [] none = refl
+no_bytes (x ∷ xs) none = absurd (omega (arith, none))
 
-pub front_all : (most : ℕ) (first : List ℕ) → length first ≤ most → front most first ≡ first
-front_all most first short = take_all (min (length first) most) first (omega arith)
+one_byte : (bytes : List ℕ) → length bytes ≡ 1 → bytes ≡ get_or bytes 0 0 ∷ []
+one_byte [] one = absurd (omega (arith, one))
+one_byte (x ∷ []) one = refl
+one_byte (x ∷ y ∷ ys) one = absurd (omega (arith, one))
 
--- a body that is not full has all of the first bytes
-pub front_below : (most : ℕ) (first got : List ℕ) → length (front most first ++ got) < most → front most first ≡ first
-front_below most first got below = elim (cases_lt most (length first)) [
-  | inl long ↦ absurd (omega (arith, length-append (front most first) got, length-take (min (length first) most) first))
-  | inr short ↦ front_all most first short
-]
+pub no_line_end : (bytes : List ℕ) → length bytes < 1 → BeginsLineEnd bytes
+no_line_end bytes none = record { missing = crlf_bytes; some = omega arith; split = ap (λ (b : List ℕ). b ++ crlf_bytes) (no_bytes bytes none) }
 
--- a full body stands in front of what is left of the first bytes
-pub front_full : (most : ℕ) (first got : List ℕ) → length (front most first ++ got) ≡ most → first ++ got ≡ (front most first ++ got) ++ drop (min (length first) most) first
-front_full most first got full = elim (cases_lt most (length first)) [
-  | inl long ↦
-      let none : got ≡ [] = empty got (omega (arith, length-append (front most first) got, length-take (min (length first) most) first, full)) in
-      ap (λ (rest : List ℕ). first ++ rest) none ∙ append-nil first ∙ sym (take-append-drop (min (length first) most) first)
-      ∙ ap (λ (bytes : List ℕ). bytes ++ drop (min (length first) most) first) (sym (append-nil (front most first)) ∙ ap (λ (rest : List ℕ). front most first ++ rest) (sym none))
-  | inr short ↦
-      sym (append-nil (first ++ got))
-      ∙ ap (λ (rest : List ℕ). (first ++ got) ++ rest) (sym (drop_all (min (length first) most) first (omega arith)))
-      ∙ ap (λ (bytes : List ℕ). (bytes ++ got) ++ drop (min (length first) most) first) (sym (front_all most first short))
-]
+pub half_line_end : (bytes : List ℕ) → length bytes ≡ 1 → get_or bytes 0 0 ≡ 13 → BeginsLineEnd bytes
+half_line_end bytes one is = record { missing = 10 ∷ []; some = omega arith; split = ap (λ (b : List ℕ). b ++ 10 ∷ []) (one_byte bytes one ∙ ap (λ (b : ℕ). b ∷ []) is) }
 
-pub sized_body : (n most : ℕ) (first got body : List ℕ) (ending : Ending) → n ≡ most → body ≡ front most first ++ got → length body ≡ most
-    → HasBody (framing.Length n) (first ++ got) ending body
-sized_body n most first got body ending same grew full =
-    (full ∙ sym same, (drop (min (length first) most) first, front_full most first got (sym (ap length grew) ∙ full) ∙ ap (λ (bytes : List ℕ). bytes ++ drop (min (length first) most) first) (sym grew)))
+-- fewer bytes than the content has begin it
+pub short_begins : (size : ℕ) (bytes : List ℕ) → length bytes < size → BeginsContent size bytes
+short_begins size bytes short =
+    let long : length (replicate {A = ℕ} (size - length bytes) 0) ≡ size - length bytes = length-replicate {A = ℕ} (size - length bytes) 0 in
+    record {
+      content = bytes ++ replicate {A = ℕ} (size - length bytes) 0;
+      missing = replicate {A = ℕ} (size - length bytes) 0 ++ crlf_bytes;
+      long = omega (arith, length-append bytes (replicate {A = ℕ} (size - length bytes) 0), long, short);
+      some = omega (arith, length-append (replicate {A = ℕ} (size - length bytes) 0) crlf_bytes, long, short);
+      split = sym (append_assoc bytes (replicate {A = ℕ} (size - length bytes) 0) crlf_bytes);
+    }
 
-pub no_body : (most : ℕ) (rest body : List ℕ) (ending : Ending) → most ≡ 0 → length body ≤ most → HasBody framing.NoBody rest ending body
-no_body most rest body ending none short = empty body (omega arith)
+whole_begins : (size : ℕ) (content rest : List ℕ) → length content ≡ size → BeginsLineEnd rest → BeginsContent size (content ++ rest)
+whole_begins size content rest long begins = record {
+  content = content;
+  missing = begins.missing;
+  long = long;
+  some = begins.some;
+  split = append_assoc content rest begins.missing ∙ ap (λ (b : List ℕ). content ++ b) begins.split;
+}
 
-pub closed_body : (most : ℕ) (first got body : List ℕ) → body ≡ front most first ++ got → length first ≤ most → HasBody framing.ToClose (first ++ got) Closed body
-closed_body most first got body grew short = (grew ∙ ap (λ (bytes : List ℕ). bytes ++ got) (front_all most first short), refl)
+whole_cannot : (size : ℕ) (content rest : List ℕ) → length content ≡ size → CannotBeLineEnd rest → CannotBeContent size (content ++ rest)
+whole_cannot size content rest long cannot other more behind same split =
+    cannot more behind (same_front content other (rest ++ more) (crlf_bytes ++ behind) (sym (append_assoc content rest more) ∙ split) (long ∙ sym same)).1
 
-pub short_first : (most : ℕ) (first got body : List ℕ) → body ≡ front most first ++ got → length body < most → length first ≤ most
-short_first most first got body grew below =
-    omega (arith, ap length grew, length-append (front most first) got, length-take (min (length first) most) first)
-
--- the connection closed before the stated length
-pub lacks_stated : (n most : ℕ) (first got body : List ℕ) → n ≡ most → body ≡ front most first ++ got → length body < most
-    → LacksBody (framing.Length n) most (first ++ got) Closed why.EndedEarly
-lacks_stated n most first got body same grew below = (
-  tt,
-  (λ e. early_is_other e),
-  (λ e. closed_is_other e),
-  λ last other has within.
-      let whole = front_below most first got (omega (arith, ap length grew)) in
-      let all = ap (λ (bytes : List ℕ). length (bytes ++ got)) whole in
-      omega (arith, all, ap length grew, has.0, ap length has.1.1, length-append other has.1.0),
-)
+-- content that was cut
+pub chunk_cut : (size : ℕ) (before after later body_before body_after : List ℕ) (got : List ℕ) (ending : Ending) (reason other : Why) → other ≡ reason
+    → TakesContent size before after body_before body_after (Err reason) got ending → TakesChunk size before later body_before body_after (Err other) got ending
+chunk_cut size before after later body_before body_after got ending reason other same takes = record { pieces = pieces_as (λ bytes. length bytes < size) (BeginsContent size) before got ending (short_begins size) takes.pieces; comes = by takes.comes }
   where
-    early_is_other : why.EndedEarly ≡ why.BadLength → ⊥
-    early_is_other e = cc
+    by : ContentComes size before after body_before body_after (Err reason) got ending → ((other ≡ why.WireFailed) × (ending ≡ Failed)) ⊎ ((ending ≢ Failed) × BreaksOff (CannotBeContent size (before ++ got)) (BeginsContent size (before ++ got)) ending other)
+    by (inl failed) = inl (same ∙ failed.0, failed.1)
+    by (inr cut) = inr (cut.0, inr (short_begins size (before ++ got) cut.1.0, cut.1.1, same ∙ cut.1.2))
 
-    closed_is_other : Closed ≡ Failed → ⊥
-    closed_is_other e = cc
+abbrev pub done_of : Result ℕ Why → Result Unit Why
+done_of (Ok value) = Ok tt
+done_of (Err reason) = Err reason
 
--- more came than may
-pub lacks_end : (most n : ℕ) (rest : List ℕ) (ending : Ending) → most < length rest → ending ≢ Failed → LacksBody framing.ToClose most rest ending (why.BodyTooLong n)
-lacks_end most n rest ending long fine = (tt, (λ e. long_is_other e), fine, λ last other has within. omega (arith, ap length has.0))
+-- content, and then what stands behind it
+pub chunk_after : (size : ℕ) (before middle after body_before body_after : List ℕ) (first second : List ℕ) (early ending : Ending) (done : Unit {0}) (result : Result ℕ Why)
+    → TakesContent size before middle body_before body_after (Ok done) first early → TakesForm HasLineEnd CannotBeLineEnd BeginsLineEnd middle after result second ending
+    → TakesChunk size before after body_before body_after (done_of result) (first ++ second) ending
+chunk_after size before middle after body_before body_after first second early ending done result content form = by result form
   where
-    long_is_other : why.BodyTooLong n ≡ why.BadLength → ⊥
-    long_is_other e = cc
+    over : (more : List ℕ) → before ++ (first ++ more) ≡ content.comes.0 ++ (middle ++ more)
+    over more = joined before first content.comes.0 middle more content.comes.2
 
-pub closed_fine : Closed ≢ Failed
-closed_fine e = cc
+    begins : (more : List ℕ) → BeginsLineEnd (middle ++ more) → BeginsContent size (before ++ (first ++ more))
+    begins more is = subst (BeginsContent size) (sym (over more)) (whole_begins size content.comes.0 (middle ++ more) content.comes.1 is)
 
-pub finished_fine : Finished ≢ Failed
-finished_fine e = cc
+    cannot : (more : List ℕ) → CannotBeLineEnd (middle ++ more) → CannotBeContent size (before ++ (first ++ more))
+    cannot more is = subst (CannotBeContent size) (sym (over more)) (whole_cannot size content.comes.0 (middle ++ more) content.comes.1 is)
 
--- a body up to the end of the connection, which is as long as it may be
-pub to_close : (most : ℕ) (first got second body : List ℕ) (late : Ending) (result : Result Unit Why) → length first ≤ most → body ≡ front most first ++ got → length body ≡ most
-    → Closes most result second late → TakesBody framing.ToClose most first body result (got ++ second) late
-to_close most first got second body late (Ok done) short grew full (none, closed) = (
-  (
-    grew ∙ ap (λ (bytes : List ℕ). bytes ++ got) (front_all most first short) ∙ ap (λ (bytes : List ℕ). first ++ bytes) (sym (append-nil got) ∙ ap (λ (rest : List ℕ). got ++ rest) (sym none)),
-    closed,
-  ),
-  omega (arith, full),
-  λ failed. closed_fine (sym closed ∙ failed),
-)
-to_close most first got second body late (Err reason) short grew full (inl (failed, ended)) =
-    let P : Why → Type 0 = λ r. LacksBody framing.ToClose most (first ++ (got ++ second)) late r in subst P (sym failed) ended
-to_close most first got second body late (Err reason) short grew full (inr (long, more, ended)) =
-    let P : Why → Type 0 = λ r. LacksBody framing.ToClose most (first ++ (got ++ second)) late r in
-    subst P (sym long) (lacks_end most most (first ++ (got ++ second)) late
-    (omega (arith, more, full, ap length grew, length-append (front most first) got, length-take (min (length first) most) first, length-append first (got ++ second), length-append got second))
-    (λ failed. finished_fine (sym ended ∙ failed)))
+    by : (result : Result ℕ Why) → TakesForm HasLineEnd CannotBeLineEnd BeginsLineEnd middle after result second ending → TakesChunk size before after body_before body_after (done_of result) (first ++ second) ending
+    by (Ok value) form = record {
+      pieces = pieces_after (λ bytes. length bytes < size) BeginsLineEnd (BeginsContent size) before first middle second early ending (short_begins size) begins content.pieces form.pieces;
+      comes = (content.comes.0, content.comes.1, over second ∙ ap (λ (b : List ℕ). content.comes.0 ++ b) form.comes.0, content.comes.3, form.comes.1);
+    }
+    by (Err reason) form = record {
+      pieces = pieces_after (λ bytes. length bytes < size) BeginsLineEnd (BeginsContent size) before first middle second early ending (short_begins size) begins content.pieces form.pieces;
+      comes = elim form.comes [
+        | inl failed ↦ inl failed
+        | inr off ↦ inr (off.0, elim off.1 [ inl is ↦ inl (cannot second is.0, is.1) | inr is ↦ inr (begins second is.0, is.1, is.2) ])
+      ];
+    }
+
+-- content that is the whole body
+pub content_body : (n limit : ℕ) (before after old new : List ℕ) (result : Result Unit Why) (got : List ℕ) (ending : Ending) → n ≤ limit → old ≡ [] → TakesContent n before after old new result got ending
+    → TakesBody (framing.Length n) limit before after new result got ending
+content_body n limit before after old new (Ok done) got ending fits empty takes =
+    let body : new ≡ takes.comes.0 = takes.comes.3 ∙ ap (λ (b : List ℕ). b ++ takes.comes.0) empty in
+    record {
+      pieces = pieces_as (λ bytes. length bytes < n) (IsOpenBody (framing.Length n) limit) before got ending (λ bytes short. inl (inr (fits, short, refl, refl))) takes.pieces;
+      comes = (
+        (ap length body ∙ takes.comes.1, takes.comes.2 ∙ ap (λ (b : List ℕ). b ++ after) (sym body)),
+        omega (arith, ap length body, takes.comes.1, fits),
+        finished_fine ending takes.comes.4,
+      );
+    }
+content_body n limit before after old new (Err reason) got ending fits empty takes = record {
+  pieces = pieces_as (λ bytes. length bytes < n) (IsOpenBody (framing.Length n) limit) before got ending (λ bytes short. inl (inr (fits, short, refl, refl))) takes.pieces;
+  comes = elim takes.comes [
+    | inl failed ↦ inl failed
+    | inr off ↦ inr (off.0, inr (fits, off.1.0, off.1.1, off.1.2))
+  ];
+}

@@ -1,11 +1,9 @@
+pub mod AnswerLemmas
 pub mod AskLemmas
 pub mod BodyLemmas
+pub mod ChunkedLemmas
 pub mod ExchangeLemmas
-pub mod FramingLemmas
-pub mod HeadLemmas
-pub mod OneAnswer
-pub mod RangeLemmas
-pub mod ReceiveLemmas
-pub mod TagLemmas
-pub mod TakeLemmas
+pub mod IncomingLemmas
+pub mod LineLemmas
+pub mod PieceLemmas
 pub mod TalkLemmas

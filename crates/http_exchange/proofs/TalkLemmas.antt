@@ -1,5 +1,5 @@
 -- What one call after the other does to the last talk of a log.
-use Rattle.std.proofs.Common.{◌≡◌, ℕ, zero, suc, ◌<◌, ◌≤◌, List, [], ◌∷◌, ◌++◌, length, get_or, take, Option, Some, None, Ok, cond, not, eqb, ◌&&◌, sym, refl, ap, ◌∙◌, arith, append_assoc, inl, inr}
+use Rattle.std.proofs.Common.{◌≡◌, ℕ, zero, suc, ◌<◌, ◌≤◌, List, [], ◌∷◌, ◌++◌, length, get_or, take, Option, Some, None, Ok, cond, not, eqb, ◌&&◌, sym, refl, ap, subst, ◌∙◌, arith, append_assoc, inl, inr}
 use Rattle.std.specs.Option.{option_map}
 use Rattle.std.proofs.lemmas.List.{append-nil}
 use Rattle.s3_model.specs.Talks.{Talk, Ending, Failed, Closed, Finished, Began, WireLog}
@@ -60,37 +60,17 @@ sends_nothing talk = ap (λ (bytes : List ℕ). record talk { sent = bytes }) (a
 pub gets_nothing : (talk : Talk) → gets [] talk ≡ talk
 gets_nothing talk = ap (λ (bytes : List ℕ). record talk { got = bytes }) (append-nil talk.got)
 
--- how a talk ends that went on after an ending
-abbrev pub joins : Ending → Ending → Ending
-joins Failed later = Failed
-joins Closed Failed = Failed
-joins Closed Closed = Closed
-joins Closed Finished = Closed
-joins Finished later = later
-
-close_twice : (ending : Ending) → after_close (after_close ending) ≡ after_close ending
-close_twice Failed = refl
-close_twice Closed = refl
-close_twice Finished = refl
-
-pub hears_after : (first second : List ℕ) (early late : Ending) (talk : Talk) → hears second late (hears first early talk) ≡ hears (first ++ second) (joins early late) talk
-hears_after first second Failed Failed talk = ap (λ (bytes : List ℕ). record talk { got = bytes; ending = Failed }) (append_assoc talk.got first second)
-hears_after first second Failed Closed talk = ap (λ (bytes : List ℕ). record talk { got = bytes; ending = Failed }) (append_assoc talk.got first second)
-hears_after first second Failed Finished talk = ap (λ (bytes : List ℕ). record talk { got = bytes; ending = Failed }) (append_assoc talk.got first second)
-hears_after first second Closed Failed talk = ap (λ (bytes : List ℕ). record talk { got = bytes; ending = Failed }) (append_assoc talk.got first second)
-hears_after first second Closed Closed talk =
-    λ i. record talk { got = append_assoc talk.got first second i; ending = close_twice talk.ending i }
-hears_after first second Closed Finished talk = ap (λ (bytes : List ℕ). record talk { got = bytes; ending = after_close talk.ending }) (append_assoc talk.got first second)
-hears_after first second Finished Failed talk = ap (λ (bytes : List ℕ). record talk { got = bytes; ending = Failed }) (append_assoc talk.got first second)
-hears_after first second Finished Closed talk = ap (λ (bytes : List ℕ). record talk { got = bytes; ending = after_close talk.ending }) (append_assoc talk.got first second)
-hears_after first second Finished Finished talk = ap (λ (bytes : List ℕ). record talk { got = bytes }) (append_assoc talk.got first second)
-
 -- what was heard and then more of it
-pub heard_after : (first second : List ℕ) (early late : Ending) (a b c : Option WireLog)
-    → b ≡ option_map (last_talk (hears first early)) a → c ≡ option_map (last_talk (hears second late)) b
-    → c ≡ option_map (last_talk (hears (first ++ second) (joins early late))) a
-heard_after first second early late a b c =
-    seen_after (hears second late) (hears first early) (hears (first ++ second) (joins early late)) (hears_after first second early late) a b c
+hears_after : (first second : List ℕ) (ending : Ending) (talk : Talk) → hears second ending (hears first Finished talk) ≡ hears (first ++ second) ending talk
+hears_after first second Failed talk = ap (λ (bytes : List ℕ). record talk { got = bytes; ending = Failed }) (append_assoc talk.got first second)
+hears_after first second Closed talk = ap (λ (bytes : List ℕ). record talk { got = bytes; ending = after_close talk.ending }) (append_assoc talk.got first second)
+hears_after first second Finished talk = ap (λ (bytes : List ℕ). record talk { got = bytes }) (append_assoc talk.got first second)
+
+pub heard_after : (first second : List ℕ) (early ending : Ending) (a b c : Option WireLog) → early ≡ Finished
+    → b ≡ option_map (last_talk (hears first early)) a → c ≡ option_map (last_talk (hears second ending)) b → c ≡ option_map (last_talk (hears (first ++ second) ending)) a
+heard_after first second early ending a b c open_ heard next =
+    let P : Ending → Type 0 = λ e. b ≡ option_map (last_talk (hears first e)) a in
+    seen_after (hears second ending) (hears first Finished) (hears (first ++ second) ending) (hears_after first second ending) a b c (subst P open_ heard) next
 
 pub heard_nothing : (seen : Option WireLog) → seen ≡ option_map (last_talk (hears [] Finished)) seen
 heard_nothing seen = seen_same (hears [] Finished) gets_nothing seen
@@ -120,17 +100,14 @@ pub take_heard : (into : List ℕ) (count : ℕ) (before after : Option WireLog)
 take_heard into count before after some changed =
     changed ∙ (λ i. option_map (λ log. after_take_is into count log some i) before)
 
-pub take_one : (into : List ℕ) → length into ≡ 1 → take 1 into ≡ get_or into 0 0 ∷ []
-take_one [] one = absurd (omega arith)
-take_one (x ∷ xs) one = refl
-
--- more was heard, and a list grew by it
-pub grew_after : (first second : List ℕ) (late : Ending) (a b c : Option WireLog) (x y z : List ℕ)
-    → b ≡ option_map (last_talk (hears first Finished)) a → y ≡ x ++ first → c ≡ option_map (last_talk (hears second late)) b → z ≡ y ++ second
-    → (c ≡ option_map (last_talk (hears (first ++ second) late)) a) × (z ≡ x ++ (first ++ second))
-grew_after first second late a b c x y z heard grew more longer =
-    (heard_after first second Finished late a b c heard more, longer ∙ ap (λ (bytes : List ℕ). bytes ++ second) grew ∙ append_assoc x first second)
+pub nothing_taken : (got : List ℕ) → length got ≡ 0 → got ≡ []
+nothing_taken [] none = refl
+nothing_taken (x ∷ xs) none = absurd (omega (arith, none))
 
 -- the ending under another name
 pub ending_is : (got : List ℕ) (ending other : Ending) (a b : Option WireLog) → ending ≡ other → b ≡ option_map (last_talk (hears got ending)) a → b ≡ option_map (last_talk (hears got other)) a
 ending_is got ending other a b same heard = heard ∙ (λ i. option_map (last_talk (hears got (same i))) a)
+
+-- these bytes under another name
+pub heard_is : (got other : List ℕ) (ending : Ending) (a b : Option WireLog) → got ≡ other → b ≡ option_map (last_talk (hears got ending)) a → b ≡ option_map (last_talk (hears other ending)) a
+heard_is got other ending a b same heard = heard ∙ (λ i. option_map (last_talk (hears (same i) ending)) a)

@@ -1,6 +1,7 @@
 -- What one exchange comes to, by the talk that was made for it.
-use Rattle.std.specs.Prelude.{◌≡◌, ◌≢◌, ◌↔◌, ℕ, Bool, List, Option, ⊤}
-use Rattle.s3_model.specs.Talks.{Talk, Failed, WireLog}
+use Rattle.std.specs.Prelude.{◌≡◌, ◌≢◌, ◌⊎◌, ◌↔◌, ℕ, ◌≤◌, ◌&&◌, ◌==◌, Bool, true, false, not, List, [], ◌++◌, length, Option, option_map, ⊤}
+use Rattle.std.specs.List.{list_all}
+use Rattle.s3_model.specs.Talks.{Talk, Ending, Failed, Finished, WireLog}
 use Rattle.s3_model.specs.Lists.{Buffer}
 use Rattle.s3_model.specs.declared.answers.Answered.{Answered}
 use Rattle.s3_model.specs.declared.answers.Talked.{Talked}
@@ -8,7 +9,8 @@ use Rattle.s3_model.specs.declared.answers.Talked.TheVariants as talked
 use Rattle.s3_model.specs.declared.answers.Why.{Why}
 use Rattle.s3_model.specs.declared.answers.Why.TheVariants as why
 use Rattle.s3_model.specs.declared.places.Endpoint.{Endpoint}
-use Rattle.http_exchange.specs.Answer.{Begins, IsAnswer, Refutes, Delivers}
+use Rattle.answer_grammar.specs.Answer.{Begins, IsAnswer, Delivers}
+use Rattle.answer_grammar.specs.Breaks.{IsBreak, IsOpen}
 use Rattle.s3_outside.specs.Seen.{IsSeenAfter}
 use Rattle.http_exchange.specs.Seen.{with_talk}
 
@@ -22,24 +24,61 @@ abbrev pub IfBroken : Talked → (Why → Type 0) → Type 0
 IfBroken (talked.Answered answered) P = ⊤
 IfBroken (talked.Broken reason) P = P reason
 
--- the request and the caller's place for a body
+-- the request, the caller's place for a body, and whether the caller wants the connection kept
 pub record Request : Type 0 where
   pub endpoint : Endpoint
   pub bytes : List ℕ
   pub head_only : Bool
   pub limit : Option ℕ
+  pub keep : Bool
+
+-- ---- in pieces
+
+-- the bytes came by calls that took at most 16,384 each, and before the last call P held of those that stood there
+abbrev pub InPieces : (List ℕ → Type 0) → List ℕ → List ℕ → Ending → Type 0
+InPieces P before got ending =
+    ((got ≡ []) × (ending ≡ Finished)) ⊎ ((first : List ℕ) × (last : List ℕ) × (got ≡ first ++ last) × (length last ≤ 16_384) × P (before ++ first))
+
+-- none of the bytes ends a line
+abbrev pub LacksLineEnd : List ℕ → Type 0
+LacksLineEnd bytes = list_all (λ b. not (b == 10)) bytes ≡ true
+
+-- nothing was decided up to the end of the last line, or of the bytes
+abbrev pub IsOpenByLine : Bool → Option ℕ → List ℕ → Type 0
+IsOpenByLine head_only limit got = (lines : List ℕ) × (part : List ℕ) × (got ≡ lines ++ part) × LacksLineEnd part × IsOpen head_only limit lines
+
+-- ---- the result
+
+-- the connection may serve another request: that was asked for, the answer allows it, and nothing stands behind it
+abbrev pub is_reusable : Bool → Answered → List ℕ → Bool
+is_reusable keep answered behind = keep && (answered.keep && (length behind == 0))
+
+-- The talk has this answer, with its body where it belongs.
+pub record IsAnswered (request : Request) (before after : Buffer) (answered : Answered) (talk : Talk) (kept : Bool) : Type 0 where
+  pub body : List ℕ
+  pub behind : List ℕ
+  pub is_answer : IsAnswer request.head_only request.limit talk.got talk.ending answered body behind
+  pub delivers : Delivers request.limit answered body before after
+  pub keeps : kept ≡ is_reusable request.keep answered behind
+
+-- The talk breaks off for this reason, or memory ran out; the connection is not kept.
+pub record IsBroken (request : Request) (reason : Why) (talk : Talk) (kept : Bool) : Type 0 where
+  pub breaks : (reason ≡ why.Memory) ⊎ IsBreak request.head_only request.limit talk.got talk.ending reason
+  pub ends : kept ≡ false
 
 -- The talk is one for this request, and the result says what came back in it.
-pub record IsExchange (request : Request) (before after : Buffer) (result : Talked) (talk : Talk) : Type 0 where
+pub record IsExchange (request : Request) (before after : Buffer) (result : Talked) (talk : Talk) (kept : Bool) : Type 0 where
   pub host : talk.host ≡ request.endpoint.host
   pub port : talk.port ≡ request.endpoint.port
   pub sent : Begins talk.sent request.bytes
   pub whole : result ≢ talked.Broken why.WireFailed → talk.sent ≡ request.bytes
-  pub answered : IfAnswered result (λ answered. (body : List ℕ) × IsAnswer request.head_only request.limit talk.got talk.ending answered body × Delivers request.limit answered body before after)
-  pub no_answer : IfBroken result (λ reason. Refutes request.head_only request.limit talk.got talk.ending reason)
+  pub answered : IfAnswered result (λ answered. IsAnswered request before after answered talk kept)
+  pub broken : IfBroken result (λ reason. IsBroken request reason talk kept)
   pub failed : (result ≡ talked.Broken why.WireFailed) ↔ (talk.ending ≡ Failed)
+  pub reads_on : InPieces (IsOpenByLine request.head_only request.limit) [] talk.got talk.ending ⊎ ((talk.got ≡ []) × (talk.ending ≡ Failed))
 
 -- Exactly one talk was made, it stands in the log where that is still seen, and this is what it came to.
-abbrev pub Exchanges : Request → (seen_before seen_after : Option WireLog) → (faults_before faults_after : ℕ) → (place_before place_after : Buffer) → Talked → Type 0
-Exchanges request seen_before seen_after faults_before faults_after place_before place_after result =
-    (talk : Talk) × IsSeenAfter (with_talk talk) seen_before seen_after faults_before faults_after × IsExchange request place_before place_after result talk
+abbrev pub Exchanges : Request → (seen_before seen_after : Option WireLog) → (alive_after : Option Bool) → (faults_before faults_after : ℕ) → (place_before place_after : Buffer) → Talked → Type 0
+Exchanges request seen_before seen_after alive_after faults_before faults_after place_before place_after result =
+    (talk : Talk) × (kept : Bool) × IsSeenAfter (with_talk talk) seen_before seen_after faults_before faults_after
+    × (alive_after ≡ option_map (λ _. kept) seen_after) × IsExchange request place_before place_after result talk kept

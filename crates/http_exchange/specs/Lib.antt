@@ -1,7 +1,4 @@
-pub mod Answer
-pub mod Chunks
 pub mod Exchange
-pub mod Head
-pub mod Parts
-pub mod Steps
+pub mod Forms
 pub mod Seen
+pub mod Steps

@@ -1,5 +1,5 @@
 -- What each step of a talk does to the wire's log.
-use Rattle.std.specs.Prelude.{◌≡◌, ◌≢◌, ◌↔◌, ◌⊎◌, ℕ, ◌<◌, ◌≤◌, Bool, true, false, List, [], ◌∷◌, ◌++◌, length, take, Option, Some, None, option_map, Result, Ok, Err, OnOk, OnErr, IfErr, ⊤}
+use Rattle.std.specs.Prelude.{◌≡◌, ◌≢◌, ◌⊎◌, ℕ, ◌+◌, ◌<◌, ◌≤◌, ◌&&◌, Bool, true, false, List, [], ◌++◌, length, take, drop, Option, Some, None, option_map, Result, Ok, Err, OnOk, OnErr, IfErr, slice_range}
 use Rattle.s3_model.specs.Counts.{Rose}
 use Rattle.s3_model.specs.Talks.{Talk, Ending, Failed, Closed, Finished, WireLog}
 use Rattle.s3_model.specs.Lists.{Buffer}
@@ -11,18 +11,23 @@ use Rattle.s3_model.specs.declared.answers.Why.TheVariants as why
 use Rattle.s3_model.specs.declared.places.Endpoint.{Endpoint}
 use Rattle.s3_outside.specs.Wire.{sends, fails, last_talk}
 use Rattle.s3_outside.specs.Seen.{IsSeenAfter}
-use Rattle.http_exchange.specs.declared.framing.Framing.{Framing}
-use Rattle.http_exchange.specs.declared.framing.Framing.TheVariants as framing
-use Rattle.http_exchange.specs.declared.head.Found.{Found}
-use Rattle.http_exchange.specs.declared.head.Head.{Head}
-use Rattle.http_exchange.specs.Answer.{Begins, HasBody, Refutes, IsOfTalk, IsAnswer, Delivers}
-use Rattle.http_exchange.specs.Parts.{IsHeadAt}
+use Rattle.answer_grammar.specs.declared.framing.Framing.{Framing}
+use Rattle.answer_grammar.specs.declared.framing.Framing.TheVariants as framing
+use Rattle.answer_grammar.specs.declared.head.Head.{Head}
+use Rattle.answer_grammar.specs.Answer.{Begins, HasBody, IsAnswer, Delivers}
+use Rattle.answer_grammar.specs.Breaks.{BeginsHead, BreaksBody, IsBreak}
+use Rattle.answer_grammar.specs.Chunks.{BreaksOff, CannotBeContent, BeginsContent, ReadsChunks, BreaksChunks}
+use Rattle.answer_grammar.specs.Parts.{IsHeadAt, ReadsStep, RefusesHead}
+use Rattle.httparse.specs.Ascii.{crlf_bytes}
+use Rattle.http_exchange.specs.Exchange.{InPieces, IsOpenByLine, LacksLineEnd}
 use Rattle.http_exchange.specs.Seen.{with_talk, hears}
 
 -- the count of faults does not fall, and WireFailed comes only where it rose
 pub record HasWireCause {T : Type 0} (before now : ℕ) (result : Result T Why) : Type 0 where
   pub later : before ≤ now
   pub failed : IfErr result (λ reason. reason ≡ why.WireFailed → Rose before now)
+
+-- ---- the request
 
 -- all bytes are sent, or some first of them and then a call failed
 abbrev pub Sends : {E : Type 0} → List ℕ → Option WireLog → Option WireLog → Result Unit E → Type 0
@@ -43,89 +48,144 @@ abbrev pub Asks : {T E : Type 0} → Endpoint → List ℕ → Option WireLog �
 Asks endpoint bytes before after faults_before faults_after result =
     (talk : Talk) × IsSeenAfter (with_talk talk) before after faults_before faults_after × IsAsked endpoint bytes result talk
 
+-- ---- what is heard
+
 -- the talk goes on by these bytes and this ending, of which P holds
 abbrev pub Hears : Option WireLog → Option WireLog → (List ℕ → Ending → Type 0) → Type 0
 Hears before after P =
     (got : List ℕ) × (ending : Ending) × (after ≡ option_map (last_talk (hears got ending)) before) × P got ending
 
-abbrev pub TakesByte : Result (Option ℕ) Why → List ℕ → Ending → Type 0
-TakesByte (Ok (Some byte)) got ending = (got ≡ byte ∷ []) × (ending ≡ Finished)
-TakesByte (Ok None) got ending = (got ≡ []) × (ending ≡ Closed)
-TakesByte (Err reason) got ending = (reason ≡ why.WireFailed) × (got ≡ []) × (ending ≡ Failed)
+-- the unread bytes grew by a piece, none at the end of the connection
+abbrev pub TakesPiece : List ℕ → List ℕ → Result ℕ Why → List ℕ → Ending → Type 0
+TakesPiece before after (Ok count) got ending =
+    (after ≡ before ++ got) × (length got ≡ count) × (count ≤ 16_384) × (count ≡ 0 → ending ≡ Closed) × (0 < count → ending ≡ Finished)
+TakesPiece before after (Err reason) got ending = (got ≡ []) × (reason ≡ why.WireFailed) × (ending ≡ Failed)
 
--- the break is one of a talk, its ending is Failed exactly for WireFailed, and the bytes refute an answer
-pub record BreaksOff (head_only : Bool) (got : List ℕ) (ending : Ending) (reason : Why) : Type 0 where
-  pub own : IsOfTalk reason
-  pub failed : (reason ≡ why.WireFailed) ↔ (ending ≡ Failed)
-  pub refutes : (limit : Option ℕ) → Refutes head_only limit got ending reason
+-- the bytes at the front of a buffer, behind which so many were taken
+abbrev pub filled : {E : Type 0} → List ℕ → ℕ → Result ℕ E → List ℕ
+filled buffer kept (Ok count) = slice_range buffer 0 (kept + count)
+filled buffer kept (Err fault) = []
 
-abbrev pub TakesHead : Bool → Result Found Why → List ℕ → Ending → Type 0
-TakesHead head_only (Ok found) got ending = (found.got.items ≡ got) × (ending ≢ Failed) × IsHeadAt head_only got found.head
-TakesHead head_only (Err reason) got ending = BreaksOff head_only got ending reason
+-- a call failed, or the bytes that stood there and those that came break off
+abbrev pub FailsOr : (Ending → Why → Type 0) → Ending → Why → Type 0
+FailsOr P ending reason = ((reason ≡ why.WireFailed) × (ending ≡ Failed)) ⊎ ((ending ≢ Failed) × P ending reason)
 
--- the body grew by a piece, none at the end of the connection
-abbrev pub TakesPiece : ℕ → List ℕ → List ℕ → Result ℕ Why → List ℕ → Ending → Type 0
-TakesPiece most before after (Ok count) got ending =
-    (after ≡ before ++ got) × (length got ≡ count) × (count ≤ most) × (count ≡ 0 → ending ≡ Closed) × (0 < count → ending ≡ Finished)
-TakesPiece most before after (Err reason) got ending = (after ≡ before ++ got) × (reason ≡ why.WireFailed) × (ending ≡ Failed)
+-- ---- the head
 
--- the body grew until it was as long as it can be, or the connection closed
-abbrev pub Fills : ℕ → List ℕ → List ℕ → Result Bool Why → List ℕ → Ending → Type 0
-Fills most before after (Ok true) got ending = (after ≡ before ++ got) × (length after < most) × (ending ≡ Closed)
-Fills most before after (Ok false) got ending = (after ≡ before ++ got) × (length after ≡ most) × (ending ≡ Finished)
-Fills most before after (Err reason) got ending =
-    (after ≡ before ++ got) × (((reason ≡ why.WireFailed) × (ending ≡ Failed)) ⊎ ((reason ≡ why.Memory) × (ending ≡ Finished)))
+-- lines were added: at most one piece has the end of one
+abbrev pub TakesLines : List ℕ → List ℕ → Result Bool Why → List ℕ → Ending → Type 0
+TakesLines before after (Ok true) got ending =
+    (after ≡ before ++ got) × LacksLineEnd got × (length after < 65_536) × (ending ≡ Closed) × InPieces (λ bytes. (part : List ℕ) × (bytes ≡ before ++ part) × LacksLineEnd part) before got ending
+TakesLines before after (Ok false) got ending =
+    (after ≡ before ++ got) × (0 < length got) × (ending ≡ Finished) × InPieces (λ bytes. (part : List ℕ) × (bytes ≡ before ++ part) × LacksLineEnd part) before got ending
+TakesLines before after (Err reason) got ending =
+    (reason ≡ why.WireFailed) × (ending ≡ Failed) × InPieces (λ bytes. (part : List ℕ) × (bytes ≡ before ++ part) × LacksLineEnd part) before got ending
 
--- the connection closed, or more came than may
-abbrev pub Closes : ℕ → Result Unit Why → List ℕ → Ending → Type 0
-Closes most (Ok _) got ending = (got ≡ []) × (ending ≡ Closed)
-Closes most (Err reason) got ending =
-    ((reason ≡ why.WireFailed) × (ending ≡ Failed)) ⊎ ((reason ≡ why.BodyTooLong most) × (0 < length got) × (ending ≡ Finished))
+-- up to the end of the last line, a head is begun
+abbrev pub BeginsByLine : List ℕ → Type 0
+BeginsByLine got = (lines : List ℕ) × (part : List ℕ) × (got ≡ lines ++ part) × LacksLineEnd part × (length lines < 65_536) × BeginsHead lines
 
--- a body of this framing is at most so long
-abbrev pub EndsAt : Framing → ℕ → Type 0
-EndsAt framing.NoBody most = most ≡ 0
-EndsAt (framing.Length n) most = n ≡ most
-EndsAt framing.Chunked most = ⊥
-EndsAt framing.ToClose most = ⊤
+-- why no head was read, from the first bytes that it may stand in
+abbrev pub NoHead : Bool → List ℕ → Ending → Why → Type 0
+NoHead head_only got ending reason =
+    RefusesHead head_only (take 65_536 got) reason
+    ⊎ ((65_536 ≤ length got) × BeginsHead (take 65_536 got) × (reason ≡ why.HeadTooLong))
+    ⊎ ((length got < 65_536) × BeginsHead got × (ending ≡ Closed) × (reason ≡ why.EndedEarly))
 
--- why no body was taken
-abbrev pub LacksBody : Framing → ℕ → List ℕ → Ending → Why → Type 0
-LacksBody framed most rest ending why.Memory = ending ≢ Failed
-LacksBody framed most rest ending why.WireFailed = ending ≡ Failed
-LacksBody framed most rest ending reason =
-    IsOfTalk reason × (reason ≢ why.BadLength) × (ending ≢ Failed) × ((last : Ending) (body : List ℕ) → HasBody framed rest last body → length body ≤ most → ⊥)
+-- a head was read, and the bytes behind it are left
+abbrev pub HeadComes : Bool → List ℕ → Result Head Why → List ℕ → Ending → Type 0
+HeadComes head_only after (Ok found) got ending = (window : List ℕ) × (more : List ℕ) × (got ≡ window ++ more) × IsHeadAt head_only window found × (after ≡ drop found.len window ++ more) × (ending ≡ Finished)
+HeadComes head_only after (Err reason) got ending = FailsOr (NoHead head_only got) ending reason
 
-abbrev pub TakesBody : Framing → ℕ → List ℕ → List ℕ → Result Unit Why → List ℕ → Ending → Type 0
-TakesBody framed most first body (Ok _) got ending =
-    HasBody framed (first ++ got) ending body × (length body ≤ most) × (ending ≢ Failed)
-TakesBody framed most first body (Err reason) got ending = LacksBody framed most (first ++ got) ending reason
+pub record TakesHead (head_only : Bool) (after : List ℕ) (result : Result Head Why) (got : List ℕ) (ending : Ending) : Type 0 where
+  pub pieces : InPieces BeginsByLine [] got ending
+  pub comes : HeadComes head_only after result got ending
+
+-- ---- the body
+
+-- a form was read, and the bytes behind it are left; or a call failed, or the bytes break off
+abbrev pub FormComes : (Has : List ℕ → ℕ → List ℕ → Type 0) → (CannotBe Begins : List ℕ → Type 0) → (before after : List ℕ) → Result ℕ Why → List ℕ → Ending → Type 0
+FormComes Has CannotBe Begins before after (Ok value) got ending = Has (before ++ got) value after × (ending ≡ Finished)
+FormComes Has CannotBe Begins before after (Err reason) got ending = FailsOr (BreaksOff (CannotBe (before ++ got)) (Begins (before ++ got))) ending reason
+
+pub record TakesForm (Has : List ℕ → ℕ → List ℕ → Type 0) (CannotBe Begins : List ℕ → Type 0) (before after : List ℕ) (result : Result ℕ Why) (got : List ℕ) (ending : Ending) : Type 0 where
+  pub pieces : InPieces Begins before got ending
+  pub comes : FormComes Has CannotBe Begins before after result got ending
+
+-- so many bytes were moved to the body
+abbrev pub ContentComes : ℕ → (before after : List ℕ) → (body_before body_after : List ℕ) → Result Unit Why → List ℕ → Ending → Type 0
+ContentComes size before after body_before body_after (Ok _) got ending =
+    (content : List ℕ) × (length content ≡ size) × (before ++ got ≡ content ++ after) × (body_after ≡ body_before ++ content) × (ending ≡ Finished)
+ContentComes size before after body_before body_after (Err reason) got ending =
+    FailsOr (λ ending reason. (length (before ++ got) < size) × (ending ≡ Closed) × (reason ≡ why.EndedEarly)) ending reason
+
+pub record TakesContent (size : ℕ) (before after body_before body_after : List ℕ) (result : Result Unit Why) (got : List ℕ) (ending : Ending) : Type 0 where
+  pub pieces : InPieces (λ bytes. length bytes < size) before got ending
+  pub comes : ContentComes size before after body_before body_after result got ending
+
+-- content and its CRLF
+abbrev pub ChunkComes : ℕ → (before after : List ℕ) → (body_before body_after : List ℕ) → Result Unit Why → List ℕ → Ending → Type 0
+ChunkComes size before after body_before body_after (Ok _) got ending =
+    (content : List ℕ) × (length content ≡ size) × (before ++ got ≡ content ++ (crlf_bytes ++ after)) × (body_after ≡ body_before ++ content) × (ending ≡ Finished)
+ChunkComes size before after body_before body_after (Err reason) got ending =
+    FailsOr (BreaksOff (CannotBeContent size (before ++ got)) (BeginsContent size (before ++ got))) ending reason
+
+pub record TakesChunk (size : ℕ) (before after body_before body_after : List ℕ) (result : Result Unit Why) (got : List ℕ) (ending : Ending) : Type 0 where
+  pub pieces : InPieces (BeginsContent size) before got ending
+  pub comes : ChunkComes size before after body_before body_after result got ending
+
+-- the bytes behind the head begin a body, or are one that the connection's end may end
+abbrev pub IsOpenBody : Framing → ℕ → List ℕ → Type 0
+IsOpenBody framed limit rest = BreaksBody framed limit rest Closed why.EndedEarly ⊎ ((framed ≡ framing.ToClose) × (length rest ≤ limit))
+
+abbrev pub BodyComes : Framing → ℕ → (before after body : List ℕ) → Result Unit Why → List ℕ → Ending → Type 0
+BodyComes framed limit before after body (Ok _) got ending = HasBody framed (before ++ got) ending body after × (length body ≤ limit) × (ending ≢ Failed)
+BodyComes framed limit before after body (Err reason) got ending = FailsOr (BreaksBody framed limit (before ++ got)) ending reason
+
+pub record TakesBody (framed : Framing) (limit : ℕ) (before after body : List ℕ) (result : Result Unit Why) (got : List ℕ) (ending : Ending) : Type 0 where
+  pub pieces : InPieces (IsOpenBody framed limit) before got ending
+  pub comes : BodyComes framed limit before after body result got ending
+
+-- ---- the answer
+
+-- an answer, with its body where it belongs and these bytes behind it, or a break
+abbrev pub AnswerComes : Bool → Option ℕ → (behind : List ℕ) → Buffer → Buffer → Result Answered Why → List ℕ → Ending → Type 0
+AnswerComes head_only limit behind before after (Ok answered) got ending =
+    (body : List ℕ) × IsAnswer head_only limit got ending answered body behind × Delivers limit answered body before after
+AnswerComes head_only limit behind before after (Err reason) got ending =
+    ((reason ≡ why.Memory) × (ending ≢ Failed)) ⊎ IsBreak head_only limit got ending reason
+
+pub record Receives (head_only : Bool) (limit : Option ℕ) (behind : List ℕ) (before after : Buffer) (result : Result Answered Why) (got : List ℕ) (ending : Ending) : Type 0 where
+  pub pieces : InPieces (IsOpenByLine head_only limit) [] got ending
+  pub comes : AnswerComes head_only limit behind before after result got ending
 
 -- the head's answer with this body, which is there and which the answer itself does or does not hold
-abbrev pub TakesAnswer : Head → List ℕ → ℕ → (there held : List ℕ) → Result Answered Why → List ℕ → Ending → Type 0
-TakesAnswer head first most there held (Ok answered) got ending =
+abbrev pub AnswerFilled : Head → ℕ → (before after there held : List ℕ) → Result Answered Why → List ℕ → Ending → Type 0
+AnswerFilled head most before after there held (Ok answered) got ending =
     (answered ≡ record head.answer { taken = length there; body = answered.body }) × (answered.body.bytes ≡ held)
-    × HasBody head.framing (first ++ got) ending there × (length there ≤ most) × (ending ≢ Failed)
-TakesAnswer head first most there held (Err reason) got ending = LacksBody head.framing most (first ++ got) ending reason
+    × HasBody head.framing (before ++ got) ending there after × (length there ≤ most) × (ending ≢ Failed)
+AnswerFilled head most before after there held (Err reason) got ending =
+    ((reason ≡ why.Memory) × (ending ≢ Failed)) ⊎ FailsOr (BreaksBody head.framing most (before ++ got)) ending reason
 
-abbrev pub TakesHeld : Head → List ℕ → ℕ → Result Answered Why → List ℕ → Ending → Type 0
-TakesHeld head first most (Ok answered) = TakesAnswer head first most answered.body.bytes answered.body.bytes (Ok answered)
-TakesHeld head first most (Err reason) = TakesAnswer head first most [] [] (Err reason)
+pub record FillsPlace (head : Head) (most : ℕ) (before after there : List ℕ) (result : Result Answered Why) (got : List ℕ) (ending : Ending) : Type 0 where
+  pub pieces : InPieces (IsOpenBody head.framing most) before got ending
+  pub comes : AnswerFilled head most before after there head.answer.body.bytes result got ending
 
--- an answer, with its body where it belongs, or a break
-abbrev pub Receives : Bool → Option ℕ → Buffer → Buffer → Result Answered Why → List ℕ → Ending → Type 0
-Receives head_only limit before after (Ok answered) got ending =
-    (body : List ℕ) × IsAnswer head_only limit got ending answered body × Delivers limit answered body before after
-Receives head_only limit before after (Err reason) got ending =
-    IsOfTalk reason × ((reason ≡ why.WireFailed) ↔ (ending ≡ Failed)) × Refutes head_only limit got ending reason
+abbrev pub held_body : Result Answered Why → List ℕ
+held_body (Ok answered) = answered.body.bytes
+held_body (Err reason) = []
 
--- the greatest length of a body within the limit, where it can be within it; chunks are not read yet
-abbrev pub Bounds : Framing → ℕ → Result ℕ Why → Type 0
-Bounds framed limit (Ok most) = EndsAt framed most × (most ≤ limit) × ((framed ≡ framing.ToClose) → most ≡ limit)
-Bounds (framing.Length n) limit (Err reason) = (reason ≡ why.BodyTooLong limit) × (limit < n)
-Bounds framing.Chunked limit (Err reason) = reason ≡ why.BadLength
-Bounds framed limit (Err reason) = ⊥
+pub record FillsAnswer (head : Head) (most : ℕ) (before after : List ℕ) (result : Result Answered Why) (got : List ℕ) (ending : Ending) : Type 0 where
+  pub pieces : InPieces (IsOpenBody head.framing most) before got ending
+  pub comes : AnswerFilled head most before after (held_body result) (held_body result) result got ending
+
+-- ---- the end
 
 abbrev pub talked_of : Result Answered Why → Talked
 talked_of (Ok answered) = talked.Answered answered
 talked_of (Err reason) = talked.Broken reason
+
+-- the connection is kept where that was asked for, the answer allows it, and it is entire
+abbrev pub ends_kept : Bool → Bool → Result Answered Why → Bool
+ends_kept keep is_entire (Ok answered) = keep && (answered.keep && is_entire)
+ends_kept keep is_entire (Err reason) = false

@@ -1,14 +1,18 @@
 //! One request and its answer.
 
-ghost use Rattle.std.specs.Prelude.{◌≡◌, ◌≤◌, ◌++◌, IfSome, None};
+ghost use Rattle.std.specs.Prelude.{◌≡◌, ◌≤◌, [], ◌++◌, ◌&&◌, IfSome, None};
+ghost use Rattle.std.specs.Option.{option_map};
 ghost use Rattle.s3_model.specs.Counts.{Rose};
-ghost use Rattle.http_exchange.specs.Answer.{IsOfTalk, body_limit, goes_into, is_success};
+ghost use Rattle.answer_grammar.specs.Answer.{IsOfTalk, body_limit, goes_into, is_success};
+ghost use Rattle.s3_outside.specs.Wire.{is_kept};
 ghost use Rattle.http_exchange.specs.Exchange.{IfBroken, Exchanges, Request};
-ghost use Rattle.http_exchange.specs.Steps.{EndsAt, HasWireCause, Hears, Receives, TakesAnswer, TakesHeld, talked_of};
+ghost use Rattle.http_exchange.specs.Steps.{FillsPlace, FillsAnswer, HasWireCause, Hears, Receives, ends_kept, talked_of};
 
-use crate::head::{Found, Head};
-use crate::receive::{greatest_length, take_body, take_head};
+use crate::body::take_body;
+use crate::receive::take_head;
+use crate::room::AnswerRoom;
 use crate::send::ask;
+use answer_grammar::Head;
 use s3_model::{Answered, Bytes, Endpoint, Talked, Why};
 use s3_outside::Wire;
 use std::alloc::Global;
@@ -23,16 +27,18 @@ const ERROR_LIMIT: u64 = 65_536;
 ///
 /// `head_only` says that the request is a HEAD. Under `Some(limit)` the body of a 2xx answer goes to `into`, which is
 /// cleared first, and has at most `limit` bytes; under `None` it has at most 8,388,608. Any other body has at most
-/// 65,536 bytes. A head has at most 65,536 bytes and 100 header lines. The connection may be kept after an answer
-/// where `keep` is true and the answer allows it.
+/// 65,536 bytes. A head has at most 65,536 bytes and 100 header lines. Bytes are taken in pieces of at most 16,384, and
+/// none once they decide. The connection is kept exactly where `keep` is true, the answer allows it and no byte stands
+/// behind it. `room` serves one exchange after the other.
 ///
 /// # Errors
 ///
-/// `Broken` says why there is no answer: `WireFailed` where a call of the wire failed, `Memory` where memory ran
-/// out, and else what is wrong with the bytes that came. After it `into` may hold any bytes.
+/// `Broken` says why there is no answer: `WireFailed` where a call of the wire failed, `Memory` where memory ran out,
+/// and else the one thing that is wrong with the bytes that came. After it `into` may hold any bytes.
 pub fn exchange<W: Wire>(
     alloc: Global,
     wire: &mut W,
+    room: &mut AnswerRoom,
     endpoint: &Endpoint,
     head: &[u8],
     body: &[u8],
@@ -42,33 +48,41 @@ pub fn exchange<W: Wire>(
     into: &mut Bytes,
 ) -> Talked
     requires { IfSome limit (λ most. most ≤ into.old.room) }
-    ensures talk { let request : Request =
-        record { endpoint = endpoint.now; bytes = head.now ++ body.now; head_only = head_only; limit = limit }
-        in Exchanges request (W.seen wire.old) (W.seen wire.new) (W.faults wire.old) (W.faults wire.new) into.old into.new result }
+    ensures talk { let request : Request = record {
+      endpoint = endpoint.now;
+      bytes = head.now ++ body.now;
+      head_only = head_only;
+      limit = limit;
+      keep = keep;
+    } in Exchanges request (W.seen wire.old) (W.seen wire.new)
+        (W.alive wire.new) (W.faults wire.old) (W.faults wire.new) into.old into.new result }
     ensures failed { result ≡ Talked.Broken Why.WireFailed → Rose (W.faults wire.old) (W.faults wire.new) }
     ensures later { W.faults wire.old ≤ W.faults wire.new }
     ensures own { IfBroken result IsOfTalk }
     ensures room { into.old.room ≤ into.new.room }
     ensures untouched { limit ≡ None → into.new ≡ into.old }
 {
-    match ask(wire, endpoint, head, body) {
+    room.incoming.clear();
+    match ask(alloc, wire, endpoint, head, body) {
         Ok(()) => {
-            let answer = receive(alloc, wire, head_only, limit, into);
-            end(wire, keep, answer)
+            let answer = receive(alloc, wire, room, head_only, limit, into);
+            let is_entire = room.incoming.bytes().is_empty();
+            end(wire, keep, is_entire, answer)
         }
-        Err(_) => end(wire, false, Err(Why::WireFailed)),
+        Err(_) => end(wire, keep, false, Err(Why::WireFailed)),
     }
 }
 
-/// Ends a talk.
-fn end<W: Wire>(wire: &mut W, keep: bool, answer: Result<Answered, Why>) -> Talked
+/// Ends a talk, and keeps the connection where that is asked for, the answer allows it, and nothing stands behind it.
+fn end<W: Wire>(wire: &mut W, keep: bool, is_entire: bool, answer: Result<Answered, Why>) -> Talked
     ensures talked { result ≡ talked_of answer }
     ensures log { W.seen wire.new ≡ W.seen wire.old }
+    ensures alive { W.alive wire.new ≡ option_map (is_kept (ends_kept keep is_entire answer)) (W.seen wire.old) }
     ensures later { W.faults wire.old ≤ W.faults wire.new }
 {
     match answer {
         Ok(answered) => {
-            wire.finish(keep && answered.keep);
+            wire.finish(keep && (answered.keep && is_entire));
             Talked::Answered(answered)
         }
         Err(why) => {
@@ -82,66 +96,65 @@ fn end<W: Wire>(wire: &mut W, keep: bool, answer: Result<Answered, Why>) -> Talk
 fn receive<W: Wire>(
     alloc: Global,
     wire: &mut W,
+    room: &mut AnswerRoom,
     head_only: bool,
     limit: Option<u64>,
     into: &mut Bytes,
 ) -> Result<Answered, Why>
-    requires { IfSome limit (λ most. most ≤ into.old.room) }
-    ensures heard { Hears (W.seen wire.old) (W.seen wire.new) (Receives head_only limit into.old into.new result) }
+    requires room { IfSome limit (λ most. most ≤ into.old.room) }
+    requires empty { room.old.incoming ≡ [] }
+    ensures heard { Hears (W.seen wire.old) (W.seen wire.new)
+        (Receives head_only limit room.new.incoming into.old into.new result) }
     ensures cause { HasWireCause (W.faults wire.old) (W.faults wire.new) result }
-    ensures room { into.new.room ≡ into.old.room }
+    ensures room_kept { into.new.room ≡ into.old.room }
     ensures untouched { limit ≡ None → into.new ≡ into.old }
 {
-    let Found { got, head } = take_head(alloc, wire, head_only)?;
-    let status = head.answer.status;
-    let most = greatest_length(head.framing, body_limit(limit, status))? as usize;
-    let first = &got[head.len..];
-    if goes_into(limit, status) {
-        take_into(alloc, wire, head, first, most, into)
+    let head = take_head(alloc, wire, room, head_only)?;
+    let most = body_limit(limit, head.answer.status);
+    if goes_into(limit, head.answer.status) {
+        fill_place(wire, room, head, most, into)
     } else {
-        take_held(alloc, wire, head, first, most)
+        fill_answer(alloc, wire, room, head, most)
     }
 }
 
 /// Takes a body into the caller's place.
-fn take_into<W: Wire>(
-    alloc: Global,
+fn fill_place<W: Wire>(
     wire: &mut W,
+    room: &mut AnswerRoom,
     head: Head,
-    first: &[u8],
-    most: usize,
+    most: u64,
     into: &mut Bytes,
 ) -> Result<Answered, Why>
-    requires room { most ≤ into.old.room }
-    requires fits { EndsAt head.framing most }
+    requires { most ≤ into.old.room }
     ensures heard { Hears (W.seen wire.old) (W.seen wire.new)
-        (TakesAnswer head first.now most into.new.bytes head.answer.body.bytes result) }
+        (FillsPlace head most room.old.incoming room.new.incoming into.new.bytes result) }
     ensures cause { HasWireCause (W.faults wire.old) (W.faults wire.new) result }
     ensures room_kept { into.new.room ≡ into.old.room }
 {
     into.clear();
-    take_body(alloc, wire, head.framing, first, most, into)?;
+    take_body(wire, room, head.framing, most, into)?;
     let mut answered = head.answer;
     answered.taken = into.as_slice().len() as u64;
     Ok(answered)
 }
 
 /// Takes a body into the answer.
-fn take_held<W: Wire>(
+fn fill_answer<W: Wire>(
     alloc: Global,
     wire: &mut W,
+    room: &mut AnswerRoom,
     head: Head,
-    first: &[u8],
-    most: usize,
+    most: u64,
 ) -> Result<Answered, Why>
-    requires { EndsAt head.framing most }
-    ensures heard { Hears (W.seen wire.old) (W.seen wire.new) (TakesHeld head first.now most result) }
+    ensures heard { Hears (W.seen wire.old) (W.seen wire.new)
+        (FillsAnswer head most room.old.incoming room.new.incoming result) }
     ensures cause { HasWireCause (W.faults wire.old) (W.faults wire.new) result }
 {
-    let Ok(mut body) = Bytes::make(alloc, most as u64) else {
+    let Ok(mut body) = Bytes::make(alloc, most) else {
         return Err(Why::Memory);
     };
-    take_body(alloc, wire, head.framing, first, most, &mut body)?;
+    take_body(wire, room, head.framing, most, &mut body)?;
     let mut answered = head.answer;
     answered.taken = body.as_slice().len() as u64;
     answered.body = body;

@@ -10,7 +10,7 @@ use Rattle.s3_model.specs.Lists.{Buffer}
 use Rattle.s3_model.specs.Talks.{Talk, Note, Began, WireLog}
 use Rattle.run_promise.specs.Carried.{IsPrefixOf, SaysAll}
 use Rattle.http_exchange.specs.Exchange.{IsExchange, IfBroken}
-use Rattle.http_exchange.specs.Answer.{IsOfTalk}
+use Rattle.answer_grammar.specs.Answer.{IsOfTalk}
 use Rattle.s3_main.specs.declared.carry.Ending.{Ending}
 use Rattle.s3_main.specs.declared.carry.Ending.TheVariants as ending
 use Rattle.s3_main.specs.Carrying.{CarriesAs, Gains, IsAnsweredBy, IsOneTalk, IsPut, IsSigned, JudgesAs, Shows, request_text}
@@ -30,10 +30,10 @@ module _ (bucket key : List ℕ) (content : Option (List ℕ)) (fresh : Bool) (e
   abbrev put : Ask
   put = ask.Put bucket key content fresh
 
-  one_talk : (first last : Buffer) (result : Talked) (talk : Talk) (talks : List Talk) (notes : List Note) → IsSigned endpoint keys put body head talks notes
-      → IsExchange (record { endpoint = endpoint; bytes = head ++ body; head_only = false; limit = None }) first last result talk → IfBroken result IsOfTalk → JudgesAs result of_ending
+  one_talk : (first last : Buffer) (result : Talked) (talk : Talk) (kept : Bool) (talks : List Talk) (notes : List Note) → IsSigned endpoint keys put body head talks notes
+      → IsExchange (record { endpoint = endpoint; bytes = head ++ body; head_only = false; limit = None; keep = false }) first last result talk kept → IfBroken result IsOfTalk → JudgesAs result of_ending
       → IsOneTalk endpoint keys put body of_ending (talks ++ talk ∷ []) (notes ++ Began ∷ [])
-  one_talk first last result talk talks notes signed e own judges = record {
+  one_talk first last result talk kept talks notes signed e own judges = record {
     talk = talk;
     seconds = signed.seconds;
     one_talk = ap (λ (xs : List Talk). xs ++ talk ∷ []) signed.no_talk;
@@ -42,18 +42,18 @@ module _ (bucket key : List ℕ) (content : Option (List ℕ)) (fresh : Bool) (e
     to_port = e.port;
     text = λ shown bytes h.
         subst (λ (text : List ℕ). SaysAll Shows (request_text endpoint keys) endpoint.host endpoint.port shown talk.sent text) signed.signed
-        (judge.says bucket key content fresh endpoint (head ++ body) first last talk (request_text endpoint keys) endpoint.host endpoint.port result e shown bytes h);
-    beginning = subst (IsPrefixOf talk.sent) signed.signed (judge.beginning bucket key content fresh endpoint (head ++ body) first last talk result e);
-    judged = judge.judged bucket key content fresh endpoint (head ++ body) first last talk result of_ending e own judges;
+        (judge.says bucket key content fresh endpoint (head ++ body) first last talk kept (request_text endpoint keys) endpoint.host endpoint.port result e shown bytes h);
+    beginning = subst (IsPrefixOf talk.sent) signed.signed (judge.beginning bucket key content fresh endpoint (head ++ body) first last talk kept result e);
+    judged = judge.judged bucket key content fresh endpoint (head ++ body) first last talk kept result of_ending e own judges;
   }
 
   carried_put : (first second third : Option WireLog) (b a : ℕ) → Gains first second (IsSigned endpoint keys put body head) → IsAnsweredBy endpoint (head ++ body) second third b a of_ending
       → Gains first third (CarriesAs endpoint keys put body of_ending)
   carried_put first second third b a signed answered =
-      let (talk, tells, e) = answered.exchanged in
+      let (talk, kept, tells, alive, e) = answered.exchanged in
       gains_both (IsSigned endpoint keys put body head) (λ talks notes. (talks ≡ talk ∷ []) × (notes ≡ Began ∷ [])) (CarriesAs endpoint keys put body of_ending)
       (λ talks more notes others is_signed one.
-      let whole = as_one_talk endpoint keys put body of_ending answered.result _ _ answered.judges (one_talk answered.first answered.last answered.result talk talks notes is_signed e answered.own answered.judges) in
+      let whole = as_one_talk endpoint keys put body of_ending answered.result _ _ answered.judges (one_talk answered.first answered.last answered.result talk kept talks notes is_signed e answered.own answered.judges) in
       rw (one.0, one.1) whole)
       first second third signed (gains_talk (λ talks notes. (talks ≡ talk ∷ []) × (notes ≡ Began ∷ [])) talk second third b a tells (refl, refl))
 

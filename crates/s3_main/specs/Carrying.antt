@@ -22,7 +22,8 @@ use Rattle.s3_model.specs.declared.settings.Keys.{Keys}
 use Rattle.s3_model.specs.Classes.{IsClass, IsTwoHundred, status_message}
 use Rattle.s3_model.specs.Talks.{Talk, Note, Moment, Began, Failed, WireLog}
 use Rattle.s3_requests.specs.Requests as requests
-use Rattle.http_exchange.specs.Answer.{IsAnswer, HasNoAnswer, HasCoding, IsOfTalk}
+use Rattle.answer_grammar.specs.Answer.{HasAnswer, IsOfTalk}
+use Rattle.answer_grammar.specs.Breaks.{IsBreak}
 use Rattle.http_exchange.specs.Exchange.{Exchanges, IfBroken}
 use Rattle.s3_model.specs.Lists.{Buffer}
 use Rattle.run_promise.specs.Carried.{IsPrefixOf, SaysAll}
@@ -44,23 +45,22 @@ abbrev pub is_head : Ask → Bool
 is_head (ask.Head bucket key) = true
 is_head asked = false
 
--- a break of the talk: the bytes are no answer, or name a transfer coding, which is not read yet; and a call of the wire failed
--- in it exactly where that is the reason
+-- a break of the talk: what its bytes and its ending come to; and a call of the wire failed in it exactly where that is the reason
 pub record IsBroken (asked : Ask) (limit : ℕ) (talk : Talk) (reason : Why) : Type 0 where
   pub of_talk : IsOfTalk reason
-  pub no_answer : HasNoAnswer (is_head asked) (Some limit) talk.got talk.ending ⊎ HasCoding talk.got
+  pub breaks : IsBreak (is_head asked) (Some limit) talk.got talk.ending reason
   pub failed : (reason ≡ why.WireFailed) ↔ (talk.ending ≡ Failed)
 
 -- The talk has that class for the ask, and its answer that body.
 abbrev pub Shows : Ask → ℕ → Talk → Class → List ℕ → Type 0
 Shows asked limit talk shown bytes =
-    ((answered : Answered) × IsAnswer (is_head asked) (Some limit) talk.got talk.ending answered bytes × IsClass ReadsNoError ReadsNoReply asked answered bytes shown)
+    ((answered : Answered) × HasAnswer (is_head asked) (Some limit) talk.got talk.ending answered bytes × IsClass ReadsNoError ReadsNoReply asked answered bytes shown)
     ⊎ ((reason : Why) × IsBroken asked limit talk reason × (shown ≡ class.Uncertain reason) × (bytes ≡ []))
 
 -- the answer of the talk has that HTTP status
 abbrev pub HasStatus : Ask → ℕ → Talk → ℕ → Type 0
 HasStatus asked limit talk status =
-    (answered : Answered) × (bytes : List ℕ) × IsAnswer (is_head asked) (Some limit) talk.got talk.ending answered bytes × (answered.status ≡ status)
+    (answered : Answered) × (bytes : List ℕ) × HasAnswer (is_head asked) (Some limit) talk.got talk.ending answered bytes × (answered.status ≡ status)
 
 -- the text of a request to this service, signed with these keys
 abbrev pub request_text : Endpoint → Keys → Ask → List ℕ → ℕ → List ℕ
@@ -154,6 +154,7 @@ pub record IsAnsweredBy (endpoint : Endpoint) (bytes : List ℕ) (before after :
   pub first : Buffer
   pub last : Buffer
   pub result : Talked
+  pub alive : Option Bool
   pub own : IfBroken result IsOfTalk
-  pub exchanged : Exchanges (record { endpoint = endpoint; bytes = bytes; head_only = false; limit = None }) before after faults_before faults_after first last result
+  pub exchanged : Exchanges (record { endpoint = endpoint; bytes = bytes; head_only = false; limit = None; keep = false }) before after alive faults_before faults_after first last result
   pub judges : JudgesAs result of_ending

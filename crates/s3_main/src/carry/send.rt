@@ -4,7 +4,7 @@ ghost use Rattle.std.specs.Prelude.{◌≤◌, ◌++◌, IfOk, OnErr};
 ghost use Rattle.s3_main.specs.Carrying.{CarriesAs, Gains, IsAnsweredBy, IsPut, IsSigned, IsSilentGain};
 
 use super::{Ending, ending_of};
-use http_exchange::exchange;
+use http_exchange::{AnswerRoom, exchange};
 use s3_model::{Ask, Bytes, Endpoint, Keys, OutOfMemory, Text};
 use s3_outside::Wire;
 use s3_requests::{head_text, payload_hash};
@@ -44,6 +44,7 @@ fn send_signed<W: Wire>(
     endpoint: &Endpoint,
     head: &Text,
     body: &[u8],
+    room: &mut AnswerRoom,
     place: &mut Bytes,
 ) -> Ending
     ensures answered { IsAnsweredBy endpoint.now (head.now ++ body.now) (W.seen wire.old) (W.seen wire.new)
@@ -53,6 +54,7 @@ fn send_signed<W: Wire>(
     let talked = exchange(
         alloc,
         wire,
+        room,
         endpoint,
         head.as_str().as_bytes(),
         body,
@@ -81,8 +83,11 @@ pub(crate) fn carry<W: Wire>(
     let Ok(mut place) = Bytes::make(alloc, 0) else {
         return Ending::Memory;
     };
+    let Ok(mut room) = AnswerRoom::make(alloc) else {
+        return Ending::Memory;
+    };
     match sign(alloc, wire, endpoint, keys, ask, body) {
-        Ok(head) => send_signed(alloc, wire, endpoint, &head, body, &mut place),
+        Ok(head) => send_signed(alloc, wire, endpoint, &head, body, &mut room, &mut place),
         Err(_) => Ending::Memory,
     }
 }

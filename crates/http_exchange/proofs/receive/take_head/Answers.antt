@@ -1,66 +1,148 @@
-use Rattle.std.proofs.Common.{ℕ, List, [], ◌∷◌, ◌++◌, sym, refl, subst, arith}
+use Rattle.std.proofs.Common.{◌≡◌, ℕ, ◌<◌, ◌≤◌, List, [], ◌++◌, length, take, drop, Option, None, sym, refl, ap, subst, ◌∙◌, arith, inl, inr, append_assoc, Ok, Err, length-append}
+use Rattle.std.proofs.lemmas.List.{take_all, length-take, take-append-drop, drop-append-le, append-nil}
 use Rattle.std.proofs.lemmas.Result.{err_from_is_err_and}
-use Rattle.s3_model.specs.Talks.{Failed, Closed, Finished}
-use Rattle.http_exchange.specs.Parts.{Breaks, IsHeadAt}
-use Rattle.http_exchange.proofs.BodyLemmas.{finished_fine}
-use Rattle.http_exchange.proofs.TalkLemmas.{heard_nothing}
-use Rattle.http_exchange.proofs.TakeLemmas.{heard_is, heard_byte, heard_end, broken_bytes, broken_wire, broken_memory, taken_early, taken_long}
+use Rattle.std.specs.Option.{option_map}
+use Rattle.s3_model.specs.Talks.{Ending, Closed, Finished}
+use Rattle.s3_outside.specs.Wire.{last_talk}
+use Rattle.answer_grammar.specs.Breaks.{BeginsHead}
+use Rattle.answer_grammar.specs.Parts.{IsHeadAt, RefusesHead}
+use Rattle.answer_grammar.specs.Head.{ReadsHead}
+use Rattle.http_exchange.specs.Exchange.{InPieces}
+use Rattle.http_exchange.specs.Seen.{hears}
+use Rattle.http_exchange.specs.Steps.{BeginsByLine}
+use Rattle.http_exchange.proofs.LineLemmas.{IsBegun, by_line, begins_all, head_at_lines, no_head_yet}
+use Rattle.http_exchange.proofs.PieceLemmas.{pieces_after, closed_fine, finished_fine}
+use Rattle.http_exchange.proofs.TalkLemmas.{heard_nothing, heard_after, ending_is, heard_is}
 use Rattle.http_exchange.proofs.receive.take_head.Goals as goal
 
-pub loop-wire-init : goal.loop-wire-init
-loop-wire-init g c = record {
-  heard = heard_is [] c.new-got.result.items Finished Finished _ _ (sym c.new-got.ensures.items) refl (heard_nothing _);
-  small = omega (arith, c.new-got.ensures.len);
-  later = omega arith;
-}
-
-pub returns-in_err-byte-clause-heard : goal.returns-in_err-byte-clause-heard
-returns-in_err-byte-clause-heard g c =
-    let p = err_from_is_err_and c.from_residual.result c.from_residual.ensures.1 in
-    let now = c.in_err-byte.ensures.heard in
-    rw (p.1, p.2, now.3.0) (c.loop-wire.got.items, Failed, heard_end c.loop-wire.got.items now.0 now.1 Failed _ _ _ c.loop-wire.invariant.heard now.2 now.3.1 now.3.2, broken_wire c.args.head_only c.loop-wire.got.items)
-
-pub returns-in_default-clause-heard : goal.returns-in_default-clause-heard
-returns-in_default-clause-heard g c =
-    let now = rw c.in_default.is at c.in_ok-byte.ensures.heard in
-    (c.loop-wire.got.items, Closed, heard_end c.loop-wire.got.items now.0 now.1 Closed _ _ _ c.loop-wire.invariant.heard now.2 now.3.0 now.3.1, taken_early c.args.head_only c.loop-wire.got.items c.last_chance.result c.last_chance.ensures)
+pub loop-head-init : goal.loop-head-init
+loop-head-init g c = record { heard = heard_is [] c.args.room.now.incoming Finished _ _ (sym c.requires) (heard_nothing _); pieces = inl (c.requires, refl); later = omega arith }
 
 pub returns-in_err-head-clause-heard : goal.returns-in_err-head-clause-heard
 returns-in_err-head-clause-heard g c =
-    let p = err_from_is_err_and c.from_residual-in_err-head.result c.from_residual-in_err-head.ensures.1 in
-    let now = rw c.in-Some.is at c.in_ok-byte.ensures.heard in
-    let heard = heard_is (c.loop-wire.got.items ++ c.in-Some.byte ∷ []) c.push.new.self.items Finished Finished _ _ (sym c.in-Ok.ensures.items) refl
-    (heard_byte c.loop-wire.got.items now.0 c.in-Some.byte now.1 _ _ _ c.loop-wire.invariant.heard now.2 now.3.0 now.3.1) in
-    let P : List ℕ → Type 0 = λ bytes. Breaks c.args.head_only bytes c.in_err-head.field-0.0 in
-    rw (p.1, p.2) (c.push.new.self.items, Finished, heard, broken_bytes c.args.head_only c.push.new.self.items Finished c.in_err-head.field-0.0 finished_fine (subst P c.deref-then-ends_in_blank_line.ensures.value c.in_err-head.ensures))
+    let p = err_from_is_err_and c.from_residual.result c.from_residual.ensures.1 in
+    let R : List ℕ → Type 0 = λ bytes. RefusesHead c.args.head_only (take 65536 bytes) c.in_err-head.field-0.0 in
+    rw (p.1, p.2) (
+      c.loop-head.room.incoming,
+      Finished,
+      c.loop-head.invariant.heard,
+      record {
+        pieces = c.loop-head.invariant.pieces;
+        comes = inr (finished_fine Finished refl, inl (subst R c.bytes.ensures c.in_err-head.ensures));
+      },
+    )
 
-pub returns-in-Some-2-clause-heard : goal.returns-in-Some-2-clause-heard
-returns-in-Some-2-clause-heard g c =
-    let now = rw c.in-Some.is at c.in_ok-byte.ensures.heard in
-    let heard = heard_is (c.loop-wire.got.items ++ c.in-Some.byte ∷ []) c.push.new.self.items Finished Finished _ _ (sym c.in-Ok.ensures.items) refl
-    (heard_byte c.loop-wire.got.items now.0 c.in-Some.byte now.1 _ _ _ c.loop-wire.invariant.heard now.2 now.3.0 now.3.1) in
-    let P : List ℕ → Type 0 = λ bytes. IsHeadAt c.args.head_only bytes c.in-Some-2.head in
-    (c.push.new.self.items, Finished, heard, (refl, finished_fine, subst P c.deref-then-ends_in_blank_line.ensures.value (rw c.in-Some-2.is at c.in_ok-head.ensures)))
+pub skip-requires : goal.skip-requires
+skip-requires g c =
+    let at = rw c.in-Some.is at c.in_ok-head.ensures in
+    omega (arith, at.within, length-take 65536 c.bytes.result.now, ap length c.bytes.ensures)
 
-pub loop-wire-preserved-then-ends_in_blank_line : goal.loop-wire-preserved-then-ends_in_blank_line
-loop-wire-preserved-then-ends_in_blank_line g c =
-    let now = rw c.in-Some.is at c.in_ok-byte.ensures.heard in
-    let heard = heard_is (c.loop-wire.got.items ++ c.in-Some.byte ∷ []) c.push.new.self.items Finished Finished _ _ (sym c.in-Ok.ensures.items) refl
-    (heard_byte c.loop-wire.got.items now.0 c.in-Some.byte now.1 _ _ _ c.loop-wire.invariant.heard now.2 now.3.0 now.3.1) in
-    record { heard = heard; small = omega (arith, c.in-Ok.ensures.len); later = omega (arith, c.take_byte.ensures.cause.later) }
+pub returns-in-Some-clause-heard : goal.returns-in-Some-clause-heard
+returns-in-Some-clause-heard g c =
+    let got = c.loop-head.room.incoming in
+    let len = c.in-Some.head.len in
+    let A : List ℕ → Type 0 = λ bytes. IsHeadAt c.args.head_only (take 65536 bytes) c.in-Some.head in
+    let at = subst A c.bytes.ensures (rw c.in-Some.is at c.in_ok-head.ensures) in
+    let split = sym (take-append-drop 65536 got) in (
+      got,
+      Finished,
+      c.loop-head.invariant.heard,
+      record {
+        pieces = c.loop-head.invariant.pieces;
+        comes = (take 65536 got, drop 65536 got, split, at, c.skip.ensures ∙ ap (drop len) split ∙ drop-append-le len (take 65536 got) (drop 65536 got) at.within, refl);
+      },
+    )
 
-pub loop-wire-preserved : goal.loop-wire-preserved
-loop-wire-preserved g c =
-    let now = rw c.in-Some.is at c.in_ok-byte.ensures.heard in
-    let heard = heard_is (c.loop-wire.got.items ++ c.in-Some.byte ∷ []) c.push.new.self.items Finished Finished _ _ (sym c.in-Ok.ensures.items) refl
-    (heard_byte c.loop-wire.got.items now.0 c.in-Some.byte now.1 _ _ _ c.loop-wire.invariant.heard now.2 now.3.0 now.3.1) in
-    record { heard = heard; small = omega (arith, c.in-Ok.ensures.len); later = omega (arith, c.take_byte.ensures.cause.later) }
+pub returns-then-bytes-ge-HEAD_LIMIT-clause-heard : goal.returns-then-bytes-ge-HEAD_LIMIT-clause-heard
+returns-then-bytes-ge-HEAD_LIMIT-clause-heard g c =
+    let B : List ℕ → Type 0 = λ bytes. BeginsHead (take 65536 bytes) in
+    let begins = subst B c.bytes.ensures (rw c.in_default.is at c.in_ok-head.ensures) in (
+      c.loop-head.room.incoming,
+      Finished,
+      c.loop-head.invariant.heard,
+      record {
+        pieces = c.loop-head.invariant.pieces;
+        comes = inr (finished_fine Finished refl, inr (inl (omega (arith, c.if-bytes-ge-HEAD_LIMIT.true, ap length c.bytes-in-loop-head.ensures), begins, refl)));
+      },
+    )
 
-pub returns-clause-heard : goal.returns-clause-heard
-returns-clause-heard g c =
-    (c.loop-wire.got.items, Finished, c.loop-wire.invariant.heard, taken_long c.args.head_only c.loop-wire.got.items c.last_chance-2.result c.last_chance-2.ensures)
+pub returns-in_err-take_lines-clause-heard : goal.returns-in_err-take_lines-clause-heard
+returns-in_err-take_lines-clause-heard g c =
+    let p = err_from_is_err_and c.from_residual-in_err-take_lines.result c.from_residual-in_err-take_lines.ensures.1 in
+    let got = c.loop-head.room.incoming in
+    let now = c.in_err-take_lines.ensures.heard in
+    let B : List ℕ → Type 0 = λ bytes. BeginsHead (take 65536 bytes) in
+    let short : length got < 65536 = omega (arith, c.if-bytes-ge-HEAD_LIMIT.false, ap length c.bytes-in-loop-head.ensures) in
+    let begins = begins_all got short (subst B c.bytes.ensures (rw c.in_default.is at c.in_ok-head.ensures)) in
+    rw (p.1, p.2) (
+      got ++ now.0,
+      now.1,
+      heard_after got now.0 Finished now.1 _ _ _ refl c.loop-head.invariant.heard now.2,
+      record {
+        pieces = pieces_after BeginsByLine (IsBegun got) BeginsByLine [] got got now.0 Finished now.1 (λ bytes holds. holds) (λ more is. by_line got (got ++ more) short begins is) c.loop-head.invariant.pieces now.3.2;
+        comes = inl (now.3.0, now.3.1);
+      },
+    )
 
-pub returns-in_default-push-clause-heard : goal.returns-in_default-push-clause-heard
-returns-in_default-push-clause-heard g c =
-    let now = rw c.in-Some.is at c.in_ok-byte.ensures.heard in
-    (c.loop-wire.got.items ++ c.in-Some.byte ∷ [], Finished, heard_byte c.loop-wire.got.items now.0 c.in-Some.byte now.1 _ _ _ c.loop-wire.invariant.heard now.2 now.3.0 now.3.1, broken_memory c.args.head_only _ Finished finished_fine)
+pub returns-in_err-try_head-clause-heard : goal.returns-in_err-try_head-clause-heard
+returns-in_err-try_head-clause-heard g c =
+    let p = err_from_is_err_and c.from_residual-in_err-try_head.result c.from_residual-in_err-try_head.ensures.1 in
+    let got = c.loop-head.room.incoming in
+    let now = rw c.if-branch.true at c.in_ok-take_lines.ensures.heard in
+    let B : List ℕ → Type 0 = λ bytes. BeginsHead (take 65536 bytes) in
+    let short : length got < 65536 = omega (arith, c.if-bytes-ge-HEAD_LIMIT.false, ap length c.bytes-in-loop-head.ensures) in
+    let begins = begins_all got short (subst B c.bytes.ensures (rw c.in_default.is at c.in_ok-head.ensures)) in
+    let R : List ℕ → Type 0 = λ bytes. RefusesHead c.args.head_only (take 65536 bytes) c.in_err-try_head.field-0.0 in
+    rw (p.1, p.2) (
+      got ++ now.0,
+      now.1,
+      heard_after got now.0 Finished now.1 _ _ _ refl c.loop-head.invariant.heard now.2,
+      record {
+        pieces = pieces_after BeginsByLine (IsBegun got) BeginsByLine [] got got now.0 Finished now.1 (λ bytes holds. holds) (λ more is. by_line got (got ++ more) short begins is) c.loop-head.invariant.pieces now.3.4;
+        comes = inr (closed_fine now.1 now.3.3, inl (subst R (c.bytes-then-branch.ensures ∙ now.3.0) c.in_err-try_head.ensures));
+      },
+    )
+
+pub unreachable-requires : goal.unreachable-requires
+unreachable-requires g c =
+    let got = c.loop-head.room.incoming in
+    let now = rw c.if-branch.true at c.in_ok-take_lines.ensures.heard in
+    let B : List ℕ → Type 0 = λ bytes. BeginsHead (take 65536 bytes) in
+    let short : length got < 65536 = omega (arith, c.if-bytes-ge-HEAD_LIMIT.false, ap length c.bytes-in-loop-head.ensures) in
+    let begins = begins_all got short (subst B c.bytes.ensures (rw c.in_default.is at c.in_ok-head.ensures)) in
+    let A : List ℕ → Type 0 = λ bytes. IsHeadAt c.args.head_only (take 65536 bytes) c.in-Some-2.field-0 in
+    let at = subst A (c.bytes-then-branch.ensures ∙ now.3.0) (rw c.in-Some-2.is at c.in_ok-try_head.ensures) in
+    head_at_lines c.args.head_only got now.0 c.in-Some-2.field-0 (omega (arith, now.3.2, ap length now.3.0)) begins now.3.1 at
+
+pub returns-then-branch-clause-heard : goal.returns-then-branch-clause-heard
+returns-then-branch-clause-heard g c =
+    let got = c.loop-head.room.incoming in
+    let now = rw c.if-branch.true at c.in_ok-take_lines.ensures.heard in
+    let B : List ℕ → Type 0 = λ bytes. BeginsHead (take 65536 bytes) in
+    let short : length got < 65536 = omega (arith, c.if-bytes-ge-HEAD_LIMIT.false, ap length c.bytes-in-loop-head.ensures) in
+    let begins = begins_all got short (subst B c.bytes.ensures (rw c.in_default.is at c.in_ok-head.ensures)) in
+    let all : length (got ++ now.0) < 65536 = omega (arith, now.3.2, ap length now.3.0) in (
+      got ++ now.0,
+      now.1,
+      heard_after got now.0 Finished now.1 _ _ _ refl c.loop-head.invariant.heard now.2,
+      record {
+        pieces = pieces_after BeginsByLine (IsBegun got) BeginsByLine [] got got now.0 Finished now.1 (λ bytes holds. holds) (λ more is. by_line got (got ++ more) short begins is) c.loop-head.invariant.pieces now.3.4;
+        comes = inr (closed_fine now.1 now.3.3, inr (inr (all, begins_all (got ++ now.0) all (subst B (c.bytes-then-branch.ensures ∙ now.3.0) (rw c.in-None.is at c.in_ok-try_head.ensures)), now.3.3, refl)));
+      },
+    )
+
+pub loop-head-preserved : goal.loop-head-preserved
+loop-head-preserved g c =
+    let got = c.loop-head.room.incoming in
+    let now = rw c.if-branch.false at c.in_ok-take_lines.ensures.heard in
+    let B : List ℕ → Type 0 = λ bytes. BeginsHead (take 65536 bytes) in
+    let short : length got < 65536 = omega (arith, c.if-bytes-ge-HEAD_LIMIT.false, ap length c.bytes-in-loop-head.ensures) in
+    let begins = begins_all got short (subst B c.bytes.ensures (rw c.in_default.is at c.in_ok-head.ensures)) in
+    let heard = ending_is (got ++ now.0) now.1 Finished _ _ now.3.2 (heard_after got now.0 Finished now.1 _ _ _ refl c.loop-head.invariant.heard now.2) in
+    let I : List ℕ → Type 0 = λ bytes. InPieces BeginsByLine [] bytes Finished in
+    let E : Ending → Type 0 = λ e. InPieces (IsBegun got) got now.0 e in
+    record {
+      heard = heard_is (got ++ now.0) c.take_lines.new.incoming Finished _ _ (sym now.3.0) heard;
+      pieces = subst I (sym now.3.0) (pieces_after BeginsByLine (IsBegun got) BeginsByLine [] got got now.0 Finished Finished (λ bytes holds. holds) (λ more is. by_line got (got ++ more) short begins is) c.loop-head.invariant.pieces (subst E now.3.2 now.3.3));
+      later = omega (arith, c.take_lines.ensures.cause.later);
+    }

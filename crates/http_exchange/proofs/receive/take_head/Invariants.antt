@@ -1,16 +1,18 @@
-use Rattle.std.proofs.Common.{◌≡◌, ◌-◌, ◌≤◌, vec_len}
+use Rattle.std.proofs.Common.{◌≡◌, ℕ, ◌-◌, ◌≤◌, List, [], length}
 use Rattle.std.specs.Option.{option_map}
 use Rattle.s3_model.specs.Talks.{Finished}
 use Rattle.s3_outside.specs.Wire.{last_talk}
+use Rattle.http_exchange.specs.Exchange.{InPieces}
 use Rattle.http_exchange.specs.Seen.{hears}
+use Rattle.http_exchange.specs.Steps.{BeginsByLine}
 use Rattle.http_exchange.proofs.receive.take_head.Given as goal
 
-abbrev pub invariant-loop-wire : goal.invariant-loop-wire
-invariant-loop-wire g l = record {
-  heard : g.W.Wire.seen l.wire ≡ option_map (last_talk (hears l.got.items Finished)) (g.W.Wire.seen l.initial.wire);
-  small : vec_len l.got ≤ 65536;
+abbrev pub invariant-loop-head : goal.invariant-loop-head
+invariant-loop-head g l = record {
+  heard : g.W.Wire.seen l.wire ≡ option_map (last_talk (hears l.room.incoming Finished)) (g.W.Wire.seen l.initial.wire);
+  pieces : InPieces BeginsByLine [] l.room.incoming Finished;
   later : g.W.Wire.faults l.initial.wire ≤ g.W.Wire.faults l.wire;
 }
 
-abbrev pub decreases-loop-wire : goal.decreases-loop-wire
-decreases-loop-wire g l = 65536 - vec_len l.got
+abbrev pub decreases-loop-head : goal.decreases-loop-head
+decreases-loop-head g l = 81_920 - length l.room.incoming

@@ -1,0 +1,7 @@
+pub mod ChunkLemmas
+pub mod FramingLemmas
+pub mod HeadLemmas
+pub mod OneEnd
+pub mod OneFraming
+pub mod RangeLemmas
+pub mod TagLemmas

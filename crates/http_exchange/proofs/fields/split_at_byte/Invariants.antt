@@ -1,6 +1,0 @@
-use Rattle.std.proofs.Common.{take}
-use Rattle.http_exchange.specs.Parts.{Lacks}
-use Rattle.http_exchange.proofs.fields.split_at_byte.Given as goal
-
-abbrev pub invariant-loop-i : goal.invariant-loop-i
-invariant-loop-i l = Lacks l.byte (take l.i l.text)
