@@ -1,0 +1,3 @@
+mod Examples
+pub mod GivenLemmas
+pub mod ReaderLemmas

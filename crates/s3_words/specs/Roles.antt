@@ -1,0 +1,66 @@
+-- What each word behind the command is: an option, the value of one, or a path.
+use Rattle.std.specs.Prelude.{◌&&◌, ◌==◌, ℕ, Bool, true, false, not, List, [], ◌∷◌, Option, Some, None, codes, nat_eq, if◌then◌else◌}
+use Rattle.std.specs.List.{list_any, starts_with, before_first, after_first}
+use Rattle.std.specs.Str.{bytes_eq}
+use Rattle.s3_words.specs.declared.options.OptionName.{OptionName}
+use Rattle.s3_words.specs.declared.options.ValueKind.{ValueKind}
+use Rattle.s3_words.specs.declared.options.ValueKind.TheVariants.{NoValue}
+use Rattle.s3_words.specs.declared.roles.Before.{Before}
+use Rattle.s3_words.specs.declared.roles.Before.TheVariants.{Anything, ValueOf, Paths}
+use Rattle.s3_words.specs.Options.{option_named, kind_of}
+
+pub data Role : Type 0 where
+  -- the word `--`, behind which every word is a path
+  Separator : Role
+  Path : List ℕ → Role
+  -- an option that is in no row of the table
+  Unknown : Role
+  -- an option alone
+  Named : OptionName → Role
+  -- an option, `=` and a value
+  Assigned : OptionName → List ℕ → Role
+  -- the value of the option in front of it
+  Value : OptionName → List ℕ → Role
+
+abbrev pub is_equals : ℕ → Bool
+is_equals byte = byte == 61
+
+-- an option's word up to its first `=`
+abbrev pub name_in : List ℕ → List ℕ
+name_in word = before_first is_equals word
+
+abbrev pub option_role : Option OptionName → List ℕ → Role
+option_role None word = Unknown
+option_role (Some option) word = if list_any is_equals word then Assigned option (after_first is_equals word) else Named option
+
+-- a word that begins with `-`, but for `-` alone, which is a path
+abbrev pub is_dashed : List ℕ → Bool
+is_dashed word = starts_with nat_eq word (codes "-") && not (bytes_eq word (codes "-"))
+
+-- A word is the value of an option in front that takes one, whatever it begins with, and a path behind `--`.
+abbrev pub role_of : Before → List ℕ → Role
+role_of (ValueOf option) word = Value option word
+role_of Paths word = Path word
+role_of Anything word =
+    if bytes_eq word (codes "--") then Separator
+    else if is_dashed word then option_role (option_named (name_in word)) word
+    else Path word
+
+abbrev pub takes_value : ValueKind → Bool
+takes_value NoValue = false
+takes_value kind = true
+
+abbrev pub behind_option : Bool → OptionName → Before
+behind_option true option = ValueOf option
+behind_option false option = Anything
+
+-- what may stand behind a word
+abbrev pub behind : Before → Role → Before
+behind Paths role = Paths
+behind before Separator = Paths
+behind before (Named option) = behind_option (takes_value (kind_of option)) option
+behind before role = Anything
+
+abbrev pub roles : Before → List (List ℕ) → List Role
+roles before [] = []
+roles before (word ∷ words) = role_of before word ∷ roles (behind before (role_of before word)) words

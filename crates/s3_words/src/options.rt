@@ -1,0 +1,108 @@
+//! The options of the command line.
+
+ghost use Rattle.std.specs.Prelude.{◌≡◌};
+ghost use Rattle.s3_words.specs.Options.{kind_of, option_named, takes_option};
+
+use crate::commands::Verb;
+
+#[derive(Clone, Copy, PartialEq, Eq)]
+pub enum OptionName {
+    EndpointUrl,
+    Region,
+    Profile,
+    Recursive,
+    Exclude,
+    Include,
+    Dryrun,
+    Quiet,
+    OnlyShowErrors,
+    SizeOnly,
+    ExactTimestamps,
+    Delete,
+    ContentType,
+    NoGuessMimeType,
+    NoProgress,
+    ExpiresIn,
+}
+
+/// What an option's value has to be.
+#[derive(Clone, Copy)]
+pub enum ValueKind {
+    /// The option is a flag.
+    NoValue,
+    Url,
+    RegionName,
+    ProfileName,
+    Pattern,
+    MediaType,
+    Seconds,
+}
+
+impl OptionName {
+    pub(crate) fn named(name: &str) -> Option<OptionName>
+        ensures { result ≡ option_named name.now }
+    {
+        match name {
+            "--endpoint-url" => Some(OptionName::EndpointUrl),
+            "--region" => Some(OptionName::Region),
+            "--profile" => Some(OptionName::Profile),
+            "--recursive" => Some(OptionName::Recursive),
+            "--exclude" => Some(OptionName::Exclude),
+            "--include" => Some(OptionName::Include),
+            "--dryrun" => Some(OptionName::Dryrun),
+            "--quiet" => Some(OptionName::Quiet),
+            "--only-show-errors" => Some(OptionName::OnlyShowErrors),
+            "--size-only" => Some(OptionName::SizeOnly),
+            "--exact-timestamps" => Some(OptionName::ExactTimestamps),
+            "--delete" => Some(OptionName::Delete),
+            "--content-type" => Some(OptionName::ContentType),
+            "--no-guess-mime-type" => Some(OptionName::NoGuessMimeType),
+            "--no-progress" => Some(OptionName::NoProgress),
+            "--expires-in" => Some(OptionName::ExpiresIn),
+            _ => None,
+        }
+    }
+
+    pub(crate) fn kind(self) -> ValueKind
+        ensures { result ≡ kind_of self }
+    {
+        match self {
+            OptionName::EndpointUrl => ValueKind::Url,
+            OptionName::Region => ValueKind::RegionName,
+            OptionName::Profile => ValueKind::ProfileName,
+            OptionName::Exclude | OptionName::Include => ValueKind::Pattern,
+            OptionName::ContentType => ValueKind::MediaType,
+            OptionName::ExpiresIn => ValueKind::Seconds,
+            OptionName::Recursive
+            | OptionName::Dryrun
+            | OptionName::Quiet
+            | OptionName::OnlyShowErrors
+            | OptionName::SizeOnly
+            | OptionName::ExactTimestamps
+            | OptionName::Delete
+            | OptionName::NoGuessMimeType
+            | OptionName::NoProgress => ValueKind::NoValue,
+        }
+    }
+
+    pub(crate) fn is_taken_by(self, verb: Verb) -> bool
+        ensures { result ≡ takes_option verb self }
+    {
+        match self {
+            OptionName::EndpointUrl | OptionName::Region | OptionName::Profile => true,
+            OptionName::Recursive => verb.recurses(),
+            OptionName::Exclude
+            | OptionName::Include
+            | OptionName::Dryrun
+            | OptionName::Quiet
+            | OptionName::OnlyShowErrors => verb.changes(),
+            OptionName::SizeOnly | OptionName::ExactTimestamps | OptionName::Delete => {
+                matches!(verb, Verb::Sync)
+            }
+            OptionName::ContentType | OptionName::NoGuessMimeType | OptionName::NoProgress => {
+                verb.transfers()
+            }
+            OptionName::ExpiresIn => matches!(verb, Verb::Presign),
+        }
+    }
+}

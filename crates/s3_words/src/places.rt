@@ -1,0 +1,151 @@
+//! The paths of a command.
+
+ghost use Rattle.std.specs.Prelude.{◌≡◌, ◌≢◌, ◌≤◌, codes, false, length, nat_eq, true, OnOk, IfOk, IfErr, Some, None};
+ghost use Rattle.std.specs.List.{ends_with, list_all, list_any};
+ghost use Rattle.s3_words.specs.Commands.{first_of, second_of};
+ghost use Rattle.s3_words.specs.Faults.{first_is_single_source, has_key, is_object, is_pair, is_single_source, place_of};
+ghost use Rattle.s3_words.specs.Values.{bad_unless, is_path, is_s3};
+
+use crate::commands::Verb;
+use s3_model::{Place, Text, UriFault, WordFault};
+use s3_paths::S3Uri;
+use std::alloc::Global;
+
+fn read_object(alloc: Global, at: usize, text: &str) -> Result<Place, WordFault>
+    requires { is_s3 text.now ≡ true }
+    ensures right { OnOk result (bad_unless (is_path text.now) at ≡ None) }
+    ensures place { IfOk result (λ place. place ≡ place_of text.now) }
+    ensures fault { IfErr result
+        (λ fault. fault ≢ WordFault.Memory → bad_unless (is_path text.now) at ≡ Some fault) }
+{
+    match S3Uri::read(alloc, text) {
+        Ok(uri) => Ok(Place::Object {
+            bucket: uri.bucket,
+            key: uri.key,
+        }),
+        Err(UriFault::Memory) => Err(WordFault::Memory),
+        Err(_) => Err(WordFault::BadValue(at)),
+    }
+}
+
+fn read_file(alloc: Global, at: usize, text: &str) -> Result<Place, WordFault>
+    requires { is_s3 text.now ≡ false }
+    ensures right { OnOk result (bad_unless (is_path text.now) at ≡ None) }
+    ensures place { IfOk result (λ place. place ≡ place_of text.now) }
+    ensures fault { IfErr result
+        (λ fault. fault ≢ WordFault.Memory → bad_unless (is_path text.now) at ≡ Some fault) }
+{
+    if text.is_empty() || text == "-" {
+        return Err(WordFault::BadValue(at));
+    }
+    match Text::of(alloc, text) {
+        Ok(path) => Ok(Place::File { path }),
+        Err(_) => Err(WordFault::Memory),
+    }
+}
+
+/// Reads the path that is the word at this index.
+pub(crate) fn read_place(alloc: Global, at: usize, text: &str) -> Result<Place, WordFault>
+    ensures right { OnOk result (bad_unless (is_path text.now) at ≡ None) }
+    ensures place { IfOk result (λ place. place ≡ place_of text.now) }
+    ensures fault { IfErr result
+        (λ fault. fault ≢ WordFault.Memory → bad_unless (is_path text.now) at ≡ Some fault) }
+{
+    if is_s3(text) {
+        read_object(alloc, at, text)
+    } else {
+        read_file(alloc, at, text)
+    }
+}
+
+fn is_s3(text: &str) -> bool
+    ensures { result ≡ is_s3 text.now }
+{
+    text.starts_with("s3://")
+}
+
+fn is_object(place: &Place) -> bool
+    ensures { result ≡ is_object place.now }
+{
+    matches!(place, Place::Object { .. })
+}
+
+fn has_key(place: &Place) -> bool
+    ensures { result ≡ has_key place.now }
+{
+    match place {
+        Place::Object { key, .. } => !key.as_str().is_empty(),
+        Place::File { .. } => false,
+    }
+}
+
+fn ends_in_slash(text: &str) -> bool
+    ensures { result ≡ ends_with nat_eq text.now (codes "/") }
+{
+    text.ends_with("/")
+}
+
+fn is_single_source(place: &Place) -> bool
+    ensures { result ≡ is_single_source place.now }
+{
+    match place {
+        Place::Object { key, .. } => !key.as_str().is_empty() && !ends_in_slash(key.as_str()),
+        Place::File { .. } => true,
+    }
+}
+
+fn first_is_single_source(places: &[Place]) -> bool
+    ensures { result ≡ first_is_single_source places.now }
+{
+    match places.first() {
+        Some(place) => is_single_source(place),
+        None => true,
+    }
+}
+
+fn are_objects(places: &[Place]) -> bool
+    ensures { result ≡ list_all is_object places.now }
+{
+    places.iter().all(|place| is_object(place))
+}
+
+fn have_keys(places: &[Place]) -> bool
+    ensures { result ≡ list_all has_key places.now }
+{
+    places.iter().all(|place| has_key(place))
+}
+
+fn has_object(places: &[Place]) -> bool
+    ensures { result ≡ list_any is_object places.now }
+{
+    places.iter().any(|place| is_object(place))
+}
+
+/// Whether the places fit the command, where they are as many as it wants.
+pub(crate) fn is_pair(verb: Verb, recursive: bool, places: &[Place]) -> bool
+    ensures { result ≡ is_pair verb recursive places.now }
+{
+    match verb {
+        Verb::Ls => are_objects(places),
+        Verb::Presign => have_keys(places),
+        Verb::Rm => are_objects(places) && (recursive || have_keys(places)),
+        Verb::Sync => has_object(places),
+        Verb::Cp | Verb::Mv => {
+            has_object(places) && (recursive || first_is_single_source(places))
+        }
+    }
+}
+
+/// The first and the second of at most two places.
+pub(crate) fn first_and_second(mut places: Vec<Place>) -> (Option<Place>, Option<Place>)
+    requires { length places.items ≤ 2 }
+    ensures first { result.0 ≡ first_of places.items }
+    ensures second { result.1 ≡ second_of places.items }
+{
+    let second = if places.len() == 2 {
+        places.pop()
+    } else {
+        None
+    };
+    (places.pop(), second)
+}
