@@ -6,7 +6,8 @@ use Rattle.s3_model.specs.declared.places.Place.TheVariants.{Object, File}
 use Rattle.s3_model.specs.declared.tasks.Times.TheVariants.{SizeOnly}
 use Rattle.s3_words.specs.declared.options.OptionName.TheVariants as option
 use Rattle.s3_words.specs.Commands.{arguments_of, expires_of, mode_of, times_of}
-use Rattle.s3_words.specs.Faults.{places_in, word_fault}
+use Rattle.s3_words.specs.Faults.{word_fault}
+use Rattle.s3_words.specs.Places.{places_in}
 use Rattle.s3_words.specs.Given.{filters_in, is_given, value_of}
 
 -- the words of a command line that names the service, the rest of it first

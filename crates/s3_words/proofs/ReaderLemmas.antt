@@ -11,7 +11,8 @@ use Rattle.s3_words.specs.declared.options.OptionName.TheVariants.{EndpointUrl}
 use Rattle.s3_words.specs.declared.reader.Reader.{Reader}
 use Rattle.s3_words.specs.declared.roles.Before.{Before}
 use Rattle.s3_words.specs.Endpoints.{IsEndpoint}
-use Rattle.s3_words.specs.Faults.{first_fault, no_more, place_of, places_in, role_fault}
+use Rattle.s3_words.specs.Faults.{first_fault, no_more, role_fault}
+use Rattle.s3_words.specs.Places.{place_of, places_in}
 use Rattle.s3_words.specs.Given.{path_in, paths_in, value_in, value_of}
 use Rattle.s3_words.specs.Roles.{Role, role_of, roles, behind}
 use Rattle.s3_words.specs.Shown.{EndpointAfter, Follows, IsReader, read}

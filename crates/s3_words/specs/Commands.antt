@@ -16,7 +16,7 @@ use Rattle.s3_words.specs.Endpoints.{IsEndpoint}
 use Rattle.s3_words.specs.Options.{verb_named}
 use Rattle.s3_words.specs.Roles.{Role, roles}
 use Rattle.s3_words.specs.Given.{Given, filters_in, is_given, value_of}
-use Rattle.s3_words.specs.Faults.{places_in}
+use Rattle.s3_words.specs.Places.{places_in}
 use Rattle.s3_words.specs.Values.{seconds}
 
 abbrev pub first_of : List Place → Option Place

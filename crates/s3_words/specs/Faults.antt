@@ -1,29 +1,18 @@
 -- The first fault of a command line.
-use Rattle.std.specs.Prelude.{◌&&◌, ◌||◌, ◌==◌, ◌+◌, ◌++◌, ℕ, Bool, true, false, not, List, [], ◌∷◌, Option, Some, None, is_none, length, map, codes, nat_eq, nat_le, if◌then◌else◌}
-use Rattle.std.specs.List.{list_any, list_all, ends_with}
+use Rattle.std.specs.Prelude.{◌&&◌, ◌+◌, ◌++◌, ℕ, Bool, true, false, List, [], ◌∷◌, Option, Some, None, is_none, length, if◌then◌else◌}
 use Rattle.std.specs.Option.{option_or}
 use Rattle.s3_model.specs.declared.faults.WordFault.{WordFault}
 use Rattle.s3_model.specs.declared.faults.WordFault.TheVariants.{NoCommand, UnknownCommand, UnknownOption, NoValue, PathCount, Pair, Twice, NoEndpoint}
 use Rattle.s3_model.specs.declared.places.Place.{Place}
-use Rattle.s3_model.specs.declared.places.Place.TheVariants.{Object, File}
-use Rattle.s3_paths.specs.Uris.{bucket_in, key_in}
 use Rattle.s3_words.specs.declared.commands.Verb.{Verb}
-use Rattle.s3_words.specs.declared.commands.Verb.TheVariants.{Sync, Rm, Ls, Presign}
 use Rattle.s3_words.specs.declared.options.OptionName.{OptionName}
 use Rattle.s3_words.specs.declared.options.OptionName.TheVariants.{EndpointUrl, Recursive}
-use Rattle.s3_words.specs.declared.options.ValueKind.{ValueKind}
-use Rattle.s3_words.specs.declared.options.ValueKind.TheVariants as value
 use Rattle.s3_words.specs.declared.roles.Before.TheVariants.{Anything}
-use Rattle.s3_words.specs.Options.{kind_of, takes_option, transfers, verb_named}
-use Rattle.s3_words.specs.Roles.{Role, Path, Unknown, Named, Assigned, Value, roles, takes_value}
-use Rattle.s3_words.specs.Values.{bad_unless, is_empty, is_path, is_s3, value_fault}
-use Rattle.s3_words.specs.Given.{is_given, paths_in, value_of}
-
--- an option with a value may be given once, but for `--exclude` and `--include`
-abbrev pub is_single : ValueKind → Bool
-is_single value.NoValue = false
-is_single value.Pattern = false
-is_single kind = true
+use Rattle.s3_words.specs.Options.{is_single, kind_of, takes_option, takes_value, verb_named}
+use Rattle.s3_words.specs.Places.{is_pair, is_path, is_right_count, places_in, wanted}
+use Rattle.s3_words.specs.Roles.{Role, Path, Unknown, Named, Assigned, Value, roles}
+use Rattle.s3_words.specs.Values.{bad_unless, value_fault}
+use Rattle.s3_words.specs.Given.{is_given, value_of}
 
 abbrev pub name_fault : Verb → ℕ → OptionName → Option WordFault
 name_fault verb at option = if takes_option verb option then None else Some (UnknownOption at)
@@ -61,48 +50,8 @@ abbrev pub first_fault : Verb → ℕ → List Role → List Role → Option Wor
 first_fault verb at before [] = None
 first_fault verb at before (role ∷ roles) = option_or (role_fault verb at before (no_more roles) role) (first_fault verb (at + 1) (before ++ role ∷ []) roles)
 
-abbrev pub place_of : List ℕ → Place
-place_of text = if is_s3 text then Object (bucket_in text) (key_in text) else File text
-
-abbrev pub places_in : List Role → List Place
-places_in roles = map place_of (paths_in roles)
-
--- how many paths a command wants, or for `ls` how many at most
-abbrev pub wanted : Verb → ℕ
-wanted verb = if transfers verb then 2 else 1
-
-abbrev pub is_right_count : Verb → ℕ → Bool
-is_right_count Ls found = nat_le found 1
-is_right_count verb found = found == wanted verb
-
 abbrev pub count_fault : Verb → List Place → Option WordFault
 count_fault verb places = if is_right_count verb (length places) then None else Some (PathCount (length places) (wanted verb))
-
-abbrev pub is_object : Place → Bool
-is_object (Object bucket key) = true
-is_object (File path) = false
-
--- not a whole bucket
-abbrev pub has_key : Place → Bool
-has_key (Object bucket key) = not (is_empty key)
-has_key (File path) = false
-
--- a local path, or a key that names one object
-abbrev pub is_single_source : Place → Bool
-is_single_source (Object bucket key) = not (is_empty key) && not (ends_with nat_eq key (codes "/"))
-is_single_source (File path) = true
-
-abbrev pub first_is_single_source : List Place → Bool
-first_is_single_source [] = true
-first_is_single_source (place ∷ places) = is_single_source place
-
--- the places fit the command, where they are as many as it wants
-abbrev pub is_pair : Verb → Bool → List Place → Bool
-is_pair Ls recursive places = list_all is_object places
-is_pair Presign recursive places = list_all has_key places
-is_pair Rm recursive places = list_all is_object places && (recursive || list_all has_key places)
-is_pair Sync recursive places = list_any is_object places
-is_pair verb recursive places = list_any is_object places && (recursive || first_is_single_source places)
 
 abbrev pub pair_fault : Verb → Bool → List Place → Option WordFault
 pair_fault verb recursive places = if is_pair verb recursive places then None else Some Pair

@@ -3,6 +3,7 @@ pub mod Endpoints
 pub mod Faults
 pub mod Given
 pub mod Options
+pub mod Places
 pub mod Roles
 pub mod Shown
 pub mod Values

@@ -93,3 +93,13 @@ kind_of option = (row_of option).value
 
 abbrev pub takes_option : Verb → OptionName → Bool
 takes_option verb option = (row_of option).commands verb
+
+abbrev pub takes_value : ValueKind → Bool
+takes_value NoValue = false
+takes_value kind = true
+
+-- an option with a value may be given once, but for `--exclude` and `--include`
+abbrev pub is_single : ValueKind → Bool
+is_single NoValue = false
+is_single Pattern = false
+is_single kind = true

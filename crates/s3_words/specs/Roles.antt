@@ -3,11 +3,9 @@ use Rattle.std.specs.Prelude.{◌&&◌, ◌==◌, ℕ, Bool, true, false, not, L
 use Rattle.std.specs.List.{list_any, starts_with, before_first, after_first}
 use Rattle.std.specs.Str.{bytes_eq}
 use Rattle.s3_words.specs.declared.options.OptionName.{OptionName}
-use Rattle.s3_words.specs.declared.options.ValueKind.{ValueKind}
-use Rattle.s3_words.specs.declared.options.ValueKind.TheVariants.{NoValue}
 use Rattle.s3_words.specs.declared.roles.Before.{Before}
 use Rattle.s3_words.specs.declared.roles.Before.TheVariants.{Anything, ValueOf, Paths}
-use Rattle.s3_words.specs.Options.{option_named, kind_of}
+use Rattle.s3_words.specs.Options.{kind_of, option_named, takes_value}
 
 pub data Role : Type 0 where
   -- the word `--`, behind which every word is a path
@@ -45,10 +43,6 @@ role_of Anything word =
     if bytes_eq word (codes "--") then Separator
     else if is_dashed word then option_role (option_named (name_in word)) word
     else Path word
-
-abbrev pub takes_value : ValueKind → Bool
-takes_value NoValue = false
-takes_value kind = true
 
 abbrev pub behind_option : Bool → OptionName → Before
 behind_option true option = ValueOf option

@@ -9,7 +9,7 @@ use Rattle.s3_words.specs.declared.roles.Role as code
 use Rattle.s3_words.specs.declared.roles.Role.TheVariants as code_role
 use Rattle.s3_words.specs.Commands.{IsFilter}
 use Rattle.s3_words.specs.Endpoints.{IsEndpoint, IsSomeEndpoint}
-use Rattle.s3_words.specs.Faults.{places_in}
+use Rattle.s3_words.specs.Places.{places_in}
 use Rattle.s3_words.specs.Given.{Given, value_in, value_of}
 use Rattle.s3_words.specs.Roles as is
 

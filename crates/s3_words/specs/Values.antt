@@ -1,12 +1,11 @@
--- What the values of options and the paths have to be.
-use Rattle.std.specs.Prelude.{◌&&◌, ◌||◌, ◌==◌, ℕ, Bool, true, false, not, List, Option, Some, None, is_none, is_some, length, codes, nat_eq, nat_lt, nat_le, option_map, if◌then◌else◌}
+-- What the values of options have to be.
+use Rattle.std.specs.Prelude.{◌&&◌, ◌||◌, ◌==◌, ℕ, Bool, true, false, not, List, Option, Some, None, is_some, length, nat_lt, nat_le, option_map, if◌then◌else◌}
 use Rattle.std.specs.Char.{is_ascii_alphanumeric}
-use Rattle.std.specs.List.{list_all, starts_with}
-use Rattle.std.specs.Str.{bytes_eq, all_ascii_digits}
+use Rattle.std.specs.List.{list_all}
+use Rattle.std.specs.Str.{all_ascii_digits}
 use Rattle.std.specs.Str.Parse.{digits_value}
 use Rattle.s3_model.specs.declared.faults.WordFault.{WordFault}
 use Rattle.s3_model.specs.declared.faults.WordFault.TheVariants.{BadValue, Endpoint}
-use Rattle.s3_paths.specs.Uris.{uri_fault}
 use Rattle.s3_paths.specs.Endpoints.{endpoint_fault}
 use Rattle.s3_words.specs.declared.options.ValueKind.{ValueKind}
 use Rattle.s3_words.specs.declared.options.ValueKind.TheVariants.{NoValue, Url, RegionName, ProfileName, MediaType, Seconds}
@@ -35,7 +34,7 @@ seconds text = if all_ascii_digits text && nat_lt 0 (digits_value 10 text) && na
 abbrev pub bad_unless : Bool → ℕ → Option WordFault
 bad_unless fits at = if fits then None else Some (BadValue at)
 
--- A flag takes no value, and a pattern is any text; what a URL has to be says `value_fault`.
+-- A flag takes no value, and a pattern is any text. A URL has faults of its own, which `value_fault` names.
 abbrev pub fits : ValueKind → List ℕ → Bool
 fits NoValue text = false
 fits RegionName text = is_region text
@@ -48,10 +47,3 @@ fits kind text = true
 abbrev pub value_fault : ValueKind → ℕ → List ℕ → Option WordFault
 value_fault Url at text = option_map (Endpoint at) (endpoint_fault text)
 value_fault kind at text = bad_unless (fits kind text) at
-
--- a path begins with `s3://` and is an S3 URI, or is local
-abbrev pub is_s3 : List ℕ → Bool
-is_s3 text = starts_with nat_eq text (codes "s3://")
-
-abbrev pub is_path : List ℕ → Bool
-is_path text = if is_s3 text then is_none (uri_fault text) else not (is_empty text) && not (bytes_eq text (codes "-"))

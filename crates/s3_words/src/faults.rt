@@ -1,24 +1,15 @@
 //! What is wrong with words.
 
 ghost use Rattle.std.specs.Prelude.{◌≡◌, ◌≢◌, OnOk, OnErr, IfOk, IfErr, Some, None};
-ghost use Rattle.s3_words.specs.Faults.{count_fault, is_right_count, is_single, missing_fault, name_fault, option_fault, pair_fault, twice_fault, wanted};
+ghost use Rattle.s3_words.specs.Faults.{count_fault, missing_fault, name_fault, option_fault, pair_fault, twice_fault};
 ghost use Rattle.s3_words.specs.Shown.{all_shown, shown};
 
 use crate::commands::Verb;
 use crate::given::is_given;
-use crate::options::{OptionName, ValueKind};
-use crate::places::is_pair;
+use crate::options::OptionName;
+use crate::places::{is_pair, is_right_count, wanted};
 use crate::roles::Role;
 use s3_model::{Place, WordFault};
-
-impl ValueKind {
-    /// Whether an option with such a value may be given only once.
-    fn is_single(self) -> bool
-        ensures { result ≡ is_single self }
-    {
-        !matches!(self, ValueKind::NoValue | ValueKind::Pattern)
-    }
-}
 
 fn name_fault(verb: Verb, at: usize, option: OptionName) -> Option<WordFault>
     ensures { result ≡ name_fault verb at option }
@@ -59,21 +50,6 @@ pub(crate) fn option_fault(
             name_fault(verb, at, option).or(twice_fault(at, before, option))
         }
         _ => None,
-    }
-}
-
-fn wanted(verb: Verb) -> usize
-    ensures { result ≡ wanted verb }
-{
-    if verb.transfers() { 2 } else { 1 }
-}
-
-fn is_right_count(verb: Verb, found: usize) -> bool
-    ensures { result ≡ is_right_count verb found }
-{
-    match verb {
-        Verb::Ls => found <= 1,
-        _ => found == wanted(verb),
     }
 }
 

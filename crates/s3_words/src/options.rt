@@ -1,7 +1,7 @@
 //! The options of the command line.
 
 ghost use Rattle.std.specs.Prelude.{◌≡◌};
-ghost use Rattle.s3_words.specs.Options.{kind_of, option_named, takes_option};
+ghost use Rattle.s3_words.specs.Options.{is_single, kind_of, option_named, takes_option, takes_value};
 
 use crate::commands::Verb;
 
@@ -36,6 +36,21 @@ pub enum ValueKind {
     Pattern,
     MediaType,
     Seconds,
+}
+
+impl ValueKind {
+    pub(crate) fn takes_value(self) -> bool
+        ensures { result ≡ takes_value self }
+    {
+        !matches!(self, ValueKind::NoValue)
+    }
+
+    /// Whether an option with such a value may be given only once.
+    pub(crate) fn is_single(self) -> bool
+        ensures { result ≡ is_single self }
+    {
+        !matches!(self, ValueKind::NoValue | ValueKind::Pattern)
+    }
 }
 
 impl OptionName {

@@ -3,8 +3,8 @@
 ghost use Rattle.std.specs.Prelude.{◌≡◌, ◌≢◌, ◌≤◌, codes, false, length, nat_eq, true, OnOk, IfOk, IfErr, Some, None};
 ghost use Rattle.std.specs.List.{ends_with, list_all, list_any};
 ghost use Rattle.s3_words.specs.Commands.{first_of, second_of};
-ghost use Rattle.s3_words.specs.Faults.{first_is_single_source, has_key, is_object, is_pair, is_single_source, place_of};
-ghost use Rattle.s3_words.specs.Values.{bad_unless, is_path, is_s3};
+ghost use Rattle.s3_words.specs.Places.{first_is_single_source, has_key, is_object, is_pair, is_path, is_right_count, is_s3, is_single_source, place_of, wanted};
+ghost use Rattle.s3_words.specs.Values.{bad_unless};
 
 use crate::commands::Verb;
 use s3_model::{Place, Text, UriFault, WordFault};
@@ -62,6 +62,22 @@ fn is_s3(text: &str) -> bool
     ensures { result ≡ is_s3 text.now }
 {
     text.starts_with("s3://")
+}
+
+/// How many paths a command wants, or for `ls` how many at most.
+pub(crate) fn wanted(verb: Verb) -> usize
+    ensures { result ≡ wanted verb }
+{
+    if verb.transfers() { 2 } else { 1 }
+}
+
+pub(crate) fn is_right_count(verb: Verb, found: usize) -> bool
+    ensures { result ≡ is_right_count verb found }
+{
+    match verb {
+        Verb::Ls => found <= 1,
+        _ => found == wanted(verb),
+    }
 }
 
 fn is_object(place: &Place) -> bool

@@ -2,12 +2,12 @@
 
 ghost use Rattle.std.specs.Prelude.{◌≡◌, IfSome, IfNone, is_some};
 ghost use Rattle.std.specs.List.{after_first, before_first, list_any};
-ghost use Rattle.s3_words.specs.Options.{kind_of, option_named};
-ghost use Rattle.s3_words.specs.Roles.{behind, behind_option, is_dashed, is_equals, name_in, option_role, role_of, takes_value};
+ghost use Rattle.s3_words.specs.Options.{kind_of, option_named, takes_value};
+ghost use Rattle.s3_words.specs.Roles.{behind, behind_option, is_dashed, is_equals, name_in, option_role, role_of};
 ghost use Rattle.s3_words.specs.Shown.{shown};
 ghost use Rattle.s3_words.specs.declared.roles.Before.TheVariants.{Anything};
 
-use crate::options::{OptionName, ValueKind};
+use crate::options::OptionName;
 
 /// An option, the value of one, or a path.
 #[derive(Clone, Copy)]
@@ -74,14 +74,6 @@ fn role_of_any(word: &str) -> Role<'_>
         option_role(word)
     } else {
         Role::Path(word)
-    }
-}
-
-impl ValueKind {
-    pub(crate) fn takes_value(self) -> bool
-        ensures { result ≡ takes_value self }
-    {
-        !matches!(self, ValueKind::NoValue)
     }
 }
 

@@ -2,10 +2,11 @@
 
 ghost use Rattle.std.specs.Prelude.{◌≡◌, ◌≢◌, ◌≤◌, length, map, string_bytes, OnOk, IfOk, IfErr, Some, None};
 ghost use Rattle.s3_words.specs.Commands.{Asks, IsCommand};
-ghost use Rattle.s3_words.specs.Faults.{count_fault, pair_fault, places_in, whole_fault, word_fault};
+ghost use Rattle.s3_words.specs.Faults.{count_fault, pair_fault, whole_fault, word_fault};
 ghost use Rattle.s3_words.specs.Shown.{IsReader, read};
 ghost use Rattle.std.specs.Option.{option_or};
 ghost use Rattle.s3_words.specs.Endpoints.{IsEndpoint};
+ghost use Rattle.s3_words.specs.Places.{places_in};
 ghost use Rattle.s3_words.specs.Given.{is_given, value_of};
 ghost use Rattle.s3_words.specs.declared.options.OptionName.TheVariants.{EndpointUrl, Recursive};
 
