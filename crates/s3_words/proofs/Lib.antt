@@ -1,3 +1,4 @@
 mod Examples
 pub mod GivenLemmas
+pub mod PlaceLemmas
 pub mod ReaderLemmas

@@ -9,12 +9,12 @@ use Rattle.s3_model.specs.declared.places.Endpoint.{Endpoint}
 use Rattle.s3_words.specs.declared.commands.Verb.{Verb}
 use Rattle.s3_words.specs.declared.options.OptionName.TheVariants.{EndpointUrl}
 use Rattle.s3_words.specs.declared.reader.Reader.{Reader}
-use Rattle.s3_words.specs.declared.roles.Before.{Before}
+use Rattle.s3_words.specs.declared.roles.Expected.{Expected}
 use Rattle.s3_words.specs.Endpoints.{IsEndpoint}
 use Rattle.s3_words.specs.Faults.{first_fault, no_more, role_fault}
 use Rattle.s3_words.specs.Places.{place_of, places_in}
 use Rattle.s3_words.specs.Given.{path_in, paths_in, value_in, value_of}
-use Rattle.s3_words.specs.Roles.{Role, role_of, roles, behind}
+use Rattle.s3_words.specs.Roles.{Role, next, role_of, roles}
 use Rattle.s3_words.specs.Shown.{EndpointAfter, Follows, IsReader, read}
 use Rattle.s3_words.proofs.GivenLemmas.{value_of_more}
 
@@ -36,26 +36,26 @@ no_text [] = true
 no_text (text ∷ texts) = false
 
 -- no word follows where no text does
-no_more_texts : (before : Before) (texts : List (List ℕ)) → no_more (roles before texts) ≡ no_text texts
-no_more_texts before [] = refl
-no_more_texts before (text ∷ texts) = refl
+no_more_texts : (expected : Expected) (texts : List (List ℕ)) → no_more (roles expected texts) ≡ no_text texts
+no_more_texts expected [] = refl
+no_more_texts expected (text ∷ texts) = refl
 
 pub no_text_map : {X : Type 0} (f : X → List ℕ) (xs : List X) → (length xs == 0) ≡ no_text (map f xs)
 no_text_map f [] = refl
 no_text_map f (x ∷ xs) = ne_eqb (length (x ∷ xs)) 0 (λ (e : length (x ∷ xs) ≡ 0). omega arith)
 
-module _ (verb : Verb) (before : Before) (old : List Role) (text : List ℕ) (texts left : List (List ℕ)) (last : Bool) (parts : left ≡ text ∷ texts) (ends : last ≡ no_text texts) where
-  ending : no_more (roles (behind before (role_of before text)) texts) ≡ last
+module _ (verb : Verb) (expected : Expected) (old : List Role) (text : List ℕ) (texts left : List (List ℕ)) (last : Bool) (parts : left ≡ text ∷ texts) (ends : last ≡ no_text texts) where
+  ending : no_more (roles (next expected (role_of expected text)) texts) ≡ last
   ending = no_more_texts _ texts ∙ sym ends
 
   -- the first fault is that of the next word, where it has one
-  pub fault_here : (fault : WordFault) → role_fault verb (length old + 1) old last (role_of before text) ≡ Some fault → first_fault verb (length old + 1) old (roles before left) ≡ Some fault
+  pub fault_here : (fault : WordFault) → role_fault verb (length old + 1) old last (role_of expected text) ≡ Some fault → first_fault verb (length old + 1) old (roles expected left) ≡ Some fault
   fault_here fault wrong = rw (parts, ending, wrong) refl
 
   -- and else that of the words behind it
-  pub fault_later : role_fault verb (length old + 1) old last (role_of before text) ≡ None
-      → first_fault verb (length old + 1) old (roles before left) ≡ first_fault verb (length (old ++ role_of before text ∷ []) + 1) (old ++ role_of before text ∷ []) (roles (behind before (role_of before text)) texts)
-  fault_later right = rw (parts, ending, right, length-append old (role_of before text ∷ [])) refl
+  pub fault_later : role_fault verb (length old + 1) old last (role_of expected text) ≡ None
+      → first_fault verb (length old + 1) old (roles expected left) ≡ first_fault verb (length (old ++ role_of expected text ∷ []) + 1) (old ++ role_of expected text ∷ []) (roles (next expected (role_of expected text)) texts)
+  fault_later right = rw (parts, ending, right, length-append old (role_of expected text ∷ [])) refl
 
-  pub words_more : old ++ roles before left ≡ (old ++ role_of before text ∷ []) ++ roles (behind before (role_of before text)) texts
-  words_more = rw parts (sym (append_assoc old (role_of before text ∷ []) (roles (behind before (role_of before text)) texts)))
+  pub words_more : old ++ roles expected left ≡ (old ++ role_of expected text ∷ []) ++ roles (next expected (role_of expected text)) texts
+  words_more = rw parts (sym (append_assoc old (role_of expected text ∷ []) (roles (next expected (role_of expected text)) texts)))

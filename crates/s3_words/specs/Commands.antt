@@ -11,7 +11,7 @@ use Rattle.path_filters.specs.Patterns.{IsPattern}
 use Rattle.s3_words.specs.declared.commands.Command.{Command}
 use Rattle.s3_words.specs.declared.commands.Verb.{Verb}
 use Rattle.s3_words.specs.declared.options.OptionName.TheVariants as option
-use Rattle.s3_words.specs.declared.roles.Before.TheVariants.{Anything}
+use Rattle.s3_words.specs.declared.roles.Expected.TheVariants.{Anything}
 use Rattle.s3_words.specs.Endpoints.{IsEndpoint}
 use Rattle.s3_words.specs.Options.{verb_named}
 use Rattle.s3_words.specs.Roles.{Role, roles}
@@ -45,7 +45,11 @@ times_of false true = Exact
 times_of false false = Usual
 
 abbrev pub mode_of : List Role → Mode
-mode_of words = record { dryrun = is_given option.Dryrun words; quiet = is_given option.Quiet words; only_errors = is_given option.OnlyShowErrors words }
+mode_of words = record {
+  dryrun = is_given option.Dryrun words;
+  quiet = is_given option.Quiet words;
+  only_errors = is_given option.OnlyShowErrors words;
+}
 
 -- the seconds that are given, and else an hour
 abbrev pub expires_of : Option (List ℕ) → ℕ

@@ -1,4 +1,5 @@
--- The options of the `s3` commands (AWS CLI Command Reference, `s3`): the name of each, the value that it takes, and the commands that take it.
+-- The options of the `s3` commands (AWS CLI Command Reference, `s3`): the name of each, the value that it takes, and the
+-- commands that take it.
 use Rattle.std.specs.Prelude.{ℕ, Bool, true, false, List, [], ◌∷◌, Option, codes, find}
 use Rattle.std.specs.Str.{bytes_eq}
 use denote.Enum.Bare.{sameb}
@@ -79,7 +80,9 @@ row_of NoProgress = row (codes "--no-progress") NoValue transfers
 row_of ExpiresIn = row (codes "--expires-in") Seconds is_presign
 
 abbrev pub options : List OptionName
-options = EndpointUrl ∷ Region ∷ Profile ∷ Recursive ∷ Exclude ∷ Include ∷ Dryrun ∷ Quiet ∷ OnlyShowErrors ∷ SizeOnly ∷ ExactTimestamps ∷ Delete ∷ ContentType ∷ NoGuessMimeType ∷ NoProgress ∷ ExpiresIn ∷ []
+options =
+    EndpointUrl ∷ Region ∷ Profile ∷ Recursive ∷ Exclude ∷ Include ∷ Dryrun ∷ Quiet ∷ OnlyShowErrors ∷ SizeOnly
+    ∷ ExactTimestamps ∷ Delete ∷ ContentType ∷ NoGuessMimeType ∷ NoProgress ∷ ExpiresIn ∷ []
 
 abbrev pub option_named : List ℕ → Option OptionName
 option_named name = find (λ option. bytes_eq name (row_of option).name) options

@@ -48,7 +48,7 @@ read reader = all_shown reader.roles.items
 -- the places and the endpoint after one word more
 pub record Keeps (role : is.Role) (old new : Reader) : Type 0 where
   pub verb : new.verb ≡ old.verb
-  pub before : new.before ≡ old.before
+  pub expected : new.expected ≡ old.expected
   pub words : read new ≡ read old
   pub places : new.places.items ≡ old.places.items ++ places_in (role ∷ [])
   pub endpoint : EndpointAfter (value_in EndpointUrl role) old.endpoint new.endpoint
@@ -56,7 +56,7 @@ pub record Keeps (role : is.Role) (old new : Reader) : Type 0 where
 -- a reader after one word more
 pub record Follows (role : is.Role) (old new : Reader) : Type 0 where
   pub verb : new.verb ≡ old.verb
-  pub before : new.before ≡ is.behind old.before role
+  pub expected : new.expected ≡ is.next old.expected role
   pub words : read new ≡ read old ++ role ∷ []
   pub places : new.places.items ≡ old.places.items ++ places_in (role ∷ [])
   pub endpoint : EndpointAfter (value_in EndpointUrl role) old.endpoint new.endpoint

@@ -29,7 +29,9 @@ is_media_type text = not (is_empty text) && list_all is_printable text
 
 -- decimal digits that write 1 to 604,800, which is a week; zeros may come first
 abbrev pub seconds : List ℕ → Option ℕ
-seconds text = if all_ascii_digits text && nat_lt 0 (digits_value 10 text) && nat_lt (digits_value 10 text) 604801 then Some (digits_value 10 text) else None
+seconds text =
+    if all_ascii_digits text && nat_lt 0 (digits_value 10 text) && nat_lt (digits_value 10 text) 604801
+    then Some (digits_value 10 text) else None
 
 abbrev pub bad_unless : Bool → ℕ → Option WordFault
 bad_unless fits at = if fits then None else Some (BadValue at)

@@ -4,13 +4,13 @@ ghost use Rattle.std.specs.Prelude.{◌≡◌, ◌≢◌, ◌+◌, [], length, m
 ghost use Rattle.s3_words.specs.Faults.{first_fault, option_fault, role_fault, text_fault};
 ghost use Rattle.s3_words.specs.Roles.{Path, Value, role_of, roles};
 ghost use Rattle.s3_words.specs.Shown.{Follows, IsReader, Keeps, read, shown};
-ghost use Rattle.s3_words.specs.declared.roles.Before.TheVariants.{Anything};
+ghost use Rattle.s3_words.specs.declared.roles.Expected.TheVariants.{Anything};
 
 use crate::commands::Verb;
 use crate::faults::option_fault;
 use crate::options::OptionName;
 use crate::places::read_place;
-use crate::roles::{Before, Role};
+use crate::roles::{Expected, Role};
 use crate::values::read_value;
 use s3_model::{Endpoint, Place, WordFault};
 use std::alloc::Global;
@@ -19,7 +19,7 @@ use std::alloc::Global;
 #[derive(Drop)]
 pub struct Reader<'a> {
     pub verb: Verb,
-    pub before: Before,
+    pub expected: Expected,
     pub roles: Vec<Role<'a>>,
     pub places: Vec<Place>,
     pub endpoint: Option<Endpoint>,
@@ -28,13 +28,13 @@ pub struct Reader<'a> {
 impl<'a> Reader<'a> {
     fn new(alloc: Global, verb: Verb) -> Reader<'a>
         ensures verb { result.verb ≡ verb }
-        ensures before { result.before ≡ Anything }
+        ensures expected { result.expected ≡ Anything }
         ensures words { read result ≡ [] }
         ensures reader { IsReader result }
     {
         Reader {
             verb,
-            before: Before::Anything,
+            expected: Expected::Anything,
             roles: Vec::new(alloc),
             places: Vec::new(alloc),
             endpoint: None,
@@ -92,19 +92,19 @@ impl<'a> Reader<'a> {
     /// Takes the next word; `last` says that no word follows.
     fn take(&mut self, alloc: Global, word: &'a str, last: bool) -> Result<(), WordFault>
         ensures right { OnOk result (role_fault self.old.verb (length (read self.old) + 1) (read self.old) last
-            (role_of self.old.before word.now) ≡ None) }
-        ensures taken { OnOk result (Follows (role_of self.old.before word.now) self.old self.new) }
+            (role_of self.old.expected word.now) ≡ None) }
+        ensures taken { OnOk result (Follows (role_of self.old.expected word.now) self.old self.new) }
         ensures fault { IfErr result (λ fault. fault ≢ WordFault.Memory →
             role_fault self.old.verb (length (read self.old) + 1) (read self.old) last
-            (role_of self.old.before word.now) ≡ Some fault) }
+            (role_of self.old.expected word.now) ≡ Some fault) }
     {
         let at = self.roles.len() + 1;
-        let role = self.before.role_of(word);
+        let role = self.expected.role_of(word);
         if let Some(fault) = option_fault(self.verb, at, &self.roles, last, role) {
             return Err(fault);
         }
         self.keep(alloc, at, role)?;
-        self.before = self.before.behind(role);
+        self.expected = self.expected.next(role);
         match self.roles.push(role) {
             Ok(()) => Ok(()),
             Err(_) => Err(WordFault::Memory),
@@ -112,7 +112,7 @@ impl<'a> Reader<'a> {
     }
 
     /// Reads all words behind the command, up to the first that has a fault.
-    pub(crate) fn over(
+    pub(crate) fn read_all(
         alloc: Global,
         verb: Verb,
         words: &'a [String],

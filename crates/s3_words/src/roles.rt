@@ -3,9 +3,9 @@
 ghost use Rattle.std.specs.Prelude.{◌≡◌, IfSome, IfNone, is_some};
 ghost use Rattle.std.specs.List.{after_first, before_first, list_any};
 ghost use Rattle.s3_words.specs.Options.{kind_of, option_named, takes_value};
-ghost use Rattle.s3_words.specs.Roles.{behind, behind_option, is_dashed, is_equals, name_in, option_role, role_of};
+ghost use Rattle.s3_words.specs.Roles.{behind_option, is_dashed, is_equals, name_in, next, option_role, role_of};
 ghost use Rattle.s3_words.specs.Shown.{shown};
-ghost use Rattle.s3_words.specs.declared.roles.Before.TheVariants.{Anything};
+ghost use Rattle.s3_words.specs.declared.roles.Expected.TheVariants.{Anything};
 
 use crate::options::OptionName;
 
@@ -27,7 +27,7 @@ pub enum Role<'a> {
 
 /// What the words in front say of the next.
 #[derive(Clone, Copy)]
-pub enum Before {
+pub enum Expected {
     Anything,
     ValueOf(OptionName),
     /// It stands behind `--`.
@@ -77,36 +77,36 @@ fn role_of_any(word: &str) -> Role<'_>
     }
 }
 
-fn behind_option(option: OptionName) -> Before
+fn behind_option(option: OptionName) -> Expected
     ensures { result ≡ behind_option (takes_value (kind_of option)) option }
 {
     if option.kind().takes_value() {
-        Before::ValueOf(option)
+        Expected::ValueOf(option)
     } else {
-        Before::Anything
+        Expected::Anything
     }
 }
 
-impl Before {
+impl Expected {
     /// What a word is.
     pub(crate) fn role_of<'a>(self, word: &'a str) -> Role<'a>
         ensures { shown result ≡ role_of self word.now }
     {
         match self {
-            Before::Anything => role_of_any(word),
-            Before::ValueOf(option) => Role::Value(option, word),
-            Before::Paths => Role::Path(word),
+            Expected::Anything => role_of_any(word),
+            Expected::ValueOf(option) => Role::Value(option, word),
+            Expected::Paths => Role::Path(word),
         }
     }
 
     /// What that word says of the next.
-    pub(crate) fn behind(self, role: Role<'_>) -> Before
-        ensures { result ≡ behind self (shown role.entry) }
+    pub(crate) fn next(self, role: Role<'_>) -> Expected
+        ensures { result ≡ next self (shown role.entry) }
     {
         match (self, role) {
-            (Before::Paths, _) | (_, Role::Separator) => Before::Paths,
+            (Expected::Paths, _) | (_, Role::Separator) => Expected::Paths,
             (_, Role::Named(option)) => behind_option(option),
-            _ => Before::Anything,
+            _ => Expected::Anything,
         }
     }
 }

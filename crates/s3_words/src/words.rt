@@ -2,7 +2,7 @@
 
 ghost use Rattle.std.specs.Prelude.{◌≡◌, ◌≢◌, ◌≤◌, length, map, string_bytes, OnOk, IfOk, IfErr, Some, None};
 ghost use Rattle.s3_words.specs.Commands.{Asks, IsCommand};
-ghost use Rattle.s3_words.specs.Faults.{count_fault, pair_fault, whole_fault, word_fault};
+ghost use Rattle.s3_words.specs.Faults.{IsPlaced, count_fault, pair_fault, whole_fault, word_fault};
 ghost use Rattle.s3_words.specs.Shown.{IsReader, read};
 ghost use Rattle.std.specs.Option.{option_or};
 ghost use Rattle.s3_words.specs.Endpoints.{IsEndpoint};
@@ -85,13 +85,8 @@ fn whole_command(alloc: Global, mut reader: Reader<'_>) -> Result<Command, WordF
     }
 }
 
-/// Reads the words of a command line, which begin with the command (AWS CLI Command Reference, `s3`).
-///
-/// Paths and options may be mixed; a value follows its option, or stands behind `=` in the same word, and every word
-/// behind `--` is a path. Words are judged from left to right, an option's name first, then that it is given a second
-/// time, then its value; then the number of paths, what they are, and that there is an endpoint. A fault names the
-/// index of its word, counted from 0. The time grows with the bytes of the words.
-pub fn read_words(alloc: Global, words: &[String]) -> Result<Command, WordFault>
+/// The command of these words, or their first fault.
+fn command_from(alloc: Global, words: &[String]) -> Result<Command, WordFault>
     ensures right { OnOk result (word_fault (map string_bytes words.now) ≡ None) }
     ensures command { IfOk result (λ command. IsCommand (map string_bytes words.now) command) }
     ensures fault { IfErr result (λ fault. fault ≢ WordFault.Memory →
@@ -103,8 +98,24 @@ pub fn read_words(alloc: Global, words: &[String]) -> Result<Command, WordFault>
     let Some(verb) = Verb::named(name.as_str()) else {
         return Err(WordFault::UnknownCommand(0));
     };
-    match Reader::over(alloc, verb, rest) {
+    match Reader::read_all(alloc, verb, rest) {
         Ok(reader) => whole_command(alloc, reader),
         Err(fault) => Err(fault),
     }
+}
+
+/// Reads the words of a command line, which begin with the command (AWS CLI Command Reference, `s3`).
+///
+/// Paths and options may be mixed; a value follows its option, or stands behind `=` in the same word, and every word
+/// behind `--` is a path. Words are judged from left to right, an option's name first, then that it is given a second
+/// time, then its value; then the number of paths, what they are, and that there is an endpoint. A fault names the
+/// index of its word, counted from 0. The time grows with the bytes of the words.
+pub fn read_words(alloc: Global, words: &[String]) -> Result<Command, WordFault>
+    ensures right { OnOk result (word_fault (map string_bytes words.now) ≡ None) }
+    ensures command { IfOk result (λ command. IsCommand (map string_bytes words.now) command) }
+    ensures fault { IfErr result (λ fault. fault ≢ WordFault.Memory →
+        word_fault (map string_bytes words.now) ≡ Some fault) }
+    ensures place { IfErr result (λ fault. IsPlaced (length words.now) fault) }
+{
+    command_from(alloc, words)
 }

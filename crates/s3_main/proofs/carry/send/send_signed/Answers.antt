@@ -1,4 +1,4 @@
-use Rattle.std.proofs.Common.{ℕ, List, ◌++◌, Bool, false, Option, None, subst, ◌∙◌}
+use Rattle.std.proofs.Common.{ℕ, List, ◌++◌, false, None, subst, ◌∙◌}
 use Rattle.http_exchange.specs.Exchange.{Exchanges}
 use Rattle.s3_main.proofs.carry.send.send_signed.Goals as goal
 
