@@ -1,6 +1,6 @@
 //! The paths of a command.
 
-ghost use Rattle.std.specs.Prelude.{◌≡◌, ◌≢◌, ◌≤◌, codes, false, length, nat_eq, true, OnOk, IfOk, IfErr, Some, None};
+ghost use Rattle.std.specs.Prelude.{◌≡◌, ◌≢◌, ◌≤◌, codes, length, nat_eq, true, OnOk, IfOk, IfErr, Some, None};
 ghost use Rattle.std.specs.List.{ends_with, list_all, list_any};
 ghost use Rattle.s3_words.specs.Commands.{first_of, second_of};
 ghost use Rattle.s3_words.specs.Places.{first_is_single_source, has_key, is_object, is_pair, is_path, is_right_count, is_s3, is_single_source, place_of, wanted};
@@ -28,22 +28,6 @@ fn read_object(alloc: Global, at: usize, text: &str) -> Result<Place, WordFault>
     }
 }
 
-fn read_file(alloc: Global, at: usize, text: &str) -> Result<Place, WordFault>
-    requires { is_s3 text.now ≡ false }
-    ensures right { OnOk result (bad_unless (is_path text.now) at ≡ None) }
-    ensures place { IfOk result (λ place. place ≡ place_of text.now) }
-    ensures fault { IfErr result
-        (λ fault. fault ≢ WordFault.Memory → bad_unless (is_path text.now) at ≡ Some fault) }
-{
-    if text.is_empty() || text == "-" {
-        return Err(WordFault::BadValue(at));
-    }
-    match Text::of(alloc, text) {
-        Ok(path) => Ok(Place::File { path }),
-        Err(_) => Err(WordFault::Memory),
-    }
-}
-
 /// Reads the path that is the word at this index.
 pub(crate) fn read_place(alloc: Global, at: usize, text: &str) -> Result<Place, WordFault>
     ensures right { OnOk result (bad_unless (is_path text.now) at ≡ None) }
@@ -52,9 +36,14 @@ pub(crate) fn read_place(alloc: Global, at: usize, text: &str) -> Result<Place, 
         (λ fault. fault ≢ WordFault.Memory → bad_unless (is_path text.now) at ≡ Some fault) }
 {
     if is_s3(text) {
-        read_object(alloc, at, text)
-    } else {
-        read_file(alloc, at, text)
+        return read_object(alloc, at, text);
+    }
+    if text.is_empty() || text == "-" {
+        return Err(WordFault::BadValue(at));
+    }
+    match Text::of(alloc, text) {
+        Ok(path) => Ok(Place::File { path }),
+        Err(_) => Err(WordFault::Memory),
     }
 }
 
