@@ -66,11 +66,11 @@ def reset(peer):
     peer.setsockopt(socket.SOL_SOCKET, socket.SO_LINGER, struct.pack("ii", 1, 0))
 
 
-def says(answer, then=hold):
+def says(answer, then=hold, take=take_request):
     """Takes the request and says this."""
 
     def serve(peer):
-        take_request(peer)
+        take(peer)
         peer.sendall(answer)
         then(peer)
 
@@ -79,13 +79,7 @@ def says(answer, then=hold):
 
 def says_early(answer, then=close):
     """Says this right behind the head of the request, and takes no body."""
-
-    def serve(peer):
-        take_head(peer)
-        peer.sendall(answer)
-        then(peer)
-
-    return serve
+    return says(answer, then, take_head)
 
 
 def dribbles(answer, seconds=0.0005, size=1, then=hold):
