@@ -239,7 +239,7 @@ class Row(NamedTuple):
     opened: int = 1
     host: str = "127.0.0.1"
     server: type = Server
-    seconds: int = 15
+    seconds: int = 40
 
 
 FAILED, EARLY = lost("connection failed"), lost("connection ended early")
