@@ -14,6 +14,7 @@ pub mod Lies
 pub mod Misfits
 pub mod OneClass
 pub mod Orders
+pub mod Plannings
 pub mod Readings
 pub mod Refuted
 pub mod Repeats

@@ -24,7 +24,7 @@ use Rattle.shared_lemmas.proofs.Clashes.{false_true as never}
 use Rattle.promise_examples.specs.Everything.{create_job, part_job, complete_job, create_answered, upload}
 use Rattle.promise_examples.specs.FailedUpload.{failed_run, other_lost}
 use Rattle.promise_examples.specs.GivenAgain.{put_job}
-use Rattle.promise_examples.specs.Lies.{IsLie, LiesAreRefused, lost_then_denied, lost_twice}
+use Rattle.promise_examples.specs.Lies.{IsLie, LiesAreRefused, denied_once, lost_then_denied, lost_twice}
 use Rattle.promise_examples.specs.Orders.{abort_job, part_denied, abort_answered}
 use Rattle.promise_examples.specs.Reading.{Reads, HasNoStatus, NeverFailed}
 use Rattle.promise_examples.specs.Refused.{task, whole_run, stored_at, lost_at, denied_at}
@@ -76,6 +76,9 @@ module _ (page_of : List ℕ → Listed) where
   abbrev denied : List Attempt
   denied = was_lost 5 ∷ record { mark = mark.Refusal; talk = denied_at 6 } ∷ []
 
+  abbrev refused : List Attempt
+  refused = record { mark = mark.Refusal; talk = denied_at 5 } ∷ []
+
   abbrev lost : List Attempt
   lost = was_lost 5 ∷ was_lost 6 ∷ []
 
@@ -96,6 +99,9 @@ module _ (page_of : List ℕ → Listed) where
     no_success attempts none decides =
         each (λ (c : Dispatched). (k : ℕ) (a : Attempt) → Some a ≡ Some a → (slice_get c.dispatch.attempts k ≡ Some a) → a.mark ≡ mark.Success → ⊥) (put_as attempts asked body limit size ∷ [])
         ((λ k a same here marked. slot (λ (n : ℕ) (b : Attempt). b.mark ≡ mark.Success → ⊥) attempts none k a here marked), tt) decides.0 decides.1 decides.3.0 decides.3.1 refl decides.3.2 decides.3.3
+
+    refused_none : Decides refused mark.Success → ⊥
+    refused_none = no_success refused (refusal_success, tt)
 
     denied_none : Decides denied mark.Success → ⊥
     denied_none = no_success denied (uncertain_success, (refusal_success, tt))
@@ -156,6 +162,7 @@ module _ (page_of : List ℕ → Listed) where
     stored_failed = λ reason. lie whole_run task (outcome.Failed reason) (λ asked body limit size coming schedule how. how.0 (decided asked body limit size coming));
     stored_unknown = λ reason. lie whole_run task (outcome.Unknown reason) (λ asked body limit size coming schedule how. how.0.1 (decided asked body limit size coming));
     stored_skipped = lie whole_run task outcome.Skipped (λ asked body limit size coming schedule how. elim how.1 [ inl refused ↦ never refused.0 | inr there ↦ never there.0 ]);
+    refused_done = lie denied_once task outcome.Done (λ asked body limit size coming schedule how. refused_none asked body limit size coming how.1);
     denied_failed = λ reason. lie lost_then_denied task (outcome.Failed reason)
         (λ asked body limit size coming schedule how. how.1 (open_denied asked body limit size coming, denied_none asked body limit size coming));
     denied_done = lie lost_then_denied task outcome.Done (λ asked body limit size coming schedule how. denied_none asked body limit size coming how.1);

@@ -1,5 +1,5 @@
 -- Runs whose jobs stand in the wrong order, or lack one, are refused.
-use Rattle.std.proofs.Common.{◌≡◌, ◌∙◌, ◌<◌, ◌++◌, ℕ, zero, suc, Bool, true, false, List, [], ◌∷◌, Some, None, refl, sym, ap, subst, inl, inr, AllPairs, Contains, length, slice_get, arith}
+use Rattle.std.proofs.Common.{◌≡◌, ◌∙◌, ◌<◌, ◌≤◌, ◌++◌, ℕ, zero, suc, Bool, true, false, List, [], ◌∷◌, Some, None, refl, sym, ap, subst, inl, inr, AllPairs, Contains, length, slice_get, arith}
 use Rattle.std.specs.Prelude.{codes, nat_lt}
 use Rattle.std.proofs.lemmas.List.Sorted.{IsPermutation-sym, Contains-permutation}
 use Rattle.s3_model.specs.declared.requests.Ask.{Ask}
@@ -20,9 +20,9 @@ use Rattle.run_promise.specs.Carried.{IsCarried}
 use Rattle.run_promise.specs.Dispatches.{Dispatched, IsCut}
 use Rattle.run_promise.specs.Schedule.{Gained, IsSchedule, IsTaskAsk, IsUpload, IsBefore, IsBeforeAny, gained_before, is_small, source_bytes}
 use Rattle.shared_lemmas.proofs.Clashes.{false_true as never}
-use Rattle.promise_examples.specs.Everything.{create_job, part_job, complete_job, copy_job, delete_job, create_answered, copy_answered, part_stored, other_stored, upload, copy, id, limits, eventful_run}
+use Rattle.promise_examples.specs.Everything.{create_job, part_job, complete_job, copy_job, delete_job, create_answered, copy_answered, complete_again, upload, copy, id, limits, eventful_run}
 use Rattle.promise_examples.specs.Orders as specs
-use Rattle.promise_examples.specs.Orders.{OrdersAreRefused, abort_job, part_denied, complete_answered, abort_answered, delete_answered}
+use Rattle.promise_examples.specs.Orders.{OrdersAreRefused, abort_job, part_denied, first_stored, second_stored, third_stored, complete_answered, abort_answered, delete_answered}
 use Rattle.promise_examples.specs.Reading.{Reads, signed_body}
 use Rattle.promise_examples.specs.Runs.{Example}
 use Rattle.promise_examples.proofs.Carrying.{same_again}
@@ -117,6 +117,15 @@ module _ (page_of : List ℕ → Listed) where
       let second = second_of here.0.2 (etags.each_part ∙ two) in
       (second.0, etags.in_order 1 second.0 second.1)
 
+  part_within : (gained : Gained) (task : Task) (piece count number : ℕ) (asked : Ask) (body : List ℕ) → Some upload ≡ Some task → HasPieces eventful_run.setting.config limits task.kind task.size piece count
+      → Asks gained task piece count op.Part number asked body → number ≤ 2
+  part_within gained task piece count number asked body is pieces asks =
+      let same = sym (some_is upload task is) in
+      let here : Asks gained upload piece count op.Part number asked body = subst (λ (t : Task). Asks gained t piece count op.Part number asked body) same asks in
+      let two = two_pieces piece count (subst (λ (t : Task). HasPieces eventful_run.setting.config limits t.kind t.size piece count) same pieces) in
+      let within : number ≤ count = here.3.1 in
+      omega arith
+
   -- ---- an upload is left open after a part failed
 
   module _ (a1 : Ask) (b1 : List ℕ) (l1 s1 : ℕ) (a2 : Ask) (b2 : List ℕ) (l2 s2 : ℕ) (coming : List Dispatched) where
@@ -186,7 +195,7 @@ module _ (page_of : List ℕ → Listed) where
     after_failure_part1 = made (record { job = part_job 1; lane = 0; given_at = 2; came_at = Some 3; earlier = 0; is_second = false; attempts = record { mark = mark.Refusal; talk = part_denied } ∷ [] }) a2 b2 l2 s2
 
     abbrev after_failure_part2 : Dispatched
-    after_failure_part2 = made (record { job = part_job 2; lane = 0; given_at = 4; came_at = Some 5; earlier = 0; is_second = false; attempts = record { mark = mark.Success; talk = other_stored } ∷ [] }) a3 b3 l3 s3
+    after_failure_part2 = made (record { job = part_job 2; lane = 0; given_at = 4; came_at = Some 5; earlier = 0; is_second = false; attempts = record { mark = mark.Success; talk = second_stored } ∷ [] }) a3 b3 l3 s3
 
     abbrev after_failure_abort : Dispatched
     after_failure_abort = made (record { job = abort_job; lane = 0; given_at = 6; came_at = Some 7; earlier = 0; is_second = false; attempts = record { mark = mark.Success; talk = abort_answered } ∷ [] }) a4 b4 l4 s4
@@ -221,7 +230,7 @@ module _ (page_of : List ℕ → Listed) where
     early_part_create = made (record { job = create_job; lane = 0; given_at = 0; came_at = Some 2; earlier = 0; is_second = false; attempts = record { mark = mark.Success; talk = create_answered } ∷ [] }) a1 b1 l1 s1
 
     abbrev early_part_part1 : Dispatched
-    early_part_part1 = made (record { job = part_job 1; lane = 1; given_at = 1; came_at = Some 3; earlier = 0; is_second = false; attempts = record { mark = mark.Success; talk = part_stored } ∷ [] }) a2 b2 l2 s2
+    early_part_part1 = made (record { job = part_job 1; lane = 1; given_at = 1; came_at = Some 3; earlier = 0; is_second = false; attempts = record { mark = mark.Success; talk = first_stored } ∷ [] }) a2 b2 l2 s2
 
     abbrev jobs_early_part : List Dispatched
     jobs_early_part = early_part_create ∷ early_part_part1 ∷ []
@@ -240,10 +249,10 @@ module _ (page_of : List ℕ → Listed) where
     out_of_turn_create = made (record { job = create_job; lane = 0; given_at = 0; came_at = Some 1; earlier = 0; is_second = false; attempts = record { mark = mark.Success; talk = create_answered } ∷ [] }) a1 b1 l1 s1
 
     abbrev out_of_turn_part1 : Dispatched
-    out_of_turn_part1 = made (record { job = part_job 1; lane = 0; given_at = 2; came_at = Some 5; earlier = 0; is_second = false; attempts = record { mark = mark.Success; talk = part_stored } ∷ [] }) a2 b2 l2 s2
+    out_of_turn_part1 = made (record { job = part_job 1; lane = 0; given_at = 2; came_at = Some 5; earlier = 0; is_second = false; attempts = record { mark = mark.Success; talk = first_stored } ∷ [] }) a2 b2 l2 s2
 
     abbrev out_of_turn_part2 : Dispatched
-    out_of_turn_part2 = made (record { job = part_job 2; lane = 0; given_at = 3; came_at = Some 4; earlier = 0; is_second = false; attempts = record { mark = mark.Success; talk = other_stored } ∷ [] }) a3 b3 l3 s3
+    out_of_turn_part2 = made (record { job = part_job 2; lane = 0; given_at = 3; came_at = Some 4; earlier = 0; is_second = false; attempts = record { mark = mark.Success; talk = second_stored } ∷ [] }) a3 b3 l3 s3
 
     abbrev out_of_turn_complete : Dispatched
     out_of_turn_complete = made (record { job = complete_job; lane = 0; given_at = 6; came_at = Some 7; earlier = 0; is_second = false; attempts = record { mark = mark.Success; talk = complete_answered } ∷ [] }) a4 b4 l4 s4
@@ -263,10 +272,10 @@ module _ (page_of : List ℕ → Listed) where
     abort_after_complete_create = made (record { job = create_job; lane = 0; given_at = 0; came_at = Some 1; earlier = 0; is_second = false; attempts = record { mark = mark.Success; talk = create_answered } ∷ [] }) a1 b1 l1 s1
 
     abbrev abort_after_complete_part1 : Dispatched
-    abort_after_complete_part1 = made (record { job = part_job 1; lane = 0; given_at = 2; came_at = Some 3; earlier = 0; is_second = false; attempts = record { mark = mark.Success; talk = part_stored } ∷ [] }) a2 b2 l2 s2
+    abort_after_complete_part1 = made (record { job = part_job 1; lane = 0; given_at = 2; came_at = Some 3; earlier = 0; is_second = false; attempts = record { mark = mark.Success; talk = first_stored } ∷ [] }) a2 b2 l2 s2
 
     abbrev abort_after_complete_part2 : Dispatched
-    abort_after_complete_part2 = made (record { job = part_job 2; lane = 0; given_at = 4; came_at = Some 5; earlier = 0; is_second = false; attempts = record { mark = mark.Success; talk = other_stored } ∷ [] }) a3 b3 l3 s3
+    abort_after_complete_part2 = made (record { job = part_job 2; lane = 0; given_at = 4; came_at = Some 5; earlier = 0; is_second = false; attempts = record { mark = mark.Success; talk = second_stored } ∷ [] }) a3 b3 l3 s3
 
     abbrev abort_after_complete_complete : Dispatched
     abort_after_complete_complete = made (record { job = complete_job; lane = 0; given_at = 6; came_at = Some 7; earlier = 0; is_second = false; attempts = record { mark = mark.Success; talk = complete_answered } ∷ [] }) a4 b4 l4 s4
@@ -291,7 +300,7 @@ module _ (page_of : List ℕ → Listed) where
     early_complete_create = made (record { job = create_job; lane = 0; given_at = 0; came_at = Some 1; earlier = 0; is_second = false; attempts = record { mark = mark.Success; talk = create_answered } ∷ [] }) a1 b1 l1 s1
 
     abbrev early_complete_part1 : Dispatched
-    early_complete_part1 = made (record { job = part_job 1; lane = 0; given_at = 2; came_at = Some 3; earlier = 0; is_second = false; attempts = record { mark = mark.Success; talk = part_stored } ∷ [] }) a2 b2 l2 s2
+    early_complete_part1 = made (record { job = part_job 1; lane = 0; given_at = 2; came_at = Some 3; earlier = 0; is_second = false; attempts = record { mark = mark.Success; talk = first_stored } ∷ [] }) a2 b2 l2 s2
 
     abbrev early_complete_complete : Dispatched
     early_complete_complete = made (record { job = complete_job; lane = 0; given_at = 4; came_at = Some 5; earlier = 0; is_second = false; attempts = record { mark = mark.Success; talk = complete_answered } ∷ [] }) a3 b3 l3 s3
@@ -306,6 +315,32 @@ module _ (page_of : List ℕ → Listed) where
         each (λ (c : Dispatched). c.dispatch.job ≡ part_job 2 → ⊥) jobs_early_complete (other_job create_job (part_job 2) refl, (other_job (part_job 1) (part_job 2) refl, (other_job complete_job (part_job 2) refl, tt)))
         parts.1.0 parts.1.1 parts.1.2
 
+  -- ---- a part is given behind the last one
+
+  module _ (a1 : Ask) (b1 : List ℕ) (l1 s1 : ℕ) (a2 : Ask) (b2 : List ℕ) (l2 s2 : ℕ) (a3 : Ask) (b3 : List ℕ) (l3 s3 : ℕ) (a4 : Ask) (b4 : List ℕ) (l4 s4 : ℕ) (a5 : Ask) (b5 : List ℕ) (l5 s5 : ℕ) (coming : List Dispatched) where
+    abbrev part_beyond_create : Dispatched
+    part_beyond_create = made (record { job = create_job; lane = 0; given_at = 0; came_at = Some 1; earlier = 0; is_second = false; attempts = record { mark = mark.Success; talk = create_answered } ∷ [] }) a1 b1 l1 s1
+
+    abbrev part_beyond_part1 : Dispatched
+    part_beyond_part1 = made (record { job = part_job 1; lane = 0; given_at = 2; came_at = Some 3; earlier = 0; is_second = false; attempts = record { mark = mark.Success; talk = first_stored } ∷ [] }) a2 b2 l2 s2
+
+    abbrev part_beyond_part2 : Dispatched
+    part_beyond_part2 = made (record { job = part_job 2; lane = 0; given_at = 4; came_at = Some 5; earlier = 0; is_second = false; attempts = record { mark = mark.Success; talk = second_stored } ∷ [] }) a3 b3 l3 s3
+
+    abbrev part_beyond_part3 : Dispatched
+    part_beyond_part3 = made (record { job = part_job 3; lane = 0; given_at = 6; came_at = Some 7; earlier = 0; is_second = false; attempts = record { mark = mark.Success; talk = third_stored } ∷ [] }) a4 b4 l4 s4
+
+    abbrev part_beyond_complete : Dispatched
+    part_beyond_complete = made (record { job = complete_job; lane = 0; given_at = 8; came_at = Some 9; earlier = 0; is_second = false; attempts = record { mark = mark.Success; talk = complete_again } ∷ [] }) a5 b5 l5 s5
+
+    abbrev jobs_part_beyond : List Dispatched
+    jobs_part_beyond = part_beyond_create ∷ part_beyond_part1 ∷ part_beyond_part2 ∷ part_beyond_part3 ∷ part_beyond_complete ∷ []
+
+    on_part_beyond : Sched jobs_part_beyond coming → ⊥
+    on_part_beyond schedule =
+        let asks = schedule.asks part_beyond_part3 0 (at jobs_part_beyond 3 part_beyond_part3 refl) refl in
+        let within : 3 ≤ 2 = part_within (gained_before Shows jobs_part_beyond 6) asks.0 asks.1 asks.2 3 a4 b4 asks.3 asks.4 asks.7 in omega arith
+
   pub orders : OrdersAreRefused page_of
   orders = record {
     no_abort = refute page_of specs.no_abort (λ a1 b1 l1 s1 a2 b2 l2 s2 coming schedule carried. on_no_abort a1 b1 l1 s1 a2 b2 l2 s2 coming schedule);
@@ -316,4 +351,5 @@ module _ (page_of : List ℕ → Listed) where
     out_of_turn = refute page_of specs.out_of_turn (λ a1 b1 l1 s1 a2 b2 l2 s2 a3 b3 l3 s3 a4 b4 l4 s4 coming schedule carried. on_out_of_turn a1 b1 l1 s1 a2 b2 l2 s2 a3 b3 l3 s3 a4 b4 l4 s4 coming carried);
     abort_after_complete = refute page_of specs.abort_after_complete (λ a1 b1 l1 s1 a2 b2 l2 s2 a3 b3 l3 s3 a4 b4 l4 s4 a5 b5 l5 s5 coming schedule carried. on_abort_after_complete a1 b1 l1 s1 a2 b2 l2 s2 a3 b3 l3 s3 a4 b4 l4 s4 a5 b5 l5 s5 coming schedule);
     early_complete = refute page_of specs.early_complete (λ a1 b1 l1 s1 a2 b2 l2 s2 a3 b3 l3 s3 coming schedule carried. on_early_complete a1 b1 l1 s1 a2 b2 l2 s2 a3 b3 l3 s3 coming schedule);
+    part_beyond = refute page_of specs.part_beyond (λ a1 b1 l1 s1 a2 b2 l2 s2 a3 b3 l3 s3 a4 b4 l4 s4 a5 b5 l5 s5 coming schedule carried. on_part_beyond a1 b1 l1 s1 a2 b2 l2 s2 a3 b3 l3 s3 a4 b4 l4 s4 a5 b5 l5 s5 coming schedule);
   }

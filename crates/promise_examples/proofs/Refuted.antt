@@ -27,7 +27,7 @@ use Rattle.promise_examples.specs.GivenAgain.{put_job, bytes}
 use Rattle.promise_examples.specs.Reading.{Reads, class_by, signed_body}
 use Rattle.promise_examples.specs.Runs.{Example}
 use Rattle.promise_examples.specs.Refused as specs
-use Rattle.promise_examples.specs.Refused.{IsRefused, WiresAreRefused, JobsAreRefused, setting, task, path, stored_at, lost_at, denied_at}
+use Rattle.promise_examples.specs.Refused.{IsRefused, IsRefusedWith, WiresAreRefused, JobsAreRefused, setting, task, path, stored_at, lost_at, denied_at}
 use Rattle.promise_examples.proofs.Carrying.{same_again}
 use Rattle.promise_examples.proofs.Concrete.{has, contains_of, each, none_is_some, some_is}
 use Rattle.promise_examples.proofs.Readings.{reads, shown_by, same_mark}
@@ -48,7 +48,7 @@ pause_moment : (a b : ℕ) → Pause a ≡ Moment b → ⊥
 pause_moment a b e = cc
 
 -- the talk that begins first begins at the first moment
-at_first : (moment : ℕ) (later : List Note) (front : List Note) (seconds : ℕ) (rest : List Note) → Moment moment ∷ Began ∷ later ≡ front ++ Moment seconds ∷ Began ∷ rest → ¬ (Contains front Began)
+pub at_first : (moment : ℕ) (later : List Note) (front : List Note) (seconds : ℕ) (rest : List Note) → Moment moment ∷ Began ∷ later ≡ front ++ Moment seconds ∷ Began ∷ rest → ¬ (Contains front Began)
     → (moment ≡ seconds) × (later ≡ rest) × (front ≡ [])
 at_first moment later [] seconds rest e quiet = (moments moment seconds (head_is _ _ _ _ e), tail_is _ _ _ _ (tail_is _ _ _ _ e), refl)
 at_first moment later (x ∷ []) seconds rest e quiet = absurd (began_moment seconds (head_is _ _ _ _ (tail_is _ _ _ _ e)))
@@ -92,18 +92,24 @@ module _ (page_of : List ℕ → Listed) where
   abbrev Shows : Ask → ℕ → Talk → Class → List ℕ → Type 0
   Shows = Reads page_of
 
+  abbrev NoPlans : List Dispatched → Type 0
+  NoPlans planning = planning ≡ []
+
   abbrev Sched : Example → List Dispatched → List Dispatched → Type 0
-  Sched e xs coming = IsSchedule Shows e.setting (λ planning. planning ≡ []) xs coming
+  Sched e xs coming = IsSchedule Shows e.setting NoPlans xs coming
 
   abbrev Carried : Example → List Dispatched → List Dispatched → Type 0
   Carried e xs coming = IsCarried Shows signed_body [] 80 e.setting e.journal e.logs e.notes xs coming
 
   -- no reading of the jobs meets both
-  abbrev Refutes : Example → List Dispatched → Type 0
-  Refutes e xs = (coming : List Dispatched) → Sched e xs coming → Carried e xs coming → ⊥
+  abbrev Refutes : (Plans : List Dispatched → Type 0) → Example → List Dispatched → Type 0
+  Refutes Plans e xs = (coming : List Dispatched) → IsSchedule Shows e.setting Plans xs coming → Carried e xs coming → ⊥
 
-  pub refute : (e : Example) → Whatever (dispatches e.journal e.logs) (Refutes e) → IsRefused page_of e
-  refute e all dispatched coming schedule carried = of_shown (dispatches e.journal e.logs) (Refutes e) all dispatched carried.shown coming schedule carried
+  pub refute_with : (Plans : List Dispatched → Type 0) (e : Example) → Whatever (dispatches e.journal e.logs) (Refutes Plans e) → IsRefusedWith page_of Plans e
+  refute_with Plans e all dispatched coming schedule carried = of_shown (dispatches e.journal e.logs) (Refutes Plans e) all dispatched carried.shown coming schedule carried
+
+  pub refute : (e : Example) → Whatever (dispatches e.journal e.logs) (Refutes NoPlans e) → IsRefused page_of e
+  refute e all = refute_with NoPlans e all
 
   -- ---- a single Put
 
@@ -154,7 +160,7 @@ module _ (page_of : List ℕ → Listed) where
   noted_once of_c attempt number = record { of = of_c; number = number; attempt = attempt }
 
   -- an answered talk that says the request at a moment
-  text_of : (of_c : Dispatched) (attempt : Attempt) (number moment seconds : ℕ) (sent : List ℕ) → attempt.talk.sent ≡ moment ∷ sent → attempt.talk.ending ≡ Finished → IsSaid Shows signed_body [] 80 (noted_once of_c attempt number) seconds
+  pub text_of : (of_c : Dispatched) (attempt : Attempt) (number moment seconds : ℕ) (sent : List ℕ) → attempt.talk.sent ≡ moment ∷ sent → attempt.talk.ending ≡ Finished → IsSaid Shows signed_body [] 80 (noted_once of_c attempt number) seconds
       → (moment ≡ seconds) × (sent ≡ of_c.body)
   text_of of_c attempt number moment seconds sent is finished said =
       let shown : Class = shown_by page_of of_c.ask attempt.talk in

@@ -6,6 +6,7 @@ pub mod Lies
 pub mod Misfits
 pub mod Orders
 pub mod Pages
+pub mod Plannings
 pub mod Reading
 pub mod Refused
 pub mod Runs

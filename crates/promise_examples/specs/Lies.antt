@@ -17,7 +17,7 @@ use Rattle.promise_examples.specs.Everything.{upload}
 use Rattle.promise_examples.specs.FailedUpload.{failed_run}
 use Rattle.promise_examples.specs.Pages.{in_first}
 use Rattle.promise_examples.specs.Reading.{Reads, HasNoStatus, NeverFailed, signed_body}
-use Rattle.promise_examples.specs.Refused.{run, once, lost_at, denied_at, task, whole_run}
+use Rattle.promise_examples.specs.Refused.{a_talk, run, once, lost_at, denied_at, task, whole_run}
 use Rattle.promise_examples.specs.Runs.{Example}
 
 -- the Put was lost and then denied, or lost at both attempts
@@ -26,6 +26,10 @@ lost_then_denied = run (once (mark.Uncertain ∷ mark.Refusal ∷ [])) (in_first
 
 abbrev pub lost_twice : Example
 lost_twice = run (once (mark.Uncertain ∷ mark.Uncertain ∷ [])) (in_first (lost_at 5 ∷ lost_at 6 ∷ [])) (in_first (Moment 5 ∷ Began ∷ Pause 1 ∷ Moment 6 ∷ Began ∷ []))
+
+-- the Put was denied
+abbrev pub denied_once : Example
+denied_once = run (once (mark.Refusal ∷ [])) (in_first (denied_at 5 ∷ [])) (in_first a_talk)
 
 module _ (page_of : List ℕ → Listed) where
   -- however the jobs of the run are read, its first task does not have that outcome
@@ -39,6 +43,8 @@ module _ (page_of : List ℕ → Listed) where
     pub stored_failed : (why : Cause) → IsLie whole_run task (outcome.Failed why)
     pub stored_unknown : (why : Cause) → IsLie whole_run task (outcome.Unknown why)
     pub stored_skipped : IsLie whole_run task outcome.Skipped
+    -- what was refused is not done
+    pub refused_done : IsLie denied_once task outcome.Done
     -- what was lost and then denied is unknown
     pub denied_failed : (why : Cause) → IsLie lost_then_denied task (outcome.Failed why)
     pub denied_done : IsLie lost_then_denied task outcome.Done

@@ -189,10 +189,14 @@ needless_list = run (entry.Given (record { task = None; op = op.List; number = 0
     (in_first (record { host = []; port = 80; sent = 5 ∷ []; got = []; ending = Finished } ∷ [])) (in_first a_talk)
 
 module _ (page_of : List ℕ → Listed) where
-  -- however its jobs are read, they do not keep to the schedule or are not carried
-  abbrev pub IsRefused : Example → Type 0
-  IsRefused e = (dispatched coming : List Dispatched) → IsSchedule (Reads page_of) e.setting (λ planning. planning ≡ []) dispatched coming
+  -- however its jobs are read, and where these are the planning jobs that it needs, they do not keep to the schedule or are not carried
+  abbrev pub IsRefusedWith : (Plans : List Dispatched → Type 0) → Example → Type 0
+  IsRefusedWith Plans e = (dispatched coming : List Dispatched) → IsSchedule (Reads page_of) e.setting Plans dispatched coming
       → IsCarried (Reads page_of) signed_body [] 80 e.setting e.journal e.logs e.notes dispatched coming → ⊥
+
+  -- the same where it needs none
+  abbrev pub IsRefused : Example → Type 0
+  IsRefused = IsRefusedWith (λ planning. planning ≡ [])
 
   pub record WiresAreRefused : Type 0 where
     pub dropped_talk : IsRefused dropped_talk

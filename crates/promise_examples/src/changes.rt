@@ -3,14 +3,17 @@
 ghost use Rattle.promise_examples.specs.Lies.{EachLieIsRefused};
 ghost use Rattle.promise_examples.specs.Misfits.{EachTraceIsRefused};
 ghost use Rattle.promise_examples.specs.Orders.{EachOrderIsRefused};
+ghost use Rattle.promise_examples.specs.Plannings.{EachPlanningIsRefused};
 ghost use Rattle.promise_examples.specs.Refused.{EachJobIsRefused, EachWireIsRefused};
 
 /// A small upload that was stored meets every definition. With one thing changed on its wires, of its jobs, of the order
-/// of the jobs of larger tasks, or in its trace, no reading of the jobs does. Nor does any bear out another outcome.
+/// of the jobs of larger tasks, or in its trace, no reading of the jobs does. Nor does any of a planning in two pages with
+/// one thing changed. Nor does any bear out another outcome.
 pub fn refused()
     ensures wires { EachWireIsRefused }
     ensures jobs { EachJobIsRefused }
     ensures orders { EachOrderIsRefused }
+    ensures plannings { EachPlanningIsRefused }
     ensures traces { EachTraceIsRefused }
     ensures lies { EachLieIsRefused }
 {}
