@@ -1,8 +1,7 @@
 -- A Put that met a busy service is given again and stored.
-use Rattle.std.proofs.Common.{◌≡◌, ◌==◌, ◌<◌, ◌≤◌, ℕ, zero, suc, true, false, List, [], ◌∷◌, Some, refl, sym, ap, subst, inl, inr, filter, filter_map, take, Contains, slice_get, arith}
+use Rattle.std.proofs.Common.{◌≡◌, ◌==◌, ◌<◌, ◌≤◌, ℕ, zero, suc, true, false, List, [], ◌∷◌, Some, refl, ap, subst, inl, inr, filter, filter_map, take, Contains, slice_get, arith}
 use Rattle.std.specs.Prelude.{flat_map}
-use Rattle.std.specs.Cmp.Lexicographic.{nat_list_cmp_total}
-use Rattle.std.specs.FinMap.{get, empty}
+use Rattle.std.specs.FinMap.{empty}
 use Rattle.std.proofs.lemmas.List.Sorted.{IsPermutation-refl}
 use Rattle.s3_model.specs.declared.requests.Ask.{Ask}
 use Rattle.s3_model.specs.declared.requests.Op.TheVariants as op
@@ -15,7 +14,6 @@ use Rattle.s3_model.specs.declared.outcomes.Outcome.{Outcome}
 use Rattle.s3_model.specs.declared.outcomes.Outcome.TheVariants as outcome
 use Rattle.s3_model.specs.declared.settings.Limits.{Limits}
 use Rattle.s3_model.specs.declared.tasks.Task.{Task}
-use Rattle.s3_model.specs.declared.tasks.Kind.TheVariants as kind
 use Rattle.s3_model.specs.declared.tries.Mark.TheVariants as mark
 use Rattle.s3_model.specs.Talks.{Talk, Note, Moment, Pause, Began, Closed, Finished}
 use Rattle.s3_service.specs.ServiceState.{State, HasBucket}
@@ -25,22 +23,22 @@ use Rattle.run_promise.specs.Carried.{IsSaid, MayStop}
 use Rattle.run_promise.specs.Dispatches.{Attempt, Dispatched, IsCompletedWell}
 use Rattle.run_promise.specs.Fits.{Fits, IsAnswered, Names, requests_of}
 use Rattle.run_promise.specs.Outcomes.{HasOutcome}
-use Rattle.run_promise.specs.Schedule.{most_body, IsSchedule, IsFailed, IsTaskAsk, Target, bytes_of, gained_before, job_of, source_bytes}
+use Rattle.run_promise.specs.Schedule.{most_body, IsSchedule, IsFailed, gained_before, job_of}
 use Rattle.run_promise.specs.Traces.{Step, IsTrace, begun_in, events_of}
 use Rattle.run_promise.specs.Truthful.{IsDest}
 use Rattle.shared_lemmas.proofs.Clashes.{false_true as never}
-use Rattle.shared_lemmas.proofs.Maps.{get-insert_same, text_exact}
 use Rattle.promise_examples.specs.Reading.{Reads, HasNoStatus, NeverFailed, signed_body}
 use Rattle.promise_examples.specs.Services.{object_of, one_bucket}
 use Rattle.promise_examples.specs.Runs.{Example, IsMet}
 use Rattle.promise_examples.specs.GivenAgain.{put_job, busy, bytes, upload, put, request, busy_run, stored, busy_trace, BusyIsGivenAgain}
-use Rattle.promise_examples.proofs.Concrete.{has, at, each, front_of, none_is_some, some_is}
+use Rattle.promise_examples.proofs.Concrete.{at, each, front_of, none_is_some, some_is}
 use Rattle.promise_examples.proofs.Carrying as carrying
 use Rattle.promise_examples.proofs.Fitting as fitting
 use Rattle.promise_examples.proofs.Honest.{one_bucket_is_faithful, has_bucket, honest}
 use Rattle.world_laws.proofs.Faithful.{IsFaithful, faithful_with}
 use Rattle.promise_examples.proofs.Readings.{names, says_whole}
 use Rattle.promise_examples.proofs.Scheduling as scheduling
+use Rattle.promise_examples.proofs.SmallPut as small
 
 module _ (limits : Limits) (page_of : List ℕ → Listed) (bucket key path : List ℕ) where
   abbrev e : Example
@@ -133,9 +131,6 @@ module _ (limits : Limits) (page_of : List ℕ → Listed) (bucket key path : Li
 
   -- ---- its wires
 
-  no_note : ¬ (Contains [] Began)
-  no_note h = has [] Began h
-
   only_pause : ¬ (Contains (Pause 1 ∷ []) Began)
   only_pause h = each (λ (note : Note). note ≡ Began → ⊥) (Pause 1 ∷ []) (other, tt) Began h refl
     where
@@ -152,13 +147,12 @@ module _ (limits : Limits) (page_of : List ℕ → Listed) (bucket key path : Li
   lane_is zero used = record {
     in_turn = (((λ place come. let is : 3 ≡ place = some_is 3 place come in omega arith), tt), (tt, tt));
     gained = refl;
-    noted = ([], 5, Pause 1 ∷ Moment 7 ∷ Began ∷ [], [], refl, no_note, refl, inl refl, first_said, (Pause 1 ∷ [], 7, [], [], refl, only_pause, refl, inl refl, last_said, (no_note, inl refl)));
+    noted = ([], 5, Pause 1 ∷ Moment 7 ∷ Began ∷ [], [], refl, carrying.nothing_begins, refl, inl refl, first_said, (Pause 1 ∷ [], 7, [], [], refl, only_pause, refl, inl refl, last_said, (carrying.nothing_begins, inl refl)));
   }
   lane_is (suc lane) used = absurd (omega arith)
 
   unused : (lane : ℕ) → 1 ≤ lane → (e.logs lane ≡ []) × (e.notes lane ≡ [])
-  unused zero beyond = absurd (omega arith)
-  unused (suc lane) beyond = let other : (suc lane == 0) ≡ false = grind arith in rw other (refl, refl)
+  unused lane beyond = (carrying.none_in _ lane beyond, carrying.none_in _ lane beyond)
 
   may_stop : MayStop Shows signed_body [] 80 e.setting jobs first
   may_stop = (refl, (λ same. scheduling.other_op op.Put op.Abort refl same), inl ([], last ∷ [], refl, inl (last, at (last ∷ []) 0 last refl, refl)))
@@ -180,9 +174,6 @@ module _ (limits : Limits) (page_of : List ℕ → Listed) (bucket key path : Li
 
   -- ---- its jobs
 
-  body_is : bytes ≡ bytes_of (get e.setting.held path)
-  body_is = sym (ap bytes_of (get-insert_same nat_list_cmp_total text_exact empty path (record { bytes = bytes; micros = 0 })))
-
   well_done : IsCompletedWell Shows last
   well_done = (refl, λ shown b shows. tt)
 
@@ -192,19 +183,11 @@ module _ (limits : Limits) (page_of : List ℕ → Listed) (bucket key path : Li
   no_success : mark.Refusal ≡ mark.Success → ⊥
   no_success same = cc
 
-  to : Target (upload bucket key path)
-  to = record { bucket = bucket; key = key; is_dest = (refl, refl) }
-
-  asks_at : (place : ℕ) → IsTaskAsk (gained_before Shows jobs place) (upload bucket key path) (record { number = 0; bytes = source_bytes e.setting.held (upload bucket key path).source; piece = 2; count = 1 }) kind.Upload true op.Put 0
-      (put bucket key path) bytes
-  unfolding to
-  asks_at place = (to, refl, refl, body_is)
-
   scheduled : IsSchedule Shows e.setting (λ planning. planning ≡ []) jobs jobs
   scheduled = scheduling.scheduled Shows e.setting (λ planning. planning ≡ []) jobs jobs (record {
     is_coming = IsPermutation-refl jobs;
     in_order = ((omega arith, tt), (tt, tt));
-    asks = ((upload bucket key path, 2, 1, refl, inl (omega arith, refl, refl), refl, refl, asks_at 0), ((upload bucket key path, 2, 1, refl, inl (omega arith, refl, refl), refl, refl, asks_at 2), tt));
+    asks = ((upload bucket key path, 2, 1, refl, inl (omega arith, refl, refl), refl, refl, small.asks bucket key path (gained_before Shows jobs 0)), ((upload bucket key path, 2, 1, refl, inl (omega arith, refl, refl), refl, refl, small.asks bucket key path (gained_before Shows jobs 2)), tt));
     plans = refl;
     numbered = tt;
     one_by_one = tt;

@@ -13,6 +13,7 @@ use Rattle.s3_model.specs.Talks.{Talk, Note, Began}
 use Rattle.run_promise.specs.Dispatches.{Attempt, Dispatched, dispatches, last_of}
 use Rattle.run_promise.specs.Schedule.{Setting, IsBefore}
 use Rattle.run_promise.specs.Carried.{IsCarried, AreNoted, WouldGoOn, MayStop, IsWanting, in_lane, numbered_from, talks_of, mark_of}
+use Rattle.promise_examples.specs.Pages.{in_first}
 use Rattle.promise_examples.specs.Reading.{Reads, body_by, signed_body}
 use Rattle.promise_examples.proofs.Concrete.{Each, each, has, Slots, slot, Pairs, pairs, none_is_some, some_is}
 use Rattle.promise_examples.proofs.Readings.{never_memory, shown_by, reads}
@@ -38,6 +39,11 @@ apart n other (c ∷ xs) all beyond = (other_lane c.dispatch.lane n other all.0 
 pub none_beyond : (n other : ℕ) (xs : List Dispatched) → Each (IsInLanes n) xs → n ≤ other → in_lane other xs ≡ []
 none_beyond n other xs all beyond = filter_none (λ (c : Dispatched). c.dispatch.lane == other) xs (apart n other xs all beyond)
 
+-- what stands in the first lane alone stands in no other
+pub none_in : {X : Type 0} (given : List X) (lane : ℕ) → 1 ≤ lane → in_first given lane ≡ []
+none_in given zero beyond = absurd (omega arith)
+none_in given (suc lane) beyond = let other : (suc lane == 0) ≡ false = grind arith in rw other refl
+
 -- ---- classes that are the same
 
 pub same_again : (a b : Class) → IsSameClass a b → is_tried_again a ≡ is_tried_again b
@@ -45,7 +51,7 @@ same_again (class.Success a) (class.Success b) h = refl
 same_again (class.Success a) b h = ap is_tried_again h
 same_again a b h = ap is_tried_again h
 
-nothing_begins : ¬ (Contains [] Began)
+pub nothing_begins : ¬ (Contains [] Began)
 nothing_begins h = has [] Began h
 
 module _ (page_of : List ℕ → Listed) (s : Setting) (coming : List Dispatched) where
@@ -55,7 +61,7 @@ module _ (page_of : List ℕ → Listed) (s : Setting) (coming : List Dispatched
   pub would_go_on : (c : Dispatched) (attempt : Attempt) → Goes c attempt → WouldGoOn (Reads page_of) signed_body [] 80 c attempt
   would_go_on c attempt e = (shown_by page_of c.ask attempt.talk, body_by page_of c.ask attempt.talk.got, reads page_of c.ask c.limit attempt.talk, e)
 
-  goes_on : (c : Dispatched) (attempt : Attempt) → WouldGoOn (Reads page_of) signed_body [] 80 c attempt → Goes c attempt
+  pub goes_on : (c : Dispatched) (attempt : Attempt) → WouldGoOn (Reads page_of) signed_body [] 80 c attempt → Goes c attempt
   goes_on c attempt h = same_again (shown_by page_of c.ask attempt.talk) h.0 h.2.0 ∙ h.3
 
   -- ---- the clauses, by what is written out

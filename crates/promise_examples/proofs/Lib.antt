@@ -1,3 +1,4 @@
+pub mod Alone
 pub mod BusyPut
 pub mod Carrying
 pub mod Concrete
@@ -20,5 +21,6 @@ pub mod Refuted
 pub mod Repeats
 pub mod Scheduling
 pub mod Shown
+pub mod SmallPut
 pub mod TwoPages
 pub mod WholePut

@@ -33,7 +33,7 @@ use Rattle.promise_examples.specs.Reading.{Reads, signed_body}
 use Rattle.promise_examples.specs.Services.{one_bucket}
 use Rattle.promise_examples.specs.Runs.{Example, IsMet}
 use Rattle.promise_examples.specs.Pages.{bucket, first_key, last_key, an_object, full, listed, token, page_with, list_job, list_after, talk_of, listing_run, listing_trace, request, TwoPagesAreMet}
-use Rattle.promise_examples.proofs.Concrete.{Has, has, has_middle, at, each, each_has, front_of, none_is_some, some_is}
+use Rattle.promise_examples.proofs.Concrete.{Has, has_middle, at, each, each_has, front_of, none_is_some, some_is}
 use Rattle.promise_examples.proofs.Carrying as carrying
 use Rattle.promise_examples.proofs.Fitting as fitting
 use Rattle.promise_examples.proofs.Honest.{one_bucket_is_faithful, has_bucket, honest}
@@ -182,9 +182,6 @@ module _ (limits : Limits) (spare : ℕ) where
 
   -- ---- its wires
 
-  no_note : ¬ (Contains [] Began)
-  no_note h = has [] Began h
-
   first_said : IsSaid Shows signed_body [] 80 (record { of = first; number = 1; attempt = first_attempt }) 5
   first_said = record { to_host = refl; to_port = refl; text = λ shown bytes shows. says_whole (page_with spare) Shows signed_body [] 80 shown (5 ∷ []); beginning = ([], refl) }
 
@@ -195,13 +192,12 @@ module _ (limits : Limits) (spare : ℕ) where
   lane_is zero used = record {
     in_turn = (((λ place come. let is : 3 ≡ place = some_is 3 place come in omega arith), tt), (tt, tt));
     gained = refl;
-    noted = ([], 5, Moment 6 ∷ Began ∷ [], [], refl, no_note, refl, inl refl, first_said, ([], 6, [], [], refl, no_note, refl, inl refl, last_said, (no_note, inl refl)));
+    noted = ([], 5, Moment 6 ∷ Began ∷ [], [], refl, carrying.nothing_begins, refl, inl refl, first_said, ([], 6, [], [], refl, carrying.nothing_begins, refl, inl refl, last_said, (carrying.nothing_begins, inl refl)));
   }
   lane_is (suc lane) used = absurd (omega arith)
 
   unused : (lane : ℕ) → 1 ≤ lane → (e.logs lane ≡ []) × (e.notes lane ≡ [])
-  unused zero beyond = absurd (omega arith)
-  unused (suc lane) beyond = let other : (suc lane == 0) ≡ false = grind arith in rw other (refl, refl)
+  unused lane beyond = (carrying.none_in _ lane beyond, carrying.none_in _ lane beyond)
 
   written : carrying.IsWritten (page_with spare) e.setting jobs e.journal e.logs e.notes jobs
   written = record {

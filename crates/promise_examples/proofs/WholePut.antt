@@ -1,22 +1,17 @@
 -- The small upload that the examples of what is refused are made of meets every definition.
-use Rattle.std.proofs.Common.{◌≡◌, ◌==◌, ◌<◌, ◌≤◌, ℕ, zero, suc, true, false, List, [], ◌∷◌, Some, refl, sym, ap, subst, inl, inr, filter, filter_map, take, Contains, slice_get, arith}
+use Rattle.std.proofs.Common.{◌≡◌, ◌==◌, ◌<◌, ◌≤◌, ℕ, zero, suc, false, List, [], ◌∷◌, Some, refl, subst, inl, inr, filter, filter_map, take, slice_get, arith}
 use Rattle.std.specs.Prelude.{flat_map}
-use Rattle.std.specs.Cmp.Lexicographic.{nat_list_cmp_total}
-use Rattle.std.specs.FinMap.{get, empty}
-use Rattle.std.proofs.lemmas.List.Sorted.{IsPermutation-refl}
+use Rattle.std.specs.FinMap.{empty}
 use Rattle.s3_model.specs.declared.requests.Ask.{Ask}
-use Rattle.s3_model.specs.declared.requests.Op.TheVariants as op
 use Rattle.s3_model.specs.declared.answers.Class.{Class}
 use Rattle.s3_model.specs.declared.answers.Reply.TheVariants as reply
 use Rattle.s3_model.specs.declared.answers.Listed.{Listed}
 use Rattle.s3_model.specs.declared.outcomes.Event.{Event}
-use Rattle.s3_model.specs.declared.outcomes.JobId.{JobId}
 use Rattle.s3_model.specs.declared.outcomes.Outcome.{Outcome}
 use Rattle.s3_model.specs.declared.outcomes.Outcome.TheVariants as outcome
 use Rattle.s3_model.specs.declared.tasks.Task.{Task}
-use Rattle.s3_model.specs.declared.tasks.Kind.TheVariants as kind
 use Rattle.s3_model.specs.declared.tries.Mark.TheVariants as mark
-use Rattle.s3_model.specs.Talks.{Talk, Began}
+use Rattle.s3_model.specs.Talks.{Talk}
 use Rattle.s3_service.specs.ServiceState.{HasBucket}
 use Rattle.s3_service.specs.Serves.{Replied}
 use Rattle.run_promise.specs.Buffers.{KeepsBuffers, buffers_out}
@@ -24,24 +19,24 @@ use Rattle.run_promise.specs.Carried.{IsSaid}
 use Rattle.run_promise.specs.Dispatches.{Attempt, Dispatched}
 use Rattle.run_promise.specs.Fits.{Fits, IsAnswered, Names, requests_of}
 use Rattle.run_promise.specs.Outcomes.{HasOutcome}
-use Rattle.run_promise.specs.Schedule.{most_body, IsSchedule, IsFailed, IsTaskAsk, Target, bytes_of, gained_before, job_of, source_bytes}
+use Rattle.run_promise.specs.Schedule.{most_body, IsFailed}
 use Rattle.run_promise.specs.Traces.{IsTrace, begun_in, events_of}
 use Rattle.run_promise.specs.Truthful.{IsDest}
 use Rattle.shared_lemmas.proofs.Clashes.{false_true as never}
-use Rattle.shared_lemmas.proofs.Maps.{get-insert_same, text_exact}
 use Rattle.promise_examples.specs.Reading.{Reads, HasNoStatus, NeverFailed, signed_body}
 use Rattle.promise_examples.specs.Services.{object_of}
 use Rattle.promise_examples.specs.Runs.{Example, IsMet}
-use Rattle.promise_examples.specs.GivenAgain.{put_job, bytes, put}
-use Rattle.promise_examples.specs.Refused.{limits, path, task, stored_at, whole_run}
+use Rattle.promise_examples.specs.GivenAgain.{bytes}
+use Rattle.promise_examples.specs.Refused.{limits, task, stored_at, whole_run}
 use Rattle.promise_examples.specs.Misfits.{bucket, key, request, before, stored, whole_trace}
-use Rattle.promise_examples.proofs.Concrete.{has, at, each, front_of, none_is_some, some_is}
+use Rattle.promise_examples.proofs.Concrete.{at, front_of, none_is_some, some_is}
 use Rattle.promise_examples.proofs.Carrying as carrying
 use Rattle.promise_examples.proofs.Fitting as fitting
 use Rattle.promise_examples.proofs.Honest.{one_bucket_is_faithful, has_bucket, honest}
 use Rattle.world_laws.proofs.Faithful.{IsFaithful, faithful_with}
 use Rattle.promise_examples.proofs.Readings.{names, says_whole}
 use Rattle.promise_examples.proofs.Scheduling as scheduling
+use Rattle.promise_examples.proofs.SmallPut as small
 
 module _ (page_of : List ℕ → Listed) where
   abbrev e : Example
@@ -57,13 +52,7 @@ module _ (page_of : List ℕ → Listed) where
   well = record { mark = mark.Success; talk = stored_at 5 }
 
   abbrev sent : Dispatched
-  sent = record {
-    dispatch = record { job = put_job; lane = 0; given_at = 0; came_at = Some 1; earlier = 0; is_second = false; attempts = well ∷ [] };
-    ask = put bucket key path;
-    body = bytes;
-    limit = most_body;
-    size = 2;
-  }
+  sent = small.put_with (well ∷ [])
 
   abbrev jobs : List Dispatched
   jobs = sent ∷ []
@@ -103,19 +92,15 @@ module _ (page_of : List ℕ → Listed) where
 
   -- ---- its wires
 
-  no_note : ¬ (Contains [] Began)
-  no_note h = has [] Began h
-
   said : IsSaid Shows signed_body [] 80 (record { of = sent; number = 1; attempt = well }) 5
   said = record { to_host = refl; to_port = refl; text = λ shown b shows. says_whole page_of Shows signed_body [] 80 shown (5 ∷ bytes); beginning = ([], refl) }
 
   lane_is : (lane : ℕ) → lane < 1 → carrying.IsLane page_of e.setting jobs e.logs e.notes jobs lane
-  lane_is zero used = record { in_turn = (tt, tt); gained = refl; noted = ([], 5, [], [], refl, no_note, refl, inl refl, said, (no_note, inl refl)) }
+  lane_is zero used = record { in_turn = (tt, tt); gained = refl; noted = ([], 5, [], [], refl, carrying.nothing_begins, refl, inl refl, said, (carrying.nothing_begins, inl refl)) }
   lane_is (suc lane) used = absurd (omega arith)
 
   unused : (lane : ℕ) → 1 ≤ lane → (e.logs lane ≡ []) × (e.notes lane ≡ [])
-  unused zero beyond = absurd (omega arith)
-  unused (suc lane) beyond = let other : (suc lane == 0) ≡ false = grind arith in rw other (refl, refl)
+  unused lane beyond = (carrying.none_in _ lane beyond, carrying.none_in _ lane beyond)
 
   written : carrying.IsWritten page_of e.setting jobs e.journal e.logs e.notes jobs
   written = record {
@@ -134,38 +119,8 @@ module _ (page_of : List ℕ → Listed) where
 
   -- ---- its jobs
 
-  body_is : bytes ≡ bytes_of (get e.setting.held path)
-  body_is = sym (ap bytes_of (get-insert_same nat_list_cmp_total text_exact empty path (record { bytes = bytes; micros = 0 })))
-
   no_failure : (failed : Dispatched) → IsFailed Shows e.setting jobs failed → ⊥
   no_failure failed is_failed = scheduling.failures Shows e.setting (λ c. ⊥) jobs (inr (inl (refl, λ shown b shows. tt)), tt) failed is_failed
-
-  to : Target task
-  to = record { bucket = bucket; key = key; is_dest = (refl, refl) }
-
-  asks : IsTaskAsk (gained_before Shows jobs 0) task (record { number = 0; bytes = source_bytes e.setting.held task.source; piece = 2; count = 1 }) kind.Upload true op.Put 0 (put bucket key path) bytes
-  unfolding to
-  asks = (to, refl, refl, body_is)
-
-  not_created : (n : ℕ) (c : Dispatched) → Contains jobs c → c.dispatch.job ≡ job_of n op.Create 0 → ⊥
-  not_created n c known is = each (λ (d : Dispatched). d.dispatch.job ≡ job_of n op.Create 0 → ⊥) jobs ((λ same. scheduling.other_op op.Put op.Create refl (ap (λ (job : JobId). job.op) same)), tt) c known is
-
-  scheduled : IsSchedule Shows e.setting Plans jobs jobs
-  scheduled = scheduling.scheduled Shows e.setting Plans jobs jobs (record {
-    is_coming = IsPermutation-refl jobs;
-    in_order = (tt, tt);
-    asks = ((task, 2, 1, refl, inl (omega arith, refl, refl), refl, refl, asks), tt);
-    plans = refl;
-    numbered = tt;
-    one_by_one = tt;
-    carried_out = refl;
-    twice = (tt, tt);
-    seconds = (omega arith, tt);
-    stops = λ failed c is_failed of_task no_abort known same late. absurd (no_failure failed is_failed);
-    no_abort = (refl, tt);
-    completes = λ n id end ended created. absurd (not_created n created.0 created.1 created.2);
-    moves_last = ((λ n t of_task at_n moves deletes. absurd (scheduling.other_op op.Put op.Delete refl deletes)), tt);
-  })
 
   keeps : KeepsBuffers 1 e.journal
   keeps front back is = front_of (λ (f : List Event). buffers_out f ≤ 1) e.journal (omega arith, (omega arith, omega arith)) front back is
@@ -182,7 +137,7 @@ module _ (page_of : List ℕ → Listed) where
   met = record {
     dispatched = jobs;
     coming = jobs;
-    schedule = scheduled;
+    schedule = small.scheduled Shows (well ∷ []);
     carried = carrying.carried page_of e.setting jobs e.journal e.logs e.notes jobs written;
     buffers = keeps;
     runs = runs;

@@ -1,3 +1,4 @@
+pub mod Alone
 pub mod Everything
 pub mod FailedUpload
 pub mod GivenAgain

@@ -1,5 +1,6 @@
 //! Runs and traces with one thing changed, which the definitions refuse.
 
+ghost use Rattle.promise_examples.specs.Alone.{EachWireBreaksAlone};
 ghost use Rattle.promise_examples.specs.Lies.{EachLieIsRefused};
 ghost use Rattle.promise_examples.specs.Misfits.{EachTraceIsRefused};
 ghost use Rattle.promise_examples.specs.Orders.{EachOrderIsRefused};
@@ -16,4 +17,10 @@ pub fn refused()
     ensures plannings { EachPlanningIsRefused }
     ensures traces { EachTraceIsRefused }
     ensures lies { EachLieIsRefused }
+{}
+
+/// Thirteen of those changes on the wires break one clause of what is carried and no other: with one reading of its jobs
+/// such a run keeps to the schedule, and all other clauses hold of it.
+pub fn single_breaks()
+    ensures { EachWireBreaksAlone }
 {}

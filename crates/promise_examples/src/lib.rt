@@ -6,7 +6,7 @@ mod classes;
 mod runs;
 mod untried;
 
-pub use changes::refused;
+pub use changes::{refused, single_breaks};
 pub use classes::{Documents, one_class};
 pub use runs::{Reading, everything, failed_upload, given_again, two_pages};
 pub use untried::idleness;
