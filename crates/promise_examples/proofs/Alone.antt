@@ -1,5 +1,5 @@
 -- Neighbours of the small upload break one clause of what is carried alone.
-use Rattle.std.proofs.Common.{◌≡◌, ◌+◌, ◌<◌, ◌≤◌, ℕ, zero, suc, List, [], ◌∷◌, Option, Some, None, refl, sym, subst, inl, length, Contains, arith}
+use Rattle.std.proofs.Common.{◌≡◌, ◌==◌, ◌+◌, ◌<◌, ◌≤◌, ℕ, zero, suc, false, List, [], ◌∷◌, Option, Some, None, refl, sym, subst, inl, length, Contains, arith}
 use Rattle.std.specs.Prelude.{◌≢◌, count_by, flat_map}
 use Rattle.s3_model.specs.declared.answers.Class.{Class}
 use Rattle.s3_model.specs.declared.answers.Listed.{Listed}
@@ -15,6 +15,7 @@ use Rattle.promise_examples.specs.Alone.{Clause, Shown, Comes, Lanes, UnusedLane
 use Rattle.promise_examples.specs.GivenAgain.{bytes}
 use Rattle.promise_examples.specs.Pages.{in_first}
 use Rattle.promise_examples.specs.Reading.{Reads, body_by, signed_body}
+use Rattle.promise_examples.specs.Refused as refused
 use Rattle.promise_examples.specs.Refused.{a_talk, denied_at, lost_at, once, run, sent_at, setting, stored_at}
 use Rattle.promise_examples.specs.Runs.{Example}
 use Rattle.promise_examples.proofs.Carrying as carrying
@@ -268,6 +269,48 @@ module _ (page_of : List ℕ → Listed) where
     silent = λ other. absurd (other refl);
   }
 
+  -- what was stored at its first attempt, as it should be
+  stored : (broken : Clause) → Parts (mark.Success ∷ []) (stored_at 5 ∷ []) a_talk broken
+  stored broken = record {
+    comes = λ other. refl;
+    gained = λ other. refl;
+    noted = λ other. ([], 5, [], [], refl, carrying.nothing_begins, refl, inl refl, said _ 1 5 mark.Success Finished [], (carrying.nothing_begins, inl refl));
+    marks = λ other. (refl, tt);
+    again = λ other. ((λ more. absurd (omega arith)), tt);
+    at_most = λ other. omega arith;
+    ends = λ other goes. absurd (never goes);
+    silent = λ other. tt;
+  }
+
+  abbrev the_put : Dispatched
+  the_put = sent (mark.Success ∷ []) (stored_at 5 ∷ []) a_talk
+
+  abbrev whole : (broken clause : Clause) → clause ≢ broken → Says page_of refused.whole_run (the_put ∷ []) (the_put ∷ []) clause
+  whole broken clause other = holds (mark.Success ∷ []) (stored_at 5 ∷ []) a_talk broken (stored broken) clause other
+
+  came_twice : (clause : Clause) → clause ≢ NothingElse → Says page_of refused.came_twice (the_put ∷ []) (the_put ∷ []) clause
+  came_twice Shown other = refl
+  came_twice Comes other = λ c known. each (carrying.ComesOf page_of setting (the_put ∷ []) (the_put ∷ []) refused.came_twice.journal) (the_put ∷ []) ((1, mark.Success ∷ [], refl, refl, refl), tt) c known
+  came_twice NothingElse other = absurd (other refl)
+  came_twice clause other = whole NothingElse clause other
+
+  moment_beyond : (clause : Clause) → clause ≢ UnusedLanes → Says page_of refused.moment_beyond (the_put ∷ []) (the_put ∷ []) clause
+  moment_beyond UnusedLanes other = absurd (other refl)
+  moment_beyond Noted other = by_lane (λ lane those. (free : ℕ) × (free ≤ count_by (λ (c : Dispatched). setting.wanted_memory c.dispatch.job.task) those)
+      × AreNoted Shows signed_body [] 80 free (flat_map (λ (c : Dispatched). numbered_from c 0 c.dispatch.attempts) those) (refused.moment_beyond.notes lane)) (the_put.dispatch.attempts)
+      (0, omega arith, (stored UnusedLanes).noted other)
+      (λ lane. (0, omega arith, subst (λ (notes : List Note). AreNoted Shows signed_body [] 80 0 [] notes) (sym (elsewhere lane)) (only_moment, inl refl)))
+    where
+      elsewhere : (lane : ℕ) → refused.moment_beyond.notes (suc lane) ≡ Moment 5 ∷ []
+      elsewhere lane = let other : (suc lane == 0) ≡ false = grind arith in rw other refl
+
+      only_moment : ¬ (Contains (Moment 5 ∷ []) Began)
+      only_moment h = each (λ (note : Note). note ≡ Began → ⊥) (Moment 5 ∷ []) (differs, tt) Began h refl
+        where
+          differs : Moment 5 ≡ Began → ⊥
+          differs same = cc
+  moment_beyond clause other = whole UnusedLanes clause other
+
   wires : WiresBreakAlone page_of
   wires = record {
     all_clauses = clauses_are_all;
@@ -284,6 +327,8 @@ module _ (page_of : List ℕ → Listed) where
     third_attempt = alone _ _ _ AtMost third_attempt;
     given_up = alone _ _ _ ToTheEnd given_up;
     never_tried = alone _ _ _ Silent never_tried;
+    came_twice = (the_put ∷ [], the_put ∷ [], scheduled Shows the_put.dispatch.attempts, came_twice);
+    moment_beyond = (the_put ∷ [], the_put ∷ [], scheduled Shows the_put.dispatch.attempts, moment_beyond);
   }
 
 pub each_wire_breaks_alone : EachWireBreaksAlone

@@ -297,6 +297,7 @@ module _ (page_of : List ℕ → Listed) where
     denied_again = refute specs.denied_again on_denied_again;
     never_came = refute specs.never_came on_never_came;
     came_twice = refute specs.came_twice (λ asked body limit size coming schedule carried. on_came_twice asked body limit size coming carried);
+    moment_beyond = refute specs.moment_beyond (λ asked body limit size coming schedule carried. no_cons _ _ (carried.unused_lanes 1 (omega arith)).1);
     other_wire = refute specs.other_wire (λ asked body limit size coming schedule carried. no_cons _ _ (carried.unused_lanes 1 (omega arith)).0);
     other_lane = refute specs.other_lane (λ asked body limit size coming schedule carried. on_other_lane asked body limit size coming carried);
   }

@@ -34,18 +34,18 @@ put_with attempts = record {
 
 -- the one file
 abbrev pub held_at : List ℕ → MapOf HeldFile
-held_at path = insert empty path (record { bytes = bytes; micros = 0 })
+held_at of_file = insert empty of_file (record { bytes = bytes; micros = 0 })
 
 pub body_is : (path : List ℕ) → bytes ≡ bytes_of (get (held_at path) path)
-body_is path = sym (ap bytes_of (get-insert_same nat_list_cmp_total text_exact empty path (record { bytes = bytes; micros = 0 })))
+body_is of_file = sym (ap bytes_of (get-insert_same nat_list_cmp_total text_exact empty of_file (record { bytes = bytes; micros = 0 })))
 
 to : (bucket key path : List ℕ) → Target (upload bucket key path)
-to bucket key path = record { bucket = bucket; key = key; is_dest = (refl, refl) }
+to of_bucket of_key of_file = record { bucket = of_bucket; key = of_key; is_dest = (refl, refl) }
 
 pub asks : (bucket key path : List ℕ) (gained : Gained)
     → IsTaskAsk gained (upload bucket key path) (record { number = 0; bytes = source_bytes (held_at path) (upload bucket key path).source; piece = 2; count = 1 }) kind.Upload true op.Put 0 (put bucket key path) bytes
 unfolding to
-asks bucket key path gained = (to bucket key path, refl, refl, body_is path)
+asks of_bucket of_key of_file gained = (to of_bucket of_key of_file, refl, refl, body_is of_file)
 
 -- ---- its schedule
 

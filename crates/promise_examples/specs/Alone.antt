@@ -100,6 +100,8 @@ module _ (page_of : List ℕ → Listed) where
     pub third_attempt : BreaksAlone AtMost refused.third_attempt
     pub given_up : BreaksAlone ToTheEnd refused.given_up
     pub never_tried : BreaksAlone Silent refused.never_tried
+    pub came_twice : BreaksAlone NothingElse refused.came_twice
+    pub moment_beyond : BreaksAlone UnusedLanes refused.moment_beyond
 
 abbrev pub EachWireBreaksAlone : Type 0
 EachWireBreaksAlone = (page_of : List ℕ → Listed) → WiresBreakAlone page_of

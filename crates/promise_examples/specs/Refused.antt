@@ -1,5 +1,5 @@
 -- Runs of one small upload with one thing changed, which no jobs and no trace can explain.
-use Rattle.std.specs.Prelude.{◌≡◌, ℕ, true, false, List, [], ◌∷◌, Some, None, codes}
+use Rattle.std.specs.Prelude.{◌≡◌, ◌==◌, ℕ, true, false, List, [], ◌∷◌, Some, None, codes, if◌then◌else◌}
 use Rattle.std.specs.FinMap.{insert, empty}
 use Rattle.s3_model.specs.declared.answers.Listed.{Listed}
 use Rattle.s3_model.specs.declared.outcomes.Event.{Event}
@@ -142,6 +142,10 @@ never_came = run (given_put ∷ []) (in_first []) (in_first [])
 abbrev pub came_twice : Example
 came_twice = run (given_put ∷ put_came (mark.Success ∷ []) ∷ put_came [] ∷ []) (in_first (stored_at 5 ∷ [])) (in_first a_talk)
 
+-- a moment is noted on a wire beyond the lanes
+abbrev pub moment_beyond : Example
+moment_beyond = run (once (mark.Success ∷ [])) (in_first (stored_at 5 ∷ [])) (λ lane. if lane == 0 then a_talk else Moment 5 ∷ [])
+
 -- a wire beyond the lanes gained a talk, or a job stands there
 abbrev pub other_wire : Example
 other_wire = run (once (mark.Success ∷ [])) (λ lane. stored_at 5 ∷ []) (in_first a_talk)
@@ -215,6 +219,7 @@ module _ (page_of : List ℕ → Listed) where
     pub denied_again : IsRefused denied_again
     pub never_came : IsRefused never_came
     pub came_twice : IsRefused came_twice
+    pub moment_beyond : IsRefused moment_beyond
     pub other_wire : IsRefused other_wire
     pub other_lane : IsRefused other_lane
 

@@ -19,7 +19,7 @@ pub fn refused()
     ensures lies { EachLieIsRefused }
 {}
 
-/// Thirteen of those changes on the wires break one clause of what is carried and no other: with one reading of its jobs
+/// Fifteen of those changes on the wires break one clause of what is carried and no other: with one reading of its jobs
 /// such a run keeps to the schedule, and all other clauses hold of it.
 pub fn single_breaks()
     ensures { EachWireBreaksAlone }
