@@ -144,7 +144,7 @@ module _ (head_only : Bool) (limit : Option ℕ) (got window more : List ℕ) (f
   all_pieces : (rest : List ℕ) (ending : Ending) → InPieces BeginsByLine [] got Finished → InPieces (IsOpenBody found.framing (body_limit limit found.answer.status)) behind_head rest ending
       → InPieces (IsOpenByLine head_only limit) [] (got ++ rest) ending
   all_pieces rest ending first second =
-      pieces_after BeginsByLine (IsOpenBody found.framing (body_limit limit found.answer.status)) (IsOpenByLine head_only limit) [] got behind_head rest Finished ending (open_line head_only limit) body_open first second
+      pieces_after BeginsByLine (IsOpenBody found.framing (body_limit limit found.answer.status)) (IsOpenByLine head_only limit) [] got behind_head rest ending (open_line head_only limit) body_open first second
 
   filled_broken : (rest behind there held : List ℕ) (ending : Ending) (reason : Why) → AnswerFilled found (body_limit limit found.answer.status) behind_head behind there held (Err reason) rest ending
       → ((reason ≡ why.Memory) × (ending ≢ Failed)) ⊎ IsBreak head_only limit (got ++ rest) ending reason

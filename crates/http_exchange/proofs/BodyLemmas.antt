@@ -9,6 +9,7 @@ use Rattle.answer_grammar.specs.declared.framing.Framing.TheVariants as framing
 use Rattle.answer_grammar.specs.Chunks.{BreaksOff, CannotBeContent, BeginsContent}
 use Rattle.answer_grammar.proofs.ChunkLemmas.{same_front}
 use Rattle.http_exchange.specs.Forms.{HasLineEnd, CannotBeLineEnd, BeginsLineEnd}
+use Rattle.http_exchange.specs.Exchange.{InPieces}
 use Rattle.http_exchange.specs.Steps.{ContentComes, IsOpenBody, TakesBody, TakesContent, TakesChunk, TakesForm}
 use Rattle.http_exchange.proofs.PieceLemmas.{pieces_as, pieces_after, joined, finished_fine}
 
@@ -85,13 +86,18 @@ chunk_after size before middle after body_before body_after first second early e
     cannot : (more : List ℕ) → CannotBeLineEnd (middle ++ more) → CannotBeContent size (before ++ (first ++ more))
     cannot more is = subst (CannotBeContent size) (sym (over more)) (whole_cannot size content.comes.0 (middle ++ more) content.comes.1 is)
 
+    first_pieces : InPieces (λ bytes. length bytes < size) before first Finished
+    first_pieces =
+        let E : Ending → Type 0 = λ e. InPieces (λ bytes. length bytes < size) before first e in
+        subst E content.comes.4 content.pieces
+
     by : (result : Result ℕ Why) → TakesForm HasLineEnd CannotBeLineEnd BeginsLineEnd middle after result second ending → TakesChunk size before after body_before body_after (done_of result) (first ++ second) ending
     by (Ok value) form = record {
-      pieces = pieces_after (λ bytes. length bytes < size) BeginsLineEnd (BeginsContent size) before first middle second early ending (short_begins size) begins content.pieces form.pieces;
+      pieces = pieces_after (λ bytes. length bytes < size) BeginsLineEnd (BeginsContent size) before first middle second ending (short_begins size) begins first_pieces form.pieces;
       comes = (content.comes.0, content.comes.1, over second ∙ ap (λ (b : List ℕ). content.comes.0 ++ b) form.comes.0, content.comes.3, form.comes.1);
     }
     by (Err reason) form = record {
-      pieces = pieces_after (λ bytes. length bytes < size) BeginsLineEnd (BeginsContent size) before first middle second early ending (short_begins size) begins content.pieces form.pieces;
+      pieces = pieces_after (λ bytes. length bytes < size) BeginsLineEnd (BeginsContent size) before first middle second ending (short_begins size) begins first_pieces form.pieces;
       comes = elim form.comes [
         | inl failed ↦ inl failed
         | inr off ↦ inr (off.0, elim off.1 [ inl is ↦ inl (cannot second is.0, is.1) | inr is ↦ inr (begins second is.0, is.1, is.2) ])

@@ -38,7 +38,7 @@ size_open limit before got inc chunks has within more begins = inl (behind limit
 pub size_pieces : (limit : ℕ) (before got inc more : List ℕ) (chunks : List Chunk) (ending : Ending) → HasChunks (before ++ got) chunks inc → length (contents chunks) ≤ limit
     → InPieces (IsOpenBody framing.Chunked limit) before got Finished → InPieces BeginsSize inc more ending → InPieces (IsOpenBody framing.Chunked limit) before (got ++ more) ending
 size_pieces limit before got inc more chunks ending has within pieces form =
-    pieces_after (IsOpenBody framing.Chunked limit) BeginsSize (IsOpenBody framing.Chunked limit) before got inc more Finished ending (λ bytes holds. holds) (size_open limit before got inc chunks has within) pieces form
+    pieces_after (IsOpenBody framing.Chunked limit) BeginsSize (IsOpenBody framing.Chunked limit) before got inc more ending (λ bytes holds. holds) (size_open limit before got inc chunks has within) pieces form
 
 -- a size was read
 pub size_read : (limit size : ℕ) (before got inc more last : List ℕ) (chunks : List Chunk) (ending : Ending) → HasChunks (before ++ got) chunks inc → length (contents chunks) ≤ limit
@@ -78,7 +78,7 @@ pub content_pieces : (limit size : ℕ) (before got bytes middle more : List ℕ
     → HasSize bytes size middle → 0 < size → length (contents chunks) + size ≤ limit → InPieces (IsOpenBody framing.Chunked limit) before got Finished → InPieces (BeginsContent size) middle more ending
     → InPieces (IsOpenBody framing.Chunked limit) before (got ++ more) ending
 content_pieces limit size before got bytes middle more chunks ending has within sized some fits pieces chunk =
-    pieces_after (IsOpenBody framing.Chunked limit) (BeginsContent size) (IsOpenBody framing.Chunked limit) before got middle more Finished ending (λ bytes holds. holds)
+    pieces_after (IsOpenBody framing.Chunked limit) (BeginsContent size) (IsOpenBody framing.Chunked limit) before got middle more ending (λ bytes holds. holds)
     (content_open limit size before got bytes middle chunks has within sized some fits) pieces chunk
 
 pub content_failed : (limit size : ℕ) (before got bytes middle more last after old new body : List ℕ) (chunks : List Chunk) (ending : Ending) (reason other : Why) → other ≡ reason → HasChunks (before ++ got) chunks bytes
@@ -125,7 +125,7 @@ trailers_taken limit before got bytes middle more after body chunks ending resul
     by : (result : Result ℕ Why) → TakesForm (λ after value behind. HasTrailers after behind) CannotBeTrailers BeginsTrailers middle after result more ending
         → TakesBody framing.Chunked limit before after body (done_of result) (got ++ more) ending
     by (Ok value) form = record {
-      pieces = pieces_after (IsOpenBody framing.Chunked limit) BeginsTrailers (IsOpenBody framing.Chunked limit) before got middle more Finished ending (λ bytes holds. holds) open_ pieces form.pieces;
+      pieces = pieces_after (IsOpenBody framing.Chunked limit) BeginsTrailers (IsOpenBody framing.Chunked limit) before got middle more ending (λ bytes holds. holds) open_ pieces form.pieces;
       comes = (
         record { chunks = chunks; after = bytes ++ more; trailing = middle ++ more; whole = chunks_more before got bytes more chunks has; last = size_more bytes middle more 0 sized; trailers = form.comes.0; body_is = body_is },
         omega (arith, within, ap length body_is),
@@ -133,7 +133,7 @@ trailers_taken limit before got bytes middle more after body chunks ending resul
       );
     }
     by (Err reason) form = record {
-      pieces = pieces_after (IsOpenBody framing.Chunked limit) BeginsTrailers (IsOpenBody framing.Chunked limit) before got middle more Finished ending (λ bytes holds. holds) open_ pieces form.pieces;
+      pieces = pieces_after (IsOpenBody framing.Chunked limit) BeginsTrailers (IsOpenBody framing.Chunked limit) before got middle more ending (λ bytes holds. holds) open_ pieces form.pieces;
       comes = elim form.comes [
         | inl failed ↦ inl failed
         | inr off ↦ inr (off.0, behind limit before got bytes more chunks ending reason has within (in_trailers (middle ++ more) (size_more bytes middle more 0 sized) off.1))

@@ -20,38 +20,40 @@ finished_fine ending finished failed = clash (sym finished ∙ failed)
     clash e = cc
 
 -- one call more, made while P held
-pub one_more : (P : List ℕ → Type 0) (before got more : List ℕ) (ending : Ending) → P (before ++ got) → length more ≤ 16_384 → InPieces P before (got ++ more) ending
-one_more P before got more ending holds small = inr (got, more, refl, small, holds)
+pub one_more : (P : List ℕ → Type 0) (before got more : List ℕ) → P (before ++ got) → length more ≤ 16_384 → InPieces P before (got ++ more) Finished
+one_more P before got more holds small = inr (got, more, refl, small, holds)
 
-none_small : (more : List ℕ) → more ≡ [] → length more ≤ 16_384
-none_small more none = omega (arith, ap length none)
+pub nothing_more : (before got more : List ℕ) → more ≡ [] → before ++ (got ++ more) ≡ before ++ got
+nothing_more before got more none = ap (λ (b : List ℕ). before ++ (got ++ b)) none ∙ ap (λ (b : List ℕ). before ++ b) (append-nil got)
 
+-- one call more that took nothing
 pub none_more : (P : List ℕ → Type 0) (before got more : List ℕ) (ending : Ending) → P (before ++ got) → more ≡ [] → InPieces P before (got ++ more) ending
-none_more P before got more ending holds none = one_more P before got more ending holds (none_small more none)
+none_more P before got more Finished holds none = one_more P before got more holds (omega (arith, ap length none))
+none_more P before got more Closed holds none = subst P (sym (nothing_more before got more none)) holds
+none_more P before got more Failed holds none = subst P (sym (nothing_more before got more none)) holds
 
 -- the same pieces, of which less is said
 pub pieces_as : (P R : List ℕ → Type 0) (before got : List ℕ) (ending : Ending) → ((bytes : List ℕ) → P bytes → R bytes) → InPieces P before got ending → InPieces R before got ending
-pieces_as P R before got ending lift (inl none) = inl none
-pieces_as P R before got ending lift (inr (first, last, split, small, holds)) = inr (first, last, split, small, lift (before ++ first) holds)
+pieces_as P R before got Finished lift (inl none) = inl none
+pieces_as P R before got Finished lift (inr (first, last, split, small, holds)) = inr (first, last, split, small, lift (before ++ first) holds)
+pieces_as P R before got Closed lift holds = lift (before ++ got) holds
+pieces_as P R before got Failed lift holds = lift (before ++ got) holds
 
 -- the pieces of one reader, and then those of another
-pub pieces_after : (P Q R : List ℕ → Type 0) (before first middle second : List ℕ) (early ending : Ending) → ((bytes : List ℕ) → P bytes → R bytes)
-    → ((more : List ℕ) → Q (middle ++ more) → R (before ++ (first ++ more))) → InPieces P before first early → InPieces Q middle second ending → InPieces R before (first ++ second) ending
-pieces_after P Q R before first middle second early ending lift over (inl none) (inl nothing) = inl (ap (λ (b : List ℕ). b ++ second) none.0 ∙ nothing.0, nothing.1)
-pieces_after P Q R before first middle second early ending lift over (inr (front, last, split, small, holds)) (inl nothing) =
-    inr (front, last, ap (λ (b : List ℕ). first ++ b) nothing.0 ∙ append-nil first ∙ split, small, lift (before ++ front) holds)
-pieces_after P Q R before first middle second early ending lift over (inl none) (inr (front, last, split, small, holds)) =
+pub pieces_after : (P Q R : List ℕ → Type 0) (before first middle second : List ℕ) (ending : Ending) → ((bytes : List ℕ) → P bytes → R bytes)
+    → ((more : List ℕ) → Q (middle ++ more) → R (before ++ (first ++ more))) → InPieces P before first Finished → InPieces Q middle second ending → InPieces R before (first ++ second) ending
+pieces_after P Q R before first middle second Finished lift over (inl none) (inl nothing) = inl (ap (λ (b : List ℕ). b ++ second) none ∙ nothing)
+pieces_after P Q R before first middle second Finished lift over (inr (front, last, split, small, holds)) (inl nothing) =
+    inr (front, last, ap (λ (b : List ℕ). first ++ b) nothing ∙ append-nil first ∙ split, small, lift (before ++ front) holds)
+pieces_after P Q R before first middle second Finished lift over some (inr (front, last, split, small, holds)) =
     inr (first ++ front, last, ap (λ (b : List ℕ). first ++ b) split ∙ sym (append_assoc first front last), small, over front holds)
-pieces_after P Q R before first middle second early ending lift over (inr some) (inr (front, last, split, small, holds)) =
-    inr (first ++ front, last, ap (λ (b : List ℕ). first ++ b) split ∙ sym (append_assoc first front last), small, over front holds)
+pieces_after P Q R before first middle second Closed lift over some holds = over second holds
+pieces_after P Q R before first middle second Failed lift over some holds = over second holds
 
 -- bytes behind some that were read
 pub joined : (before first front middle more : List ℕ) → before ++ first ≡ front ++ middle → before ++ (first ++ more) ≡ front ++ (middle ++ more)
 joined before first front middle more split =
     sym (append_assoc before first more) ∙ ap (λ (b : List ℕ). b ++ more) split ∙ append_assoc front middle more
-
-pub nothing_more : (before got more : List ℕ) → more ≡ [] → before ++ (got ++ more) ≡ before ++ got
-nothing_more before got more none = ap (λ (b : List ℕ). before ++ (got ++ b)) none ∙ ap (λ (b : List ℕ). before ++ b) (append-nil got)
 
 -- a form that is not whole when a call fails, or when the connection closes
 pub form_failed : (Has : List ℕ → ℕ → List ℕ → Type 0) (CannotBe Begins : List ℕ → Type 0) (before after got more : List ℕ) (ending : Ending) (reason : Why)

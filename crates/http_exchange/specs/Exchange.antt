@@ -1,7 +1,7 @@
 -- What one exchange comes to, by the talk that was made for it.
 use Rattle.std.specs.Prelude.{◌≡◌, ◌≢◌, ◌⊎◌, ◌↔◌, ℕ, ◌≤◌, ◌&&◌, ◌==◌, Bool, true, false, not, List, [], ◌++◌, length, Option, option_map, ⊤}
 use Rattle.std.specs.List.{list_all}
-use Rattle.s3_model.specs.Talks.{Talk, Ending, Failed, Finished, WireLog}
+use Rattle.s3_model.specs.Talks.{Talk, Ending, Failed, Closed, Finished, WireLog}
 use Rattle.s3_model.specs.Lists.{Buffer}
 use Rattle.s3_model.specs.declared.answers.Answered.{Answered}
 use Rattle.s3_model.specs.declared.answers.Talked.{Talked}
@@ -34,10 +34,13 @@ pub record Request : Type 0 where
 
 -- ---- in pieces
 
--- the bytes came by calls that took at most 16,384 each, and before the last call P held of those that stood there
+-- Before the last call P held of the bytes that stood there. The call took at most 16,384; where the talk closed or
+-- failed in it, it took none, and P holds of all. In a talk that goes on there may have been no call.
 abbrev pub InPieces : (List ℕ → Type 0) → List ℕ → List ℕ → Ending → Type 0
-InPieces P before got ending =
-    ((got ≡ []) × (ending ≡ Finished)) ⊎ ((first : List ℕ) × (last : List ℕ) × (got ≡ first ++ last) × (length last ≤ 16_384) × P (before ++ first))
+InPieces P before got Finished =
+    (got ≡ []) ⊎ ((first : List ℕ) × (last : List ℕ) × (got ≡ first ++ last) × (length last ≤ 16_384) × P (before ++ first))
+InPieces P before got Closed = P (before ++ got)
+InPieces P before got Failed = P (before ++ got)
 
 -- none of the bytes ends a line
 abbrev pub LacksLineEnd : List ℕ → Type 0

@@ -77,7 +77,7 @@ abbrev pub TakesLines : List ℕ → List ℕ → Result Bool Why → List ℕ �
 TakesLines before after (Ok true) got ending =
     (after ≡ before ++ got) × LacksLineEnd got × (length after < 65_536) × (ending ≡ Closed) × InPieces (λ bytes. (part : List ℕ) × (bytes ≡ before ++ part) × LacksLineEnd part) before got ending
 TakesLines before after (Ok false) got ending =
-    (after ≡ before ++ got) × (0 < length got) × (ending ≡ Finished) × InPieces (λ bytes. (part : List ℕ) × (bytes ≡ before ++ part) × LacksLineEnd part) before got ending
+    (after ≡ before ++ got) × (0 < length got) × (ending ≡ Finished) × InPieces (λ bytes. (part : List ℕ) × (bytes ≡ before ++ part) × LacksLineEnd part) before got Finished
 TakesLines before after (Err reason) got ending =
     (reason ≡ why.WireFailed) × (ending ≡ Failed) × InPieces (λ bytes. (part : List ℕ) × (bytes ≡ before ++ part) × LacksLineEnd part) before got ending
 

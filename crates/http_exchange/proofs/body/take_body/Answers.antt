@@ -7,4 +7,4 @@ use Rattle.http_exchange.proofs.body.take_body.Goals as goal
 
 pub returns-in-NoBody-clause-heard : goal.returns-in-NoBody-clause-heard
 returns-in-NoBody-clause-heard g c =
-    ([], Finished, heard_nothing _, rw c.in-NoBody.is (record { pieces = inl (refl, refl); comes = ((c.requires.empty, sym (append-nil _)), omega (arith, ap length c.requires.empty), finished_fine Finished refl) }))
+    ([], Finished, heard_nothing _, rw c.in-NoBody.is (record { pieces = inl refl; comes = ((c.requires.empty, sym (append-nil _)), omega (arith, ap length c.requires.empty), finished_fine Finished refl) }))

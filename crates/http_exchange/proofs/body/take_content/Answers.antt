@@ -20,7 +20,7 @@ loop-left-init g c =
         append-nil before ∙ sym (take-append-drop n before) ∙ ap (λ (b : List ℕ). take n before ++ b) (sym c.move_to.ensures.left),
         c.move_to.ensures.moved,
         omega (arith, length-take n before, moved),
-        inl (refl, refl),
+        inl refl,
       );
       empty = λ some. c.move_to.ensures.left ∙ drop_all n before (omega (arith, some, moved));
       room = c.move_to.ensures.room;
@@ -86,7 +86,7 @@ loop-left-preserved g c =
         shifted c.args.incoming.now so.0 now.0 so.1 c.loop-left.incoming before n so.3 now.3.0 ∙ ap (λ (b : List ℕ). (so.1 ++ take n before) ++ b) (sym c.move_to-in-loop-left.ensures.left),
         c.move_to-in-loop-left.ensures.moved ∙ ap (λ (b : List ℕ). b ++ take n before) so.4 ∙ append_assoc c.args.body.now.bytes so.1 (take n before),
         omega (arith, so.5, length-append so.1 (take n before), length-take n before, moved),
-        one_more (λ bytes. length bytes < c.args.size) c.args.incoming.now so.0 now.0 Finished short (omega (arith, now.3.1, now.3.2)),
+        one_more (λ bytes. length bytes < c.args.size) c.args.incoming.now so.0 now.0 short (omega (arith, now.3.1, now.3.2)),
       );
       empty = λ some. c.move_to-in-loop-left.ensures.left ∙ drop_all n before (omega (arith, some, moved));
       room = c.move_to-in-loop-left.ensures.room ∙ c.loop-left.invariant.room;

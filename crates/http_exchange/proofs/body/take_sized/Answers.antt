@@ -8,7 +8,7 @@ use Rattle.http_exchange.proofs.body.take_sized.Goals as goal
 pub returns-then-n-limit-clause-heard : goal.returns-then-n-limit-clause-heard
 returns-then-n-limit-clause-heard g c =
     let above = c.if-n-limit.true in
-    ([], Finished, heard_nothing _, record { pieces = inl (refl, refl); comes = inr (finished_fine Finished refl, inl (omega (arith, above), refl)) })
+    ([], Finished, heard_nothing _, record { pieces = inl refl; comes = inr (finished_fine Finished refl, inl (omega (arith, above), refl)) })
 
 pub returns-clause-heard : goal.returns-clause-heard
 returns-clause-heard g c =

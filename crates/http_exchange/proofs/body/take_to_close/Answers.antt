@@ -10,7 +10,7 @@ use Rattle.http_exchange.proofs.body.take_to_close.Goals as goal
 
 pub loop-left-init : goal.loop-left-init
 loop-left-init g c = record {
-  heard = ([], heard_nothing _, append-nil _ ∙ ap (λ (b : List ℕ). b ++ c.args.incoming.now) (sym c.requires.empty), inl (refl, refl));
+  heard = ([], heard_nothing _, append-nil _ ∙ ap (λ (b : List ℕ). b ++ c.args.incoming.now) (sym c.requires.empty), inl refl);
   sum = omega (arith, ap length c.requires.empty);
   room = refl;
   later = omega arith;
@@ -78,7 +78,7 @@ loop-left-preserved g c =
         so.0 ++ now.0,
         ending_is (so.0 ++ now.0) now.1 Finished _ _ open_ (heard_after so.0 now.0 Finished now.1 _ _ _ refl so.1 now.2),
         joined c.args.incoming.now so.0 c.move_to.new.body.bytes c.move_to.new.self now.0 body ∙ ap (λ (b : List ℕ). c.move_to.new.body.bytes ++ b) (sym now.3.0),
-        one_more (IsOpenBody framing.ToClose c.args.limit) c.args.incoming.now so.0 now.0 Finished (inr (refl, within)) (omega (arith, now.3.1, now.3.2)),
+        one_more (IsOpenBody framing.ToClose c.args.limit) c.args.incoming.now so.0 now.0 (inr (refl, within)) (omega (arith, now.3.1, now.3.2)),
       );
       sum = omega (arith, c.loop-left.invariant.sum, ap length c.move_to.ensures.moved, length-append c.loop-left.body.bytes (take n inc), length-take n inc, c.move_to.ensures.count, ap length c.bytes-count.ensures, c.if-count-left.false);
       room = c.move_to.ensures.room ∙ c.loop-left.invariant.room;

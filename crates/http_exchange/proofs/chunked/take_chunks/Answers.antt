@@ -18,7 +18,7 @@ loop-size-init g c = record {
     heard_nothing _,
     record { all = λ k d below. absurd (omega (arith, below)); split = append-nil c.args.room.now.incoming },
     c.requires.empty,
-    inl (refl, refl),
+    inl refl,
   );
   sum = omega (arith, ap length c.requires.empty);
   room = refl;

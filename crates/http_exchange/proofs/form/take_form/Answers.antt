@@ -7,7 +7,7 @@ use Rattle.http_exchange.proofs.TalkLemmas.{heard_nothing, heard_after, ending_i
 use Rattle.http_exchange.proofs.form.take_form.Goals as goal
 
 pub loop-len-init : goal.loop-len-init
-loop-len-init g c = record { heard = ([], heard_nothing _, sym (append-nil _), inl (refl, refl)); later = omega arith }
+loop-len-init g c = record { heard = ([], heard_nothing _, sym (append-nil _), inl refl); later = omega arith }
 
 pub returns-in_err-refill-clause-heard : goal.returns-in_err-refill-clause-heard
 returns-in_err-refill-clause-heard g c =
@@ -36,7 +36,7 @@ loop-len-preserved g c =
         so.0 ++ now.0,
         ending_is (so.0 ++ now.0) now.1 Finished _ _ open_ (heard_after so.0 now.0 Finished now.1 _ _ _ refl so.1 now.2),
         now.3.0 ∙ ap (λ (b : List ℕ). b ++ now.0) so.2 ∙ append_assoc _ so.0 now.0,
-        one_more g.F.Form.begins _ so.0 now.0 Finished begins (omega (arith, now.3.1, now.3.2)),
+        one_more g.F.Form.begins _ so.0 now.0 begins (omega (arith, now.3.1, now.3.2)),
       );
       later = omega (arith, c.refill.ensures.cause.later);
     }

@@ -16,7 +16,7 @@ use Rattle.http_exchange.proofs.TalkLemmas.{heard_nothing, heard_after, ending_i
 use Rattle.http_exchange.proofs.receive.take_head.Goals as goal
 
 pub loop-head-init : goal.loop-head-init
-loop-head-init g c = record { heard = heard_is [] c.args.room.now.incoming Finished _ _ (sym c.requires) (heard_nothing _); pieces = inl (c.requires, refl); later = omega arith }
+loop-head-init g c = record { heard = heard_is [] c.args.room.now.incoming Finished _ _ (sym c.requires) (heard_nothing _); pieces = inl c.requires; later = omega arith }
 
 pub returns-in_err-head-clause-heard : goal.returns-in_err-head-clause-heard
 returns-in_err-head-clause-heard g c =
@@ -79,7 +79,7 @@ returns-in_err-take_lines-clause-heard g c =
       now.1,
       heard_after got now.0 Finished now.1 _ _ _ refl c.loop-head.invariant.heard now.2,
       record {
-        pieces = pieces_after BeginsByLine (IsBegun got) BeginsByLine [] got got now.0 Finished now.1 (λ bytes holds. holds) (λ more is. by_line got (got ++ more) short begins is) c.loop-head.invariant.pieces now.3.2;
+        pieces = pieces_after BeginsByLine (IsBegun got) BeginsByLine [] got got now.0 now.1 (λ bytes holds. holds) (λ more is. by_line got (got ++ more) short begins is) c.loop-head.invariant.pieces now.3.2;
         comes = inl (now.3.0, now.3.1);
       },
     )
@@ -98,7 +98,7 @@ returns-in_err-try_head-clause-heard g c =
       now.1,
       heard_after got now.0 Finished now.1 _ _ _ refl c.loop-head.invariant.heard now.2,
       record {
-        pieces = pieces_after BeginsByLine (IsBegun got) BeginsByLine [] got got now.0 Finished now.1 (λ bytes holds. holds) (λ more is. by_line got (got ++ more) short begins is) c.loop-head.invariant.pieces now.3.4;
+        pieces = pieces_after BeginsByLine (IsBegun got) BeginsByLine [] got got now.0 now.1 (λ bytes holds. holds) (λ more is. by_line got (got ++ more) short begins is) c.loop-head.invariant.pieces now.3.4;
         comes = inr (closed_fine now.1 now.3.3, inl (subst R (c.bytes-then-branch.ensures ∙ now.3.0) c.in_err-try_head.ensures));
       },
     )
@@ -126,7 +126,7 @@ returns-then-branch-clause-heard g c =
       now.1,
       heard_after got now.0 Finished now.1 _ _ _ refl c.loop-head.invariant.heard now.2,
       record {
-        pieces = pieces_after BeginsByLine (IsBegun got) BeginsByLine [] got got now.0 Finished now.1 (λ bytes holds. holds) (λ more is. by_line got (got ++ more) short begins is) c.loop-head.invariant.pieces now.3.4;
+        pieces = pieces_after BeginsByLine (IsBegun got) BeginsByLine [] got got now.0 now.1 (λ bytes holds. holds) (λ more is. by_line got (got ++ more) short begins is) c.loop-head.invariant.pieces now.3.4;
         comes = inr (closed_fine now.1 now.3.3, inr (inr (all, begins_all (got ++ now.0) all (subst B (c.bytes-then-branch.ensures ∙ now.3.0) (rw c.in-None.is at c.in_ok-try_head.ensures)), now.3.3, refl)));
       },
     )
@@ -140,9 +140,8 @@ loop-head-preserved g c =
     let begins = begins_all got short (subst B c.bytes.ensures (rw c.in_default.is at c.in_ok-head.ensures)) in
     let heard = ending_is (got ++ now.0) now.1 Finished _ _ now.3.2 (heard_after got now.0 Finished now.1 _ _ _ refl c.loop-head.invariant.heard now.2) in
     let I : List ℕ → Type 0 = λ bytes. InPieces BeginsByLine [] bytes Finished in
-    let E : Ending → Type 0 = λ e. InPieces (IsBegun got) got now.0 e in
     record {
       heard = heard_is (got ++ now.0) c.take_lines.new.incoming Finished _ _ (sym now.3.0) heard;
-      pieces = subst I (sym now.3.0) (pieces_after BeginsByLine (IsBegun got) BeginsByLine [] got got now.0 Finished Finished (λ bytes holds. holds) (λ more is. by_line got (got ++ more) short begins is) c.loop-head.invariant.pieces (subst E now.3.2 now.3.3));
+      pieces = subst I (sym now.3.0) (pieces_after BeginsByLine (IsBegun got) BeginsByLine [] got got now.0 Finished (λ bytes holds. holds) (λ more is. by_line got (got ++ more) short begins is) c.loop-head.invariant.pieces now.3.3);
       later = omega (arith, c.take_lines.ensures.cause.later);
     }

@@ -9,7 +9,7 @@ use Rattle.http_exchange.proofs.TalkLemmas.{heard_nothing, heard_after, ending_i
 use Rattle.http_exchange.proofs.receive.take_lines.Goals as goal
 
 pub loop-incoming-init : goal.loop-incoming-init
-loop-incoming-init g c = record { heard = ([], heard_nothing _, sym (append-nil _), refl, inl (refl, refl)); short = c.requires; later = omega arith }
+loop-incoming-init g c = record { heard = ([], heard_nothing _, sym (append-nil _), refl, inl refl); short = c.requires; later = omega arith }
 
 pub returns-in_err-refill-clause-heard : goal.returns-in_err-refill-clause-heard
 returns-in_err-refill-clause-heard g c =
@@ -55,7 +55,7 @@ returns-then-bytes-ge-HEAD_LIMIT-clause-heard g c =
         now.3.0 ∙ ap (λ (b : List ℕ). b ++ now.0) so.2 ∙ append_assoc c.args.incoming.now so.0 now.0,
         omega (arith, length-append so.0 now.0, count, some),
         now.3.4 (omega arith),
-        one_more (IsBegun c.args.incoming.now) c.args.incoming.now so.0 now.0 now.1 (so.0, refl, so.3) (omega (arith, now.3.1, now.3.2)),
+        one_more (IsBegun c.args.incoming.now) c.args.incoming.now so.0 now.0 (so.0, refl, so.3) (omega (arith, now.3.1, now.3.2)),
       ),
     )
 
@@ -76,7 +76,7 @@ loop-incoming-preserved g c =
         ending_is (so.0 ++ now.0) now.1 Finished _ _ open_ (heard_after so.0 now.0 Finished now.1 _ _ _ refl so.1 now.2),
         now.3.0 ∙ ap (λ (b : List ℕ). b ++ now.0) so.2 ∙ append_assoc c.args.incoming.now so.0 now.0,
         lacks_both so.0 now.0 so.3 lacks,
-        one_more (IsBegun c.args.incoming.now) c.args.incoming.now so.0 now.0 Finished (so.0, refl, so.3) (omega (arith, now.3.1, now.3.2)),
+        one_more (IsBegun c.args.incoming.now) c.args.incoming.now so.0 now.0 (so.0, refl, so.3) (omega (arith, now.3.1, now.3.2)),
       );
       short = omega (arith, c.if-bytes-ge-HEAD_LIMIT.false, ap length c.bytes-bytes.ensures);
       later = omega (arith, c.refill.ensures.cause.later);

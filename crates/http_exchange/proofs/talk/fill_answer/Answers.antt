@@ -5,4 +5,4 @@ use Rattle.http_exchange.proofs.TalkLemmas.{heard_nothing}
 use Rattle.http_exchange.proofs.talk.fill_answer.Goals as goal
 
 pub returns-in_default-clause-heard : goal.returns-in_default-clause-heard
-returns-in_default-clause-heard g c = ([], Finished, heard_nothing _, record { pieces = inl (refl, refl); comes = inl (refl, finished_fine Finished refl) })
+returns-in_default-clause-heard g c = ([], Finished, heard_nothing _, record { pieces = inl refl; comes = inl (refl, finished_fine Finished refl) })
