@@ -18,8 +18,8 @@ use Rattle.answer_grammar.specs.Breaks.{HasUnfitHead, Breaks, BreaksBody, no_hea
 use Rattle.answer_grammar.specs.Head.{ReadsHead}
 use Rattle.answer_grammar.specs.Parts.{IsHeadAt, RefusesHead, memory, not_http, bad_length}
 use Rattle.answer_grammar.proofs.HeadLemmas.{reads_more}
-use Rattle.http_exchange.specs.Exchange.{InPieces, IsOpenByLine}
-use Rattle.http_exchange.specs.Steps.{BeginsByLine, NoHead, HeadComes, TakesHead, IsOpenBody, FailsOr, AnswerFilled, AnswerComes, FillsPlace, FillsAnswer, Receives, held_body}
+use Rattle.http_exchange.specs.Exchange.{BeginsByLine, InPieces, IsOpenByLine}
+use Rattle.http_exchange.specs.Steps.{NoHead, HeadComes, TakesHead, IsOpenBody, FailsOr, AnswerFilled, AnswerComes, FillsPlace, FillsAnswer, Receives, held_body}
 use Rattle.http_exchange.proofs.PieceLemmas.{pieces_as, pieces_after, closed_fine}
 
 -- ---- the head
@@ -45,14 +45,10 @@ not_read head_only limit got ending reason (inl refuses) = refused head_only lim
 not_read head_only limit got ending reason (inr (inl long)) = inr (in_head (too_long long.0 long.1 long.2))
 not_read head_only limit got ending reason (inr (inr short)) = inr (in_head (cut short.0 short.1 short.2 short.3))
 
-open_line : (head_only : Bool) (limit : Option ℕ) (bytes : List ℕ) → BeginsByLine bytes → IsOpenByLine head_only limit bytes
-open_line head_only limit bytes (lines, part, split, lacks, short, begins) =
-    (lines, part, split, lacks, inl (inr (closed_fine Closed refl, in_head (cut short begins refl refl))))
-
 pub head_broken : (head_only : Bool) (limit : Option ℕ) (after behind got : List ℕ) (place place_after : Buffer) (ending : Ending) (reason other : Why) → other ≡ reason
     → TakesHead head_only after (Err reason) got ending → Receives head_only limit behind place place_after (Err other) got ending
 head_broken head_only limit after behind got place place_after ending reason other same takes =
-    record { pieces = pieces_as BeginsByLine (IsOpenByLine head_only limit) [] got ending (open_line head_only limit) takes.pieces; comes = by takes.comes }
+    record { pieces = pieces_as BeginsByLine (IsOpenByLine head_only limit) [] got ending (λ bytes begins. inr begins) takes.pieces; comes = by takes.comes }
   where
     with_fine : ending ≢ Failed → (reason ≡ why.Memory) ⊎ Breaks head_only limit got ending reason → ((other ≡ why.Memory) × (ending ≢ Failed)) ⊎ IsBreak head_only limit got ending other
     with_fine fine (inl is) = inl (same ∙ is, fine)
@@ -108,43 +104,37 @@ module _ (head_only : Bool) (limit : Option ℕ) (got window more : List ℕ) (f
       }
 
   body_open : (rest : List ℕ) → IsOpenBody found.framing (body_limit limit found.answer.status) (behind_head ++ rest) → IsOpenByLine head_only limit (got ++ rest)
-  body_open rest (inl breaks) = (got ++ rest, [], sym (append-nil (got ++ rest)), refl, inl (inr (closed_fine Closed refl, body_breaks rest Closed why.EndedEarly breaks)))
+  body_open rest (inl breaks) = inl (inl (inr (closed_fine Closed refl, body_breaks rest Closed why.EndedEarly breaks)))
   body_open rest (inr (to_close, within)) =
       let H : Framing → Type 0 = λ f. HasBody f (behind_head ++ rest) Closed (behind_head ++ rest) [] in
-      let answered : Answered = record found.answer { taken = length (behind_head ++ rest) } in (
-        got ++ rest,
-        [],
-        sym (append-nil (got ++ rest)),
-        refl,
-        inr (
-          record found.answer { taken = length (behind_head ++ rest) },
-          behind_head ++ rest,
-          record {
-            head = at.head;
-            rest = behind_head ++ rest;
-            reads = reads_all rest;
-            framed = found.framing;
-            says = record {
-              framing_is = at.says.framing_is;
-              status = at.says.status;
-              etag = at.says.etag;
-              range = at.says.range;
-              micros = at.says.micros;
-              keep = at.says.keep;
-            };
-            has_body = subst H (sym to_close) (refl, refl, refl);
-            within = omega (arith, within, same_limit);
-            taken = refl;
-            no_fault = closed_fine Closed refl;
-          },
-          to_close,
-        ),
-      )
+      inl (inr (
+        record found.answer { taken = length (behind_head ++ rest) },
+        behind_head ++ rest,
+        record {
+          head = at.head;
+          rest = behind_head ++ rest;
+          reads = reads_all rest;
+          framed = found.framing;
+          says = record {
+            framing_is = at.says.framing_is;
+            status = at.says.status;
+            etag = at.says.etag;
+            range = at.says.range;
+            micros = at.says.micros;
+            keep = at.says.keep;
+          };
+          has_body = subst H (sym to_close) (refl, refl, refl);
+          within = omega (arith, within, same_limit);
+          taken = refl;
+          no_fault = closed_fine Closed refl;
+        },
+        to_close,
+      ))
 
   all_pieces : (rest : List ℕ) (ending : Ending) → InPieces BeginsByLine [] got Finished → InPieces (IsOpenBody found.framing (body_limit limit found.answer.status)) behind_head rest ending
       → InPieces (IsOpenByLine head_only limit) [] (got ++ rest) ending
   all_pieces rest ending first second =
-      pieces_after BeginsByLine (IsOpenBody found.framing (body_limit limit found.answer.status)) (IsOpenByLine head_only limit) [] got behind_head rest ending (open_line head_only limit) body_open first second
+      pieces_after BeginsByLine (IsOpenBody found.framing (body_limit limit found.answer.status)) (IsOpenByLine head_only limit) [] got behind_head rest ending (λ bytes begins. inr begins) body_open first second
 
   filled_broken : (rest behind there held : List ℕ) (ending : Ending) (reason : Why) → AnswerFilled found (body_limit limit found.answer.status) behind_head behind there held (Err reason) rest ending
       → ((reason ≡ why.Memory) × (ending ≢ Failed)) ⊎ IsBreak head_only limit (got ++ rest) ending reason

@@ -9,18 +9,14 @@ use Rattle.answer_grammar.proofs.RangeLemmas.{has_byte}
 use Rattle.answer_grammar.specs.Breaks.{BeginsHead}
 use Rattle.answer_grammar.specs.Parts.{IsHeadAt}
 use Rattle.answer_grammar.specs.declared.head.Head.{Head}
-use Rattle.http_exchange.specs.Exchange.{LacksLineEnd}
-use Rattle.http_exchange.specs.Steps.{BeginsByLine}
-
--- these bytes, and some more that end no line
-abbrev pub IsBegun : List ℕ → List ℕ → Type 0
-IsBegun before bytes = (part : List ℕ) × (bytes ≡ before ++ part) × LacksLineEnd part
+use Rattle.http_exchange.specs.Exchange.{BeginsByLine, LacksLineEnd}
+use Rattle.http_exchange.specs.Steps.{IsBegun}
 
 pub lacks_both : (first second : List ℕ) → LacksLineEnd first → LacksLineEnd second → LacksLineEnd (first ++ second)
 lacks_both first second one two = list_all-append (λ b. not (eqb b 10)) first second ∙ and_from _ _ one two
 
-pub by_line : (before bytes : List ℕ) → length before < 65_536 → BeginsHead before → IsBegun before bytes → BeginsByLine bytes
-by_line before bytes short begins (part, split, lacks) = (before, part, split, lacks, short, begins)
+pub by_line : (before bytes : List ℕ) → BeginsHead before → IsBegun before bytes → BeginsByLine bytes
+by_line before bytes begins (part, split, lacks, short) = (before, part, split, lacks, short, begins)
 
 end_ends : (end : LineEnd) → (front : List ℕ) × (print_end end ≡ front ++ 10 ∷ [])
 end_ends crlf = (13 ∷ [], refl)

@@ -1,5 +1,5 @@
 -- What one exchange comes to, by the talk that was made for it.
-use Rattle.std.specs.Prelude.{◌≡◌, ◌≢◌, ◌⊎◌, ◌↔◌, ℕ, ◌≤◌, ◌&&◌, ◌==◌, Bool, true, false, not, List, [], ◌++◌, length, Option, option_map, ⊤}
+use Rattle.std.specs.Prelude.{◌≡◌, ◌≢◌, ◌⊎◌, ◌↔◌, ℕ, ◌<◌, ◌≤◌, ◌&&◌, ◌==◌, Bool, true, false, not, List, [], ◌++◌, length, Option, option_map, ⊤}
 use Rattle.std.specs.List.{list_all}
 use Rattle.s3_model.specs.Talks.{Talk, Ending, Failed, Closed, Finished, WireLog}
 use Rattle.s3_model.specs.Lists.{Buffer}
@@ -10,7 +10,7 @@ use Rattle.s3_model.specs.declared.answers.Why.{Why}
 use Rattle.s3_model.specs.declared.answers.Why.TheVariants as why
 use Rattle.s3_model.specs.declared.places.Endpoint.{Endpoint}
 use Rattle.answer_grammar.specs.Answer.{Begins, IsAnswer, Delivers}
-use Rattle.answer_grammar.specs.Breaks.{IsBreak, IsOpen}
+use Rattle.answer_grammar.specs.Breaks.{BeginsHead, IsBreak, IsOpen}
 use Rattle.s3_outside.specs.Seen.{IsSeenAfter}
 use Rattle.http_exchange.specs.Seen.{with_talk}
 
@@ -46,9 +46,14 @@ InPieces P before got Failed = P (before ++ got)
 abbrev pub LacksLineEnd : List ℕ → Type 0
 LacksLineEnd bytes = list_all (λ b. not (b == 10)) bytes ≡ true
 
--- nothing was decided up to the end of the last line, or of the bytes
+-- fewer bytes than a head may have, which up to the end of the last line begin one
+abbrev pub BeginsByLine : List ℕ → Type 0
+BeginsByLine got =
+    (lines : List ℕ) × (part : List ℕ) × (got ≡ lines ++ part) × LacksLineEnd part × (length got < 65_536) × BeginsHead lines
+
+-- nothing is decided yet; in the head, not up to the end of the last line
 abbrev pub IsOpenByLine : Bool → Option ℕ → List ℕ → Type 0
-IsOpenByLine head_only limit got = (lines : List ℕ) × (part : List ℕ) × (got ≡ lines ++ part) × LacksLineEnd part × IsOpen head_only limit lines
+IsOpenByLine head_only limit got = IsOpen head_only limit got ⊎ BeginsByLine got
 
 -- ---- the result
 

@@ -19,7 +19,7 @@ use Rattle.answer_grammar.specs.Breaks.{BeginsHead, BreaksBody, IsBreak}
 use Rattle.answer_grammar.specs.Chunks.{BreaksOff, CannotBeContent, BeginsContent, ReadsChunks, BreaksChunks}
 use Rattle.answer_grammar.specs.Parts.{IsHeadAt, ReadsStep, RefusesHead}
 use Rattle.httparse.specs.Ascii.{crlf_bytes}
-use Rattle.http_exchange.specs.Exchange.{InPieces, IsOpenByLine, LacksLineEnd}
+use Rattle.http_exchange.specs.Exchange.{BeginsByLine, InPieces, IsOpenByLine, LacksLineEnd}
 use Rattle.http_exchange.specs.Seen.{with_talk, hears}
 
 -- the count of faults does not fall, and WireFailed comes only where it rose
@@ -72,18 +72,18 @@ FailsOr P ending reason = ((reason ≡ why.WireFailed) × (ending ≡ Failed)) �
 
 -- ---- the head
 
+-- these bytes and more that end no line, fewer than a head may have
+abbrev pub IsBegun : List ℕ → List ℕ → Type 0
+IsBegun before bytes = (part : List ℕ) × (bytes ≡ before ++ part) × LacksLineEnd part × (length bytes < 65_536)
+
 -- lines were added: at most one piece has the end of one
 abbrev pub TakesLines : List ℕ → List ℕ → Result Bool Why → List ℕ → Ending → Type 0
 TakesLines before after (Ok true) got ending =
-    (after ≡ before ++ got) × LacksLineEnd got × (length after < 65_536) × (ending ≡ Closed) × InPieces (λ bytes. (part : List ℕ) × (bytes ≡ before ++ part) × LacksLineEnd part) before got ending
+    (after ≡ before ++ got) × LacksLineEnd got × (length after < 65_536) × (ending ≡ Closed) × InPieces (IsBegun before) before got ending
 TakesLines before after (Ok false) got ending =
-    (after ≡ before ++ got) × (0 < length got) × (ending ≡ Finished) × InPieces (λ bytes. (part : List ℕ) × (bytes ≡ before ++ part) × LacksLineEnd part) before got Finished
+    (after ≡ before ++ got) × (0 < length got) × (ending ≡ Finished) × InPieces (IsBegun before) before got Finished
 TakesLines before after (Err reason) got ending =
-    (reason ≡ why.WireFailed) × (ending ≡ Failed) × InPieces (λ bytes. (part : List ℕ) × (bytes ≡ before ++ part) × LacksLineEnd part) before got ending
-
--- up to the end of the last line, a head is begun
-abbrev pub BeginsByLine : List ℕ → Type 0
-BeginsByLine got = (lines : List ℕ) × (part : List ℕ) × (got ≡ lines ++ part) × LacksLineEnd part × (length lines < 65_536) × BeginsHead lines
+    (reason ≡ why.WireFailed) × (ending ≡ Failed) × InPieces (IsBegun before) before got ending
 
 -- why no head was read, from the first bytes that it may stand in
 abbrev pub NoHead : Bool → List ℕ → Ending → Why → Type 0

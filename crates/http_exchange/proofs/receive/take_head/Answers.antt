@@ -7,10 +7,10 @@ use Rattle.s3_outside.specs.Wire.{last_talk}
 use Rattle.answer_grammar.specs.Breaks.{BeginsHead}
 use Rattle.answer_grammar.specs.Parts.{IsHeadAt, RefusesHead}
 use Rattle.answer_grammar.specs.Head.{ReadsHead}
-use Rattle.http_exchange.specs.Exchange.{InPieces}
+use Rattle.http_exchange.specs.Exchange.{BeginsByLine, InPieces}
 use Rattle.http_exchange.specs.Seen.{hears}
-use Rattle.http_exchange.specs.Steps.{BeginsByLine}
-use Rattle.http_exchange.proofs.LineLemmas.{IsBegun, by_line, begins_all, head_at_lines, no_head_yet}
+use Rattle.http_exchange.specs.Steps.{IsBegun}
+use Rattle.http_exchange.proofs.LineLemmas.{by_line, begins_all, head_at_lines, no_head_yet}
 use Rattle.http_exchange.proofs.PieceLemmas.{pieces_after, closed_fine, finished_fine}
 use Rattle.http_exchange.proofs.TalkLemmas.{heard_nothing, heard_after, ending_is, heard_is}
 use Rattle.http_exchange.proofs.receive.take_head.Goals as goal
@@ -79,7 +79,7 @@ returns-in_err-take_lines-clause-heard g c =
       now.1,
       heard_after got now.0 Finished now.1 _ _ _ refl c.loop-head.invariant.heard now.2,
       record {
-        pieces = pieces_after BeginsByLine (IsBegun got) BeginsByLine [] got got now.0 now.1 (λ bytes holds. holds) (λ more is. by_line got (got ++ more) short begins is) c.loop-head.invariant.pieces now.3.2;
+        pieces = pieces_after BeginsByLine (IsBegun got) BeginsByLine [] got got now.0 now.1 (λ bytes holds. holds) (λ more is. by_line got (got ++ more) begins is) c.loop-head.invariant.pieces now.3.2;
         comes = inl (now.3.0, now.3.1);
       },
     )
@@ -98,7 +98,7 @@ returns-in_err-try_head-clause-heard g c =
       now.1,
       heard_after got now.0 Finished now.1 _ _ _ refl c.loop-head.invariant.heard now.2,
       record {
-        pieces = pieces_after BeginsByLine (IsBegun got) BeginsByLine [] got got now.0 now.1 (λ bytes holds. holds) (λ more is. by_line got (got ++ more) short begins is) c.loop-head.invariant.pieces now.3.4;
+        pieces = pieces_after BeginsByLine (IsBegun got) BeginsByLine [] got got now.0 now.1 (λ bytes holds. holds) (λ more is. by_line got (got ++ more) begins is) c.loop-head.invariant.pieces now.3.4;
         comes = inr (closed_fine now.1 now.3.3, inl (subst R (c.bytes-then-branch.ensures ∙ now.3.0) c.in_err-try_head.ensures));
       },
     )
@@ -126,7 +126,7 @@ returns-then-branch-clause-heard g c =
       now.1,
       heard_after got now.0 Finished now.1 _ _ _ refl c.loop-head.invariant.heard now.2,
       record {
-        pieces = pieces_after BeginsByLine (IsBegun got) BeginsByLine [] got got now.0 now.1 (λ bytes holds. holds) (λ more is. by_line got (got ++ more) short begins is) c.loop-head.invariant.pieces now.3.4;
+        pieces = pieces_after BeginsByLine (IsBegun got) BeginsByLine [] got got now.0 now.1 (λ bytes holds. holds) (λ more is. by_line got (got ++ more) begins is) c.loop-head.invariant.pieces now.3.4;
         comes = inr (closed_fine now.1 now.3.3, inr (inr (all, begins_all (got ++ now.0) all (subst B (c.bytes-then-branch.ensures ∙ now.3.0) (rw c.in-None.is at c.in_ok-try_head.ensures)), now.3.3, refl)));
       },
     )
@@ -142,6 +142,6 @@ loop-head-preserved g c =
     let I : List ℕ → Type 0 = λ bytes. InPieces BeginsByLine [] bytes Finished in
     record {
       heard = heard_is (got ++ now.0) c.take_lines.new.incoming Finished _ _ (sym now.3.0) heard;
-      pieces = subst I (sym now.3.0) (pieces_after BeginsByLine (IsBegun got) BeginsByLine [] got got now.0 Finished (λ bytes holds. holds) (λ more is. by_line got (got ++ more) short begins is) c.loop-head.invariant.pieces now.3.3);
+      pieces = subst I (sym now.3.0) (pieces_after BeginsByLine (IsBegun got) BeginsByLine [] got got now.0 Finished (λ bytes holds. holds) (λ more is. by_line got (got ++ more) begins is) c.loop-head.invariant.pieces now.3.3);
       later = omega (arith, c.take_lines.ensures.cause.later);
     }

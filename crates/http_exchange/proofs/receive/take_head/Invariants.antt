@@ -2,9 +2,8 @@ use Rattle.std.proofs.Common.{◌≡◌, ℕ, ◌-◌, ◌≤◌, List, [], leng
 use Rattle.std.specs.Option.{option_map}
 use Rattle.s3_model.specs.Talks.{Finished}
 use Rattle.s3_outside.specs.Wire.{last_talk}
-use Rattle.http_exchange.specs.Exchange.{InPieces}
+use Rattle.http_exchange.specs.Exchange.{BeginsByLine, InPieces}
 use Rattle.http_exchange.specs.Seen.{hears}
-use Rattle.http_exchange.specs.Steps.{BeginsByLine}
 use Rattle.http_exchange.proofs.receive.take_head.Given as goal
 
 abbrev pub invariant-loop-head : goal.invariant-loop-head

@@ -1,12 +1,16 @@
-use Rattle.std.proofs.Common.{◌≡◌, ℕ, ◌-◌, ◌≤◌, true, not, eqb, List, [], ◌++◌, length, take, drop, sym, refl, ap, subst, ◌∙◌, arith, inl, append_assoc, length-append}
+use Rattle.std.proofs.Common.{◌≡◌, ℕ, ◌-◌, ◌<◌, ◌≤◌, true, not, eqb, List, [], ◌++◌, length, take, drop, sym, refl, ap, subst, ◌∙◌, arith, inl, append_assoc, length-append}
 use Rattle.std.proofs.lemmas.List.{append-nil, drop_at, take_rest}
 use Rattle.std.proofs.lemmas.Result.{err_from_is_err_and}
 use Rattle.s3_model.specs.Talks.{Closed, Finished}
 use Rattle.http_exchange.specs.Exchange.{LacksLineEnd}
-use Rattle.http_exchange.proofs.LineLemmas.{lacks_both, IsBegun}
+use Rattle.http_exchange.specs.Steps.{IsBegun}
+use Rattle.http_exchange.proofs.LineLemmas.{lacks_both}
 use Rattle.http_exchange.proofs.PieceLemmas.{one_more, none_more, nothing_more}
 use Rattle.http_exchange.proofs.TalkLemmas.{heard_nothing, heard_after, ending_is, nothing_taken}
 use Rattle.http_exchange.proofs.receive.take_lines.Goals as goal
+
+begun : (before got incoming : List ℕ) → incoming ≡ before ++ got → LacksLineEnd got → length incoming < 65_536 → IsBegun before (before ++ got)
+begun before got incoming split lacks short = (got, refl, lacks, omega (arith, ap length split, short))
 
 pub loop-incoming-init : goal.loop-incoming-init
 loop-incoming-init g c = record { heard = ([], heard_nothing _, sym (append-nil _), refl, inl refl); short = c.requires; later = omega arith }
@@ -20,7 +24,7 @@ returns-in_err-refill-clause-heard g c =
       so.0 ++ now.0,
       now.1,
       heard_after so.0 now.0 Finished now.1 _ _ _ refl so.1 now.2,
-      (p.2 ∙ now.3.1, now.3.2, none_more (IsBegun c.args.incoming.now) c.args.incoming.now so.0 now.0 now.1 (so.0, refl, so.3) now.3.0),
+      (p.2 ∙ now.3.1, now.3.2, none_more (IsBegun c.args.incoming.now) c.args.incoming.now so.0 now.0 now.1 (begun _ so.0 _ so.2 so.3 c.loop-incoming.invariant.short) now.3.0),
     )
 
 pub returns-then-branch-eq0-clause-heard : goal.returns-then-branch-eq0-clause-heard
@@ -38,7 +42,7 @@ returns-then-branch-eq0-clause-heard g c =
         subst LacksLineEnd (sym same) so.3,
         omega (arith, ap length kept, c.loop-incoming.invariant.short),
         now.3.3 (omega arith),
-        none_more (IsBegun c.args.incoming.now) c.args.incoming.now so.0 now.0 now.1 (so.0, refl, so.3) none,
+        none_more (IsBegun c.args.incoming.now) c.args.incoming.now so.0 now.0 now.1 (begun _ so.0 _ so.2 so.3 c.loop-incoming.invariant.short) none,
       ),
     )
 
@@ -55,7 +59,7 @@ returns-then-bytes-ge-HEAD_LIMIT-clause-heard g c =
         now.3.0 ∙ ap (λ (b : List ℕ). b ++ now.0) so.2 ∙ append_assoc c.args.incoming.now so.0 now.0,
         omega (arith, length-append so.0 now.0, count, some),
         now.3.4 (omega arith),
-        one_more (IsBegun c.args.incoming.now) c.args.incoming.now so.0 now.0 (so.0, refl, so.3) (omega (arith, now.3.1, now.3.2)),
+        one_more (IsBegun c.args.incoming.now) c.args.incoming.now so.0 now.0 (begun _ so.0 _ so.2 so.3 c.loop-incoming.invariant.short) (omega (arith, now.3.1, now.3.2)),
       ),
     )
 
@@ -76,7 +80,7 @@ loop-incoming-preserved g c =
         ending_is (so.0 ++ now.0) now.1 Finished _ _ open_ (heard_after so.0 now.0 Finished now.1 _ _ _ refl so.1 now.2),
         now.3.0 ∙ ap (λ (b : List ℕ). b ++ now.0) so.2 ∙ append_assoc c.args.incoming.now so.0 now.0,
         lacks_both so.0 now.0 so.3 lacks,
-        one_more (IsBegun c.args.incoming.now) c.args.incoming.now so.0 now.0 (so.0, refl, so.3) (omega (arith, now.3.1, now.3.2)),
+        one_more (IsBegun c.args.incoming.now) c.args.incoming.now so.0 now.0 (begun _ so.0 _ so.2 so.3 c.loop-incoming.invariant.short) (omega (arith, now.3.1, now.3.2)),
       );
       short = omega (arith, c.if-bytes-ge-HEAD_LIMIT.false, ap length c.bytes-bytes.ensures);
       later = omega (arith, c.refill.ensures.cause.later);

@@ -2,8 +2,8 @@ use Rattle.std.proofs.Common.{ℕ, List, [], ◌++◌, sym, ap, subst, ◌∙◌
 use Rattle.std.proofs.lemmas.Result.{err_from_is_err_and}
 use Rattle.s3_model.specs.Talks.{Ending, Finished}
 use Rattle.answer_grammar.specs.Answer.{body_limit}
-use Rattle.http_exchange.specs.Exchange.{InPieces}
-use Rattle.http_exchange.specs.Steps.{BeginsByLine, FillsPlace, FillsAnswer}
+use Rattle.http_exchange.specs.Exchange.{BeginsByLine, InPieces}
+use Rattle.http_exchange.specs.Steps.{FillsPlace, FillsAnswer}
 use Rattle.http_exchange.proofs.AnswerLemmas.{head_broken, into_place, into_answer}
 use Rattle.http_exchange.proofs.TalkLemmas.{heard_after}
 use Rattle.http_exchange.proofs.talk.receive.Goals as goal
