@@ -1,18 +1,18 @@
 -- What stands at the front of a chunked body is one thing, and not the beginning of another.
-use Rattle.std.proofs.Common.{◌≡◌, ℕ, ◌+◌, ◌*◌, ◌-◌, ◌<◌, ◌≤◌, min, List, [], ◌∷◌, ◌++◌, length, take, drop, sym, refl, ap, subst, ◌∙◌, arith, append_assoc, inl, inr, length-append}
+use Rattle.std.proofs.Common.{◌≡◌, ℕ, ◌+◌, ◌*◌, ◌-◌, ◌≤◌, min, List, [], ◌∷◌, ◌++◌, length, take, drop, sym, refl, ap, subst, ◌∙◌, arith, append_assoc, inl, inr, length-append}
 use Rattle.std.specs.Prelude.{All, flat_map}
 use Rattle.std.proofs.Math.Seq.{take-append-add}
 use Rattle.std.proofs.lemmas.Bool.{cases_lt}
 use Rattle.std.proofs.lemmas.List.{take_at, drop_at, take_all, append-nil, take-append-drop, length-take}
 use Rattle.std.proofs.lemmas.List.Elements.{All-head, All-tail}
 use Rattle.httparse.specs.Ascii.{crlf_bytes}
-use Rattle.httparse.specs.Grammar.{LineEnd, crlf, lf, print_end, Field, IsField, print_field, print_section, ReadsSection, ChunkLine, IsChunkLine, print_chunk_line, chunk_size, ReadsChunkLine}
+use Rattle.httparse.specs.Grammar.{LineEnd, crlf, lf, print_end, Field, IsField, print_field, print_section, ReadsSection, ChunkLine, print_chunk_line, chunk_size, ReadsChunkLine}
 use Rattle.httparse.specs.Spans.{IsChunkLineAt}
 use Rattle.httparse.proofs.ChunkLemmas.{chunk_line_unique}
 use Rattle.httparse.proofs.GrammarLemmas.{section_unique}
 use Rattle.s3_model.specs.Talks.{Ending}
 use Rattle.s3_model.specs.declared.answers.Why.{Why}
-use Rattle.answer_grammar.specs.Chunks.{Chunk, IsChunk, IsSizeLine, HasSize, HasTrailers, BreaksOff, CannotBeSize, BeginsSize, CannotBeContent, BeginsContent, CannotBeTrailers, BeginsTrailers, print_chunk}
+use Rattle.answer_grammar.specs.Chunks.{Chunk, HasSize, HasTrailers, BreaksOff, CannotBeSize, BeginsSize, CannotBeContent, BeginsContent, CannotBeTrailers, BeginsTrailers, print_chunk}
 
 -- two fronts of one length, and what stands behind them
 pub same_front : (x y a b : List ℕ) → x ++ a ≡ y ++ b → length x ≡ length y → (x ≡ y) × (a ≡ b)

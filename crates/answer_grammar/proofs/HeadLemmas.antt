@@ -1,7 +1,7 @@
 -- The head at the front of the bytes.
-use Rattle.std.proofs.Common.{◌≡◌, ◌⊎◌, ℕ, ◌+◌, ◌*◌, ◌-◌, ◌<◌, ◌≤◌, Bool, List, [], ◌∷◌, ◌++◌, length, take, drop, sym, ap, subst, ◌∙◌, arith, inl, inr, Ok, Err, MatchResult, Result, length-append}
-use Rattle.std.proofs.lemmas.List.{length-map, length-take-le, append-nil, take_all}
-use Rattle.httparse.specs.Grammar.{ResponseHead, print_response, print_section, print_blank, print_version, print_reason, print_end, lf, ReadsResponse, IsResponseHead, NeverHasResponse, HasNoResponse, status_code}
+use Rattle.std.proofs.Common.{◌≡◌, ◌⊎◌, ℕ, ◌+◌, ◌*◌, ◌<◌, ◌≤◌, Bool, List, [], ◌∷◌, ◌++◌, length, take, drop, sym, ap, subst, ◌∙◌, arith, inl, inr, Ok, Err, MatchResult, Result, length-append}
+use Rattle.std.proofs.lemmas.List.{length-map, length-take-le}
+use Rattle.httparse.specs.Grammar.{ResponseHead, print_response, print_section, lf, IsResponseHead, status_code}
 use Rattle.httparse.specs.Spans.{IsResponseAt, IsResponseWithin, ResponseExceeds, SectionExceeds, header_bytes, name_and_value}
 use Rattle.httparse.specs.Outcome.{OnInvalid}
 use Rattle.httparse.specs.declared.Error.{Error}
@@ -11,7 +11,7 @@ use Rattle.httparse.specs.declared.spans.ResponseSpans.{ResponseSpans}
 use Rattle.httparse.proofs.GrammarLemmas.{ReadsResponse-append}
 use Rattle.s3_model.specs.declared.answers.Why.{Why}
 use Rattle.answer_grammar.specs.declared.head.Head.{Head}
-use Rattle.answer_grammar.specs.Breaks.{BeginsHead, HasUnfitHead}
+use Rattle.answer_grammar.specs.Breaks.{HasUnfitHead}
 use Rattle.answer_grammar.specs.Parts.{SaysOf, IsHeadAt, RefusesHead, memory, bad_length}
 use Rattle.answer_grammar.specs.Head.{ReadsHead}
 use Rattle.answer_grammar.proofs.ChunkLemmas.{end_long, fields_long, section_long}

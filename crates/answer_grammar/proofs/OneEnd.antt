@@ -1,5 +1,5 @@
 -- No bytes and ending come to two ends.
-use Rattle.std.proofs.Common.{◌≡◌, ◌≢◌, ℕ, ◌+◌, ◌-◌, ◌<◌, ◌≤◌, Bool, List, [], ◌∷◌, ◌++◌, length, take, drop, Option, Some, None, sym, refl, ap, subst, ◌∙◌, arith, append_assoc, inl, inr, length-append}
+use Rattle.std.proofs.Common.{◌≡◌, ℕ, ◌+◌, ◌-◌, ◌<◌, ◌≤◌, Bool, List, [], ◌∷◌, ◌++◌, length, take, drop, Option, Some, None, sym, refl, ap, subst, ◌∙◌, arith, append_assoc, inl, inr, length-append}
 use Rattle.std.specs.Prelude.{All, flat_map, codes}
 use Rattle.std.specs.Str.Parse.{digits_value}
 use Rattle.std.proofs.lemmas.List.{append-nil, take_all}
@@ -7,14 +7,13 @@ use Rattle.std.proofs.lemmas.List.Elements.{All-head, All-tail}
 use Rattle.httparse.specs.Ascii.{crlf_bytes}
 use Rattle.httparse.specs.Grammar.{ResponseHead, print_response, ReadsResponse, NeverHasResponse, status_code}
 use Rattle.httparse.proofs.GrammarLemmas.{response_unique}
-use Rattle.s3_model.specs.Talks.{Ending, Failed}
+use Rattle.s3_model.specs.Talks.{Ending}
 use Rattle.s3_model.specs.declared.answers.Answered.{Answered}
 use Rattle.s3_model.specs.declared.answers.Why.{Why}
-use Rattle.s3_model.specs.declared.answers.Why.TheVariants as why
 use Rattle.answer_grammar.specs.declared.framing.Framing.{Framing}
 use Rattle.answer_grammar.specs.declared.framing.Framing.TheVariants as framing
 use Rattle.answer_grammar.specs.Answer.{HasBody, IsAnswer, Describes, body_limit}
-use Rattle.answer_grammar.specs.Breaks.{BeginsHead, BreaksHead, no_head, unfit, too_long, cut, BreaksBody, Breaks, in_head, in_lines, in_body, IsBreak, End, answer, broken, EndsAs, IsSameEnd, OneEnd}
+use Rattle.answer_grammar.specs.Breaks.{BeginsHead, BreaksHead, no_head, unfit, too_long, cut, BreaksBody, Breaks, in_head, in_lines, in_body, IsBreak, answer, broken, OneEnd}
 use Rattle.answer_grammar.specs.Chunks.{Chunk, IsChunk, HasChunks, HasSize, HasTrailers, ReadsChunks, BreaksBehind, BreaksChunks, contents, print_chunk}
 use Rattle.answer_grammar.specs.Chunks as chunks
 use Rattle.answer_grammar.specs.Head.{ReadsHead, IsFramed, HasRange, SpellsRange, header_lines, first_named, may_keep}
@@ -283,7 +282,7 @@ pub answer_or_break : (head_only : Bool) (limit : Option ℕ) (got : List ℕ) (
 answer_or_break head_only limit got ending answered body behind r here (inl failed) = here.no_fault failed.0
 answer_or_break head_only limit got ending answered body behind r here (inr breaks) = answer_not_broken head_only limit got ending answered body behind r here breaks.1
 
-one_break : (head_only : Bool) (limit : Option ℕ) (got : List ℕ) (ending : Ending) (r s : Why) → IsBreak head_only limit got ending r → IsBreak head_only limit got ending s → r ≡ s
+pub one_break : (head_only : Bool) (limit : Option ℕ) (got : List ℕ) (ending : Ending) (r s : Why) → IsBreak head_only limit got ending r → IsBreak head_only limit got ending s → r ≡ s
 one_break head_only limit got ending r s (inl here) (inl there) = here.1 ∙ sym there.1
 one_break head_only limit got ending r s (inl here) (inr there) = absurd (there.0 here.0)
 one_break head_only limit got ending r s (inr here) (inl there) = absurd (here.0 there.0)

@@ -1,7 +1,7 @@
 -- Why bytes are no answer: a relation between all bytes that came, how the talk ended, and the one reason.
 use Rattle.std.specs.Prelude.{◌≡◌, ◌≢◌, ◌⊎◌, ℕ, ◌<◌, ◌≤◌, Bool, List, [], length, take, Option}
 use Rattle.httparse.specs.Grammar.{ResponseHead, print_response, status_code, ReadsResponse, HasNoResponse, NeverHasResponse, MayBecomeResponse}
-use Rattle.s3_model.specs.Talks.{Ending, Closed, Failed}
+use Rattle.s3_model.specs.Talks.{Ending, Closed, Failed, Finished}
 use Rattle.s3_model.specs.declared.answers.Answered.{Answered}
 use Rattle.s3_model.specs.declared.answers.Why.{Why}
 use Rattle.s3_model.specs.declared.answers.Why.TheVariants as why
@@ -82,3 +82,7 @@ abbrev pub IsOpen : Bool → Option ℕ → List ℕ → Type 0
 IsOpen head_only limit got =
     IsBreak head_only limit got Closed why.EndedEarly
     ⊎ ((answered : Answered) × (body : List ℕ) × (is : IsAnswer head_only limit got Closed answered body []) × (is.framed ≡ framing.ToClose))
+
+-- What is open has no end as long as the talk goes on: neither an answer nor a break, so more bytes have to come.
+abbrev pub NoEndYet : Type 0
+NoEndYet = (head_only : Bool) (limit : Option ℕ) (got : List ℕ) (end : End) → IsOpen head_only limit got → ¬ (EndsAs head_only limit got Finished end)

@@ -13,4 +13,4 @@ pub use chunks::{read_size, read_trailers};
 pub use framing::Framing;
 pub use head::{HEAD_LIMIT, Head, read_head};
 pub use head_room::HeadRoom;
-pub use law::one_end;
+pub use law::{no_end_yet, one_end};

@@ -1,4 +1,4 @@
-use Rattle.std.proofs.Common.{◌≡◌, ℕ, List, take, subst, sym, refl, arith, inl, inr, ap, ◌∙◌}
+use Rattle.std.proofs.Common.{ℕ, take, subst, refl, arith, inl, inr, ap, ◌∙◌}
 use Rattle.httparse.specs.Grammar.{HasNoChunkLine, NeverHasChunkLine}
 use Rattle.answer_grammar.proofs.ChunkLemmas.{window_is, size_found}
 use Rattle.answer_grammar.proofs.chunks.read_size.Goals as goal

@@ -1,4 +1,4 @@
-use Rattle.std.proofs.Common.{◌≡◌, ℕ, List, take, subst, sym, refl, arith, inl, inr, ap, ◌∙◌}
+use Rattle.std.proofs.Common.{ℕ, take, subst, refl, arith, inl, inr, ap, ◌∙◌}
 use Rattle.std.proofs.lemmas.List.{length-take}
 use Rattle.httparse.specs.Grammar.{HasNoSection, NeverHasSection}
 use Rattle.httparse.specs.Spans.{SectionExceeds}

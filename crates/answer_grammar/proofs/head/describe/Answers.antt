@@ -1,9 +1,9 @@
-use Rattle.std.proofs.Common.{◌≡◌, ◌≢◌, [], ◌&&◌, true, Bool, Option, not, sym, ap, subst, ◌∙◌, refl, inl, inr, eqb, List, ℕ}
+use Rattle.std.proofs.Common.{◌≡◌, [], ◌&&◌, Option, not, sym, ap, subst, ◌∙◌, refl, inr, eqb, List, ℕ}
 use Rattle.std.specs.Prelude.{codes, Result}
 use Rattle.std.proofs.lemmas.Result.{err_from_is_err_and, MatchResult-at_ok}
 use Rattle.http1.specs.Fields.{Header, has_option, elements_named}
 use Rattle.http1.specs.declared.fields.KnownFields.{KnownFields}
-use Rattle.answer_grammar.specs.Head.{IsCoded, codings, lengths, StatesLength, framing_by, has_no_body, header_lines, etag_of, micros_of, first_named, HasRange, ends_itself}
+use Rattle.answer_grammar.specs.Head.{IsCoded, codings, lengths, StatesLength, framing_by, has_no_body, etag_of, micros_of, first_named, HasRange, ends_itself}
 use Rattle.answer_grammar.specs.Parts.{pairs, HasEtag, IsCodedBy}
 use Rattle.answer_grammar.proofs.FramingLemmas.{known_close, coded_by, codes_by}
 use Rattle.answer_grammar.proofs.OneFraming.{coded_once, stated_once}
