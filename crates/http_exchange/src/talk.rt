@@ -59,7 +59,7 @@ pub fn exchange<W: Wire>(
     ensures failed { result ≡ Talked.Broken Why.WireFailed → Rose (W.faults wire.old) (W.faults wire.new) }
     ensures later { W.faults wire.old ≤ W.faults wire.new }
     ensures own { IfBroken result IsOfTalk }
-    ensures room { into.old.room ≤ into.new.room }
+    ensures room { into.new.room ≡ into.old.room }
     ensures untouched { limit ≡ None → into.new ≡ into.old }
 {
     room.incoming.clear();
