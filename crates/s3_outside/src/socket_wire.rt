@@ -14,7 +14,7 @@ use std::{io, thread};
 /// The last second before the year 10,000.
 const LAST_MOMENT: u64 = 253_402_300_799;
 
-/// How many seconds a call may wait for a byte, as the AWS CLI's defaults for connecting and reading.
+/// How many seconds a call may wait for a byte, or for one address, as the AWS CLI's defaults for connecting and reading.
 const LIMIT: u32 = 60;
 
 /// The greatest length of a host's name in bytes (RFC 1035, section 2.3.4).
@@ -32,11 +32,12 @@ struct Peer {
 }
 
 /// A wire over the system's sockets and its clock, of which nothing is seen. A connection is kept for the next talk with
-/// the same host and port. Connecting, sending and taking each give up where no byte moved for a number of seconds.
+/// the same host and port. Sending and taking each give up where no byte moved for a number of seconds, 60 if nothing
+/// else is said; connecting does so for each address of the host. Looking up its name has the system's own limit.
 /// Nagle's algorithm (RFC 896) is off.
 ///
-/// Where the other side closes before it took the whole request, and what it sent begins an answer of status 300 to 499,
-/// the rest of the request counts as sent, so that the answer is heard.
+/// Where sending fails, and what came begins an answer of status 300 to 499, the rest of the request counts as sent, so
+/// that the answer is heard.
 #[derive(Drop)]
 pub struct SocketWire<R: Net> {
     runtime: R,
@@ -48,14 +49,15 @@ pub struct SocketWire<R: Net> {
 }
 
 impl<R: Net + Clock> SocketWire<R> {
-    /// A wire that is not connected yet, and gives up after 60 seconds.
+    /// A wire that is not connected yet, and gives up after 60 seconds without a byte, or at one address.
     pub fn new(runtime: R) -> SocketWire<R>
         ensures { ⟦<SocketWire<R> as Wire>⟧.faults result ≡ 0 }
     {
         SocketWire::with_limit(runtime, LIMIT)
     }
 
-    /// A wire that is not connected yet, and gives up after so many seconds, at least one.
+    /// A wire that is not connected yet, and gives up after so many seconds without a byte, or at one address, at least
+    /// one.
     pub fn with_limit(runtime: R, seconds: u32) -> SocketWire<R>
         ensures { ⟦<SocketWire<R> as Wire>⟧.faults result ≡ 0 }
     {
@@ -154,13 +156,21 @@ fn is_waiting<S: OpenStream>(stream: &S) -> bool {
     }
 }
 
-/// Whether what came begins an answer of status 300 to 499.
+/// Whether what came begins an answer of status 300 to 499 (RFC 9112, section 4).
 fn has_refused<S: OpenStream>(stream: &S) -> bool {
     let mut front = [0u8; 12];
     match peek_now(stream, &mut front) {
-        Ok(12) => front.starts_with(b"HTTP/1.") && matches!(&front[8..10], [b' ', b'3' | b'4']),
+        Ok(12) => front.starts_with(b"HTTP/1.") && begins_refusal(&front[7..]),
         _ => false,
     }
+}
+
+/// Whether the bytes are the minor digit of HTTP/1.0 or 1.1, and behind a blank a status from 300 to 499.
+fn begins_refusal(bytes: &[u8]) -> bool {
+    matches!(
+        bytes,
+        [b'0' | b'1', b' ', b'3' | b'4', b'0'..=b'9', b'0'..=b'9']
+    )
 }
 
 /// Writes a first part of the bytes. An interrupted call is made again.
