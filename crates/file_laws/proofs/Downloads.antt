@@ -22,7 +22,7 @@ use Rattle.world_laws.specs.Tasks.{HasSourceObject, IsScheduled, IsTraceOf}
 use Rattle.shared_lemmas.proofs.Clashes.{some_is}
 use Rattle.shared_lemmas.proofs.Members.{contains_of, Has, has, has-append_left, split_of}
 use Rattle.file_laws.specs.FileTasks.{AreWritten, IsBody, IsMade, IsRangeIn, IsRenamed, IsStamped, MayFollow, TaskCall, UsesTemp, files_after, steps_of}
-use Rattle.file_laws.specs.FileLaws.{AreCalls, FileIsDownloaded}
+use Rattle.file_laws.specs.FileLaws.{AreCalls, FileIsDownloaded, FileIsKeptSafe}
 use Rattle.file_laws.proofs.Effects.{Effect, Spares, arrives, drops, effect, goes, leaves, makes, removes, spoils, stamps, stays, writes}
 use Rattle.file_laws.proofs.Files as files
 use Rattle.file_laws.proofs.Files.{Free, Kept, Left}
@@ -162,92 +162,10 @@ module _ (Shows : Ask → ℕ → Talk → Class → List ℕ → Type 0) (s : S
 
     -- ---- from then on
 
-    module _ (coming : List Dispatched) (start : State) (trace : List Step) (journal : List Event) (r : IsScheduled Shows s journal dispatched coming) (traced : IsTraceOf Shows s (record { start = start; trace = trace; journal = journal; dispatched = dispatched }))
-        (source : HasSourceObject (states start trace) task) where
-      abbrev IsContent : List ℕ → Type 0
-      IsContent all = HasContent s.held (states start trace) task.etag task.source all
-
-      -- a range of the whole with the write that brought it
-      record Brought (temp all : List ℕ) (at long : ℕ) : Type 0 where
-        w : TaskCall
-        bytes : List ℕ
-        known : Contains calls w
-        of : w.task ≡ n
-        is_write : w.step.call ≡ WriteAt temp at bytes true
-        long_is : length bytes ≡ long
-        fits : at + length bytes ≤ length all
-        stands : take (length bytes) (drop at all) ≡ bytes
-
-      -- what is renamed is whole
-      whole : (front : List TaskCall) (c : TaskCall) (back : List TaskCall) → calls ≡ front ++ c ∷ back → c.task ≡ n → (temp : List ℕ) → c.step.call ≡ Rename temp path None
-          → (file : HeldFile) → get (files_after s.held front) temp ≡ Some file → IsContent file.bytes
-      whole front c back is own temp e file there =
-          requests.has_content Shows s journal dispatched coming r start trace traced n task is_task load source all_written.piece all_written.count pieces file.bytes sized bodies
-        where
-          at_own : slice_get s.tasks c.task ≡ Some task
-          at_own = ap (slice_get s.tasks) own ∙ is_task
-
-          all_written : AreWritten s front c.task task temp
-          all_written = a.keep.renames front c task temp path None (back, is) at_own e
-
-          pieces : HasPieces s.config s.limits task.kind task.size all_written.piece all_written.count
-          pieces = all_written.pieces
-
-          sound : AreSound (is_small s task) task.size all_written.piece all_written.count
-          sound = are_sound s task all_written.piece all_written.count r.config r.limits load pieces
-
-          made : IsMade front c.task temp
-          made = a.keep.made front c temp (back, is) (subst (λ (x : Call). UsesTemp x temp) (sym e) refl)
-
-          free : (m : ℕ) (other : Task) → slice_get s.tasks m ≡ Some other → other.kind ≡ kind.Download → other.dest ≡ place.File temp → ⊥
-          free = temp_free made.0 (keeping.within_front Shows s excused dispatched calls a front c back made.0 is (has front made.0 made.1)) made.3 temp made.4
-
-          full : filling.IsFilled Shows s excused dispatched calls a n task is_task temp path free all_written.piece all_written.count pieces sound front (files_after s.held front)
-          full = filling.filled Shows s excused dispatched calls a n task is_task temp path free all_written.piece all_written.count pieces sound front (c ∷ back) is
-              (made.0, has front made.0 made.1, made.2 ∙ own, made.3, made.4)
-              (λ x h of. subst (λ (y : Call). MayFollow x.step.call y) e (keeping.follows Shows s excused dispatched calls a front c back x is h (of ∙ sym own)))
-
-          same : full.file.bytes ≡ file.bytes
-          same = ap (λ (x : HeldFile). x.bytes) (some_is full.file file (sym full.there ∙ there))
-
-          brought : (number at long : ℕ) → IsRangeIn (is_small s task) task.size all_written.piece all_written.count number at long → Brought temp file.bytes at long
-          brought number at long range =
-              let found = all_written.each number at long range in
-              let in_front = has front found.0 found.1 in
-              let known = keeping.within_front Shows s excused dispatched calls a front c back found.0 is in_front in
-              let of : found.0.task ≡ n = found.2 ∙ own in
-              let holds = full.holds found.0 at found.3 in_front of found.4 in
-              let ranged = filling.write_range Shows s excused dispatched calls a n task is_task temp path free all_written.piece all_written.count pieces sound found.0 temp at found.3 true known of found.4 in
-              record {
-                w = found.0;
-                bytes = found.3;
-                known = known;
-                of = of;
-                is_write = found.4;
-                long_is = (range_one (is_small s task) task.size all_written.piece all_written.count ranged.0 at (length found.3) number long sound ranged.1 range).1;
-                fits = subst (λ (xs : List ℕ). at + length found.3 ≤ length xs) same holds.0;
-                stands = subst (λ (xs : List ℕ). take (length found.3) (drop at xs) ≡ found.3) same holds.1;
-              }
-
-          sized : length file.bytes ≡ task.size
-          sized =
-              let last = last_range (is_small s task) task.size all_written.piece all_written.count sound in
-              let b = brought last.0 last.1 last.2 last.3 in
-              let inside : length file.bytes ≤ task.size = subst (λ (xs : List ℕ). length xs ≤ task.size) same full.inside in
-              let ends = last.4 in
-              let long_is = b.long_is in
-              let fits = b.fits in
-              omega arith
-
-          bodies : requests.AreBodies Shows s journal dispatched coming r start trace traced n task is_task load source all_written.piece all_written.count pieces file.bytes
-          bodies number at long range =
-              let b = brought number at long range in
-              let body = a.keep.writes b.w task temp at b.bytes true b.known (ap (slice_get s.tasks) b.of ∙ is_task) b.is_write in
-              let bytes_is : b.bytes ≡ take long (drop at file.bytes) = sym b.stands ∙ ap (λ (k : ℕ). take k (drop at file.bytes)) b.long_is in (
-                b.w.place,
-                subst (λ (xs : List ℕ). IsBody Shows s dispatched n task b.w.place at xs) bytes_is (subst (λ (m : ℕ). IsBody Shows s dispatched m task b.w.place at b.bytes) b.of body),
-              )
-
+    -- what holds of the bytes of the file that is renamed holds of the destination from then on
+    module _ (IsContent : List ℕ → Type 0)
+        (whole : (front : List TaskCall) (c : TaskCall) (back : List TaskCall) → calls ≡ front ++ c ∷ back → c.task ≡ n → (temp : List ℕ) → c.step.call ≡ Rename temp path None
+        → (file : HeldFile) → get (files_after s.held front) temp ≡ Some file → IsContent file.bytes) where
       record IsWhole (front : List TaskCall) (now : MapOf HeldFile) : Type 0 where
         file : HeldFile
         there : get now path ≡ Some file
@@ -319,26 +237,112 @@ module _ (Shows : Ask → ℕ → Talk → Class → List ℕ → Type 0) (s : S
           (effect path c.step.call (files_after s.held front) c.step.held (leads_at front c back s.held (subst (λ (all : List TaskCall). IsCallRun s.held (steps_of all)) split a.runs))))
           (λ re. absurd re.1) part late is
 
-      pub new_from : (part late : List TaskCall) → calls ≡ part ++ late → IsRenamed part n → (file : HeldFile) × (get (files_after s.held part) path ≡ Some file) × IsContent file.bytes
-      new_from part late is re = let w = whole_after part late is (to_has part re) in (w.file, w.there, w.content)
+    -- its time was set, or a warning says that this failed
+    pub timed_in_the_end : IsRenamed calls n → (file : HeldFile) × (get (files_after s.held calls) path ≡ Some file) × ((file.micros ≡ task.micros) ⊎ IsUntimed excused path)
+    timed_in_the_end re = (w.file, w.there, by st.5 st.6)
+      where
+        w : IsWhole (λ (bytes : List ℕ). Unit {0}) (λ front c back is own temp e file there. tt) calls (files_after s.held calls)
+        w = whole_after (λ (bytes : List ℕ). Unit {0}) (λ front c back is own temp e file there. tt) calls [] (sym (append-nil calls)) (to_has calls re)
 
-      -- its time was set, or a warning says that this failed
-      pub timed_in_the_end : IsRenamed calls n → (file : HeldFile) × (get (files_after s.held calls) path ≡ Some file) × ((file.micros ≡ task.micros) ⊎ IsUntimed excused path)
-      timed_in_the_end re = (w.file, w.there, by st.5 st.6)
+        st : IsStamped calls n
+        st = a.keep.stamps n re
+
+        by : (fine : Bool) → st.0.step.call ≡ Stamp st.3 st.4 fine → (w.file.micros ≡ task.micros) ⊎ IsUntimed excused path
+        by true e = inl (w.timed (st.0, has calls st.0 st.1, st.2, st.3, st.4, e))
+        by false e =
+            let own = keeping.named Shows s excused dispatched calls a st.0 (Stamp st.3 st.4 false) st.1 e in
+            let alike = same_task own.task task (sym own.is_task ∙ ap (slice_get s.tasks) st.2 ∙ is_task) in
+            let at = same_path st.3 path (sym (only_download_stamps own.task own.task.kind st.3 st.4 false own.is_call).1 ∙ ap (λ (t : Task). t.dest) alike ∙ is_dest) in
+            inr (subst (λ (q : List ℕ). IsUntimed excused q) at (a.keep.untimed st.0 st.3 st.4 st.1 e))
+
+    module _ (coming : List Dispatched) (start : State) (trace : List Step) (journal : List Event) (r : IsScheduled Shows s journal dispatched coming) (traced : IsTraceOf Shows s (record { start = start; trace = trace; journal = journal; dispatched = dispatched }))
+        (source : HasSourceObject (states start trace) task) where
+      abbrev IsContent : List ℕ → Type 0
+      IsContent all = HasContent s.held (states start trace) task.etag task.source all
+
+      -- a range of the whole with the write that brought it
+      record Brought (temp all : List ℕ) (at long : ℕ) : Type 0 where
+        w : TaskCall
+        bytes : List ℕ
+        known : Contains calls w
+        of : w.task ≡ n
+        is_write : w.step.call ≡ WriteAt temp at bytes true
+        long_is : length bytes ≡ long
+        fits : at + length bytes ≤ length all
+        stands : take (length bytes) (drop at all) ≡ bytes
+
+      -- what is renamed is whole
+      renamed_whole : (front : List TaskCall) (c : TaskCall) (back : List TaskCall) → calls ≡ front ++ c ∷ back → c.task ≡ n → (temp : List ℕ) → c.step.call ≡ Rename temp path None
+          → (file : HeldFile) → get (files_after s.held front) temp ≡ Some file → IsContent file.bytes
+      renamed_whole front c back is own temp e file there =
+          requests.has_content Shows s journal dispatched coming r start trace traced n task is_task load source all_written.piece all_written.count pieces file.bytes sized bodies
         where
-          w : IsWhole calls (files_after s.held calls)
-          w = whole_after calls [] (sym (append-nil calls)) (to_has calls re)
+          at_own : slice_get s.tasks c.task ≡ Some task
+          at_own = ap (slice_get s.tasks) own ∙ is_task
 
-          st : IsStamped calls n
-          st = a.keep.stamps n re
+          all_written : AreWritten s front c.task task temp
+          all_written = a.keep.renames front c task temp path None (back, is) at_own e
 
-          by : (fine : Bool) → st.0.step.call ≡ Stamp st.3 st.4 fine → (w.file.micros ≡ task.micros) ⊎ IsUntimed excused path
-          by true e = inl (w.timed (st.0, has calls st.0 st.1, st.2, st.3, st.4, e))
-          by false e =
-              let own = keeping.named Shows s excused dispatched calls a st.0 (Stamp st.3 st.4 false) st.1 e in
-              let alike = same_task own.task task (sym own.is_task ∙ ap (slice_get s.tasks) st.2 ∙ is_task) in
-              let at = same_path st.3 path (sym (only_download_stamps own.task own.task.kind st.3 st.4 false own.is_call).1 ∙ ap (λ (t : Task). t.dest) alike ∙ is_dest) in
-              inr (subst (λ (q : List ℕ). IsUntimed excused q) at (a.keep.untimed st.0 st.3 st.4 st.1 e))
+          pieces : HasPieces s.config s.limits task.kind task.size all_written.piece all_written.count
+          pieces = all_written.pieces
+
+          sound : AreSound (is_small s task) task.size all_written.piece all_written.count
+          sound = are_sound s task all_written.piece all_written.count r.config r.limits load pieces
+
+          made : IsMade front c.task temp
+          made = a.keep.made front c temp (back, is) (subst (λ (x : Call). UsesTemp x temp) (sym e) refl)
+
+          free : (m : ℕ) (other : Task) → slice_get s.tasks m ≡ Some other → other.kind ≡ kind.Download → other.dest ≡ place.File temp → ⊥
+          free = temp_free made.0 (keeping.within_front Shows s excused dispatched calls a front c back made.0 is (has front made.0 made.1)) made.3 temp made.4
+
+          full : filling.IsFilled Shows s excused dispatched calls a n task is_task temp path free all_written.piece all_written.count pieces sound front (files_after s.held front)
+          full = filling.filled Shows s excused dispatched calls a n task is_task temp path free all_written.piece all_written.count pieces sound front (c ∷ back) is
+              (made.0, has front made.0 made.1, made.2 ∙ own, made.3, made.4)
+              (λ x h of. subst (λ (y : Call). MayFollow x.step.call y) e (keeping.follows Shows s excused dispatched calls a front c back x is h (of ∙ sym own)))
+
+          same : full.file.bytes ≡ file.bytes
+          same = ap (λ (x : HeldFile). x.bytes) (some_is full.file file (sym full.there ∙ there))
+
+          brought : (number at long : ℕ) → IsRangeIn (is_small s task) task.size all_written.piece all_written.count number at long → Brought temp file.bytes at long
+          brought number at long range =
+              let found = all_written.each number at long range in
+              let in_front = has front found.0 found.1 in
+              let known = keeping.within_front Shows s excused dispatched calls a front c back found.0 is in_front in
+              let of : found.0.task ≡ n = found.2 ∙ own in
+              let holds = full.holds found.0 at found.3 in_front of found.4 in
+              let ranged = filling.write_range Shows s excused dispatched calls a n task is_task temp path free all_written.piece all_written.count pieces sound found.0 temp at found.3 true known of found.4 in
+              record {
+                w = found.0;
+                bytes = found.3;
+                known = known;
+                of = of;
+                is_write = found.4;
+                long_is = (range_one (is_small s task) task.size all_written.piece all_written.count ranged.0 at (length found.3) number long sound ranged.1 range).1;
+                fits = subst (λ (xs : List ℕ). at + length found.3 ≤ length xs) same holds.0;
+                stands = subst (λ (xs : List ℕ). take (length found.3) (drop at xs) ≡ found.3) same holds.1;
+              }
+
+          sized : length file.bytes ≡ task.size
+          sized =
+              let last = last_range (is_small s task) task.size all_written.piece all_written.count sound in
+              let b = brought last.0 last.1 last.2 last.3 in
+              let inside : length file.bytes ≤ task.size = subst (λ (xs : List ℕ). length xs ≤ task.size) same full.inside in
+              let ends = last.4 in
+              let long_is = b.long_is in
+              let fits = b.fits in
+              omega arith
+
+          bodies : requests.AreBodies Shows s journal dispatched coming r start trace traced n task is_task load source all_written.piece all_written.count pieces file.bytes
+          bodies number at long range =
+              let b = brought number at long range in
+              let body = a.keep.writes b.w task temp at b.bytes true b.known (ap (slice_get s.tasks) b.of ∙ is_task) b.is_write in
+              let bytes_is : b.bytes ≡ take long (drop at file.bytes) = sym b.stands ∙ ap (λ (k : ℕ). take k (drop at file.bytes)) b.long_is in (
+                b.w.place,
+                subst (λ (xs : List ℕ). IsBody Shows s dispatched n task b.w.place at xs) bytes_is (subst (λ (m : ℕ). IsBody Shows s dispatched m task b.w.place at b.bytes) b.of body),
+              )
+
+      pub new_from : (part late : List TaskCall) → calls ≡ part ++ late → IsRenamed part n → (file : HeldFile) × (get (files_after s.held part) path ≡ Some file) × IsContent file.bytes
+      new_from part late is re = let w = whole_after IsContent renamed_whole part late is (to_has part re) in (w.file, w.there, w.content)
 
     -- ---- temporary files
 
@@ -357,11 +361,14 @@ module _ (Shows : Ask → ℕ → Talk → Class → List ℕ → Type 0) (s : S
         by (Left excuse m other freed) = inr excuse
 
 module _ (Shows : Ask → ℕ → Talk → Class → List ℕ → Type 0) where
-  pub file_is_downloaded : FileIsDownloaded Shows
-  file_is_downloaded run coming start trace journal a r traced n task path to load source = record {
+  pub file_is_kept_safe : FileIsKeptSafe Shows
+  file_is_kept_safe run a n task path to load = record {
     old = old_until Shows run.setting run.excused run.dispatched run.calls a n task path to.0 load to.1;
-    new = new_from Shows run.setting run.excused run.dispatched run.calls a n task path to.0 load to.1 coming start trace journal r traced source;
-    timed = timed_in_the_end Shows run.setting run.excused run.dispatched run.calls a n task path to.0 load to.1 coming start trace journal r traced source;
+    timed = timed_in_the_end Shows run.setting run.excused run.dispatched run.calls a n task path to.0 load to.1;
     unopened = unopened Shows run.setting run.excused run.dispatched run.calls a n task path to.0 load to.1;
     tidy = tidy Shows run.setting run.excused run.dispatched run.calls a n task path to.0 load to.1;
   }
+
+  pub file_is_downloaded : FileIsDownloaded Shows
+  file_is_downloaded run coming start trace journal a r traced n task path to load source =
+      new_from Shows run.setting run.excused run.dispatched run.calls a n task path to.0 load to.1 coming start trace journal r traced source

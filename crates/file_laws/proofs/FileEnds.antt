@@ -79,7 +79,7 @@ module _ (Shows : Ask → ℕ → Talk → Class → List ℕ → Type 0) (HasSt
     new : HasSourceObject (states start trace) task → IsRenamed calls n → IsNew excused s.held (states start trace) after task task.kind
     new source renamed =
         let content = downloads.new_from Shows s excused dispatched calls a n task path is_task load is_dest coming start trace journal r traced source calls [] all renamed in
-        let timed = downloads.timed_in_the_end Shows s excused dispatched calls a n task path is_task load is_dest coming start trace journal r traced source renamed in
+        let timed = downloads.timed_in_the_end Shows s excused dispatched calls a n task path is_task load is_dest renamed in
         let same : timed.0 ≡ content.0 = some_is timed.0 content.0 (sym timed.1 ∙ content.1) in
         let time : (content.0.micros ≡ task.micros) ⊎ IsUntimed excused path = subst (λ (f : HeldFile). (f.micros ≡ task.micros) ⊎ IsUntimed excused path) same timed.2 in
         let holds : Holds excused after (place.File path) task.micros content.0.bytes = (content.0, content.1, refl, time) in

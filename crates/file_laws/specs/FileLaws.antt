@@ -41,16 +41,12 @@ abbrev pub with_trace : FileRun → List Event → State → List Step → Run
 with_trace run journal start trace =
     record { start = start; trace = trace; journal = journal; dispatched = run.dispatched }
 
--- What became of the destination of a download.
-pub record IsDownloaded (run : FileRun) (moments : List State) (n : ℕ) (task : Task) (path : List ℕ) : Type 0 where
+-- What holds of the destination of a download, whatever its Gets brought.
+pub record IsKeptSafe (run : FileRun) (n : ℕ) (task : Task) (path : List ℕ) : Type 0 where
   -- it is as at the start until its temporary file was renamed
   pub old : (part late : List TaskCall) → run.calls ≡ part ++ late → ¬ (IsRenamed part n)
       → after_calls run part path ≡ at_first run path
-  -- from then on it has what its source had at some moment under the planned ETag
-  pub new : (part late : List TaskCall) → run.calls ≡ part ++ late → IsRenamed part n
-      → (file : HeldFile) × (after_calls run part path ≡ Some file)
-      × HasContent run.setting.held moments task.etag task.source file.bytes
-  -- in the end it has the planned time, or a warning says that this failed
+  -- where that was, a file is there in the end, with the planned time, or a warning says that this failed
   pub timed : IsRenamed run.calls n
       → (file : HeldFile) × (in_the_end run path ≡ Some file)
       × ((file.micros ≡ task.micros) ⊎ IsUntimed run.excused path)
@@ -59,6 +55,12 @@ pub record IsDownloaded (run : FileRun) (moments : List State) (n : ℕ) (task :
       → c.step.call ≡ WriteAt path at bytes fine → ⊥
   -- no temporary file of it stays but one that a warning names
   pub tidy : (temp : List ℕ) → IsMade run.calls n temp → (in_the_end run temp ≡ None) ⊎ IsLeft run.excused temp
+
+-- From its rename on it has what its source had at some moment under the planned ETag.
+abbrev pub IsDownloaded : FileRun → List State → ℕ → Task → List ℕ → Type 0
+IsDownloaded run moments n task path = (part late : List TaskCall) → run.calls ≡ part ++ late → IsRenamed part n
+    → (file : HeldFile) × (after_calls run part path ≡ Some file)
+    × HasContent run.setting.held moments task.etag task.source file.bytes
 
 -- `Shows ask limit talk class bytes`: the talk has that class for the ask, and its answer that body
 module _ (Shows : Ask → ℕ → Talk → Class → List ℕ → Type 0) where
@@ -99,9 +101,15 @@ module _ (Shows : Ask → ℕ → Talk → Class → List ℕ → Type 0) where
       × ((part late : List TaskCall) → run.calls ≡ part ++ late → (after_calls run part path ≡ at_first run path)
       ⊎ IsDecidedIn run part n task)
 
-  -- A download leaves its destination as it was until it is renamed, and then with the content of its source.
+  -- A download leaves its destination as it was until it is renamed, and its temporary file stays with a warning only.
+  abbrev pub FileIsKeptSafe : Type 0
+  FileIsKeptSafe = (run : FileRun) → AreCalls run → (n : ℕ) (task : Task) (path : List ℕ)
+      → IsTaskTo run.setting.tasks n task path → task.kind ≡ kind.Download → IsKeptSafe run n task path
+
+  -- Over every honest trace, what is renamed has the content of its source.
   abbrev pub FileIsDownloaded : Type 0
-  FileIsDownloaded = (run : FileRun) (coming : List Dispatched) (start : State) (trace : List Step) (journal : List Event) → AreCalls run
+  FileIsDownloaded = (run : FileRun) (coming : List Dispatched) (start : State) (trace : List Step) (journal : List Event)
+      → AreCalls run
       → IsScheduled Shows run.setting journal run.dispatched coming
       → IsTraceOf Shows run.setting (with_trace run journal start trace)
       → (n : ℕ) (task : Task) (path : List ℕ) → IsTaskTo run.setting.tasks n task path → task.kind ≡ kind.Download

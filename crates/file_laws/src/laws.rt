@@ -1,7 +1,7 @@
 //! The laws on local files, each a function that does nothing.
 
 ghost use Rattle.file_laws.specs.FileEnds.{FileTaskEnds, MovedFilesAreLeft, PromisedFilesStay};
-ghost use Rattle.file_laws.specs.FileLaws.{FileIsDownloaded, FileIsMoved, FileIsRemoved, FilesStay};
+ghost use Rattle.file_laws.specs.FileLaws.{FileIsDownloaded, FileIsKeptSafe, FileIsMoved, FileIsRemoved, FilesStay};
 ghost use Rattle.file_laws.specs.FileWitnesses.{DownloadIsMet, FailedRemovalIsMet, LeftFileIsMet, MovedFileIsMet, RefusedGetIsMet, RemovalIsMet};
 ghost use Rattle.world_laws.specs.Rounds.{AreNone, NeverFailed, Told, ToldStatus};
 
@@ -26,6 +26,7 @@ pub fn file_removal<R: Reading>()
 /// had under the planned ETag at some moment, whoever rewrites the object and in whatever order its ranges came; in the
 /// end it has the planned time, or a warning says that this failed.
 pub fn download<R: Reading>()
+    ensures safe { FileIsKeptSafe R.shows }
     ensures downloaded { FileIsDownloaded R.shows }
     ensures met { DownloadIsMet }
     ensures met_dropped { RefusedGetIsMet }

@@ -5,6 +5,9 @@ use Rattle.file_laws.proofs.laws.download.Goals as goal
 pub returns-clause-downloaded : goal.returns-clause-downloaded
 returns-clause-downloaded g c = downloads.file_is_downloaded g.R.Reading.shows
 
+pub returns-clause-safe : goal.returns-clause-safe
+returns-clause-safe g c = downloads.file_is_kept_safe g.R.Reading.shows
+
 pub returns-clause-met : goal.returns-clause-met
 returns-clause-met g c = download_is_met
 
