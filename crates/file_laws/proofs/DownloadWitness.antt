@@ -46,7 +46,7 @@ use Rattle.world_laws.proofs.Objects.{object_at-with_object}
 use Rattle.world_laws.proofs.PieceCounts.{pieces_are_one}
 use Rattle.world_laws.proofs.Rounds.{AreApart as AreOtherJobs, rounds_come, rounds_given}
 use Rattle.world_laws.proofs.ScheduleWitness.{limits_are_valid, one_task, setting_of, the_limits}
-use Rattle.file_laws.specs.FileEnds.{CallFailed, IsShownByCalls}
+use Rattle.file_laws.specs.FileEnds.{HasFailedAct, HasFailedCall, IsFailedAct, IsShownByCalls}
 use Rattle.file_laws.specs.FileTasks.{AreFileCalls, AreFilesApart, AreWritten, IsBody, IsDropped, IsRangeIn, IsRenamed, TaskCall, steps_of}
 use Rattle.file_laws.specs.FileLaws.{in_the_end}
 use Rattle.file_laws.specs.FileWitnesses.{DownloadIsMet, IsFileTaskMet, LeftFileIsMet, RefusedGetIsMet, places_written, two_bytes}
@@ -296,7 +296,7 @@ module _ (bucket key : List ℕ) (a b : ℕ) where
 
     -- a run with these calls
     module _ (excused : Excused) (calls : List TaskCall) (keep : AreFileCalls Told setting excused all calls) (runs : IsCallRun empty (steps_of calls)) where
-      met : (how : Outcome) → HasOutcome Told ToldStatus (CallFailed calls) setting all all 0 task how → IsShownByCalls how (IsRenamed calls 0) → IsFileTaskMet task how
+      met : (how : Outcome) → HasOutcome Told ToldStatus (HasFailedCall calls) setting all all 0 task how → IsShownByCalls how (IsRenamed calls 0) (HasFailedAct calls 0) → IsFileTaskMet task how
       met how caused shown = record {
         run = run_of setting excused all calls;
         start = start;
@@ -450,18 +450,18 @@ module _ (bucket key : List ℕ) (a b : ℕ) where
   abbrev got_range : ℕ → Reply
   got_range number = reply.Got 206 (Some ((asked_range 2 1 number).0, (asked_range 2 1 number).1, 2)) 1
 
-  decided : IsDecided setting task 0 (came_with Told ToldStatus (CallFailed calls) setting reversed reversed)
+  decided : IsDecided setting task 0 (came_with Told ToldStatus (HasFailedCall calls) setting reversed reversed)
   decided piece count has k low high =
       let level = pieces_are_one config the_limits kind.Download 2 piece 1 count 2 has two_pieces in
       elim (one_or_two k low (subst (λ (c : ℕ). k ≤ c) level.1 high)) [
         | inl first ↦ (
           got_range 1,
-          subst (λ (j : ℕ). came_with Told ToldStatus (CallFailed calls) setting reversed reversed (job_of 0 op.Get j) (got_range 1)) (sym first)
+          subst (λ (j : ℕ). came_with Told ToldStatus (HasFailedCall calls) setting reversed reversed (job_of 0 op.Get j) (got_range 1)) (sym first)
               (resized 1 2 (dispatch_at 2 (get_round 1 false (a ∷ []))), (1, omega arith, refl), refl, (refl, a ∷ [], (refl, refl))),
         )
         | inr second ↦ (
           got_range 2,
-          subst (λ (j : ℕ). came_with Told ToldStatus (CallFailed calls) setting reversed reversed (job_of 0 op.Get j) (got_range 2)) (sym second)
+          subst (λ (j : ℕ). came_with Told ToldStatus (HasFailedCall calls) setting reversed reversed (job_of 0 op.Get j) (got_range 2)) (sym second)
               (resized 1 2 (dispatch_at 0 (get_round 2 false (b ∷ []))), (0, omega arith, refl), refl, (refl, b ∷ [], (refl, refl))),
         )
       ]
@@ -471,7 +471,7 @@ module _ (bucket key : List ℕ) (a b : ℕ) where
   done_met = (
     met 2 1 (omega arith) (omega arith) (omega arith) (omega arith) two_is_one (b ∷ []) (a ∷ []) refl false backwards_served excused calls keep runs outcome.Done
         (λ c failed. none_fails c failed.0, decided, λ moves. absurd (true_false (sym moves)), λ fresh. absurd (true_false (sym fresh)))
-        (rename, (3, omega arith, refl), refl, temp, dest, refl),
+        ((rename, (3, omega arith, refl), refl, temp, dest, refl), tt),
     refl,
   )
 
@@ -530,6 +530,18 @@ module _ (bucket key : List ℕ) (a b : ℕ) where
         by (inr (inr (inl e))) = drop_is (ap (λ (c : TaskCall). c.step.call) e ∙ re.5)
         by (inr (inr (inr h))) = h
 
+    no_act_failed : HasFailedAct half_calls 0 → ⊥
+    no_act_failed failed = by (has half_calls failed.0 failed.1)
+      where
+        act : (c : TaskCall) → c ≡ failed.0 → IsFailedAct c.step.call
+        act c e = subst (λ (x : TaskCall). IsFailedAct x.step.call) (sym e) failed.3
+
+        by : Has half_calls failed.0 → ⊥
+        by (inl e) = act make e
+        by (inr (inl e)) = act write_half e
+        by (inr (inr (inl e))) = act drop_temp e
+        by (inr (inr (inr h))) = h
+
     keep_half : AreFileCalls Told setting warnings halved half_calls
     keep_half = calls_keep Told setting warnings halved task only refl half_calls (
       record { first = refl; is_call = refl; warned = tt; follows = tt; uses = tt; writes = tt; renames = tt; stamps = tt },
@@ -558,7 +570,7 @@ module _ (bucket key : List ℕ) (a b : ℕ) where
     second_fails : IsFailed Told setting halved refused_get
     second_fails = (resized 1 2 (dispatch_at 0 (get_round 1 false (a ∷ []))) ∷ [], [], refl, λ cut. not_cut _ cut, λ well. refused_or_fine well.0)
 
-    first_failure : IsFirstFailure Told ToldStatus (CallFailed half_calls) setting halved halved 0 refused_get
+    first_failure : IsFirstFailure Told ToldStatus (HasFailedCall half_calls) setting halved halved 0 refused_get
     first_failure = (
       (second_fails, refl),
       λ other failing. inl (sym (ap (λ (c : Dispatched). c.dispatch)
@@ -588,7 +600,7 @@ module _ (bucket key : List ℕ) (a b : ℕ) where
         λ left_open. left_open.0.2.0,
         ((refused_get, first_failure, (refl, (denied, (refl, refl)), not_changed)), λ skipped. upload_downloads (sym skipped.1)),
       )
-          none_renamed,
+          (none_renamed, no_act_failed),
       refl,
       (drop_temp, (2, omega arith, refl), refl, temp, fine, refl),
     )

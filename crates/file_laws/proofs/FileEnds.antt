@@ -5,6 +5,7 @@ use Rattle.std.specs.FinMap.{get}
 use Rattle.std.proofs.lemmas.Bool.{OnTrue_from}
 use Rattle.std.proofs.lemmas.List.{append-nil}
 use Rattle.s3_model.specs.declared.answers.Class.{Class}
+use Rattle.s3_model.specs.declared.outcomes.Cause.{Cause}
 use Rattle.s3_model.specs.declared.outcomes.Event.{Event}
 use Rattle.s3_model.specs.declared.outcomes.JobId.{JobId}
 use Rattle.s3_model.specs.declared.outcomes.Outcome.{Outcome}
@@ -32,7 +33,7 @@ use Rattle.shared_lemmas.proofs.Clashes.{some_is}
 use Rattle.shared_lemmas.proofs.Members.{has, split_of}
 use Rattle.file_laws.specs.FileTasks.{IsRemoved, IsRenamed, TaskCall, files_after}
 use Rattle.file_laws.specs.FileLaws.{AreCalls}
-use Rattle.file_laws.specs.FileEnds.{CallFailed, FileTaskEnds, IsPlaced, IsShownByCalls, MovedFilesAreLeft, PromisedFilesStay, run_shown}
+use Rattle.file_laws.specs.FileEnds.{FileTaskEnds, HasFailedAct, IsPlaced, IsShownByCalls, MovedFilesAreLeft, PromisedFilesStay, run_shown}
 use Rattle.file_laws.proofs.Downloads as downloads
 use Rattle.file_laws.proofs.Files as files
 use Rattle.file_laws.proofs.Keeping as keeping
@@ -43,7 +44,7 @@ use Rattle.file_laws.proofs.Requests as requests
 none_task : (n : ℕ) → ◌≡◌ {A = Option ℕ} None (Some n) → ⊥
 none_task n e = cc
 
-module _ (Shows : Ask → ℕ → Talk → Class → List ℕ → Type 0) (HasStatus : Ask → ℕ → Talk → ℕ → Type 0) (s : Setting) (excused : Excused) (dispatched coming : List Dispatched) (calls : List TaskCall)
+module _ (Shows : Ask → ℕ → Talk → Class → List ℕ → Type 0) (HasStatus : Ask → ℕ → Talk → ℕ → Type 0) (CallFailed : ℕ → Cause → Type 0) (s : Setting) (excused : Excused) (dispatched coming : List Dispatched) (calls : List TaskCall)
     (start : State) (trace part : List Step) (journal : List Event) (a : AreCalls Shows (run_of s excused dispatched calls)) (r : IsScheduled Shows s journal dispatched coming)
     (traced : IsTraceOf Shows s (record { start = start; trace = trace; journal = journal; dispatched = dispatched })) (whole : HasJournal journal trace part)
     (n : ℕ) (task : Task) (is_task : slice_get s.tasks n ≡ Some task) (path : List ℕ) (is_dest : task.dest ≡ place.File path) where
@@ -109,7 +110,7 @@ module _ (Shows : Ask → ℕ → Talk → Class → List ℕ → Type 0) (HasSt
         let body = a.keep.writes w.0 task re.3 last.1 w.3 true known (ap (slice_get s.tasks) of ∙ is_task) w.4 in
         (body.get, body.known, ap (λ (j : JobId). j.task) body.is_get ∙ ap Some of)
 
-    gone : (task.moves ≡ true → IsObjectPlace task.source → IsSourceDeleted Shows HasStatus (CallFailed calls) s dispatched coming n task) → OnTrue task.moves (IsGone trace after task.source)
+    gone : (task.moves ≡ true → IsObjectPlace task.source → IsSourceDeleted Shows HasStatus CallFailed s dispatched coming n task) → OnTrue task.moves (IsGone trace after task.source)
     gone deleted = OnTrue_from task.moves _ (λ moves.
         let is = deleted moves (subst (λ (o : Option Place). IsObjectPlace o) (sym from.2) tt) in
         let c = is.1 in
@@ -127,11 +128,11 @@ module _ (Shows : Ask → ℕ → Talk → Class → List ℕ → Type 0) (HasSt
     stood : StoodAt s.held s.others task.dest → IsThereIn before task.dest
     stood h = subst (λ (d : Place). IsThereIn before d) (sym is_dest) (subst (λ (d : Place). StoodAt s.held s.others d) is_dest h)
 
-    download_ends : (how : Outcome) → (MayBeNew how → HasSourceObject (states start trace) task) → HasOutcome Shows HasStatus (CallFailed calls) s dispatched coming n task how → IsShownByCalls how (IsRenamed calls n)
+    download_ends : (how : Outcome) → (MayBeNew how → HasSourceObject (states start trace) task) → HasOutcome Shows HasStatus CallFailed s dispatched coming n task how → IsShownByCalls how (IsRenamed calls n) (HasFailedAct calls n)
         → IsEnded excused journal start trace before after n task how
-    download_ends outcome.Done source is shown = (new (source tt) shown, gone is.2)
-    download_ends (outcome.Copied why) source is shown = (new (source tt) shown, gone_or_there)
-    download_ends (outcome.Failed why) source is shown = (old shown, spared_by (unrenamed_spares shown))
+    download_ends outcome.Done source is shown = (new (source tt) shown.0, gone is.2)
+    download_ends (outcome.Copied why) source is shown = (new (source tt) shown.0, gone_or_there)
+    download_ends (outcome.Failed why) source is shown = (old shown.0, spared_by (unrenamed_spares shown.0))
     download_ends (outcome.Unknown why) source is shown = absurd (undecided is.0.0.2.0)
     download_ends outcome.Dry source is shown = (
       as_before (dry_stays is),
@@ -152,15 +153,15 @@ module _ (Shows : Ask → ℕ → Talk → Class → List ℕ → Type 0) (HasSt
     moves_nothing : (P : Type 0) → OnTrue task.moves P
     moves_nothing P = OnTrue_from task.moves P (λ moves. absurd (true_false (sym moves ∙ keeps)))
 
-    removal_ends : (how : Outcome) → HasOutcome Shows HasStatus (CallFailed calls) s dispatched coming n task how → IsShownByCalls how (IsRemoved calls n) → IsEnded excused journal start trace before after n task how
+    removal_ends : (how : Outcome) → HasOutcome Shows HasStatus CallFailed s dispatched coming n task how → IsShownByCalls how (IsRemoved calls n) (HasFailedAct calls n) → IsEnded excused journal start trace before after n task how
     removal_ends outcome.Done is shown =
-        let absent : IsAbsent excused after (place.File path) = (files.file_is_removed Shows (run_of s excused dispatched calls) a n task path (is_task, is_dest) removal).0 shown in (
+        let absent : IsAbsent excused after (place.File path) = (files.file_is_removed Shows (run_of s excused dispatched calls) a n task path (is_task, is_dest) removal).0 shown.0 in (
           subst (λ (k : Kind). IsNew excused s.held (states start trace) after task k) (sym removal) (subst (λ (d : Place). IsAbsent excused after d) (sym is_dest) absent),
           moves_nothing _,
         )
     removal_ends (outcome.Copied why) is shown = absurd (true_false (sym is.0 ∙ keeps))
     removal_ends (outcome.Failed why) is shown = (
-      as_before ((files.file_is_removed Shows (run_of s excused dispatched calls) a n task path (is_task, is_dest) removal).1 shown),
+      as_before ((files.file_is_removed Shows (run_of s excused dispatched calls) a n task path (is_task, is_dest) removal).1 shown.0),
       moves_nothing _,
     )
     removal_ends (outcome.Unknown why) is shown = absurd (subst (λ (k : Kind). IsDecidedByRequest k) removal is.0.0.2.0)
@@ -170,13 +171,13 @@ module _ (Shows : Ask → ℕ → Talk → Class → List ℕ → Type 0) (HasSt
       | inr by_file ↦ absurd (removal_downloads (sym removal ∙ by_file.1))
     ]
 
-module _ (Shows : Ask → ℕ → Talk → Class → List ℕ → Type 0) (HasStatus : Ask → ℕ → Talk → ℕ → Type 0) where
-  pub file_task_ends : FileTaskEnds Shows HasStatus
+module _ (Shows : Ask → ℕ → Talk → Class → List ℕ → Type 0) (HasStatus : Ask → ℕ → Talk → ℕ → Type 0) (CallFailed : ℕ → Cause → Type 0) where
+  pub file_task_ends : FileTaskEnds Shows HasStatus CallFailed
   file_task_ends run coming start trace part journal a r traced whole n task how is_task by source is shown = elim by.decided [
-    | inl load ↦ download_ends Shows HasStatus run.setting run.excused run.dispatched coming run.calls start trace part journal a r traced whole n task is_task by.path by.is_dest load (by.from load) how
-        (λ new. source new load) is (subst (λ (k : Kind). IsShownByCalls how (IsPlaced k run.calls n)) load shown)
-    | inr removal ↦ removal_ends Shows HasStatus run.setting run.excused run.dispatched coming run.calls start trace part journal a r traced whole n task is_task by.path by.is_dest removal (by.keeps removal) how is
-        (subst (λ (k : Kind). IsShownByCalls how (IsPlaced k run.calls n)) removal shown)
+    | inl load ↦ download_ends Shows HasStatus CallFailed run.setting run.excused run.dispatched coming run.calls start trace part journal a r traced whole n task is_task by.path by.is_dest load (by.from load) how
+        (λ new. source new load) is (subst (λ (k : Kind). IsShownByCalls how (IsPlaced k run.calls n) (HasFailedAct run.calls n)) load shown)
+    | inr removal ↦ removal_ends Shows HasStatus CallFailed run.setting run.excused run.dispatched coming run.calls start trace part journal a r traced whole n task is_task by.path by.is_dest removal (by.keeps removal) how is
+        (subst (λ (k : Kind). IsShownByCalls how (IsPlaced k run.calls n) (HasFailedAct run.calls n)) removal shown)
   ]
 
 -- ---- moved files
@@ -193,7 +194,7 @@ module _ (Shows : Ask → ℕ → Talk → Class → List ℕ → Type 0) where
   pub moved_files_are_left : MovedFilesAreLeft Shows
   moved_files_are_left shown dispatched calls a after each n task how path is_task is_outcome moves is_source =
       subst (λ (held : MapOf HeldFile). IsFileLeft how (get held path ≡ None) (get held path ≡ get shown.setting.held path)) (sym after)
-      (left_by how (IsRemoved calls n) _ _ law.0 law.1 (each n task how path (is_task, moves, is_source) is_outcome))
+      (left_by how (IsRemoved calls n) _ _ law.0 law.1 (each n task how path (is_task, moves, is_source) is_outcome).0)
     where
       law : (IsRemoved calls n → get (files_after shown.setting.held calls) path ≡ None) × (¬ (IsRemoved calls n) → get (files_after shown.setting.held calls) path ≡ get shown.setting.held path)
       law = let all = files.file_is_moved Shows (run_shown shown dispatched calls) a n task path (is_task, moves, is_source) in (all.0, all.1)

@@ -30,7 +30,7 @@ use Rattle.shared_lemmas.proofs.Maps.{get-insert_same, text_exact}
 use Rattle.shared_lemmas.proofs.Members.{Has, has}
 use Rattle.world_laws.proofs.Rounds.{rounds_given}
 use Rattle.world_laws.proofs.ScheduleWitness.{config_is_valid, limits_are_valid, none_created, one_task, rounds_schedule, setting_of, the_limits}
-use Rattle.file_laws.specs.FileEnds.{CallFailed, IsShownByCalls}
+use Rattle.file_laws.specs.FileEnds.{HasFailedAct, HasFailedCall, IsShownByCalls}
 use Rattle.file_laws.specs.FileTasks.{AreFileCalls, AreFilesApart, IsRemoved, TaskCall, steps_of}
 use Rattle.file_laws.specs.FileWitnesses.{FailedRemovalIsMet, IsFileTaskMet, IsMovedFileMet, MovedFileIsMet, RemovalIsMet, file_removal, moved_upload}
 use Rattle.file_laws.proofs.CallWitness.{calls_keep, still_apart}
@@ -118,7 +118,7 @@ module _ (path : List ℕ) where
         (λ re. absurd (renames_or_removes path re.3 re.4 fine (ap (λ (c : TaskCall). c.step.call) (only re.0 re.1) ∙ re.5)))
         (λ temp made. absurd (makes_or_removes path made.3 temp fine (ap (λ (c : TaskCall). c.step.call) (only made.0 made.1) ∙ made.4)))
 
-    met : (how : Outcome) → IsCallRun held (steps_of calls) → HasOutcome Told ToldStatus (CallFailed calls) setting [] [] 0 task how → IsShownByCalls how (IsRemoved calls 0) → IsFileTaskMet task how
+    met : (how : Outcome) → IsCallRun held (steps_of calls) → HasOutcome Told ToldStatus (HasFailedCall calls) setting [] [] 0 task how → IsShownByCalls how (IsRemoved calls 0) (HasFailedAct calls 0) → IsFileTaskMet task how
     met how runs caused shown = record {
       run = run_of setting excused_none [] calls;
       start = start;
@@ -138,12 +138,12 @@ module _ (path : List ℕ) where
   done_met : IsFileTaskMet task outcome.Done
   done_met = met true (remove held path) outcome.Done (refl, tt)
       (λ c failed. not_failed c failed.0, tt, λ moves. absurd (true_false (sym moves)), λ fresh. absurd (true_false (sym fresh)))
-      (removal true (remove held path), (0, omega arith, refl), refl, path, refl)
+      ((removal true (remove held path), (0, omega arith, refl), refl, path, refl), tt)
 
   failed_met : IsFileTaskMet task (outcome.Failed (cause.Files call.Remove))
   failed_met = met false held (outcome.Failed (cause.Files call.Remove)) (refl, tt)
       (λ decided. no_dispatched decided.0 decided.1, λ left_open. no_dispatched left_open.0.0 left_open.0.1, (tt, (removal false held, (0, omega arith, refl), refl, tt)))
-      (λ removed. failed_or_fine path removed.3 (ap (λ (c : TaskCall). c.step.call) (only false held removed.0 removed.1) ∙ removed.4))
+      (λ removed. failed_or_fine path removed.3 (ap (λ (c : TaskCall). c.step.call) (only false held removed.0 removed.1) ∙ removed.4), tt)
 
 -- ---- a file that is moved
 

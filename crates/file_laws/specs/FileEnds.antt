@@ -52,12 +52,23 @@ IsBlockedCall length (Rename temp dest (Some (Blocked front))) = front ≡ lengt
 IsBlockedCall length other = ⊥
 
 -- A call of the task failed so. Reads are no part of these calls.
-abbrev pub CallFailed : List TaskCall → ℕ → Cause → Type 0
-CallFailed calls n (cause.Files of_call) = (c : TaskCall) × Contains calls c × (c.task ≡ n)
+abbrev pub HasFailedCall : List TaskCall → ℕ → Cause → Type 0
+HasFailedCall calls n (cause.Files of_call) = (c : TaskCall) × Contains calls c × (c.task ≡ n)
     × IsFailedCall of_call c.step.call
-CallFailed calls n (cause.Blocked length) = (c : TaskCall) × Contains calls c × (c.task ≡ n)
+HasFailedCall calls n (cause.Blocked length) = (c : TaskCall) × Contains calls c × (c.task ≡ n)
     × IsBlockedCall length c.step.call
-CallFailed calls n other = ⊥
+HasFailedCall calls n other = ⊥
+
+-- a call that carries out its task failed: any but a drop and a time
+abbrev pub IsFailedAct : Call → Type 0
+IsFailedAct (MakeTemp dest (Err fault)) = Unit {0}
+IsFailedAct (WriteAt temp at bytes false) = Unit {0}
+IsFailedAct (Rename temp dest (Some fault)) = Unit {0}
+IsFailedAct (Remove path false) = Unit {0}
+IsFailedAct call = ⊥
+
+abbrev pub HasFailedAct : List TaskCall → ℕ → Type 0
+HasFailedAct calls n = (c : TaskCall) × Contains calls c × (c.task ≡ n) × IsFailedAct c.step.call
 
 -- the destination was replaced, or removed
 abbrev pub IsPlaced : Kind → List TaskCall → ℕ → Type 0
@@ -65,12 +76,31 @@ IsPlaced kind.Download calls n = IsRenamed calls n
 IsPlaced kind.RemoveFile calls n = IsRemoved calls n
 IsPlaced other calls n = ⊥
 
+-- A cause that no call shows stands only where no such call failed. Memory wins over every other cause.
+abbrev pub IsCauseBeside : Cause → (failed : Type 0) → Type 0
+IsCauseBeside (cause.Files of_call) failed = Unit {0}
+IsCauseBeside (cause.Blocked length) failed = Unit {0}
+IsCauseBeside cause.Memory failed = Unit {0}
+IsCauseBeside why failed = ¬ failed
+
+abbrev pub IsOutcomeBeside : Outcome → (failed : Type 0) → Type 0
+IsOutcomeBeside (outcome.Copied why) failed = IsCauseBeside why failed
+IsOutcomeBeside (outcome.Failed why) failed = IsCauseBeside why failed
+IsOutcomeBeside how failed = Unit {0}
+
 -- Done and copied are tasks whose destination was replaced or removed, and failed those where it was not.
-abbrev pub IsShownByCalls : Outcome → (placed : Type 0) → Type 0
-IsShownByCalls outcome.Done placed = placed
-IsShownByCalls (outcome.Copied why) placed = placed
-IsShownByCalls (outcome.Failed why) placed = ¬ placed
-IsShownByCalls how placed = Unit {0}
+abbrev pub IsShownByDest : Outcome → (placed : Type 0) → Type 0
+IsShownByDest outcome.Done placed = placed
+IsShownByDest (outcome.Copied why) placed = placed
+IsShownByDest (outcome.Failed why) placed = ¬ placed
+IsShownByDest how placed = Unit {0}
+
+-- what the calls show of a task's outcome, and of the task of a moved file
+abbrev pub IsShownByCalls : Outcome → (placed failed : Type 0) → Type 0
+IsShownByCalls how placed failed = IsShownByDest how placed × IsOutcomeBeside how failed
+
+abbrev pub IsMoveShown : Outcome → (removed failed : Type 0) → Type 0
+IsMoveShown how removed failed = IsFileLeft how removed (¬ removed) × IsOutcomeBeside how failed
 
 -- what a run shows, with its dispatched requests and its calls
 abbrev pub run_shown : Shown → List Dispatched → List TaskCall → FileRun
@@ -96,11 +126,12 @@ module _ (Shows : Ask → ℕ → Talk → Class → List ℕ → Type 0) where
   MovedFilesAreLeft = (shown : Shown) (dispatched : List Dispatched) (calls : List TaskCall)
       → AreCalls Shows (run_shown shown dispatched calls) → shown.held_after ≡ files_after shown.setting.held calls
       → ((n : ℕ) (task : Task) (how : Outcome) (path : List ℕ) → IsMoveOf shown.setting.tasks n task path
-      → slice_get shown.outcomes n ≡ Some how → IsFileLeft how (IsRemoved calls n) (¬ (IsRemoved calls n)))
+      → slice_get shown.outcomes n ≡ Some how → IsMoveShown how (IsRemoved calls n) (HasFailedAct calls n))
       → AreFilesLeft shown
 
-  -- `HasStatus ask limit talk status`: the talk's answer has that HTTP status
-  module _ (HasStatus : Ask → ℕ → Talk → ℕ → Type 0) where
+  -- `HasStatus ask limit talk status`: the talk's answer has that HTTP status;
+  -- `CallFailed n why`: the calls on files show that one of task n failed so
+  module _ (HasStatus : Ask → ℕ → Talk → ℕ → Type 0) (CallFailed : ℕ → Cause → Type 0) where
     -- A task that calls on files decide ended as its outcome says, over every honest trace, where that outcome is what
     -- its jobs and its calls show.
     -- The source of a download is to be as planned only where its destination may be new.
@@ -111,6 +142,6 @@ module _ (Shows : Ask → ℕ → Talk → Class → List ℕ → Type 0) where
         → HasJournal journal trace part → (n : ℕ) (task : Task) (how : Outcome)
         → slice_get run.setting.tasks n ≡ Some task → IsByFiles task
         → (MayBeNew how → task.kind ≡ kind.Download → HasSourceObject (states start trace) task)
-        → HasOutcome Shows HasStatus (CallFailed run.calls) run.setting run.dispatched coming n task how
-        → IsShownByCalls how (IsPlaced task.kind run.calls n)
+        → HasOutcome Shows HasStatus CallFailed run.setting run.dispatched coming n task how
+        → IsShownByCalls how (IsPlaced task.kind run.calls n) (HasFailedAct run.calls n)
         → IsEnded run.excused journal start trace (scene_before run start) (scene_after run (state_after start part)) n task how

@@ -17,7 +17,7 @@ use Rattle.run_promise.specs.Truthful.{HasJournal}
 use Rattle.local_files.specs.Calls.{Call, WriteAt}
 use Rattle.world_laws.specs.Rounds.{Told, ToldStatus}
 use Rattle.world_laws.specs.Tasks.{HasSourceObject, IsScheduled, IsTraceOf, MayBeNew}
-use Rattle.file_laws.specs.FileEnds.{CallFailed, IsByFiles, IsPlaced, IsShownByCalls}
+use Rattle.file_laws.specs.FileEnds.{HasFailedAct, HasFailedCall, IsByFiles, IsPlaced, IsShownByCalls}
 use Rattle.file_laws.specs.FileLaws.{AreCalls, FileRun, in_the_end, with_trace}
 use Rattle.file_laws.specs.FileTasks.{IsDropped, IsMoveOf, IsRemoved, TaskCall}
 
@@ -83,8 +83,8 @@ pub record IsFileTaskMet (task : Task) (how : Outcome) : Type 0 where
   pub whole : HasJournal journal trace trace
   pub by_files : IsByFiles task
   pub sourced : MayBeNew how → task.kind ≡ kind.Download → HasSourceObject (states start trace) task
-  pub caused : HasOutcome Told ToldStatus (CallFailed run.calls) run.setting run.dispatched run.dispatched 0 task how
-  pub shown : IsShownByCalls how (IsPlaced task.kind run.calls 0)
+  pub caused : HasOutcome Told ToldStatus (HasFailedCall run.calls) run.setting run.dispatched run.dispatched 0 task how
+  pub shown : IsShownByCalls how (IsPlaced task.kind run.calls 0) (HasFailedAct run.calls 0)
 
 -- two ranges that came and were written in reverse order
 abbrev pub DownloadIsMet : Type 0

@@ -43,7 +43,7 @@ pub fn moved_file<R: Reading>()
 /// A task whose destination is a file ends as its outcome says, over every honest service that fits, where that outcome
 /// is what its jobs and its calls on files show.
 pub fn file_task<C: Command>()
-    ensures ends { FileTaskEnds C.shows C.has_status }
+    ensures ends { FileTaskEnds C.shows C.has_status C.call_failed }
     ensures met_done { DownloadIsMet }
     ensures met_failed { RefusedGetIsMet }
     ensures met_removal { FailedRemovalIsMet }
