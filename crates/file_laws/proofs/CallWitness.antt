@@ -17,13 +17,13 @@ use Rattle.s3_model.specs.Maps.{MapOf}
 use Rattle.s3_model.specs.Talks.{Talk}
 use Rattle.run_promise.specs.Dispatches.{Dispatched}
 use Rattle.run_promise.specs.Endings.{Excused, IsLeft, IsUntimed}
-use Rattle.run_promise.specs.Schedule.{Setting}
+use Rattle.run_promise.specs.Schedule.{IsBefore, Setting}
 use Rattle.local_files.specs.Calls.{Call, DropTemp, MakeTemp, Rename, Stamp, WriteAt}
 use Rattle.shared_lemmas.proofs.Lists.{head_is, no_middle, tail_is}
 use Rattle.shared_lemmas.proofs.Members.{Has, has, split_of}
 use Rattle.world_laws.proofs.ScheduleWitness.{one_task}
 use Rattle.file_laws.proofs.Keeping.{true_false}
-use Rattle.file_laws.specs.FileTasks.{AreFileCalls, AreFilesApart, AreWritten, IsBody, IsCallOf, IsDecidedBefore, IsDropped, IsMade, IsRenamed, IsStamped, MayFollow, TaskCall, UsesTemp}
+use Rattle.file_laws.specs.FileTasks.{AreFileCalls, AreFilesApart, AreWritten, HasFailedBefore, HasFailedDrop, HasFailedStamp, IsBody, IsCallOf, IsDecidedBefore, IsDropped, IsMade, IsRenamed, IsStamped, IsTidying, MayFollow, TaskCall, UsesTemp}
 
 -- ---- lists that are written out
 
@@ -107,7 +107,7 @@ on_use P (Rename q dest fault) temp h e = subst P e h
 on_use P (DropTemp q fine) temp h e = subst P e h
 on_use P call temp h e = absurd e
 
-module _ (Shows : Ask → ℕ → Talk → Class → List ℕ → Type 0) (s : Setting) (excused : Excused) (dispatched : List Dispatched) (task : Task) where
+module _ (Shows : Ask → ℕ → Talk → Class → List ℕ → Type 0) (s : Setting) (excused : Excused) (dispatched coming : List Dispatched) (task : Task) where
   -- a call keeps its clauses beside those before it
   pub record Keeps (front : List TaskCall) (c : TaskCall) : Type 0 where
     pub first : c.task ≡ 0
@@ -130,9 +130,14 @@ module _ (Shows : Ask → ℕ → Talk → Class → List ℕ → Type 0) (s : S
         → ((c : Dispatched) → Contains dispatched c → c.dispatch.job.op ≡ op.Delete → ⊥)
         → ((c : Dispatched) → Contains dispatched c → c.dispatch.job.op ≡ op.Get → (made : TaskCall) × Contains calls made × (c.dispatch.job.task ≡ Some made.task) × (dest : List ℕ) × (temp : List ℕ) × (made.step.call ≡ MakeTemp dest (Ok temp))
         × (made.place ≤ c.dispatch.given_at))
+        → ((c : TaskCall) → Contains calls c → IsBefore s.cancelled_at c.place ⊎ HasFailedBefore Shows s coming c.task c.place → IsTidying c.step.call)
+        → ((path : List ℕ) → Contains excused.untimed path → HasFailedStamp calls path) → ((temp : List ℕ) → Contains excused.left temp → HasFailedDrop calls temp)
         → (IsRenamed calls 0 → IsStamped calls 0) → ((temp : List ℕ) → IsMade calls 0 temp → IsRenamed calls 0 ⊎ IsDropped calls 0)
-        → AreFileCalls Shows s excused dispatched calls
-    calls_keep carried_out decided places no_delete made_first stamped dropped = record {
+        → AreFileCalls Shows s excused dispatched coming calls
+    calls_keep carried_out decided places no_delete made_first stops untimed_only left_only stamped dropped = record {
+      stops = stops;
+      untimed_only = untimed_only;
+      left_only = left_only;
       named = λ c known. let k = kept_one c known in (task, ap (slice_get s.tasks) k.1.first ∙ first_task, k.1.is_call);
       placed = all_pairs (λ (a b : TaskCall). a.place ≤ b.place) calls places;
       dry = λ dried. absurd (clash (sym carried_out ∙ dried));

@@ -47,7 +47,7 @@ use Rattle.world_laws.proofs.PieceCounts.{pieces_are_one}
 use Rattle.world_laws.proofs.Rounds.{AreApart as AreOtherJobs, rounds_come, rounds_given}
 use Rattle.world_laws.proofs.ScheduleWitness.{limits_are_valid, one_task, setting_of, the_limits}
 use Rattle.file_laws.specs.FileEnds.{HasFailedAct, HasFailedCall, IsFailedAct, IsShownByCalls}
-use Rattle.file_laws.specs.FileTasks.{AreFileCalls, AreFilesApart, AreWritten, IsBody, IsDropped, IsRangeIn, IsRenamed, TaskCall, steps_of}
+use Rattle.file_laws.specs.FileTasks.{AreFileCalls, AreFilesApart, AreWritten, HasFailedBefore, IsBody, IsDropped, IsRangeIn, IsRenamed, IsTidying, TaskCall, steps_of}
 use Rattle.file_laws.specs.FileLaws.{in_the_end}
 use Rattle.file_laws.specs.FileWitnesses.{DownloadIsMet, IsFileTaskMet, LeftFileIsMet, RefusedGetIsMet, places_written, two_bytes}
 use Rattle.file_laws.proofs.CallWitness.{IsWarned, all_pairs, calls_keep, still_apart}
@@ -295,10 +295,10 @@ module _ (bucket key : List ℕ) (a b : ℕ) where
             ap length (sym had.4 ∙ sym faithful ∙ had.3.etag)
 
     -- a run with these calls
-    module _ (excused : Excused) (calls : List TaskCall) (keep : AreFileCalls Told setting excused all calls) (runs : IsCallRun empty (steps_of calls)) where
+    module _ (excused : Excused) (calls : List TaskCall) (keep : AreFileCalls Told setting excused all all calls) (runs : IsCallRun empty (steps_of calls)) where
       met : (how : Outcome) → HasOutcome Told ToldStatus (HasFailedCall calls) setting all all 0 task how → IsShownByCalls how (IsRenamed calls 0) (HasFailedAct calls 0) → IsFileTaskMet task how
       met how caused shown = record {
-        run = run_of setting excused all calls;
+        run = run_of setting excused all all calls;
         start = start;
         trace = trace;
         journal = journal_of rounds;
@@ -403,8 +403,13 @@ module _ (bucket key : List ℕ) (a b : ℕ) where
             (write_two, (1, omega arith, refl), refl, b ∷ [], ap (λ (k : ℕ). WriteAt temp k (b ∷ []) true) at_is)
       ]
 
-  keep : AreFileCalls Told setting excused reversed calls
-  keep = calls_keep Told setting excused reversed task only refl calls (
+  none_fails : (c : Dispatched) → IsFailed Told setting reversed c → ⊥
+  none_fails c failed =
+      let second = only_second_fails 2 1 (omega arith) (omega arith) (omega arith) (omega arith) two_is_one (b ∷ []) (a ∷ []) refl false backwards_served c failed in
+      failed.4 (subst (IsCompletedWell Told) second last_well)
+
+  keep : AreFileCalls Told setting excused reversed reversed calls
+  keep = calls_keep Told setting excused reversed reversed task only refl calls (
     record { first = refl; is_call = refl; warned = tt; follows = tt; uses = tt; writes = tt; renames = tt; stamps = tt },
     (
       record { first = refl; is_call = tt; warned = tt; follows = (refl, tt); uses = (make, (0, omega arith, refl), refl, dest, refl); writes = body_two; renames = tt; stamps = tt },
@@ -424,6 +429,7 @@ module _ (bucket key : List ℕ) (a b : ℕ) where
       ((omega arith, (omega arith, (omega arith, (omega arith, tt)))), ((omega arith, (omega arith, (omega arith, tt))), ((omega arith, (omega arith, tt)), ((omega arith, tt), (tt, tt)))))
       (λ c known is. no_op 2 1 (omega arith) (omega arith) (omega arith) (omega arith) two_is_one (b ∷ []) (a ∷ []) refl false backwards_served op.Delete (λ e. absurd (omega arith)) c known is)
       (λ c known is_get. (make, (0, omega arith, refl), of_first_task 2 1 (omega arith) (omega arith) (omega arith) (omega arith) two_is_one (b ∷ []) (a ∷ []) refl false backwards_served c known, dest, temp, refl, omega arith))
+      (λ c known h. elim h [ inl cancelled ↦ absurd cancelled | inr failed ↦ absurd (none_fails failed.0 failed.1) ]) (λ path h. absurd (has [] path h)) (λ temp h. absurd (has [] temp h))
       (λ re. (stamp, (4, omega arith, refl), refl, dest, 0, true, refl))
       (λ path made. inl (rename, (3, omega arith, refl), refl, temp, dest, refl))
 
@@ -441,11 +447,6 @@ module _ (bucket key : List ℕ) (a b : ℕ) where
       ),
     ),
   )
-
-  none_fails : (c : Dispatched) → IsFailed Told setting reversed c → ⊥
-  none_fails c failed =
-      let second = only_second_fails 2 1 (omega arith) (omega arith) (omega arith) (omega arith) two_is_one (b ∷ []) (a ∷ []) refl false backwards_served c failed in
-      failed.4 (subst (IsCompletedWell Told) second last_well)
 
   abbrev got_range : ℕ → Reply
   got_range number = reply.Got 206 (Some ((asked_range 2 1 number).0, (asked_range 2 1 number).1, 2)) 1
@@ -505,7 +506,8 @@ module _ (bucket key : List ℕ) (a b : ℕ) where
   body_half = body_of 0 1 (a ∷ []) halved refl (omega arith) (omega arith) (0, omega arith, refl) 2 0 (omega arith) refl
 
   -- the drop went well, or a warning says that it did not
-  module _ (fine : Bool) (warnings : Excused) (warned : IsWarned warnings (DropTemp temp fine)) (after : MapOf HeldFile) (leads : Leads (DropTemp temp fine) half_files after) where
+  module _ (fine : Bool) (warnings : Excused) (warned : IsWarned warnings (DropTemp temp fine)) (after : MapOf HeldFile) (leads : Leads (DropTemp temp fine) half_files after)
+      (untimed_none : (path : List ℕ) → Contains warnings.untimed path → ⊥) (left_is : (path : List ℕ) → Contains warnings.left path → (temp ≡ path) × (fine ≡ false)) where
     abbrev drop_temp : TaskCall
     drop_temp = record { task = 0; place = 4; step = record { call = DropTemp temp fine; held = after } }
 
@@ -530,6 +532,26 @@ module _ (bucket key : List ℕ) (a b : ℕ) where
         by (inr (inr (inl e))) = drop_is (ap (λ (c : TaskCall). c.step.call) e ∙ re.5)
         by (inr (inr (inr h))) = h
 
+    -- the refusal came after the write and before the drop
+    early : (c : TaskCall) → c.place ≤ 3 → IsBefore setting.cancelled_at c.place ⊎ HasFailedBefore Told setting halved c.task c.place → ⊥
+    early c low (inl cancelled) = cancelled
+    early c low (inr failed) =
+        let second = only_second_fails 1 2 (omega arith) (omega arith) (omega arith) (omega arith) one_is_two (a ∷ []) denied refl true half_served failed.0 failed.1 in
+        let later : 3 < c.place = subst (λ (d : Dispatched). IsBefore d.dispatch.came_at c.place) (sym second) failed.3 in
+        absurd (omega arith)
+
+    stops_half : (c : TaskCall) → Contains half_calls c → IsBefore setting.cancelled_at c.place ⊎ HasFailedBefore Told setting halved c.task c.place → IsTidying c.step.call
+    stops_half c known stopped = by (has half_calls c known)
+      where
+        low : (x : TaskCall) → x ≡ c → x.place ≤ 3 → IsTidying c.step.call
+        low x e small = absurd (early c (subst (λ (y : TaskCall). y.place ≤ 3) e small) stopped)
+
+        by : Has half_calls c → IsTidying c.step.call
+        by (inl e) = low make e (omega arith)
+        by (inr (inl e)) = low write_half e (omega arith)
+        by (inr (inr (inl e))) = subst (λ (x : TaskCall). IsTidying x.step.call) e tt
+        by (inr (inr (inr h))) = absurd h
+
     no_act_failed : HasFailedAct half_calls 0 → ⊥
     no_act_failed failed = by (has half_calls failed.0 failed.1)
       where
@@ -542,8 +564,8 @@ module _ (bucket key : List ℕ) (a b : ℕ) where
         by (inr (inr (inl e))) = act drop_temp e
         by (inr (inr (inr h))) = h
 
-    keep_half : AreFileCalls Told setting warnings halved half_calls
-    keep_half = calls_keep Told setting warnings halved task only refl half_calls (
+    keep_half : AreFileCalls Told setting warnings halved halved half_calls
+    keep_half = calls_keep Told setting warnings halved halved task only refl half_calls (
       record { first = refl; is_call = refl; warned = tt; follows = tt; uses = tt; writes = tt; renames = tt; stamps = tt },
       (
         record { first = refl; is_call = tt; warned = tt; follows = (refl, tt); uses = (make, (0, omega arith, refl), refl, dest, refl); writes = body_half; renames = tt; stamps = tt },
@@ -554,6 +576,8 @@ module _ (bucket key : List ℕ) (a b : ℕ) where
         ((omega arith, (omega arith, tt)), ((omega arith, tt), (tt, tt)))
         (λ c known is. no_op 1 2 (omega arith) (omega arith) (omega arith) (omega arith) one_is_two (a ∷ []) denied refl true half_served op.Delete (λ e. absurd (omega arith)) c known is)
         (λ c known is_get. (make, (0, omega arith, refl), of_first_task 1 2 (omega arith) (omega arith) (omega arith) (omega arith) one_is_two (a ∷ []) denied refl true half_served c known, dest, temp, refl, omega arith))
+        stops_half (λ path h. absurd (untimed_none path h))
+        (λ path h. let own = left_is path h in (drop_temp, (2, omega arith, refl), ap (λ (q : List ℕ). DropTemp q fine) own.0 ∙ ap (DropTemp path) own.1))
         (λ re. absurd (none_renamed re))
         (λ path made. inr (drop_temp, (2, omega arith, refl), refl, temp, fine, refl))
 
@@ -612,15 +636,18 @@ module _ (bucket key : List ℕ) (a b : ℕ) where
       × ((path : List ℕ) × IsLeftover failed.run.excused failed.run.setting.held path × IsSome (in_the_end failed.run path))
   unfolding refused_met met
   left_met = (
-    (refused_met false warnings_of_temp (refl, inl (0, omega arith, refl)) half_files refl).0,
+    (refused_met false warnings_of_temp (refl, inl (0, omega arith, refl)) half_files refl (λ path h. has [] path h) left_is).0,
     (temp, ((refl, inl (0, omega arith, refl)), get-empty (slice_cmp nat_cmp) temp), some_is_there (get half_files temp) (with_bytes (written_at 0 (a ∷ []) [])) (found made_files temp (with_bytes (written_at 0 (a ∷ []) [])))),
   )
+    where
+      left_is : (path : List ℕ) → Contains (temp ∷ []) path → (temp ≡ path) × (false ≡ false)
+      left_is path h = elim (has (temp ∷ []) path h) [ inl e ↦ (e, refl) | inr none ↦ absurd none ]
 
 pub download_is_met : DownloadIsMet
 download_is_met bucket key a b = done_met bucket key a b
 
 pub refused_get_is_met : RefusedGetIsMet
-refused_get_is_met bucket key a b = refused_met bucket key a b true excused tt _ refl
+refused_get_is_met bucket key a b = refused_met bucket key a b true excused tt _ refl (λ path h. has [] path h) (λ path h. absurd (has [] path h))
 
 pub left_file_is_met : LeftFileIsMet
 left_file_is_met bucket key a b = left_met bucket key a b

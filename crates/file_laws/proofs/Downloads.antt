@@ -39,7 +39,7 @@ stamp_renames p temp dest micros e = cc
 rename_stamps : (p temp dest : List ℕ) (micros : ℕ) → Rename temp dest None ≡ Stamp p micros true → ⊥
 rename_stamps p temp dest micros e = cc
 
-module _ (Shows : Ask → ℕ → Talk → Class → List ℕ → Type 0) (s : Setting) (excused : Excused) (dispatched : List Dispatched) (calls : List TaskCall) (a : AreCalls Shows (run_of s excused dispatched calls)) where
+module _ (Shows : Ask → ℕ → Talk → Class → List ℕ → Type 0) (s : Setting) (excused : Excused) (dispatched coming : List Dispatched) (calls : List TaskCall) (a : AreCalls Shows (run_of s excused dispatched coming calls)) where
   -- a temporary file stands at no download's destination
   temp_free : (c : TaskCall) → Contains calls c → (dest p : List ℕ) → c.step.call ≡ MakeTemp dest (Ok p)
       → (m : ℕ) (other : Task) → slice_get s.tasks m ≡ Some other → other.kind ≡ kind.Download → other.dest ≡ place.File p → ⊥
@@ -56,8 +56,8 @@ module _ (Shows : Ask → ℕ → Talk → Class → List ℕ → Type 0) (s : S
       differs : dest ≡ p → ⊥
       differs same = temp.0 (sym same)
 
-      own : keeping.Named Shows s excused dispatched calls a c (MakeTemp dest (Ok p))
-      own = keeping.named Shows s excused dispatched calls a c (MakeTemp dest (Ok p)) known e
+      own : keeping.Named Shows s excused dispatched coming calls a c (MakeTemp dest (Ok p))
+      own = keeping.named Shows s excused dispatched coming calls a c (MakeTemp dest (Ok p)) known e
 
       makes : (own.task.kind ≡ kind.Download) × (own.task.dest ≡ place.File dest)
       makes = only_download_makes own.task own.task.kind dest (Ok p) own.is_call
@@ -83,7 +83,7 @@ module _ (Shows : Ask → ℕ → Talk → Class → List ℕ → Type 0) (s : S
       longer = front ++ c ∷ []
 
       known : Contains calls c
-      known = keeping.within Shows s excused dispatched calls a front c back is
+      known = keeping.within Shows s excused dispatched coming calls a front c back is
 
       renamed_on : Renamed front → Renamed longer
       renamed_on r = (r.0, has-append_left front (c ∷ []) r.0 r.1, r.2, r.3, r.4, r.5)
@@ -91,26 +91,26 @@ module _ (Shows : Ask → ℕ → Talk → Class → List ℕ → Type 0) (s : S
       -- who replaces the destination or sets its time is its task
       own_rename : (temp dest : List ℕ) → c.step.call ≡ Rename temp dest None → dest ≡ path → c.task ≡ n
       own_rename temp dest e same =
-          let own = keeping.named Shows s excused dispatched calls a c (Rename temp dest None) known e in
+          let own = keeping.named Shows s excused dispatched coming calls a c (Rename temp dest None) known e in
           let renames = only_download_renames own.task own.task.kind temp dest None own.is_call in
           a.apart.destinations c.task n own.task task path (own.is_task, renames.1 ∙ ap place.File same) (is_task, is_dest)
 
       renames_own : (temp dest : List ℕ) → c.task ≡ n → c.step.call ≡ Rename temp dest None → dest ≡ path
       renames_own temp dest same e =
-          let own = keeping.named Shows s excused dispatched calls a c (Rename temp dest None) known e in
+          let own = keeping.named Shows s excused dispatched coming calls a c (Rename temp dest None) known e in
           let alike = same_task own.task task (sym own.is_task ∙ ap (slice_get s.tasks) same ∙ is_task) in
           same_path dest path (sym (only_download_renames own.task own.task.kind temp dest None own.is_call).1 ∙ ap (λ (t : Task). t.dest) alike ∙ is_dest)
 
       stamps_own : (at : List ℕ) (micros : ℕ) → c.task ≡ n → c.step.call ≡ Stamp at micros true → (at ≡ path) × (micros ≡ task.micros)
       stamps_own at micros same e =
-          let own = keeping.named Shows s excused dispatched calls a c (Stamp at micros true) known e in
+          let own = keeping.named Shows s excused dispatched coming calls a c (Stamp at micros true) known e in
           let alike = same_task own.task task (sym own.is_task ∙ ap (slice_get s.tasks) same ∙ is_task) in
           let is_stamp = only_download_stamps own.task own.task.kind at micros true own.is_call in
           (same_path at path (sym is_stamp.1 ∙ ap (λ (t : Task). t.dest) alike ∙ is_dest), is_stamp.2 ∙ ap (λ (t : Task). t.micros) alike)
 
       own_stamp : (micros : ℕ) → c.step.call ≡ Stamp path micros true → c.task ≡ n
       own_stamp micros e =
-          let own = keeping.named Shows s excused dispatched calls a c (Stamp path micros true) known e in
+          let own = keeping.named Shows s excused dispatched coming calls a c (Stamp path micros true) known e in
           a.apart.destinations c.task n own.task task path (own.is_task, (only_download_stamps own.task own.task.kind path micros true own.is_call).1) (is_task, is_dest)
 
       no_make : (dest : List ℕ) → c.step.call ≡ MakeTemp dest (Ok path) → ⊥
@@ -119,14 +119,14 @@ module _ (Shows : Ask → ℕ → Talk → Class → List ℕ → Type 0) (s : S
       no_use : UsesTemp c.step.call path → ⊥
       no_use uses =
           let made = a.keep.made front c path (back, is) uses in
-          temp_free made.0 (keeping.within_front Shows s excused dispatched calls a front c back made.0 is (has front made.0 made.1)) made.3 path made.4 n task is_task load is_dest
+          temp_free made.0 (keeping.within_front Shows s excused dispatched coming calls a front c back made.0 is (has front made.0 made.1)) made.3 path made.4 n task is_task load is_dest
 
       uses_none : (call : Call) → c.step.call ≡ call → UsesTemp call path → ⊥
       uses_none call e uses = no_use (subst (λ (x : Call). UsesTemp x path) (sym e) uses)
 
       no_removal : c.step.call ≡ Remove path true → ⊥
       no_removal e =
-          let own = keeping.named Shows s excused dispatched calls a c (Remove path true) known e in
+          let own = keeping.named Shows s excused dispatched coming calls a c (Remove path true) known e in
           elim (who_removes own.task own.task.kind path true own.is_call) [
             | inr upload ↦ a.apart.sources c.task n own.task task path (own.is_task, upload.1, upload.2) (is_task, is_dest)
             | inl removal ↦
@@ -216,7 +216,7 @@ module _ (Shows : Ask → ℕ → Talk → Class → List ℕ → Type 0) (s : S
             never st = elim (stamped_cases st) [
               | inr here ↦ absurd (rename_stamps here.1 temp path here.2 (sym e ∙ here.3))
               | inl first ↦ absurd (subst (λ (x : Call). MayFollow x (Rename temp path None)) first.5
-                  (subst (λ (x : Call). MayFollow first.0.step.call x) e (keeping.follows Shows s excused dispatched calls a front c back first.0 is first.1 (first.2 ∙ sym own))))
+                  (subst (λ (x : Call). MayFollow first.0.step.call x) e (keeping.follows Shows s excused dispatched coming calls a front c back first.0 is first.1 (first.2 ∙ sym own))))
             ]
         new_step before (drops e f) re = absurd (uses_none front c back is (DropTemp path true) e refl)
         new_step before (leaves e f) re = absurd (uses_none front c back is (DropTemp path false) e refl)
@@ -250,12 +250,12 @@ module _ (Shows : Ask → ℕ → Talk → Class → List ℕ → Type 0) (s : S
         by : (fine : Bool) → st.0.step.call ≡ Stamp st.3 st.4 fine → (w.file.micros ≡ task.micros) ⊎ IsUntimed excused path
         by true e = inl (w.timed (st.0, has calls st.0 st.1, st.2, st.3, st.4, e))
         by false e =
-            let own = keeping.named Shows s excused dispatched calls a st.0 (Stamp st.3 st.4 false) st.1 e in
+            let own = keeping.named Shows s excused dispatched coming calls a st.0 (Stamp st.3 st.4 false) st.1 e in
             let alike = same_task own.task task (sym own.is_task ∙ ap (slice_get s.tasks) st.2 ∙ is_task) in
             let at = same_path st.3 path (sym (only_download_stamps own.task own.task.kind st.3 st.4 false own.is_call).1 ∙ ap (λ (t : Task). t.dest) alike ∙ is_dest) in
             inr (subst (λ (q : List ℕ). IsUntimed excused q) at (a.keep.untimed st.0 st.3 st.4 st.1 e))
 
-    module _ (coming : List Dispatched) (start : State) (trace : List Step) (journal : List Event) (r : IsScheduled Shows s journal dispatched coming) (traced : IsTraceOf Shows s (record { start = start; trace = trace; journal = journal; dispatched = dispatched }))
+    module _ (start : State) (trace : List Step) (journal : List Event) (r : IsScheduled Shows s journal dispatched coming) (traced : IsTraceOf Shows s (record { start = start; trace = trace; journal = journal; dispatched = dispatched }))
         (source : HasSourceObject (states start trace) task) where
       abbrev IsContent : List ℕ → Type 0
       IsContent all = HasContent s.held (states start trace) task.etag task.source all
@@ -293,12 +293,12 @@ module _ (Shows : Ask → ℕ → Talk → Class → List ℕ → Type 0) (s : S
           made = a.keep.made front c temp (back, is) (subst (λ (x : Call). UsesTemp x temp) (sym e) refl)
 
           free : (m : ℕ) (other : Task) → slice_get s.tasks m ≡ Some other → other.kind ≡ kind.Download → other.dest ≡ place.File temp → ⊥
-          free = temp_free made.0 (keeping.within_front Shows s excused dispatched calls a front c back made.0 is (has front made.0 made.1)) made.3 temp made.4
+          free = temp_free made.0 (keeping.within_front Shows s excused dispatched coming calls a front c back made.0 is (has front made.0 made.1)) made.3 temp made.4
 
-          full : filling.IsFilled Shows s excused dispatched calls a n task is_task temp path free all_written.piece all_written.count pieces sound front (files_after s.held front)
-          full = filling.filled Shows s excused dispatched calls a n task is_task temp path free all_written.piece all_written.count pieces sound front (c ∷ back) is
+          full : filling.IsFilled Shows s excused dispatched coming calls a n task is_task temp path free all_written.piece all_written.count pieces sound front (files_after s.held front)
+          full = filling.filled Shows s excused dispatched coming calls a n task is_task temp path free all_written.piece all_written.count pieces sound front (c ∷ back) is
               (made.0, has front made.0 made.1, made.2 ∙ own, made.3, made.4)
-              (λ x h of. subst (λ (y : Call). MayFollow x.step.call y) e (keeping.follows Shows s excused dispatched calls a front c back x is h (of ∙ sym own)))
+              (λ x h of. subst (λ (y : Call). MayFollow x.step.call y) e (keeping.follows Shows s excused dispatched coming calls a front c back x is h (of ∙ sym own)))
 
           same : full.file.bytes ≡ file.bytes
           same = ap (λ (x : HeldFile). x.bytes) (some_is full.file file (sym full.there ∙ there))
@@ -307,10 +307,10 @@ module _ (Shows : Ask → ℕ → Talk → Class → List ℕ → Type 0) (s : S
           brought number at long range =
               let found = all_written.each number at long range in
               let in_front = has front found.0 found.1 in
-              let known = keeping.within_front Shows s excused dispatched calls a front c back found.0 is in_front in
+              let known = keeping.within_front Shows s excused dispatched coming calls a front c back found.0 is in_front in
               let of : found.0.task ≡ n = found.2 ∙ own in
               let holds = full.holds found.0 at found.3 in_front of found.4 in
-              let ranged = filling.write_range Shows s excused dispatched calls a n task is_task temp path free all_written.piece all_written.count pieces sound found.0 temp at found.3 true known of found.4 in
+              let ranged = filling.write_range Shows s excused dispatched coming calls a n task is_task temp path free all_written.piece all_written.count pieces sound found.0 temp at found.3 true known of found.4 in
               record {
                 w = found.0;
                 bytes = found.3;
@@ -350,12 +350,12 @@ module _ (Shows : Ask → ℕ → Talk → Class → List ℕ → Type 0) (s : S
     unopened c at bytes fine known e = let split = split_of calls c (has calls c known) in uses_none split.front c split.back split.is (WriteAt path at bytes fine) e refl
 
     tidy : (temp : List ℕ) → IsMade calls n temp → (get (files_after s.held calls) temp ≡ None) ⊎ IsLeft excused temp
-    tidy temp made = by (files.end Shows s excused dispatched calls a temp free)
+    tidy temp made = by (files.end Shows s excused dispatched coming calls a temp free)
       where
         free : (m : ℕ) (other : Task) → slice_get s.tasks m ≡ Some other → other.kind ≡ kind.Download → other.dest ≡ place.File temp → ⊥
         free = temp_free made.0 made.1 made.3 temp made.4
 
-        by : files.End Shows s excused dispatched calls a temp free → (get (files_after s.held calls) temp ≡ None) ⊎ IsLeft excused temp
+        by : files.End Shows s excused dispatched coming calls a temp free → (get (files_after s.held calls) temp ≡ None) ⊎ IsLeft excused temp
         by (Kept e none kept) = absurd (none n (made.0, has calls made.0 made.1, made.2, made.3, made.4))
         by (Free e freed) = inl e
         by (Left excuse m other freed) = inr excuse
@@ -363,12 +363,12 @@ module _ (Shows : Ask → ℕ → Talk → Class → List ℕ → Type 0) (s : S
 module _ (Shows : Ask → ℕ → Talk → Class → List ℕ → Type 0) where
   pub file_is_kept_safe : FileIsKeptSafe Shows
   file_is_kept_safe run a n task path to load = record {
-    old = old_until Shows run.setting run.excused run.dispatched run.calls a n task path to.0 load to.1;
-    timed = timed_in_the_end Shows run.setting run.excused run.dispatched run.calls a n task path to.0 load to.1;
-    unopened = unopened Shows run.setting run.excused run.dispatched run.calls a n task path to.0 load to.1;
-    tidy = tidy Shows run.setting run.excused run.dispatched run.calls a n task path to.0 load to.1;
+    old = old_until Shows run.setting run.excused run.dispatched run.coming run.calls a n task path to.0 load to.1;
+    timed = timed_in_the_end Shows run.setting run.excused run.dispatched run.coming run.calls a n task path to.0 load to.1;
+    unopened = unopened Shows run.setting run.excused run.dispatched run.coming run.calls a n task path to.0 load to.1;
+    tidy = tidy Shows run.setting run.excused run.dispatched run.coming run.calls a n task path to.0 load to.1;
   }
 
   pub file_is_downloaded : FileIsDownloaded Shows
-  file_is_downloaded run coming start trace journal a r traced n task path to load source =
-      new_from Shows run.setting run.excused run.dispatched run.calls a n task path to.0 load to.1 coming start trace journal r traced source
+  file_is_downloaded run start trace journal a r traced n task path to load source =
+      new_from Shows run.setting run.excused run.dispatched run.coming run.calls a n task path to.0 load to.1 start trace journal r traced source

@@ -45,7 +45,7 @@ none_task : (n : ℕ) → ◌≡◌ {A = Option ℕ} None (Some n) → ⊥
 none_task n e = cc
 
 module _ (Shows : Ask → ℕ → Talk → Class → List ℕ → Type 0) (HasStatus : Ask → ℕ → Talk → ℕ → Type 0) (CallFailed : ℕ → Cause → Type 0) (s : Setting) (excused : Excused) (dispatched coming : List Dispatched) (calls : List TaskCall)
-    (start : State) (trace part : List Step) (journal : List Event) (a : AreCalls Shows (run_of s excused dispatched calls)) (r : IsScheduled Shows s journal dispatched coming)
+    (start : State) (trace part : List Step) (journal : List Event) (a : AreCalls Shows (run_of s excused dispatched coming calls)) (r : IsScheduled Shows s journal dispatched coming)
     (traced : IsTraceOf Shows s (record { start = start; trace = trace; journal = journal; dispatched = dispatched })) (whole : HasJournal journal trace part)
     (n : ℕ) (task : Task) (is_task : slice_get s.tasks n ≡ Some task) (path : List ℕ) (is_dest : task.dest ≡ place.File path) where
   abbrev before : Scene
@@ -79,8 +79,8 @@ module _ (Shows : Ask → ℕ → Talk → Class → List ℕ → Type 0) (HasSt
   module _ (load : task.kind ≡ kind.Download) (from : (bucket : List ℕ) × (key : List ℕ) × (task.source ≡ Some (place.Object bucket key))) where
     new : HasSourceObject (states start trace) task → IsRenamed calls n → IsNew excused s.held (states start trace) after task task.kind
     new source renamed =
-        let content = downloads.new_from Shows s excused dispatched calls a n task path is_task load is_dest coming start trace journal r traced source calls [] all renamed in
-        let timed = downloads.timed_in_the_end Shows s excused dispatched calls a n task path is_task load is_dest renamed in
+        let content = downloads.new_from Shows s excused dispatched coming calls a n task path is_task load is_dest start trace journal r traced source calls [] all renamed in
+        let timed = downloads.timed_in_the_end Shows s excused dispatched coming calls a n task path is_task load is_dest renamed in
         let same : timed.0 ≡ content.0 = some_is timed.0 content.0 (sym timed.1 ∙ content.1) in
         let time : (content.0.micros ≡ task.micros) ⊎ IsUntimed excused path = subst (λ (f : HeldFile). (f.micros ≡ task.micros) ⊎ IsUntimed excused path) same timed.2 in
         let holds : Holds excused after (place.File path) task.micros content.0.bytes = (content.0, content.1, refl, time) in
@@ -88,7 +88,7 @@ module _ (Shows : Ask → ℕ → Talk → Class → List ℕ → Type 0) (HasSt
         (content.0.bytes, content.2, subst (λ (d : Place). Holds excused after d task.micros content.0.bytes) (sym is_dest) holds)
 
     old : ¬ (IsRenamed calls n) → IsAsBefore before after task.dest
-    old none = as_before (downloads.old_until Shows s excused dispatched calls a n task path is_task load is_dest calls [] all none)
+    old none = as_before (downloads.old_until Shows s excused dispatched coming calls a n task path is_task load is_dest calls [] all none)
 
     spared_by : ((c : Dispatched) → Contains dispatched c → c.dispatch.job.task ≡ Some n → c.dispatch.job.op ≡ op.Delete → ⊥) → OnTrue task.moves (IsSpared n journal before after task.source)
     spared_by none = OnTrue_from task.moves _ (λ moves. spared from.0 from.1 from.2 none)
@@ -106,7 +106,7 @@ module _ (Shows : Ask → ℕ → Talk → Class → List ℕ → Type 0) (HasSt
         let last = last_range (is_small s task) task.size written.piece written.count sound in
         let w = written.each last.0 last.1 last.2 last.3 in
         let of : w.0.task ≡ n = w.2 ∙ re.2 in
-        let known = keeping.within_front Shows s excused dispatched calls a split.front re.0 split.back w.0 split.is (has split.front w.0 w.1) in
+        let known = keeping.within_front Shows s excused dispatched coming calls a split.front re.0 split.back w.0 split.is (has split.front w.0 w.1) in
         let body = a.keep.writes w.0 task re.3 last.1 w.3 true known (ap (slice_get s.tasks) of ∙ is_task) w.4 in
         (body.get, body.known, ap (λ (j : JobId). j.task) body.is_get ∙ ap Some of)
 
@@ -155,13 +155,13 @@ module _ (Shows : Ask → ℕ → Talk → Class → List ℕ → Type 0) (HasSt
 
     removal_ends : (how : Outcome) → HasOutcome Shows HasStatus CallFailed s dispatched coming n task how → IsShownByCalls how (IsRemoved calls n) (HasFailedAct calls n) → IsEnded excused journal start trace before after n task how
     removal_ends outcome.Done is shown =
-        let absent : IsAbsent excused after (place.File path) = (files.file_is_removed Shows (run_of s excused dispatched calls) a n task path (is_task, is_dest) removal).0 shown.0 in (
+        let absent : IsAbsent excused after (place.File path) = (files.file_is_removed Shows (run_of s excused dispatched coming calls) a n task path (is_task, is_dest) removal).0 shown.0 in (
           subst (λ (k : Kind). IsNew excused s.held (states start trace) after task k) (sym removal) (subst (λ (d : Place). IsAbsent excused after d) (sym is_dest) absent),
           moves_nothing _,
         )
     removal_ends (outcome.Copied why) is shown = absurd (true_false (sym is.0 ∙ keeps))
     removal_ends (outcome.Failed why) is shown = (
-      as_before ((files.file_is_removed Shows (run_of s excused dispatched calls) a n task path (is_task, is_dest) removal).1 shown.0),
+      as_before ((files.file_is_removed Shows (run_of s excused dispatched coming calls) a n task path (is_task, is_dest) removal).1 shown.0),
       moves_nothing _,
     )
     removal_ends (outcome.Unknown why) is shown = absurd (subst (λ (k : Kind). IsDecidedByRequest k) removal is.0.0.2.0)
@@ -173,10 +173,10 @@ module _ (Shows : Ask → ℕ → Talk → Class → List ℕ → Type 0) (HasSt
 
 module _ (Shows : Ask → ℕ → Talk → Class → List ℕ → Type 0) (HasStatus : Ask → ℕ → Talk → ℕ → Type 0) (CallFailed : ℕ → Cause → Type 0) where
   pub file_task_ends : FileTaskEnds Shows HasStatus CallFailed
-  file_task_ends run coming start trace part journal a r traced whole n task how is_task by source is shown = elim by.decided [
-    | inl load ↦ download_ends Shows HasStatus CallFailed run.setting run.excused run.dispatched coming run.calls start trace part journal a r traced whole n task is_task by.path by.is_dest load (by.from load) how
+  file_task_ends run start trace part journal a r traced whole n task how is_task by source is shown = elim by.decided [
+    | inl load ↦ download_ends Shows HasStatus CallFailed run.setting run.excused run.dispatched run.coming run.calls start trace part journal a r traced whole n task is_task by.path by.is_dest load (by.from load) how
         (λ new. source new load) is (subst (λ (k : Kind). IsShownByCalls how (IsPlaced k run.calls n) (HasFailedAct run.calls n)) load shown)
-    | inr removal ↦ removal_ends Shows HasStatus CallFailed run.setting run.excused run.dispatched coming run.calls start trace part journal a r traced whole n task is_task by.path by.is_dest removal (by.keeps removal) how is
+    | inr removal ↦ removal_ends Shows HasStatus CallFailed run.setting run.excused run.dispatched run.coming run.calls start trace part journal a r traced whole n task is_task by.path by.is_dest removal (by.keeps removal) how is
         (subst (λ (k : Kind). IsShownByCalls how (IsPlaced k run.calls n) (HasFailedAct run.calls n)) removal shown)
   ]
 
@@ -192,14 +192,14 @@ module _ (Shows : Ask → ℕ → Talk → Class → List ℕ → Type 0) where
   left_by outcome.Skipped removed absent same gone stays h = stays h
 
   pub moved_files_are_left : MovedFilesAreLeft Shows
-  moved_files_are_left shown dispatched calls a after each n task how path is_task is_outcome moves is_source =
+  moved_files_are_left shown dispatched coming calls a after each n task how path is_task is_outcome moves is_source =
       subst (λ (held : MapOf HeldFile). IsFileLeft how (get held path ≡ None) (get held path ≡ get shown.setting.held path)) (sym after)
       (left_by how (IsRemoved calls n) _ _ law.0 law.1 (each n task how path (is_task, moves, is_source) is_outcome).0)
     where
       law : (IsRemoved calls n → get (files_after shown.setting.held calls) path ≡ None) × (¬ (IsRemoved calls n) → get (files_after shown.setting.held calls) path ≡ get shown.setting.held path)
-      law = let all = files.file_is_moved Shows (run_shown shown dispatched calls) a n task path (is_task, moves, is_source) in (all.0, all.1)
+      law = let all = files.file_is_moved Shows (run_shown shown dispatched coming calls) a n task path (is_task, moves, is_source) in (all.0, all.1)
 
   pub promised_files_stay : PromisedFilesStay Shows
-  promised_files_stay shown dispatched calls a after path =
+  promised_files_stay shown dispatched coming calls a after path =
       subst (λ (held : MapOf HeldFile). IsTouchedFile shown.setting.tasks path ⊎ IsLeftover shown.excused shown.setting.held path ⊎ (get held path ≡ get shown.setting.held path)) (sym after)
-      (files.files_stay Shows (run_shown shown dispatched calls) a path)
+      (files.files_stay Shows (run_shown shown dispatched coming calls) a path)

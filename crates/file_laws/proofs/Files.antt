@@ -76,13 +76,13 @@ touched_or_not tasks p = elim (one_touches tasks p) [
   | inr none ↦ inr (λ n task is touches. none task (has_at tasks n task is) touches)
 ]
 
-module _ (Shows : Ask → ℕ → Talk → Class → List ℕ → Type 0) (s : Setting) (excused : Excused) (dispatched : List Dispatched) (calls : List TaskCall) (a : AreCalls Shows (run_of s excused dispatched calls)) where
+module _ (Shows : Ask → ℕ → Talk → Class → List ℕ → Type 0) (s : Setting) (excused : Excused) (dispatched coming : List Dispatched) (calls : List TaskCall) (a : AreCalls Shows (run_of s excused dispatched coming calls)) where
   -- a file that was made is a download's
   made_loads : (front late : List TaskCall) → calls ≡ front ++ late → (m : TaskCall) → Has front m → (dest temp : List ℕ) → m.step.call ≡ MakeTemp dest (Ok temp)
       → (task : Task) × (slice_get s.tasks m.task ≡ Some task) × (task.kind ≡ kind.Download)
   made_loads front late is m h dest temp e =
       let known : Contains calls m = subst (λ (all : List TaskCall). Contains all m) (sym is) (contains_of (front ++ late) m (has-append_left front late m h)) in
-      let own = keeping.named Shows s excused dispatched calls a m (MakeTemp dest (Ok temp)) known e in
+      let own = keeping.named Shows s excused dispatched coming calls a m (MakeTemp dest (Ok temp)) known e in
       (own.task, own.is_task, (only_download_makes own.task own.task.kind dest (Ok temp) own.is_call).0)
 
   whole : calls ≡ calls ++ []
@@ -90,10 +90,10 @@ module _ (Shows : Ask → ℕ → Talk → Class → List ℕ → Type 0) (s : S
 
   module _ (p : List ℕ) (undownloaded : (n : ℕ) (task : Task) → slice_get s.tasks n ≡ Some task → task.kind ≡ kind.Download → task.dest ≡ place.File p → ⊥) where
     abbrev Made : ℕ → Type 0
-    Made n = temps.Made Shows s excused dispatched calls a p undownloaded calls n
+    Made n = temps.Made Shows s excused dispatched coming calls a p undownloaded calls n
 
     abbrev Closed : ℕ → Type 0
-    Closed n = temps.Closed Shows s excused dispatched calls a p undownloaded calls n
+    Closed n = temps.Closed Shows s excused dispatched coming calls a p undownloaded calls n
 
     -- in the end each temporary file was renamed or dropped
     closed_in_the_end : (n : ℕ) → Made n → Closed n
@@ -104,14 +104,14 @@ module _ (Shows : Ask → ℕ → Talk → Class → List ℕ → Type 0) (s : S
 
     -- so in the end the file is as before, or free and absent, or one that stayed
     pub data End : Type 0 where
-      Kept : get (files_after s.held calls) p ≡ get s.held p → ((n : ℕ) → Made n → ⊥) → (temps.Removed Shows s excused dispatched calls a p undownloaded calls → ⊥) → End
-      Free : get (files_after s.held calls) p ≡ None → temps.Freed Shows s excused dispatched calls a p undownloaded calls → End
-      Left : IsLeft excused p → (n : ℕ) → Made n → temps.Freed Shows s excused dispatched calls a p undownloaded calls → End
+      Kept : get (files_after s.held calls) p ≡ get s.held p → ((n : ℕ) → Made n → ⊥) → (temps.Removed Shows s excused dispatched coming calls a p undownloaded calls → ⊥) → End
+      Free : get (files_after s.held calls) p ≡ None → temps.Freed Shows s excused dispatched coming calls a p undownloaded calls → End
+      Left : IsLeft excused p → (n : ℕ) → Made n → temps.Freed Shows s excused dispatched coming calls a p undownloaded calls → End
 
     pub end : End
-    end = by (temps.standing Shows s excused dispatched calls a p undownloaded calls [] whole)
+    end = by (temps.standing Shows s excused dispatched coming calls a p undownloaded calls [] whole)
       where
-        by : temps.Standing Shows s excused dispatched calls a p undownloaded calls (files_after s.held calls) → End
+        by : temps.Standing Shows s excused dispatched coming calls a p undownloaded calls (files_after s.held calls) → End
         by (Untouched e none kept) = Kept e none kept
         by (Absent e all freed) = Free e freed
         by (InUse n there made unclosed others freed) = absurd (unclosed (closed_in_the_end n made))
@@ -128,7 +128,7 @@ module _ (Shows : Ask → ℕ → Talk → Class → List ℕ → Type 0) (s : S
 
       none_removes : (c : TaskCall) → Has calls c → c.step.call ≡ Remove p true → ⊥
       none_removes c h e =
-          let own = keeping.named Shows s excused dispatched calls a c (Remove p true) (contains_of calls c h) e in
+          let own = keeping.named Shows s excused dispatched coming calls a c (Remove p true) (contains_of calls c h) e in
           elim (who_removes own.task own.task.kind p true own.is_call) [
             | inl removal ↦ untouched c.task own.task own.is_task (inl removal.1)
             | inr upload ↦ untouched c.task own.task own.is_task (inr (upload.1, upload.2))
@@ -150,18 +150,18 @@ module _ (Shows : Ask → ℕ → Talk → Class → List ℕ → Type 0) (s : S
         let alike = same_task other task (sym is ∙ ap (slice_get s.tasks) one ∙ is_task) in
         removal_downloads (sym removal ∙ ap (λ (t : Task). t.kind) (sym alike) ∙ load)
 
-    own_path : IsRemoved calls n → temps.Removed Shows s excused dispatched calls a p only_removed calls
+    own_path : IsRemoved calls n → temps.Removed Shows s excused dispatched coming calls a p only_removed calls
     own_path removed =
-        let own = keeping.named Shows s excused dispatched calls a removed.0 (Remove removed.3 true) removed.1 removed.4 in
+        let own = keeping.named Shows s excused dispatched coming calls a removed.0 (Remove removed.3 true) removed.1 removed.4 in
         let alike = same_task own.task task (sym own.is_task ∙ ap (slice_get s.tasks) removed.2 ∙ is_task) in
         elim (who_removes own.task own.task.kind removed.3 true own.is_call) [
           | inl is ↦ (removed.0, has calls removed.0 removed.1, removed.4 ∙ ap (λ (q : List ℕ). Remove q true) (same_path removed.3 p (sym is.1 ∙ ap (λ (t : Task). t.dest) alike ∙ is_dest)))
           | inr upload ↦ absurd (upload_removes (sym upload.0 ∙ ap (λ (t : Task). t.kind) alike ∙ removal))
         ]
 
-    own_task : temps.Removed Shows s excused dispatched calls a p only_removed calls → IsRemoved calls n
+    own_task : temps.Removed Shows s excused dispatched coming calls a p only_removed calls → IsRemoved calls n
     own_task removed =
-        let own = keeping.named Shows s excused dispatched calls a removed.0 (Remove p true) (contains_of calls removed.0 removed.1) removed.2 in
+        let own = keeping.named Shows s excused dispatched coming calls a removed.0 (Remove p true) (contains_of calls removed.0 removed.1) removed.2 in
         elim (who_removes own.task own.task.kind p true own.is_call) [
           | inl is ↦ (removed.0, contains_of calls removed.0 removed.1, a.apart.destinations removed.0.task n own.task task p (own.is_task, is.1) (is_task, is_dest), p, removed.2)
           | inr upload ↦ absurd (a.apart.sources removed.0.task n own.task task p (own.is_task, upload.1, upload.2) (is_task, is_dest))
@@ -178,7 +178,7 @@ module _ (Shows : Ask → ℕ → Talk → Class → List ℕ → Type 0) (s : S
     without_removal : (IsRemoved calls n → ⊥) → get (files_after s.held calls) p ≡ get s.held p
     without_removal kept = by (end p only_removed)
       where
-        freed_by : temps.Freed Shows s excused dispatched calls a p only_removed calls → ⊥
+        freed_by : temps.Freed Shows s excused dispatched coming calls a p only_removed calls → ⊥
         freed_by (inl none) = some_none (get s.held p) (a.apart.there n task p (is_task, is_dest) removal) none
         freed_by (inr removed) = kept (own_task removed)
 
@@ -193,9 +193,9 @@ module _ (Shows : Ask → ℕ → Talk → Class → List ℕ → Type 0) (s : S
     only_moved : (m : ℕ) (other : Task) → slice_get s.tasks m ≡ Some other → other.kind ≡ kind.Download → other.dest ≡ place.File p → ⊥
     only_moved m other is load dest = a.apart.sources n m task other p (is_task, moves, is_source) (is, dest)
 
-    source_path : IsRemoved calls n → temps.Removed Shows s excused dispatched calls a p only_moved calls
+    source_path : IsRemoved calls n → temps.Removed Shows s excused dispatched coming calls a p only_moved calls
     source_path removed =
-        let own = keeping.named Shows s excused dispatched calls a removed.0 (Remove removed.3 true) removed.1 removed.4 in
+        let own = keeping.named Shows s excused dispatched coming calls a removed.0 (Remove removed.3 true) removed.1 removed.4 in
         let alike = same_task own.task task (sym own.is_task ∙ ap (slice_get s.tasks) removed.2 ∙ is_task) in
         elim (who_removes own.task own.task.kind removed.3 true own.is_call) [
           | inl removal ↦ absurd (upload_removes (sym upload ∙ ap (λ (t : Task). t.kind) (sym alike) ∙ removal.0))
@@ -208,7 +208,7 @@ module _ (Shows : Ask → ℕ → Talk → Class → List ℕ → Type 0) (s : S
 
     source_task : (c : TaskCall) → Contains calls c → c.step.call ≡ Remove p true → c.task ≡ n
     source_task c known e =
-        let own = keeping.named Shows s excused dispatched calls a c (Remove p true) known e in
+        let own = keeping.named Shows s excused dispatched coming calls a c (Remove p true) known e in
         elim (who_removes own.task own.task.kind p true own.is_call) [
           | inl removal ↦ absurd (a.apart.sources n c.task task own.task p (is_task, moves, is_source) (own.is_task, removal.1))
           | inr is ↦ a.apart.moved_once c.task n own.task task p (own.is_task, is.1, is.2) (is_task, moves, is_source)
@@ -234,17 +234,17 @@ module _ (Shows : Ask → ℕ → Talk → Class → List ℕ → Type 0) (s : S
         by (Free e (inr removed)) = absurd (kept (removed.0, contains_of calls removed.0 removed.1, source_task removed.0 (contains_of calls removed.0 removed.1) removed.2, p, removed.2))
         by (Left excuse m made freed) = absurd (no_temp calls [] whole made.0 made.1 made.3 made.4)
 
-    until_decided : (part late : List TaskCall) → calls ≡ part ++ late → (get (files_after s.held part) p ≡ get s.held p) ⊎ IsDecidedIn Shows (run_of s excused dispatched calls) part n task
-    until_decided part late is = by (temps.standing Shows s excused dispatched calls a p only_moved part late is)
+    until_decided : (part late : List TaskCall) → calls ≡ part ++ late → (get (files_after s.held part) p ≡ get s.held p) ⊎ IsDecidedIn Shows (run_of s excused dispatched coming calls) part n task
+    until_decided part late is = by (temps.standing Shows s excused dispatched coming calls a p only_moved part late is)
       where
-        decided : (c : TaskCall) → Has part c → c.step.call ≡ Remove p true → IsDecidedIn Shows (run_of s excused dispatched calls) part n task
+        decided : (c : TaskCall) → Has part c → c.step.call ≡ Remove p true → IsDecidedIn Shows (run_of s excused dispatched coming calls) part n task
         decided c h e =
             let known : Contains calls c = subst (λ (all : List TaskCall). Contains all c) (sym is) (contains_of (part ++ late) c (has-append_left part late c h)) in
             let one = source_task c known e in
             let at : slice_get s.tasks c.task ≡ Some task = ap (slice_get s.tasks) one ∙ is_task in
             (c, contains_of part c h, one, subst (λ (k : ℕ). IsDecidedBefore Shows s dispatched k task c.place) one (a.keep.moves_last c task p true known at upload e))
 
-        by : temps.Standing Shows s excused dispatched calls a p only_moved part (files_after s.held part) → (get (files_after s.held part) p ≡ get s.held p) ⊎ IsDecidedIn Shows (run_of s excused dispatched calls) part n task
+        by : temps.Standing Shows s excused dispatched coming calls a p only_moved part (files_after s.held part) → (get (files_after s.held part) p ≡ get s.held p) ⊎ IsDecidedIn Shows (run_of s excused dispatched coming calls) part n task
         by (Untouched e none kept) = inl e
         by (Absent e all (inl none)) = inl (e ∙ sym none)
         by (Absent e all (inr removed)) = inr (decided removed.0 removed.1 removed.2)
@@ -255,18 +255,18 @@ module _ (Shows : Ask → ℕ → Talk → Class → List ℕ → Type 0) where
   pub files_stay : FilesStay Shows
   files_stay run a p = elim (touched_or_not run.setting.tasks p) [
     | inl touched ↦ inl touched
-    | inr untouched ↦ inr (others Shows run.setting run.excused run.dispatched run.calls a p untouched)
+    | inr untouched ↦ inr (others Shows run.setting run.excused run.dispatched run.coming run.calls a p untouched)
   ]
 
   pub file_is_removed : FileIsRemoved Shows
   file_is_removed run a n task p to removal = (
-    after_removal Shows run.setting run.excused run.dispatched run.calls a n task p to.0 removal to.1,
-    without_removal Shows run.setting run.excused run.dispatched run.calls a n task p to.0 removal to.1,
+    after_removal Shows run.setting run.excused run.dispatched run.coming run.calls a n task p to.0 removal to.1,
+    without_removal Shows run.setting run.excused run.dispatched run.coming run.calls a n task p to.0 removal to.1,
   )
 
   pub file_is_moved : FileIsMoved Shows
   file_is_moved run a n task p move = let upload = a.apart.uploads n task p move in (
-    after_move Shows run.setting run.excused run.dispatched run.calls a n task p move.0 upload move.1 move.2,
-    without_move Shows run.setting run.excused run.dispatched run.calls a n task p move.0 upload move.1 move.2,
-    until_decided Shows run.setting run.excused run.dispatched run.calls a n task p move.0 upload move.1 move.2,
+    after_move Shows run.setting run.excused run.dispatched run.coming run.calls a n task p move.0 upload move.1 move.2,
+    without_move Shows run.setting run.excused run.dispatched run.coming run.calls a n task p move.0 upload move.1 move.2,
+    until_decided Shows run.setting run.excused run.dispatched run.coming run.calls a n task p move.0 upload move.1 move.2,
   )

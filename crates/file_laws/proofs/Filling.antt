@@ -32,12 +32,12 @@ swapped : {A B : Type 0} → A ⊎ B → B ⊎ A
 swapped (inl a) = inr a
 swapped (inr b) = inl b
 
-module _ (Shows : Ask → ℕ → Talk → Class → List ℕ → Type 0) (s : Setting) (excused : Excused) (dispatched : List Dispatched) (calls : List TaskCall) (a : AreCalls Shows (run_of s excused dispatched calls))
+module _ (Shows : Ask → ℕ → Talk → Class → List ℕ → Type 0) (s : Setting) (excused : Excused) (dispatched coming : List Dispatched) (calls : List TaskCall) (a : AreCalls Shows (run_of s excused dispatched coming calls))
     (n : ℕ) (task : Task) (is_task : slice_get s.tasks n ≡ Some task) (p d : List ℕ)
     (undownloaded : (m : ℕ) (other : Task) → slice_get s.tasks m ≡ Some other → other.kind ≡ kind.Download → other.dest ≡ place.File p → ⊥)
     (piece count : ℕ) (has : HasPieces s.config s.limits task.kind task.size piece count) (sound : AreSound (is_small s task) task.size piece count) where
   abbrev Made : List TaskCall → Type 0
-  Made front = temps.Made Shows s excused dispatched calls a p undownloaded front n
+  Made front = temps.Made Shows s excused dispatched coming calls a p undownloaded front n
 
   -- the rename may still come
   abbrev pub Precedes : List TaskCall → Type 0
@@ -67,7 +67,7 @@ module _ (Shows : Ask → ℕ → Talk → Class → List ℕ → Type 0) (s : S
     longer = front ++ c ∷ []
 
     known : Contains calls c
-    known = keeping.within Shows s excused dispatched calls a front c back is
+    known = keeping.within Shows s excused dispatched coming calls a front c back is
 
     started : (dest : List ℕ) → c.task ≡ n → c.step.call ≡ MakeTemp dest (Ok p) → Leads c.step.call old new → IsFilled longer new
     started dest own e leads =
@@ -76,21 +76,21 @@ module _ (Shows : Ask → ℕ → Talk → Class → List ℕ → Type 0) (s : S
       where
         nothing : HoldsAll longer []
         nothing w at bytes h of write = elim (last_cases front c w h) [
-          | inl before ↦ absurd (first_is_make w.step.call dest (Ok p) (subst (λ (x : Call). MayFollow w.step.call x) e (keeping.follows Shows s excused dispatched calls a front c back w is before (of ∙ sym own))))
+          | inl before ↦ absurd (first_is_make w.step.call dest (Ok p) (subst (λ (x : Call). MayFollow w.step.call x) e (keeping.follows Shows s excused dispatched coming calls a front c back w is before (of ∙ sym own))))
           | inr here ↦ absurd (write_makes p p dest at bytes true (sym write ∙ sym (ap (λ (x : TaskCall). x.step.call) here) ∙ e))
         ]
 
-    module _ (before : Made front) (precedes : Precedes longer) (was : IsFilled front old) (stood : temps.Standing Shows s excused dispatched calls a p undownloaded front old) where
+    module _ (before : Made front) (precedes : Precedes longer) (was : IsFilled front old) (stood : temps.Standing Shows s excused dispatched coming calls a p undownloaded front old) where
       abbrev Opened : ℕ → Type 0
-      Opened m = temps.OpenedBy Shows s excused dispatched calls a p undownloaded front c back is old m
+      Opened m = temps.OpenedBy Shows s excused dispatched coming calls a p undownloaded front c back is old m
 
-      unclosed : temps.Closed Shows s excused dispatched calls a p undownloaded front n → ⊥
+      unclosed : temps.Closed Shows s excused dispatched coming calls a p undownloaded front n → ⊥
       unclosed closed = closed_unused closed.0.step.call (Rename p d None) p closed.3 refl (precedes closed.0 (has-append_left front (c ∷ []) closed.0 closed.1) closed.2)
 
       opened : Opened n
       opened = by stood
         where
-          by : temps.Standing Shows s excused dispatched calls a p undownloaded front old → Opened n
+          by : temps.Standing Shows s excused dispatched coming calls a p undownloaded front old → Opened n
           by (Untouched e none kept) = absurd (none n before)
           by (Absent e all freed) = absurd (unclosed (all n before))
           by (Stayed excuse there m made all freed) = absurd (unclosed (all n before))
@@ -103,8 +103,8 @@ module _ (Shows : Ask → ℕ → Talk → Class → List ℕ → Type 0) (s : S
       own_use : UsesTemp c.step.call p → c.task ≡ n
       own_use uses = elim (same_number c.task n) [
         | inl e ↦ e
-        | inr other ↦ absurd (temps.user_not_closed Shows s excused dispatched calls a p undownloaded front c back is uses
-            (opened.others c.task (temps.made_by_user Shows s excused dispatched calls a p undownloaded front c back is uses) other))
+        | inr other ↦ absurd (temps.user_not_closed Shows s excused dispatched coming calls a p undownloaded front c back is uses
+            (opened.others c.task (temps.made_by_user Shows s excused dispatched coming calls a p undownloaded front c back is uses) other))
       ]
 
       not_last : (call : Call) → c.step.call ≡ call → UsesTemp call p → MayFollow call (Rename p d None)
@@ -144,9 +144,9 @@ module _ (Shows : Ask → ℕ → Talk → Class → List ℕ → Type 0) (s : S
 
           beside : (w : TaskCall) (from : ℕ) (more : List ℕ) → Has front w → w.task ≡ n → w.step.call ≡ WriteAt p from more true → (from + length more ≤ at) ⊎ (at + length bytes ≤ from)
           beside w from more h of write =
-              let other = write_range w p from more true (keeping.within_front Shows s excused dispatched calls a front c back w is h) of write in
+              let other = write_range w p from more true (keeping.within_front Shows s excused dispatched coming calls a front c back w is h) of write in
               let apart = subst (λ (x : Call). MayFollow x (WriteAt p at bytes true)) write
-              (subst (λ (x : Call). MayFollow w.step.call x) e (keeping.follows Shows s excused dispatched calls a front c back w is h (of ∙ sym own))) in
+              (subst (λ (x : Call). MayFollow w.step.call x) e (keeping.follows Shows s excused dispatched coming calls a front c back w is h (of ∙ sym own))) in
               swapped (ranges_apart (is_small s task) task.size piece count other.0 from (length more) range.0 at (length bytes) other.1 range.1 apart)
 
           kept : HoldsAll longer written
@@ -173,13 +173,13 @@ module _ (Shows : Ask → ℕ → Talk → Class → List ℕ → Type 0) (s : S
               write_bytes i j xs ys e = cc
       on (spoils at bytes e f) = absurd (not_last (WriteAt p at bytes false) e refl)
       on (goes dest e other f) = absurd (not_last (Rename p dest None) e refl)
-      on (arrives temp e file found f) = absurd (temps.no_arrival Shows s excused dispatched calls a p undownloaded front c back is temp e)
+      on (arrives temp e file found f) = absurd (temps.no_arrival Shows s excused dispatched coming calls a p undownloaded front c back is temp e)
       on (drops e f) = absurd (not_last (DropTemp p true) e refl)
       on (leaves e f) = absurd (not_last (DropTemp p false) e refl)
-      on (removes e f) = absurd (temps.no_removal Shows s excused dispatched calls a p undownloaded front c back is n before opened.freed true e)
-      on (stamps micros e file found f) = absurd (temps.no_stamp Shows s excused dispatched calls a p undownloaded front c back is micros e)
+      on (removes e f) = absurd (temps.no_removal Shows s excused dispatched coming calls a p undownloaded front c back is n before opened.freed true e)
+      on (stamps micros e file found f) = absurd (temps.no_stamp Shows s excused dispatched coming calls a p undownloaded front c back is micros e)
 
-    next : Filling front old → temps.Standing Shows s excused dispatched calls a p undownloaded front old → Leads c.step.call old new → Filling longer new
+    next : Filling front old → temps.Standing Shows s excused dispatched coming calls a p undownloaded front old → Leads c.step.call old new → Filling longer new
     next filling stood leads made precedes = elim (last_cases front c made.0 made.1) [
       | inr here ↦ started made.3 (ap (λ (x : TaskCall). x.task) here ∙ made.2) (ap (λ (x : TaskCall). x.step.call) here ∙ made.4) leads
       | inl earlier ↦
@@ -190,6 +190,6 @@ module _ (Shows : Ask → ℕ → Talk → Class → List ℕ → Type 0) (s : S
   pub filled : (part late : List TaskCall) → calls ≡ part ++ late → Filling part (files_after s.held part)
   filled part late is = through s.held calls Filling
       (λ front c back split filling. next front c back split (files_after s.held front) c.step.held filling
-      (temps.standing Shows s excused dispatched calls a p undownloaded front (c ∷ back) split)
+      (temps.standing Shows s excused dispatched coming calls a p undownloaded front (c ∷ back) split)
       (leads_at front c back s.held (subst (λ (all : List TaskCall). IsCallRun s.held (steps_of all)) split a.runs)))
       (λ made precedes. absurd made.1) part late is

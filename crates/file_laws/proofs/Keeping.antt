@@ -18,8 +18,8 @@ use Rattle.shared_lemmas.proofs.Members.{contains_of, Has, has-append_cases, has
 use Rattle.file_laws.specs.FileTasks.{IsCallOf, MayFollow, TaskCall, UsesTemp}
 use Rattle.file_laws.specs.FileLaws.{AreCalls, FileRun}
 
-abbrev pub run_of : Setting → Excused → List Dispatched → List TaskCall → FileRun
-run_of s excused dispatched calls = record { setting = s; excused = excused; dispatched = dispatched; calls = calls }
+abbrev pub run_of : Setting → Excused → (dispatched coming : List Dispatched) → List TaskCall → FileRun
+run_of s excused dispatched coming calls = record { setting = s; excused = excused; dispatched = dispatched; coming = coming; calls = calls }
 
 -- ---- members
 
@@ -116,7 +116,7 @@ upload_downloads e = cc
 pub upload_removes : kind.Upload ≡ kind.RemoveFile → ⊥
 upload_removes e = cc
 
-module _ (Shows : Ask → ℕ → Talk → Class → List ℕ → Type 0) (s : Setting) (excused : Excused) (dispatched : List Dispatched) (calls : List TaskCall) (a : AreCalls Shows (run_of s excused dispatched calls)) where
+module _ (Shows : Ask → ℕ → Talk → Class → List ℕ → Type 0) (s : Setting) (excused : Excused) (dispatched coming : List Dispatched) (calls : List TaskCall) (a : AreCalls Shows (run_of s excused dispatched coming calls)) where
   pub within : (front : List TaskCall) (c : TaskCall) (back : List TaskCall) → calls ≡ front ++ c ∷ back → Contains calls c
   within front c back is = subst (λ (all : List TaskCall). Contains all c) (sym is) (contains_of (front ++ c ∷ back) c (has_middle front c back))
 

@@ -16,7 +16,7 @@ use Rattle.s3_model.specs.declared.tasks.Task.{Task}
 use Rattle.s3_model.specs.Files.{HeldFile}
 use Rattle.s3_model.specs.Maps.{MapOf}
 use Rattle.s3_service.specs.ServiceState.{State}
-use Rattle.run_promise.specs.Dispatches.{Dispatched, op_number}
+use Rattle.run_promise.specs.Dispatches.{Dispatched, IsCompletedWell, op_number}
 use Rattle.run_promise.specs.Endings.{Excused}
 use Rattle.run_promise.specs.Outcomes.{HasOutcome}
 use Rattle.run_promise.specs.Schedule.{IsBefore, IsFailed, Setting, job_of}
@@ -27,7 +27,7 @@ use Rattle.world_laws.specs.Rounds.{Round, Told, ToldStatus, dispatch_at}
 use Rattle.world_laws.specs.Tasks.{AreQuestions, IsScheduled}
 use Rattle.world_laws.proofs.Faithful.{bare, bare_is_faithful, rounds_fitting, run_by}
 use Rattle.shared_lemmas.proofs.Maps.{get-insert_same, text_exact}
-use Rattle.shared_lemmas.proofs.Members.{Has, has}
+use Rattle.shared_lemmas.proofs.Members.{contains_of, Has, has, has_middle}
 use Rattle.world_laws.proofs.Rounds.{rounds_given}
 use Rattle.world_laws.proofs.ScheduleWitness.{config_is_valid, limits_are_valid, none_created, one_task, rounds_schedule, setting_of, the_limits}
 use Rattle.file_laws.specs.FileEnds.{HasFailedAct, HasFailedCall, IsShownByCalls}
@@ -111,16 +111,17 @@ module _ (path : List ℕ) where
         by (inl e) = e
         by (inr h) = absurd h
 
-    keep : AreFileCalls Told setting excused_none [] calls
-    keep = calls_keep Told setting excused_none [] task (λ n other is. (one_task task n other is).1) refl calls
+    keep : AreFileCalls Told setting excused_none [] [] calls
+    keep = calls_keep Told setting excused_none [] [] task (λ n other is. (one_task task n other is).1) refl calls
         (record { first = refl; is_call = refl; warned = tt; follows = tt; uses = tt; writes = tt; renames = tt; stamps = tt }, tt)
         refl (λ c known upload. absurd (upload_removes (sym upload))) (tt, tt) (λ c known is. no_dispatched c known) (λ c known is_get. absurd (no_dispatched c known))
+        (λ c known h. elim h [ inl cancelled ↦ absurd cancelled | inr failed ↦ absurd (not_failed failed.0 failed.1) ]) (λ path h. absurd (has [] path h)) (λ temp h. absurd (has [] temp h))
         (λ re. absurd (renames_or_removes path re.3 re.4 fine (ap (λ (c : TaskCall). c.step.call) (only re.0 re.1) ∙ re.5)))
         (λ temp made. absurd (makes_or_removes path made.3 temp fine (ap (λ (c : TaskCall). c.step.call) (only made.0 made.1) ∙ made.4)))
 
     met : (how : Outcome) → IsCallRun held (steps_of calls) → HasOutcome Told ToldStatus (HasFailedCall calls) setting [] [] 0 task how → IsShownByCalls how (IsRemoved calls 0) (HasFailedAct calls 0) → IsFileTaskMet task how
     met how runs caused shown = record {
-      run = run_of setting excused_none [] calls;
+      run = run_of setting excused_none [] [] calls;
       start = start;
       trace = [];
       journal = [];
@@ -176,6 +177,12 @@ module _ (bucket key path : List ℕ) where
       by (inl e) = e
       by (inr h) = absurd h
 
+  put_not_failed : (c : Dispatched) → IsFailed Told moving_setting put_sent c → ⊥
+  put_not_failed c failed = failed.4 (subst (IsCompletedWell Told) (only_put c (contains_of put_sent c (subst (λ (xs : List Dispatched). Has xs c) (sym failed.2) (has_middle failed.0 c failed.1)))) well)
+    where
+      well : IsCompletedWell Told (dispatch_at 0 put)
+      well = (refl, λ shown bytes told. tt)
+
   only_call : (c : TaskCall) → Contains (take_away ∷ []) c → take_away ≡ c
   only_call c known = by (has (take_away ∷ []) c known)
     where
@@ -183,14 +190,15 @@ module _ (bucket key path : List ℕ) where
       by (inl e) = e
       by (inr h) = absurd h
 
-  keep_moving : AreFileCalls Told moving_setting excused_none put_sent (take_away ∷ [])
-  keep_moving = calls_keep Told moving_setting excused_none put_sent moving (λ n other is. (one_task moving n other is).1) refl (take_away ∷ [])
+  keep_moving : AreFileCalls Told moving_setting excused_none put_sent put_sent (take_away ∷ [])
+  keep_moving = calls_keep Told moving_setting excused_none put_sent put_sent moving (λ n other is. (one_task moving n other is).1) refl (take_away ∷ [])
       (record { first = refl; is_call = (refl, refl); warned = tt; follows = tt; uses = tt; writes = tt; renames = tt; stamps = tt }, tt)
       refl
       (λ c known upload. (dispatch_at 0 put, (0, omega arith, refl), refl, subst (λ (x : TaskCall). IsBefore (Some 1) x.place) (only_call c known) (omega arith), (reply.Stored, (refl, [], (refl, refl)))))
       (tt, tt)
       (λ c known is. put_or_delete (ap (λ (d : Dispatched). d.dispatch.job.op) (only_put c known) ∙ is))
       (λ c known is_get. absurd (put_or_get (ap (λ (d : Dispatched). d.dispatch.job.op) (only_put c known) ∙ is_get)))
+      (λ c known h. elim h [ inl cancelled ↦ absurd cancelled | inr failed ↦ absurd (put_not_failed failed.0 failed.1) ]) (λ path h. absurd (has [] path h)) (λ temp h. absurd (has [] temp h))
       (λ re. absurd (renames_or_removes path re.3 re.4 true (ap (λ (c : TaskCall). c.step.call) (only_call re.0 re.1) ∙ re.5)))
       (λ temp made. absurd (makes_or_removes path made.3 temp true (ap (λ (c : TaskCall). c.step.call) (only_call made.0 made.1) ∙ made.4)))
     where
@@ -213,7 +221,7 @@ module _ (bucket key path : List ℕ) where
 
   moved_met : IsMovedFileMet moving path
   moved_met = record {
-    run = run_of moving_setting excused_none put_sent (take_away ∷ []);
+    run = run_of moving_setting excused_none put_sent put_sent (take_away ∷ []);
     is_move = (refl, refl, refl);
     are_calls = record { keep = keep_moving; runs = (refl, tt); apart = moving_apart };
     removed = (take_away, (0, omega arith, refl), refl, path, refl);

@@ -46,7 +46,7 @@ drop_makes temp path dest fine e = cc
 remove_makes : (q path dest : List ℕ) (fine : Bool) → Remove q fine ≡ MakeTemp dest (Ok path) → ⊥
 remove_makes q path dest fine e = cc
 
-module _ (Shows : Ask → ℕ → Talk → Class → List ℕ → Type 0) (s : Setting) (excused : Excused) (dispatched : List Dispatched) (calls : List TaskCall) (a : AreCalls Shows (run_of s excused dispatched calls))
+module _ (Shows : Ask → ℕ → Talk → Class → List ℕ → Type 0) (s : Setting) (excused : Excused) (dispatched coming : List Dispatched) (calls : List TaskCall) (a : AreCalls Shows (run_of s excused dispatched coming calls))
     (p : List ℕ) (undownloaded : (n : ℕ) (task : Task) → slice_get s.tasks n ≡ Some task → task.kind ≡ kind.Download → task.dest ≡ place.File p → ⊥) where
   -- ---- of the calls so far
 
@@ -73,7 +73,7 @@ module _ (Shows : Ask → ℕ → Talk → Class → List ℕ → Type 0) (s : S
     longer = front ++ c ∷ []
 
     known : Contains calls c
-    known = keeping.within Shows s excused dispatched calls a front c back is
+    known = keeping.within Shows s excused dispatched coming calls a front c back is
 
     pub made_on : (n : ℕ) → Made front n → Made longer n
     made_on n m = (m.0, has-append_left front (c ∷ []) m.0 m.1, m.2, m.3, m.4)
@@ -117,12 +117,12 @@ module _ (Shows : Ask → ℕ → Talk → Class → List ℕ → Type 0) (s : S
     made_by_user uses = let m = a.keep.made front c p (back, is) uses in (m.0, has front m.0 m.1, m.2, m.3, m.4)
 
     pub user_not_closed : UsesTemp c.step.call p → Closed front c.task → ⊥
-    user_not_closed uses closed = closed_unused closed.0.step.call c.step.call p closed.3 uses (keeping.follows Shows s excused dispatched calls a front c back closed.0 is closed.1 closed.2)
+    user_not_closed uses closed = closed_unused closed.0.step.call c.step.call p closed.3 uses (keeping.follows Shows s excused dispatched coming calls a front c back closed.0 is closed.1 closed.2)
 
     -- a task that made the file and closes it, closes this one
     closer_uses : (n : ℕ) → Made front n → c.task ≡ n → IsClosing c.step.call → UsesTemp c.step.call p
     closer_uses n m same closes = closes_own m.3 p c.step.call
-        (subst (λ (x : Call). MayFollow x c.step.call) m.4 (keeping.follows Shows s excused dispatched calls a front c back m.0 is m.1 (m.2 ∙ sym same))) closes
+        (subst (λ (x : Call). MayFollow x c.step.call) m.4 (keeping.follows Shows s excused dispatched coming calls a front c back m.0 is m.1 (m.2 ∙ sym same))) closes
 
     pub record OpenedBy (now : MapOf HeldFile) (n : ℕ) : Type 0 where
       pub there : IsSome (get now p)
@@ -145,30 +145,30 @@ module _ (Shows : Ask → ℕ → Talk → Class → List ℕ → Type 0) (s : S
 
     downloads : (m : TaskCall) (n : ℕ) → Contains calls m → m.task ≡ n → (dest : List ℕ) → m.step.call ≡ MakeTemp dest (Ok p) → (task : Task) × (slice_get s.tasks n ≡ Some task) × (task.kind ≡ kind.Download)
     downloads m n known same dest e =
-        let own = keeping.named Shows s excused dispatched calls a m (MakeTemp dest (Ok p)) known e in
+        let own = keeping.named Shows s excused dispatched coming calls a m (MakeTemp dest (Ok p)) known e in
         (own.task, subst (λ (k : ℕ). slice_get s.tasks k ≡ Some own.task) same own.is_task, (only_download_makes own.task own.task.kind dest (Ok p) own.is_call).0)
 
     -- a path that was free when a temporary file took it is not removed as a task's file
     pub no_removal : (n : ℕ) → Made front n → Freed front → (fine : Bool) → c.step.call ≡ Remove p fine → ⊥
     no_removal n made freed fine e = by (who_removes own.task own.task.kind p fine own.is_call) freed
       where
-        own : keeping.Named Shows s excused dispatched calls a c (Remove p fine)
-        own = keeping.named Shows s excused dispatched calls a c (Remove p fine) known e
+        own : keeping.Named Shows s excused dispatched coming calls a c (Remove p fine)
+        own = keeping.named Shows s excused dispatched coming calls a c (Remove p fine) known e
 
         load : (task : Task) × (slice_get s.tasks n ≡ Some task) × (task.kind ≡ kind.Download)
-        load = downloads made.0 n (keeping.within_front Shows s excused dispatched calls a front c back made.0 is made.1) made.2 made.3 made.4
+        load = downloads made.0 n (keeping.within_front Shows s excused dispatched coming calls a front c back made.0 is made.1) made.2 made.3 made.4
 
         one_way : (m : ℕ) (task : Task) → slice_get s.tasks m ≡ Some task → task.moves ≡ true → task.source ≡ Some (place.File p) → ⊥
         one_way m task is_task moves source = a.apart.one_way m n task load.0 p (is_task, moves, source) load.1 load.2
 
         twice : (x : TaskCall) → Has front x → x.step.call ≡ Remove p true → x.task ≡ c.task → ⊥
-        twice x h f same = subst (λ (y : Call). MayFollow y c.step.call) f (keeping.follows Shows s excused dispatched calls a front c back x is h same)
+        twice x h f same = subst (λ (y : Call). MayFollow y c.step.call) f (keeping.follows Shows s excused dispatched coming calls a front c back x is h same)
 
         by : ((own.task.kind ≡ kind.RemoveFile) × (own.task.dest ≡ place.File p)) ⊎ ((own.task.kind ≡ kind.Upload) × (own.task.moves ≡ true) × (own.task.source ≡ Some (place.File p))) → Freed front → ⊥
         by (inr upload) freed = one_way c.task own.task own.is_task upload.1 upload.2
         by (inl removal) (inl none) = some_none (get s.held p) (a.apart.there c.task own.task p (own.is_task, removal.1) removal.0) none
         by (inl removal) (inr before) =
-            let earlier = keeping.named Shows s excused dispatched calls a before.0 (Remove p true) (keeping.within_front Shows s excused dispatched calls a front c back before.0 is before.1) before.2 in
+            let earlier = keeping.named Shows s excused dispatched coming calls a before.0 (Remove p true) (keeping.within_front Shows s excused dispatched coming calls a front c back before.0 is before.1) before.2 in
             elim (who_removes earlier.task earlier.task.kind p true earlier.is_call) [
               | inr upload ↦ one_way before.0.task earlier.task earlier.is_task upload.1 upload.2
               | inl other ↦ twice before.0 before.1 before.2 (a.apart.destinations before.0.task c.task earlier.task own.task p (earlier.is_task, other.1) (own.is_task, removal.1))
@@ -176,13 +176,13 @@ module _ (Shows : Ask → ℕ → Talk → Class → List ℕ → Type 0) (s : S
 
     pub no_arrival : (temp : List ℕ) → c.step.call ≡ Rename temp p None → ⊥
     no_arrival temp e =
-        let own = keeping.named Shows s excused dispatched calls a c (Rename temp p None) known e in
+        let own = keeping.named Shows s excused dispatched coming calls a c (Rename temp p None) known e in
         let load = only_download_renames own.task own.task.kind temp p None own.is_call in
         undownloaded c.task own.task own.is_task load.0 load.1
 
     pub no_stamp : (micros : ℕ) → c.step.call ≡ Stamp p micros true → ⊥
     no_stamp micros e =
-        let own = keeping.named Shows s excused dispatched calls a c (Stamp p micros true) known e in
+        let own = keeping.named Shows s excused dispatched coming calls a c (Stamp p micros true) known e in
         let load = only_download_stamps own.task own.task.kind p micros true own.is_call in
         undownloaded c.task own.task own.is_task load.0 load.1
 
@@ -225,7 +225,7 @@ module _ (Shows : Ask → ℕ → Talk → Class → List ℕ → Type 0) (s : S
         where
           nothing_before : (n : ℕ) → Closed front n → n ≡ c.task → ⊥
           nothing_before n closed same = first_is_make closed.0.step.call dest (Ok p)
-              (subst (λ (x : Call). MayFollow closed.0.step.call x) e (keeping.follows Shows s excused dispatched calls a front c back closed.0 is closed.1 (closed.2 ∙ same)))
+              (subst (λ (x : Call). MayFollow closed.0.step.call x) e (keeping.follows Shows s excused dispatched coming calls a front c back closed.0 is closed.1 (closed.2 ∙ same)))
 
           own : Made longer c.task
           own = (c, has_last front c, refl, dest, e)

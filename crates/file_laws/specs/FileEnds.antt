@@ -103,9 +103,9 @@ abbrev pub IsMoveShown : Outcome → (removed failed : Type 0) → Type 0
 IsMoveShown how removed failed = IsFileLeft how removed (¬ removed) × IsOutcomeBeside how failed
 
 -- what a run shows, with its dispatched requests and its calls
-abbrev pub run_shown : Shown → List Dispatched → List TaskCall → FileRun
-run_shown shown dispatched calls =
-    record { setting = shown.setting; excused = shown.excused; dispatched = dispatched; calls = calls }
+abbrev pub run_shown : Shown → (dispatched coming : List Dispatched) → List TaskCall → FileRun
+run_shown shown dispatched coming calls =
+    record { setting = shown.setting; excused = shown.excused; dispatched = dispatched; coming = coming; calls = calls }
 
 -- the files and a state when the run begins, and after all of its calls
 abbrev pub scene_before : FileRun → State → Scene
@@ -118,13 +118,13 @@ scene_after run state = record { state = state; held = files_after run.setting.h
 module _ (Shows : Ask → ℕ → Talk → Class → List ℕ → Type 0) where
   -- So a run that ends with the files that its calls left keeps what it promises of all other files.
   abbrev pub PromisedFilesStay : Type 0
-  PromisedFilesStay = (shown : Shown) (dispatched : List Dispatched) (calls : List TaskCall)
-      → AreCalls Shows (run_shown shown dispatched calls) → shown.held_after ≡ files_after shown.setting.held calls → OtherFilesStay shown
+  PromisedFilesStay = (shown : Shown) (dispatched coming : List Dispatched) (calls : List TaskCall)
+      → AreCalls Shows (run_shown shown dispatched coming calls) → shown.held_after ≡ files_after shown.setting.held calls → OtherFilesStay shown
 
   -- Where the calls show the removal of a moved file just where its task is done, the file goes just there.
   abbrev pub MovedFilesAreLeft : Type 0
-  MovedFilesAreLeft = (shown : Shown) (dispatched : List Dispatched) (calls : List TaskCall)
-      → AreCalls Shows (run_shown shown dispatched calls) → shown.held_after ≡ files_after shown.setting.held calls
+  MovedFilesAreLeft = (shown : Shown) (dispatched coming : List Dispatched) (calls : List TaskCall)
+      → AreCalls Shows (run_shown shown dispatched coming calls) → shown.held_after ≡ files_after shown.setting.held calls
       → ((n : ℕ) (task : Task) (how : Outcome) (path : List ℕ) → IsMoveOf shown.setting.tasks n task path
       → slice_get shown.outcomes n ≡ Some how → IsMoveShown how (IsRemoved calls n) (HasFailedAct calls n))
       → AreFilesLeft shown
@@ -136,12 +136,12 @@ module _ (Shows : Ask → ℕ → Talk → Class → List ℕ → Type 0) where
     -- its jobs and its calls show.
     -- The source of a download is to be as planned only where its destination may be new.
     abbrev pub FileTaskEnds : Type 0
-    FileTaskEnds = (run : FileRun) (coming : List Dispatched) (start : State) (trace part : List Step) (journal : List Event) → AreCalls Shows run
-        → IsScheduled Shows run.setting journal run.dispatched coming
+    FileTaskEnds = (run : FileRun) (start : State) (trace part : List Step) (journal : List Event) → AreCalls Shows run
+        → IsScheduled Shows run.setting journal run.dispatched run.coming
         → IsTraceOf Shows run.setting (with_trace run journal start trace)
         → HasJournal journal trace part → (n : ℕ) (task : Task) (how : Outcome)
         → slice_get run.setting.tasks n ≡ Some task → IsByFiles task
         → (MayBeNew how → task.kind ≡ kind.Download → HasSourceObject (states start trace) task)
-        → HasOutcome Shows HasStatus CallFailed run.setting run.dispatched coming n task how
+        → HasOutcome Shows HasStatus CallFailed run.setting run.dispatched run.coming n task how
         → IsShownByCalls how (IsPlaced task.kind run.calls n) (HasFailedAct run.calls n)
         → IsEnded run.excused journal start trace (scene_before run start) (scene_after run (state_after start part)) n task how

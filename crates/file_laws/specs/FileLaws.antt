@@ -24,6 +24,8 @@ pub record FileRun : Type 0 where
   pub setting : Setting
   pub excused : Excused
   pub dispatched : List Dispatched
+  -- the same in the order of their coming
+  pub coming : List Dispatched
   pub calls : List TaskCall
 
 -- the file at a path: when the run begins, after some of its calls, and after all of them
@@ -66,7 +68,7 @@ IsDownloaded run moments n task path = (part late : List TaskCall) → run.calls
 module _ (Shows : Ask → ℕ → Talk → Class → List ℕ → Type 0) where
   -- the calls keep to their clauses, follow from the files at the start, and the plan is apart
   pub record AreCalls (run : FileRun) : Type 0 where
-    pub keep : AreFileCalls Shows run.setting run.excused run.dispatched run.calls
+    pub keep : AreFileCalls Shows run.setting run.excused run.dispatched run.coming run.calls
     pub runs : IsCallRun run.setting.held (steps_of run.calls)
     pub apart : AreFilesApart run.setting.held run.setting.tasks
 
@@ -108,9 +110,9 @@ module _ (Shows : Ask → ℕ → Talk → Class → List ℕ → Type 0) where
 
   -- Over every honest trace, what is renamed has the content of its source.
   abbrev pub FileIsDownloaded : Type 0
-  FileIsDownloaded = (run : FileRun) (coming : List Dispatched) (start : State) (trace : List Step) (journal : List Event)
+  FileIsDownloaded = (run : FileRun) (start : State) (trace : List Step) (journal : List Event)
       → AreCalls run
-      → IsScheduled Shows run.setting journal run.dispatched coming
+      → IsScheduled Shows run.setting journal run.dispatched run.coming
       → IsTraceOf Shows run.setting (with_trace run journal start trace)
       → (n : ℕ) (task : Task) (path : List ℕ) → IsTaskTo run.setting.tasks n task path → task.kind ≡ kind.Download
       → HasSourceObject (states start trace) task

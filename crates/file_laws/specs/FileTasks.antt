@@ -19,7 +19,7 @@ use Rattle.s3_model.specs.TempNames.{is_temp_name}
 use Rattle.run_promise.specs.Dispatches.{Attempt, Dispatched, IsCompletedWell, ShowsIn, last_of}
 use Rattle.run_promise.specs.Endings.{Excused, IsLeft, IsUntimed}
 use Rattle.run_promise.specs.Outcomes.{deciding}
-use Rattle.run_promise.specs.Schedule.{HasReply, IsBefore, Setting, is_small, job_of}
+use Rattle.run_promise.specs.Schedule.{HasReply, IsBefore, IsFailed, Setting, is_small, job_of}
 use Rattle.local_files.specs.Calls.{Call, CallStep, DropTemp, Fault, MakeTemp, Remove, Rename, Stamp, WriteAt, held_after}
 
 -- ---- the calls of a run
@@ -65,6 +65,12 @@ MayFollow (Rename temp dest (Some fault)) (DropTemp same fine) = Unit {0}
 MayFollow (Rename temp dest None) (Stamp path micros fine) = Unit {0}
 MayFollow earlier later = ⊥
 
+-- it drops a temporary file or sets the time of a renamed one
+abbrev pub IsTidying : Call → Type 0
+IsTidying (DropTemp temp fine) = Unit {0}
+IsTidying (Stamp path micros fine) = Unit {0}
+IsTidying call = ⊥
+
 -- it works on that temporary file
 abbrev pub UsesTemp : Call → List ℕ → Type 0
 UsesTemp (WriteAt temp at bytes fine) path = temp ≡ path
@@ -98,6 +104,15 @@ abbrev pub IsStamped : List TaskCall → ℕ → Type 0
 IsStamped calls n =
     (c : TaskCall) × Contains calls c × (c.task ≡ n) × (path : List ℕ) × (micros : ℕ) × (fine : Bool)
     × (c.step.call ≡ Stamp path micros fine)
+
+-- the drop of that temporary file failed
+abbrev pub HasFailedDrop : List TaskCall → List ℕ → Type 0
+HasFailedDrop calls temp = (c : TaskCall) × Contains calls c × (c.step.call ≡ DropTemp temp false)
+
+-- the time of that file could not be set
+abbrev pub HasFailedStamp : List TaskCall → List ℕ → Type 0
+HasFailedStamp calls path =
+    (c : TaskCall) × Contains calls c × (micros : ℕ) × (c.step.call ≡ Stamp path micros false)
 
 -- the file that it was to remove was removed
 abbrev pub IsRemoved : List TaskCall → ℕ → Type 0
@@ -176,8 +191,14 @@ module _ (Shows : Ask → ℕ → Talk → Class → List ℕ → Type 0) where
       × IsBefore c.dispatch.came_at before
       × ((answered : Reply) × HasReply Shows c (last_of c.dispatch.attempts) answered)
 
+  -- a request of the task failed before that place of the journal
+  abbrev pub HasFailedBefore : Setting → List Dispatched → ℕ → ℕ → Type 0
+  HasFailedBefore s coming n before = (failed : Dispatched) × IsFailed Shows s coming failed
+      × (failed.dispatch.job.task ≡ Some n) × IsBefore failed.dispatch.came_at before
+
   -- What the calls on files of a run keep to.
-  pub record AreFileCalls (s : Setting) (excused : Excused) (dispatched : List Dispatched) (calls : List TaskCall) : Type 0 where
+  pub record AreFileCalls (s : Setting) (excused : Excused) (dispatched coming : List Dispatched) (calls : List TaskCall)
+      : Type 0 where
     -- each is one that its task makes; they stand in the order of the journal; and a dry run makes none
     pub named : (c : TaskCall) → Contains calls c → (task : Task) × (slice_get s.tasks c.task ≡ Some task)
         × IsCallOf task task.kind c.step.call
@@ -187,6 +208,9 @@ module _ (Shows : Ask → ℕ → Talk → Class → List ℕ → Type 0) where
     pub order : (front : List TaskCall) (earlier later : TaskCall) → ComesAfter calls front later
         → Contains front earlier → earlier.task ≡ later.task
         → MayFollow earlier.step.call later.step.call
+    -- after the run was cancelled, or a request of the task failed, it only tidies up
+    pub stops : (c : TaskCall) → Contains calls c
+        → IsBefore s.cancelled_at c.place ⊎ HasFailedBefore s coming c.task c.place → IsTidying c.step.call
     -- a temporary file is made before it is used, and before any Get of its task is given
     pub made : (front : List TaskCall) (c : TaskCall) (temp : List ℕ) → ComesAfter calls front c
         → UsesTemp c.step.call temp → IsMade front c.task temp
@@ -204,17 +228,19 @@ module _ (Shows : Ask → ℕ → Talk → Class → List ℕ → Type 0) where
         → ComesAfter calls front c
         → slice_get s.tasks c.task ≡ Some task → c.step.call ≡ Rename temp dest fault
         → AreWritten s front c.task task temp
-    -- a renamed file, and no other, has its time set, or a warning says that this failed
+    -- a renamed file, and no other, has its time set; where this failed a warning says so, and nowhere else
     pub stamps : (n : ℕ) → IsRenamed calls n → IsStamped calls n
     pub stamps_last : (front : List TaskCall) (c : TaskCall) (path : List ℕ) (micros : ℕ) (fine : Bool)
         → ComesAfter calls front c
         → c.step.call ≡ Stamp path micros fine → IsRenamed front c.task
     pub untimed : (c : TaskCall) (path : List ℕ) (micros : ℕ) → Contains calls c → c.step.call ≡ Stamp path micros false
         → IsUntimed excused path
-    -- a temporary file is renamed or dropped, or a warning says that the drop failed
+    pub untimed_only : (path : List ℕ) → Contains excused.untimed path → HasFailedStamp calls path
+    -- a temporary file is renamed or dropped; where the drop failed a warning says so, and nowhere else
     pub drops : (n : ℕ) (temp : List ℕ) → IsMade calls n temp → IsRenamed calls n ⊎ IsDropped calls n
     pub left : (c : TaskCall) (temp : List ℕ) → Contains calls c → c.step.call ≡ DropTemp temp false
         → IsLeft excused temp
+    pub left_only : (temp : List ℕ) → Contains excused.left temp → HasFailedDrop calls temp
     -- a moved file is removed only after the success that decides its task
     pub moves_last : (c : TaskCall) (task : Task) (path : List ℕ) (fine : Bool) → Contains calls c
         → slice_get s.tasks c.task ≡ Some task

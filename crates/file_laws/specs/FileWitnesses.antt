@@ -78,12 +78,12 @@ pub record IsFileTaskMet (task : Task) (how : Outcome) : Type 0 where
   pub journal : List Event
   pub is_task : slice_get run.setting.tasks 0 ≡ Some task
   pub are_calls : AreCalls Told run
-  pub scheduled : IsScheduled Told run.setting journal run.dispatched run.dispatched
+  pub scheduled : IsScheduled Told run.setting journal run.dispatched run.coming
   pub traced : IsTraceOf Told run.setting (with_trace run journal start trace)
   pub whole : HasJournal journal trace trace
   pub by_files : IsByFiles task
   pub sourced : MayBeNew how → task.kind ≡ kind.Download → HasSourceObject (states start trace) task
-  pub caused : HasOutcome Told ToldStatus (HasFailedCall run.calls) run.setting run.dispatched run.dispatched 0 task how
+  pub caused : HasOutcome Told ToldStatus (HasFailedCall run.calls) run.setting run.dispatched run.coming 0 task how
   pub shown : IsShownByCalls how (IsPlaced task.kind run.calls 0) (HasFailedAct run.calls 0)
 
 -- two ranges that came and were written in reverse order
