@@ -14,7 +14,7 @@ use Rattle.s3_model.specs.Parts.{HasPieces}
 use Rattle.s3_model.specs.Talks.{Talk}
 use Rattle.s3_service.specs.ServiceState.{State}
 use Rattle.run_promise.specs.Dispatches.{Dispatched}
-use Rattle.run_promise.specs.Endings.{Excused, HasContent, IsLeft, IsUntimed}
+use Rattle.run_promise.specs.Endings.{Excused, HasContent}
 use Rattle.run_promise.specs.Schedule.{Setting, is_small}
 use Rattle.run_promise.specs.Traces.{Step, states}
 use Rattle.local_files.specs.Calls.{Call, DropTemp, IsCallRun, IsTempFor, Leads, MakeTemp, Remove, Rename, Stamp, WriteAt}
@@ -22,7 +22,7 @@ use Rattle.world_laws.specs.Tasks.{HasSourceObject, IsScheduled, IsTraceOf}
 use Rattle.shared_lemmas.proofs.Clashes.{some_is}
 use Rattle.shared_lemmas.proofs.Members.{contains_of, Has, has, has-append_left, split_of}
 use Rattle.file_laws.specs.FileTasks.{AreWritten, IsBody, IsMade, IsRangeIn, IsRenamed, IsStamped, MayFollow, TaskCall, UsesTemp, files_after, steps_of}
-use Rattle.file_laws.specs.FileLaws.{AreCalls, FileIsDownloaded, FileIsKeptSafe}
+use Rattle.file_laws.specs.FileLaws.{AreCalls, FileIsDownloaded, FileIsKeptSafe, HasOtherTime, HasStayed}
 use Rattle.file_laws.proofs.Effects.{Effect, Spares, arrives, drops, effect, goes, leaves, makes, removes, spoils, stamps, stays, writes}
 use Rattle.file_laws.proofs.Files as files
 use Rattle.file_laws.proofs.Files.{Free, Kept, Left}
@@ -237,8 +237,8 @@ module _ (Shows : Ask → ℕ → Talk → Class → List ℕ → Type 0) (s : S
           (effect path c.step.call (files_after s.held front) c.step.held (leads_at front c back s.held (subst (λ (all : List TaskCall). IsCallRun s.held (steps_of all)) split a.runs))))
           (λ re. absurd re.1) part late is
 
-    -- its time was set, or a warning says that this failed
-    pub timed_in_the_end : IsRenamed calls n → (file : HeldFile) × (get (files_after s.held calls) path ≡ Some file) × ((file.micros ≡ task.micros) ⊎ IsUntimed excused path)
+    -- its time was set, or this failed
+    pub timed_in_the_end : IsRenamed calls n → (file : HeldFile) × (get (files_after s.held calls) path ≡ Some file) × ((file.micros ≡ task.micros) ⊎ HasOtherTime (run_of s excused dispatched coming calls) path)
     timed_in_the_end re = (w.file, w.there, by st.5 st.6)
       where
         w : IsWhole (λ (bytes : List ℕ). Unit {0}) (λ front c back is own temp e file there. tt) calls (files_after s.held calls)
@@ -247,13 +247,13 @@ module _ (Shows : Ask → ℕ → Talk → Class → List ℕ → Type 0) (s : S
         st : IsStamped calls n
         st = a.keep.stamps n re
 
-        by : (fine : Bool) → st.0.step.call ≡ Stamp st.3 st.4 fine → (w.file.micros ≡ task.micros) ⊎ IsUntimed excused path
+        by : (fine : Bool) → st.0.step.call ≡ Stamp st.3 st.4 fine → (w.file.micros ≡ task.micros) ⊎ HasOtherTime (run_of s excused dispatched coming calls) path
         by true e = inl (w.timed (st.0, has calls st.0 st.1, st.2, st.3, st.4, e))
         by false e =
             let own = keeping.named Shows s excused dispatched coming calls a st.0 (Stamp st.3 st.4 false) st.1 e in
             let alike = same_task own.task task (sym own.is_task ∙ ap (slice_get s.tasks) st.2 ∙ is_task) in
             let at = same_path st.3 path (sym (only_download_stamps own.task own.task.kind st.3 st.4 false own.is_call).1 ∙ ap (λ (t : Task). t.dest) alike ∙ is_dest) in
-            inr (subst (λ (q : List ℕ). IsUntimed excused q) at (a.keep.untimed st.0 st.3 st.4 st.1 e))
+            inr (subst (λ (q : List ℕ). HasOtherTime (run_of s excused dispatched coming calls) q) at ((st.0, st.1, st.4, e), a.keep.untimed st.0 st.3 st.4 st.1 e))
 
     module _ (start : State) (trace : List Step) (journal : List Event) (r : IsScheduled Shows s journal dispatched coming) (traced : IsTraceOf Shows s (record { start = start; trace = trace; journal = journal; dispatched = dispatched }))
         (source : HasSourceObject (states start trace) task) where
@@ -349,13 +349,13 @@ module _ (Shows : Ask → ℕ → Talk → Class → List ℕ → Type 0) (s : S
     unopened : (c : TaskCall) (at : ℕ) (bytes : List ℕ) (fine : Bool) → Contains calls c → c.step.call ≡ WriteAt path at bytes fine → ⊥
     unopened c at bytes fine known e = let split = split_of calls c (has calls c known) in uses_none split.front c split.back split.is (WriteAt path at bytes fine) e refl
 
-    tidy : (temp : List ℕ) → IsMade calls n temp → (get (files_after s.held calls) temp ≡ None) ⊎ IsLeft excused temp
+    tidy : (temp : List ℕ) → IsMade calls n temp → (get (files_after s.held calls) temp ≡ None) ⊎ HasStayed (run_of s excused dispatched coming calls) temp
     tidy temp made = by (files.end Shows s excused dispatched coming calls a temp free)
       where
         free : (m : ℕ) (other : Task) → slice_get s.tasks m ≡ Some other → other.kind ≡ kind.Download → other.dest ≡ place.File temp → ⊥
         free = temp_free made.0 made.1 made.3 temp made.4
 
-        by : files.End Shows s excused dispatched coming calls a temp free → (get (files_after s.held calls) temp ≡ None) ⊎ IsLeft excused temp
+        by : files.End Shows s excused dispatched coming calls a temp free → (get (files_after s.held calls) temp ≡ None) ⊎ HasStayed (run_of s excused dispatched coming calls) temp
         by (Kept e none kept) = absurd (none n (made.0, has calls made.0 made.1, made.2, made.3, made.4))
         by (Free e freed) = inl e
         by (Left excuse m other freed) = inr excuse

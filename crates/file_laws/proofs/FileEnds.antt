@@ -82,7 +82,8 @@ module _ (Shows : Ask → ℕ → Talk → Class → List ℕ → Type 0) (HasSt
         let content = downloads.new_from Shows s excused dispatched coming calls a n task path is_task load is_dest start trace journal r traced source calls [] all renamed in
         let timed = downloads.timed_in_the_end Shows s excused dispatched coming calls a n task path is_task load is_dest renamed in
         let same : timed.0 ≡ content.0 = some_is timed.0 content.0 (sym timed.1 ∙ content.1) in
-        let time : (content.0.micros ≡ task.micros) ⊎ IsUntimed excused path = subst (λ (f : HeldFile). (f.micros ≡ task.micros) ⊎ IsUntimed excused path) same timed.2 in
+        let time : (content.0.micros ≡ task.micros) ⊎ IsUntimed excused path =
+            subst (λ (f : HeldFile). (f.micros ≡ task.micros) ⊎ IsUntimed excused path) same (elim timed.2 [ inl set ↦ inl set | inr failed ↦ inr failed.1 ]) in
         let holds : Holds excused after (place.File path) task.micros content.0.bytes = (content.0, content.1, refl, time) in
         subst (λ (k : Kind). IsNew excused s.held (states start trace) after task k) (sym load)
         (content.0.bytes, content.2, subst (λ (d : Place). Holds excused after d task.micros content.0.bytes) (sym is_dest) holds)
@@ -155,13 +156,14 @@ module _ (Shows : Ask → ℕ → Talk → Class → List ℕ → Type 0) (HasSt
 
     removal_ends : (how : Outcome) → HasOutcome Shows HasStatus CallFailed s dispatched coming n task how → IsShownByCalls how (IsRemoved calls n) (HasFailedAct calls n) → IsEnded excused journal start trace before after n task how
     removal_ends outcome.Done is shown =
-        let absent : IsAbsent excused after (place.File path) = (files.file_is_removed Shows (run_of s excused dispatched coming calls) a n task path (is_task, is_dest) removal).0 shown.0 in (
+        let absent : IsAbsent excused after (place.File path) =
+            elim ((files.file_is_removed Shows (run_of s excused dispatched coming calls) a n task path (is_task, is_dest) removal).0 shown.0) [ inl e ↦ inl e | inr stayed ↦ inr stayed.1 ] in (
           subst (λ (k : Kind). IsNew excused s.held (states start trace) after task k) (sym removal) (subst (λ (d : Place). IsAbsent excused after d) (sym is_dest) absent),
           moves_nothing _,
         )
     removal_ends (outcome.Copied why) is shown = absurd (true_false (sym is.0 ∙ keeps))
     removal_ends (outcome.Failed why) is shown = (
-      as_before ((files.file_is_removed Shows (run_of s excused dispatched coming calls) a n task path (is_task, is_dest) removal).1 shown.0),
+      as_before ((files.file_is_removed Shows (run_of s excused dispatched coming calls) a n task path (is_task, is_dest) removal).1 calls [] all shown.0),
       moves_nothing _,
     )
     removal_ends (outcome.Unknown why) is shown = absurd (subst (λ (k : Kind). IsDecidedByRequest k) removal is.0.0.2.0)
@@ -197,9 +199,12 @@ module _ (Shows : Ask → ℕ → Talk → Class → List ℕ → Type 0) where
       (left_by how (IsRemoved calls n) _ _ law.0 law.1 (each n task how path (is_task, moves, is_source) is_outcome).0)
     where
       law : (IsRemoved calls n → get (files_after shown.setting.held calls) path ≡ None) × (¬ (IsRemoved calls n) → get (files_after shown.setting.held calls) path ≡ get shown.setting.held path)
-      law = let all = files.file_is_moved Shows (run_shown shown dispatched coming calls) a n task path (is_task, moves, is_source) in (all.0, all.1)
+      law = let all = files.file_is_moved Shows (run_shown shown dispatched coming calls) a n task path (is_task, moves, is_source) in (all.0, λ none. all.1 calls [] (sym (append-nil calls)) none)
 
   pub promised_files_stay : PromisedFilesStay Shows
   promised_files_stay shown dispatched coming calls a after path =
       subst (λ (held : MapOf HeldFile). IsTouchedFile shown.setting.tasks path ⊎ IsLeftover shown.excused shown.setting.held path ⊎ (get held path ≡ get shown.setting.held path)) (sym after)
-      (files.files_stay Shows (run_shown shown dispatched coming calls) a path)
+      (elim (files.files_stay Shows (run_shown shown dispatched coming calls) a path) [
+        | inl touched ↦ inl touched
+        | inr untouched ↦ inr (elim untouched.ended [ inl e ↦ inr e | inr stayed ↦ inl (stayed.0.1, stayed.1) ])
+      ])

@@ -10,14 +10,14 @@ use Rattle.s3_model.specs.declared.tasks.Kind.TheVariants as kind
 use Rattle.s3_model.specs.declared.tasks.Task.{Task}
 use Rattle.s3_model.specs.Talks.{Talk}
 use Rattle.run_promise.specs.Dispatches.{Dispatched}
-use Rattle.run_promise.specs.Endings.{Excused, IsLeft, IsLeftover}
+use Rattle.run_promise.specs.Endings.{Excused}
 use Rattle.run_promise.specs.Schedule.{Setting}
 use Rattle.run_promise.specs.Truthful.{IsTouchedFile}
 use Rattle.local_files.specs.Calls.{Call, MakeTemp, Remove}
 use Rattle.shared_lemmas.proofs.Maps.{text_decided}
 use Rattle.shared_lemmas.proofs.Members.{contains_of, Has, has, has-append_left, has_at}
-use Rattle.file_laws.specs.FileTasks.{IsDecidedBefore, IsRemoved, TaskCall, files_after}
-use Rattle.file_laws.specs.FileLaws.{AreCalls, FileIsMoved, FileIsRemoved, FilesStay, IsDecidedIn}
+use Rattle.file_laws.specs.FileTasks.{IsDecidedBefore, IsMade, IsRemoved, TaskCall, files_after}
+use Rattle.file_laws.specs.FileLaws.{AreCalls, FileIsMoved, FileIsRemoved, FilesStay, HasStayed, IsDecidedIn, IsUntouched}
 use Rattle.file_laws.proofs.Keeping as keeping
 use Rattle.file_laws.proofs.Keeping.{IsClosing, only_download_makes, removal_downloads, run_of, same_path, same_task, some_none, some_place, true_false, upload_downloads, upload_removes, who_removes}
 use Rattle.file_laws.proofs.TempFiles as temps
@@ -77,11 +77,14 @@ touched_or_not tasks p = elim (one_touches tasks p) [
 ]
 
 module _ (Shows : Ask → ℕ → Talk → Class → List ℕ → Type 0) (s : Setting) (excused : Excused) (dispatched coming : List Dispatched) (calls : List TaskCall) (a : AreCalls Shows (run_of s excused dispatched coming calls)) where
+  known_in : (part late : List TaskCall) → calls ≡ part ++ late → (c : TaskCall) → Has part c → Contains calls c
+  known_in part late is c h = subst (λ (all : List TaskCall). Contains all c) (sym is) (contains_of (part ++ late) c (has-append_left part late c h))
+
   -- a file that was made is a download's
   made_loads : (front late : List TaskCall) → calls ≡ front ++ late → (m : TaskCall) → Has front m → (dest temp : List ℕ) → m.step.call ≡ MakeTemp dest (Ok temp)
       → (task : Task) × (slice_get s.tasks m.task ≡ Some task) × (task.kind ≡ kind.Download)
   made_loads front late is m h dest temp e =
-      let known : Contains calls m = subst (λ (all : List TaskCall). Contains all m) (sym is) (contains_of (front ++ late) m (has-append_left front late m h)) in
+      let known = known_in front late is m h in
       let own = keeping.named Shows s excused dispatched coming calls a m (MakeTemp dest (Ok temp)) known e in
       (own.task, own.is_task, (only_download_makes own.task own.task.kind dest (Ok temp) own.is_call).0)
 
@@ -106,7 +109,7 @@ module _ (Shows : Ask → ℕ → Talk → Class → List ℕ → Type 0) (s : S
     pub data End : Type 0 where
       Kept : get (files_after s.held calls) p ≡ get s.held p → ((n : ℕ) → Made n → ⊥) → (temps.Removed Shows s excused dispatched coming calls a p undownloaded calls → ⊥) → End
       Free : get (files_after s.held calls) p ≡ None → temps.Freed Shows s excused dispatched coming calls a p undownloaded calls → End
-      Left : IsLeft excused p → (n : ℕ) → Made n → temps.Freed Shows s excused dispatched coming calls a p undownloaded calls → End
+      Left : HasStayed (run_of s excused dispatched coming calls) p → (n : ℕ) → Made n → temps.Freed Shows s excused dispatched coming calls a p undownloaded calls → End
 
     pub end : End
     end = by (temps.standing Shows s excused dispatched coming calls a p undownloaded calls [] whole)
@@ -119,27 +122,40 @@ module _ (Shows : Ask → ℕ → Talk → Class → List ℕ → Type 0) (s : S
 
   -- ---- all others
 
-  others : (p : List ℕ) → ((n : ℕ) (task : Task) → slice_get s.tasks n ≡ Some task → Touches task p → ⊥) → IsLeftover excused s.held p ⊎ (get (files_after s.held calls) p ≡ get s.held p)
+  others : (p : List ℕ) → ((n : ℕ) (task : Task) → slice_get s.tasks n ≡ Some task → Touches task p → ⊥) → IsUntouched (run_of s excused dispatched coming calls) p
   unfolding Touches
-  others p untouched = by (end p undownloaded)
+  others p untouched = record { throughout = throughout; ended = by (end p undownloaded) }
     where
       undownloaded : (n : ℕ) (task : Task) → slice_get s.tasks n ≡ Some task → task.kind ≡ kind.Download → task.dest ≡ place.File p → ⊥
       undownloaded n task is load dest = untouched n task is (inl dest)
 
-      none_removes : (c : TaskCall) → Has calls c → c.step.call ≡ Remove p true → ⊥
-      none_removes c h e =
-          let own = keeping.named Shows s excused dispatched coming calls a c (Remove p true) (contains_of calls c h) e in
+      none_removes : (c : TaskCall) → Contains calls c → c.step.call ≡ Remove p true → ⊥
+      none_removes c known e =
+          let own = keeping.named Shows s excused dispatched coming calls a c (Remove p true) known e in
           elim (who_removes own.task own.task.kind p true own.is_call) [
             | inl removal ↦ untouched c.task own.task own.is_task (inl removal.1)
             | inr upload ↦ untouched c.task own.task own.is_task (inr (upload.1, upload.2))
           ]
 
-      by : End p undownloaded → IsLeftover excused s.held p ⊎ (get (files_after s.held calls) p ≡ get s.held p)
-      by (Kept e none kept) = inr e
-      by (Free e (inl none)) = inr (e ∙ sym none)
-      by (Free e (inr removed)) = absurd (none_removes removed.0 removed.1 removed.2)
-      by (Left excuse n made (inl none)) = inl (excuse, none)
-      by (Left excuse n made (inr removed)) = absurd (none_removes removed.0 removed.1 removed.2)
+      -- so nothing was there where it is free
+      absent : (part late : List TaskCall) → calls ≡ part ++ late → temps.Freed Shows s excused dispatched coming calls a p undownloaded part → get s.held p ≡ None
+      absent part late is (inl none) = none
+      absent part late is (inr removed) = absurd (none_removes removed.0 (known_in part late is removed.0 removed.1) removed.2)
+
+      throughout : (part late : List TaskCall) → calls ≡ part ++ late → (get (files_after s.held part) p ≡ get s.held p) ⊎ ((n : ℕ) × IsMade part n p × (get s.held p ≡ None))
+      throughout part late is = during (temps.standing Shows s excused dispatched coming calls a p undownloaded part late is)
+        where
+          during : temps.Standing Shows s excused dispatched coming calls a p undownloaded part (files_after s.held part)
+              → (get (files_after s.held part) p ≡ get s.held p) ⊎ ((n : ℕ) × IsMade part n p × (get s.held p ≡ None))
+          during (Untouched e none kept) = inl e
+          during (Absent e all freed) = inl (e ∙ sym (absent part late is freed))
+          during (InUse n there made unclosed others freed) = inr (n, (made.0, contains_of part made.0 made.1, made.2, made.3, made.4), absent part late is freed)
+          during (Stayed excuse there n made all freed) = inr (n, (made.0, contains_of part made.0 made.1, made.2, made.3, made.4), absent part late is freed)
+
+      by : End p undownloaded → (get (files_after s.held calls) p ≡ get s.held p) ⊎ (HasStayed (run_of s excused dispatched coming calls) p × (get s.held p ≡ None))
+      by (Kept e none kept) = inl e
+      by (Free e freed) = inl (e ∙ sym (absent calls [] whole freed))
+      by (Left excuse n made freed) = inr (excuse, absent calls [] whole freed)
 
   -- ---- removed files
 
@@ -159,33 +175,34 @@ module _ (Shows : Ask → ℕ → Talk → Class → List ℕ → Type 0) (s : S
           | inr upload ↦ absurd (upload_removes (sym upload.0 ∙ ap (λ (t : Task). t.kind) alike ∙ removal))
         ]
 
-    own_task : temps.Removed Shows s excused dispatched coming calls a p only_removed calls → IsRemoved calls n
-    own_task removed =
-        let own = keeping.named Shows s excused dispatched coming calls a removed.0 (Remove p true) (contains_of calls removed.0 removed.1) removed.2 in
+    own_task : (part late : List TaskCall) → calls ≡ part ++ late → temps.Removed Shows s excused dispatched coming calls a p only_removed part → IsRemoved part n
+    own_task part late is removed =
+        let own = keeping.named Shows s excused dispatched coming calls a removed.0 (Remove p true) (known_in part late is removed.0 removed.1) removed.2 in
         elim (who_removes own.task own.task.kind p true own.is_call) [
-          | inl is ↦ (removed.0, contains_of calls removed.0 removed.1, a.apart.destinations removed.0.task n own.task task p (own.is_task, is.1) (is_task, is_dest), p, removed.2)
+          | inl of ↦ (removed.0, contains_of part removed.0 removed.1, a.apart.destinations removed.0.task n own.task task p (own.is_task, of.1) (is_task, is_dest), p, removed.2)
           | inr upload ↦ absurd (a.apart.sources removed.0.task n own.task task p (own.is_task, upload.1, upload.2) (is_task, is_dest))
         ]
 
-    after_removal : IsRemoved calls n → (get (files_after s.held calls) p ≡ None) ⊎ IsLeft excused p
+    after_removal : IsRemoved calls n → (get (files_after s.held calls) p ≡ None) ⊎ HasStayed (run_of s excused dispatched coming calls) p
     after_removal removed = by (end p only_removed)
       where
-        by : End p only_removed → (get (files_after s.held calls) p ≡ None) ⊎ IsLeft excused p
+        by : End p only_removed → (get (files_after s.held calls) p ≡ None) ⊎ HasStayed (run_of s excused dispatched coming calls) p
         by (Kept e none kept) = absurd (kept (own_path removed))
         by (Free e freed) = inl e
         by (Left excuse m made freed) = inr excuse
 
-    without_removal : (IsRemoved calls n → ⊥) → get (files_after s.held calls) p ≡ get s.held p
-    without_removal kept = by (end p only_removed)
+    until_removed : (part late : List TaskCall) → calls ≡ part ++ late → (IsRemoved part n → ⊥) → get (files_after s.held part) p ≡ get s.held p
+    until_removed part late is kept = by (temps.standing Shows s excused dispatched coming calls a p only_removed part late is)
       where
-        freed_by : temps.Freed Shows s excused dispatched coming calls a p only_removed calls → ⊥
+        freed_by : temps.Freed Shows s excused dispatched coming calls a p only_removed part → ⊥
         freed_by (inl none) = some_none (get s.held p) (a.apart.there n task p (is_task, is_dest) removal) none
-        freed_by (inr removed) = kept (own_task removed)
+        freed_by (inr removed) = kept (own_task part late is removed)
 
-        by : End p only_removed → get (files_after s.held calls) p ≡ get s.held p
-        by (Kept e none stays) = e
-        by (Free e freed) = absurd (freed_by freed)
-        by (Left excuse m made freed) = absurd (freed_by freed)
+        by : temps.Standing Shows s excused dispatched coming calls a p only_removed part (files_after s.held part) → get (files_after s.held part) p ≡ get s.held p
+        by (Untouched e none stays) = e
+        by (Absent e all freed) = absurd (freed_by freed)
+        by (InUse m there made unclosed others freed) = absurd (freed_by freed)
+        by (Stayed excuse there m made all freed) = absurd (freed_by freed)
 
   -- ---- moved files
 
@@ -225,21 +242,23 @@ module _ (Shows : Ask → ℕ → Talk → Class → List ℕ → Type 0) (s : S
         by (Free e freed) = e
         by (Left excuse m made freed) = absurd (no_temp calls [] whole made.0 made.1 made.3 made.4)
 
-    without_move : (IsRemoved calls n → ⊥) → get (files_after s.held calls) p ≡ get s.held p
-    without_move kept = by (end p only_moved)
+    until_moved : (part late : List TaskCall) → calls ≡ part ++ late → (IsRemoved part n → ⊥) → get (files_after s.held part) p ≡ get s.held p
+    until_moved part late is kept = by (temps.standing Shows s excused dispatched coming calls a p only_moved part late is)
       where
-        by : End p only_moved → get (files_after s.held calls) p ≡ get s.held p
-        by (Kept e none stays) = e
-        by (Free e (inl none)) = e ∙ sym none
-        by (Free e (inr removed)) = absurd (kept (removed.0, contains_of calls removed.0 removed.1, source_task removed.0 (contains_of calls removed.0 removed.1) removed.2, p, removed.2))
-        by (Left excuse m made freed) = absurd (no_temp calls [] whole made.0 made.1 made.3 made.4)
+        by : temps.Standing Shows s excused dispatched coming calls a p only_moved part (files_after s.held part) → get (files_after s.held part) p ≡ get s.held p
+        by (Untouched e none stays) = e
+        by (Absent e all (inl none)) = e ∙ sym none
+        by (Absent e all (inr removed)) =
+            absurd (kept (removed.0, contains_of part removed.0 removed.1, source_task removed.0 (known_in part late is removed.0 removed.1) removed.2, p, removed.2))
+        by (InUse m there made unclosed others freed) = absurd (no_temp part late is made.0 made.1 made.3 made.4)
+        by (Stayed excuse there m made all freed) = absurd (no_temp part late is made.0 made.1 made.3 made.4)
 
     until_decided : (part late : List TaskCall) → calls ≡ part ++ late → (get (files_after s.held part) p ≡ get s.held p) ⊎ IsDecidedIn Shows (run_of s excused dispatched coming calls) part n task
     until_decided part late is = by (temps.standing Shows s excused dispatched coming calls a p only_moved part late is)
       where
         decided : (c : TaskCall) → Has part c → c.step.call ≡ Remove p true → IsDecidedIn Shows (run_of s excused dispatched coming calls) part n task
         decided c h e =
-            let known : Contains calls c = subst (λ (all : List TaskCall). Contains all c) (sym is) (contains_of (part ++ late) c (has-append_left part late c h)) in
+            let known = known_in part late is c h in
             let one = source_task c known e in
             let at : slice_get s.tasks c.task ≡ Some task = ap (slice_get s.tasks) one ∙ is_task in
             (c, contains_of part c h, one, subst (λ (k : ℕ). IsDecidedBefore Shows s dispatched k task c.place) one (a.keep.moves_last c task p true known at upload e))
@@ -261,12 +280,12 @@ module _ (Shows : Ask → ℕ → Talk → Class → List ℕ → Type 0) where
   pub file_is_removed : FileIsRemoved Shows
   file_is_removed run a n task p to removal = (
     after_removal Shows run.setting run.excused run.dispatched run.coming run.calls a n task p to.0 removal to.1,
-    without_removal Shows run.setting run.excused run.dispatched run.coming run.calls a n task p to.0 removal to.1,
+    until_removed Shows run.setting run.excused run.dispatched run.coming run.calls a n task p to.0 removal to.1,
   )
 
   pub file_is_moved : FileIsMoved Shows
   file_is_moved run a n task p move = let upload = a.apart.uploads n task p move in (
     after_move Shows run.setting run.excused run.dispatched run.coming run.calls a n task p move.0 upload move.1 move.2,
-    without_move Shows run.setting run.excused run.dispatched run.coming run.calls a n task p move.0 upload move.1 move.2,
+    until_moved Shows run.setting run.excused run.dispatched run.coming run.calls a n task p move.0 upload move.1 move.2,
     until_decided Shows run.setting run.excused run.dispatched run.coming run.calls a n task p move.0 upload move.1 move.2,
   )

@@ -11,12 +11,12 @@ use Rattle.s3_model.specs.Files.{HeldFile}
 use Rattle.s3_model.specs.Maps.{MapOf}
 use Rattle.s3_model.specs.Talks.{Talk}
 use Rattle.run_promise.specs.Dispatches.{Dispatched}
-use Rattle.run_promise.specs.Endings.{Excused, IsLeft}
+use Rattle.run_promise.specs.Endings.{Excused}
 use Rattle.run_promise.specs.Schedule.{Setting}
 use Rattle.local_files.specs.Calls.{Call, DropTemp, Fault, IsCallRun, MakeTemp, Remove, Rename, Stamp, WriteAt}
 use Rattle.shared_lemmas.proofs.Members.{Has, has, has-append_left}
 use Rattle.file_laws.specs.FileTasks.{MayFollow, TaskCall, UsesTemp, files_after, steps_of}
-use Rattle.file_laws.specs.FileLaws.{AreCalls}
+use Rattle.file_laws.specs.FileLaws.{AreCalls, HasStayed}
 use Rattle.file_laws.proofs.Effects.{Effect, Spares, arrives, drops, effect, goes, leaves, makes, removes, spoils, stamps, stays, writes}
 use Rattle.file_laws.proofs.Keeping as keeping
 use Rattle.file_laws.proofs.Keeping.{closed_unused, closes_own, first_is_make, has_last, IsClosing, last_cases, only_download_makes, only_download_renames, only_download_stamps, removal_downloads, run_of, same_number, same_path, same_task, some_is_there, some_none, upload_downloads, who_removes}
@@ -66,7 +66,7 @@ module _ (Shows : Ask → ℕ → Talk → Class → List ℕ → Type 0) (s : S
     Untouched : get now p ≡ get s.held p → ((m : ℕ) → Made front m → ⊥) → (Removed front → ⊥) → Standing front now
     Absent : get now p ≡ None → ((m : ℕ) → Made front m → Closed front m) → Freed front → Standing front now
     InUse : (n : ℕ) → IsSome (get now p) → Made front n → (Closed front n → ⊥) → ((m : ℕ) → Made front m → (m ≡ n → ⊥) → Closed front m) → Freed front → Standing front now
-    Stayed : IsLeft excused p → IsSome (get now p) → (n : ℕ) → Made front n → ((m : ℕ) → Made front m → Closed front m) → Freed front → Standing front now
+    Stayed : HasStayed (run_of s excused dispatched coming calls) p → IsSome (get now p) → (n : ℕ) → Made front n → ((m : ℕ) → Made front m → Closed front m) → Freed front → Standing front now
 
   module _ (front : List TaskCall) (c : TaskCall) (back : List TaskCall) (is : calls ≡ front ++ c ∷ back) where
     abbrev longer : List TaskCall
@@ -263,7 +263,7 @@ module _ (Shows : Ask → ℕ → Talk → Class → List ℕ → Type 0) (s : S
           Absent f (all_closed o (λ d g. drop_makes p p d true (sym e ∙ g)) (subst (λ (x : Call). IsClosing x) (sym e) tt)) (freed_on o.freed)
       step_by stood (leaves e f) =
           let o = opened_by_user old stood (subst (λ (x : Call). UsesTemp x p) (sym e) refl) in
-          Stayed (a.keep.left c p known e) (subst (λ (o : Option HeldFile). IsSome o) (sym f) o.there) c.task (made_on c.task o.made)
+          Stayed ((c, known, e), a.keep.left c p known e) (subst (λ (o : Option HeldFile). IsSome o) (sym f) o.there) c.task (made_on c.task o.made)
           (all_closed o (λ d g. drop_makes p p d false (sym e ∙ g)) (subst (λ (x : Call). IsClosing x) (sym e) tt)) (freed_on o.freed)
       step_by (Untouched g none kept) (removes e f) = Absent f (λ m made. absurd (none m (made_before (λ d h. remove_makes p p d true (sym e ∙ h)) m made))) (inr (c, has_last front c, e))
       step_by (Absent g all freed) (removes e f) = Absent f (all_closed_on (λ d h. remove_makes p p d true (sym e ∙ h)) all) (freed_on freed)

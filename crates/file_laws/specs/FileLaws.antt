@@ -10,14 +10,14 @@ use Rattle.s3_model.specs.Files.{HeldFile}
 use Rattle.s3_model.specs.Talks.{Talk}
 use Rattle.s3_service.specs.ServiceState.{State}
 use Rattle.run_promise.specs.Dispatches.{Dispatched}
-use Rattle.run_promise.specs.Endings.{Excused, HasContent, IsLeft, IsLeftover, IsUntimed}
+use Rattle.run_promise.specs.Endings.{Excused, HasContent, IsLeft, IsUntimed}
 use Rattle.run_promise.specs.Schedule.{Setting}
 use Rattle.run_promise.specs.Traces.{Step, states}
 use Rattle.run_promise.specs.Truthful.{IsTouchedFile}
 use Rattle.local_files.specs.Calls.{IsCallRun, WriteAt}
 use Rattle.world_laws.specs.Premises.{Run}
 use Rattle.world_laws.specs.Tasks.{HasSourceObject, IsScheduled, IsTraceOf}
-use Rattle.file_laws.specs.FileTasks.{AreFileCalls, AreFilesApart, IsDecidedBefore, IsMade, IsMoveOf, IsRemoved, IsRenamed, IsTaskTo, TaskCall, files_after, steps_of}
+use Rattle.file_laws.specs.FileTasks.{AreFileCalls, AreFilesApart, HasFailedDrop, HasFailedStamp, IsDecidedBefore, IsMade, IsMoveOf, IsRemoved, IsRenamed, IsTaskTo, TaskCall, files_after, steps_of}
 
 -- a run as files see it: what it began with, what its warnings except, its dispatched requests, and its calls on files
 pub record FileRun : Type 0 where
@@ -38,6 +38,14 @@ after_calls run part path = get (files_after run.setting.held part) path
 abbrev pub in_the_end : FileRun → List ℕ → Option HeldFile
 in_the_end run path = after_calls run run.calls path
 
+-- a temporary file that stayed: its drop failed, and a warning names it or memory ran out for that warning
+abbrev pub HasStayed : FileRun → List ℕ → Type 0
+HasStayed run temp = HasFailedDrop run.calls temp × IsLeft run.excused temp
+
+-- a file whose time could not be set, and a warning names it or memory ran out for that warning
+abbrev pub HasOtherTime : FileRun → List ℕ → Type 0
+HasOtherTime run path = HasFailedStamp run.calls path × IsUntimed run.excused path
+
 -- the same run, as a trace of a service shows it
 abbrev pub with_trace : FileRun → List Event → State → List Step → Run
 with_trace run journal start trace =
@@ -48,15 +56,24 @@ pub record IsKeptSafe (run : FileRun) (n : ℕ) (task : Task) (path : List ℕ) 
   -- it is as at the start until its temporary file was renamed
   pub old : (part late : List TaskCall) → run.calls ≡ part ++ late → ¬ (IsRenamed part n)
       → after_calls run part path ≡ at_first run path
-  -- where that was, a file is there in the end, with the planned time, or a warning says that this failed
+  -- where that was, a file is there in the end, with the planned time, unless setting it failed
   pub timed : IsRenamed run.calls n
       → (file : HeldFile) × (in_the_end run path ≡ Some file)
-      × ((file.micros ≡ task.micros) ⊎ IsUntimed run.excused path)
+      × ((file.micros ≡ task.micros) ⊎ HasOtherTime run path)
   -- no call writes to it
   pub unopened : (c : TaskCall) (at : ℕ) (bytes : List ℕ) (fine : Bool) → Contains run.calls c
       → c.step.call ≡ WriteAt path at bytes fine → ⊥
-  -- no temporary file of it stays but one that a warning names
-  pub tidy : (temp : List ℕ) → IsMade run.calls n temp → (in_the_end run temp ≡ None) ⊎ IsLeft run.excused temp
+  -- no temporary file of it stays but one whose drop failed
+  pub tidy : (temp : List ℕ) → IsMade run.calls n temp → (in_the_end run temp ≡ None) ⊎ HasStayed run temp
+
+-- What holds of a file that no task is to change.
+pub record IsUntouched (run : FileRun) (path : List ℕ) : Type 0 where
+  -- after each call it is as at the start, or nothing was there and a task made its temporary file there
+  pub throughout : (part late : List TaskCall) → run.calls ≡ part ++ late
+      → (after_calls run part path ≡ at_first run path)
+      ⊎ ((n : ℕ) × IsMade part n path × (at_first run path ≡ None))
+  -- in the end it is as at the start, or nothing was there and a temporary file stayed
+  pub ended : (in_the_end run path ≡ at_first run path) ⊎ (HasStayed run path × (at_first run path ≡ None))
 
 -- From its rename on it has what its source had at some moment under the planned ETag.
 abbrev pub IsDownloaded : FileRun → List State → ℕ → Task → List ℕ → Type 0
@@ -79,27 +96,28 @@ module _ (Shows : Ask → ℕ → Talk → Class → List ℕ → Type 0) where
 
   -- ---- the laws
 
-  -- Every file is a destination, the source of a move, a temporary file that a warning names, or as at the start.
+  -- Every file is a destination, the source of a move, or untouched.
   abbrev pub FilesStay : Type 0
   FilesStay = (run : FileRun) → AreCalls run → (path : List ℕ)
-      → IsTouchedFile run.setting.tasks path ⊎ IsLeftover run.excused run.setting.held path
-      ⊎ (in_the_end run path ≡ at_first run path)
+      → IsTouchedFile run.setting.tasks path ⊎ IsUntouched run path
 
-  -- After a removal that went well the file is absent, unless a temporary file that a warning names has its name; else
-  -- it is as before.
+  -- After a removal that went well the file is absent, unless a temporary file that stayed has its name; until then it is
+  -- as before.
   abbrev pub FileIsRemoved : Type 0
   FileIsRemoved = (run : FileRun) → AreCalls run → (n : ℕ) (task : Task) (path : List ℕ)
       → IsTaskTo run.setting.tasks n task path → task.kind ≡ kind.RemoveFile
-      → (IsRemoved run.calls n → (in_the_end run path ≡ None) ⊎ IsLeft run.excused path)
-      × (¬ (IsRemoved run.calls n) → in_the_end run path ≡ at_first run path)
+      → (IsRemoved run.calls n → (in_the_end run path ≡ None) ⊎ HasStayed run path)
+      × ((part late : List TaskCall) → run.calls ≡ part ++ late → ¬ (IsRemoved part n)
+      → after_calls run part path ≡ at_first run path)
 
-  -- The file of a move is gone after its removal went well, and else as before; and it goes only after the success that
-  -- decides its task.
+  -- The file of a move is gone after its removal went well, and until then as before; and it goes only after the success
+  -- that decides its task.
   abbrev pub FileIsMoved : Type 0
   FileIsMoved = (run : FileRun) → AreCalls run → (n : ℕ) (task : Task) (path : List ℕ)
       → IsMoveOf run.setting.tasks n task path
       → (IsRemoved run.calls n → in_the_end run path ≡ None)
-      × (¬ (IsRemoved run.calls n) → in_the_end run path ≡ at_first run path)
+      × ((part late : List TaskCall) → run.calls ≡ part ++ late → ¬ (IsRemoved part n)
+      → after_calls run part path ≡ at_first run path)
       × ((part late : List TaskCall) → run.calls ≡ part ++ late → (after_calls run part path ≡ at_first run path)
       ⊎ IsDecidedIn run part n task)
 
