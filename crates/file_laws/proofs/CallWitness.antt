@@ -23,7 +23,7 @@ use Rattle.shared_lemmas.proofs.Lists.{head_is, no_middle, tail_is}
 use Rattle.shared_lemmas.proofs.Members.{Has, has, split_of}
 use Rattle.world_laws.proofs.ScheduleWitness.{one_task}
 use Rattle.file_laws.proofs.Keeping.{true_false}
-use Rattle.file_laws.specs.FileTasks.{AreFileCalls, AreFilesApart, AreWritten, HasFailedBefore, HasFailedDrop, HasFailedStamp, IsBody, IsCallOf, IsDecidedBefore, IsDropped, IsMade, IsRenamed, IsStamped, IsTidying, MayFollow, TaskCall, UsesTemp}
+use Rattle.file_laws.specs.FileTasks.{AreFileCalls, AreFilesApart, AreWritten, HasFailedBefore, HasFailedDrop, HasFailedStamp, IsBody, IsCallFor, IsDecidedBefore, IsDropped, IsMade, IsRenamed, IsStamped, IsTidying, MayFollow, TaskCall, UsesTemp}
 
 -- ---- lists that are written out
 
@@ -111,11 +111,11 @@ module _ (Shows : Ask → ℕ → Talk → Class → List ℕ → Type 0) (s : S
   -- a call keeps its clauses beside those before it
   pub record Keeps (front : List TaskCall) (c : TaskCall) : Type 0 where
     pub first : c.task ≡ 0
-    pub is_call : IsCallOf task task.kind c.step.call
+    pub is_call : IsCallFor task task.kind c.step.call
     pub warned : IsWarned excused c.step.call
     pub follows : ForAll (λ (earlier : TaskCall). MayFollow earlier.step.call c.step.call) front
     pub uses : OnUse (IsMade front 0) c.step.call
-    pub writes : OnWrite (λ temp at bytes. IsBody Shows s dispatched 0 task c.place at bytes) c.step.call
+    pub writes : OnWrite (λ temp at bytes. IsBody Shows s dispatched 0 task c.events_before at bytes) c.step.call
     pub renames : OnRename (AreWritten s front 0 task) c.step.call
     pub stamps : OnStamp (IsRenamed front 0) c.step.call
 
@@ -126,11 +126,11 @@ module _ (Shows : Ask → ℕ → Talk → Class → List ℕ → Type 0) (s : S
     kept_one : (c : TaskCall) → Contains calls c → (front : List TaskCall) × Keeps front c
     kept_one c known = let split = split_of calls c (has calls c known) in (split.front, kept split.front c split.back split.is)
 
-    pub calls_keep : s.dryrun ≡ false → ((c : TaskCall) → Contains calls c → task.kind ≡ kind.Upload → IsDecidedBefore Shows s dispatched 0 task c.place) → Pairs (λ (a b : TaskCall). a.place ≤ b.place) calls
+    pub calls_keep : s.dryrun ≡ false → ((c : TaskCall) → Contains calls c → task.kind ≡ kind.Upload → IsDecidedBefore Shows s dispatched 0 task c.events_before) → Pairs (λ (a b : TaskCall). a.events_before ≤ b.events_before) calls
         → ((c : Dispatched) → Contains dispatched c → c.dispatch.job.op ≡ op.Delete → ⊥)
         → ((c : Dispatched) → Contains dispatched c → c.dispatch.job.op ≡ op.Get → (made : TaskCall) × Contains calls made × (c.dispatch.job.task ≡ Some made.task) × (dest : List ℕ) × (temp : List ℕ) × (made.step.call ≡ MakeTemp dest (Ok temp))
-        × (made.place ≤ c.dispatch.given_at))
-        → ((c : TaskCall) → Contains calls c → IsBefore s.cancelled_at c.place ⊎ HasFailedBefore Shows s coming c.task c.place → IsTidying c.step.call)
+        × (made.events_before ≤ c.dispatch.given_at))
+        → ((c : TaskCall) → Contains calls c → IsBefore s.cancelled_at c.events_before ⊎ HasFailedBefore Shows s coming c.task c.events_before → IsTidying c.step.call)
         → ((path : List ℕ) → Contains excused.untimed path → HasFailedStamp calls path) → ((temp : List ℕ) → Contains excused.left temp → HasFailedDrop calls temp)
         → (IsRenamed calls 0 → IsStamped calls 0) → ((temp : List ℕ) → IsMade calls 0 temp → IsRenamed calls 0 ⊎ IsDropped calls 0)
         → AreFileCalls Shows s excused dispatched coming calls
@@ -139,7 +139,7 @@ module _ (Shows : Ask → ℕ → Talk → Class → List ℕ → Type 0) (s : S
       untimed_only = untimed_only;
       left_only = left_only;
       named = λ c known. let k = kept_one c known in (task, ap (slice_get s.tasks) k.1.first ∙ first_task, k.1.is_call);
-      placed = all_pairs (λ (a b : TaskCall). a.place ≤ b.place) calls places;
+      in_order = all_pairs (λ (a b : TaskCall). a.events_before ≤ b.events_before) calls places;
       dry = λ dried. absurd (clash (sym carried_out ∙ dried));
       order = λ front earlier later is h same. for_each (λ (x : TaskCall). MayFollow x.step.call later.step.call) front (kept front later is.0 is.1).follows earlier (has front earlier h);
       made = λ front c temp is uses. let k = kept front c is.0 is.1 in subst (λ (n : ℕ). IsMade front n temp) (sym k.first) (on_use (IsMade front 0) c.step.call temp k.uses uses);
@@ -148,8 +148,8 @@ module _ (Shows : Ask → ℕ → Talk → Class → List ℕ → Type 0) (s : S
           (m.0, m.1, some_is m.0.task n (sym m.2 ∙ ap (λ (j : JobId). j.task) is), m.3, m.4, m.5, m.6);
       writes = λ c other temp at bytes fine known is_other e.
           let k = (kept_one c known).1 in
-          let body = subst (λ (x : Call). OnWrite (λ temp at bytes. IsBody Shows s dispatched 0 task c.place at bytes) x) e k.writes in
-          subst (λ (t : Task). IsBody Shows s dispatched c.task t c.place at bytes) (sym (only c.task other is_other)) (subst (λ (n : ℕ). IsBody Shows s dispatched n task c.place at bytes) (sym k.first) body);
+          let body = subst (λ (x : Call). OnWrite (λ temp at bytes. IsBody Shows s dispatched 0 task c.events_before at bytes) x) e k.writes in
+          subst (λ (t : Task). IsBody Shows s dispatched c.task t c.events_before at bytes) (sym (only c.task other is_other)) (subst (λ (n : ℕ). IsBody Shows s dispatched n task c.events_before at bytes) (sym k.first) body);
       renames = λ front c other temp dest fault is is_other e.
           let k = kept front c is.0 is.1 in
           let written = subst (λ (x : Call). OnRename (AreWritten s front 0 task) x) e k.renames in
@@ -163,8 +163,8 @@ module _ (Shows : Ask → ℕ → Talk → Class → List ℕ → Type 0) (s : S
       left = λ c temp known e. subst (λ (x : Call). IsWarned excused x) e (kept_one c known).1.warned;
       moves_last = λ c other path fine known is_other upload e.
           let by = decided c known (ap (λ (t : Task). t.kind) (sym (only c.task other is_other)) ∙ upload) in
-          subst (λ (t : Task). IsDecidedBefore Shows s dispatched c.task t c.place) (sym (only c.task other is_other))
-          (subst (λ (n : ℕ). IsDecidedBefore Shows s dispatched n task c.place) (sym (kept_one c known).1.first) by);
+          subst (λ (t : Task). IsDecidedBefore Shows s dispatched c.task t c.events_before) (sym (only c.task other is_other))
+          (subst (λ (n : ℕ). IsDecidedBefore Shows s dispatched n task c.events_before) (sym (kept_one c known).1.first) by);
       deletes_last = λ c n other known of is_delete is_other load. absurd (no_delete c known is_delete);
     }
       where

@@ -49,7 +49,7 @@ use Rattle.world_laws.proofs.ScheduleWitness.{limits_are_valid, one_task, settin
 use Rattle.file_laws.specs.FileEnds.{HasFailedAct, HasFailedCall, IsFailedAct, IsShownByCalls}
 use Rattle.file_laws.specs.FileTasks.{AreFileCalls, AreFilesApart, AreWritten, HasFailedBefore, IsBody, IsDropped, IsRangeIn, IsRenamed, IsTidying, TaskCall, steps_of}
 use Rattle.file_laws.specs.FileLaws.{in_the_end}
-use Rattle.file_laws.specs.FileWitnesses.{DownloadIsMet, IsFileTaskMet, LeftFileIsMet, RefusedGetIsMet, places_written, two_bytes}
+use Rattle.file_laws.specs.FileWitnesses.{DownloadIsMet, IsFileTaskMet, LeftFileIsMet, RefusedGetIsMet, offsets_written, two_bytes}
 use Rattle.file_laws.proofs.CallWitness.{IsWarned, all_pairs, calls_keep, still_apart}
 use Rattle.file_laws.proofs.Keeping.{removal_downloads, run_of, some_is_there, true_false, upload_downloads}
 use Rattle.file_laws.proofs.Resized.{resized, resized_come, resized_fits, resized_given}
@@ -360,19 +360,19 @@ module _ (bucket key : List ℕ) (a b : ℕ) where
   renamed_files = insert (remove full_files temp) dest (with_bytes (written_at 0 (a ∷ []) (written_at 1 (b ∷ []) [])))
 
   abbrev make : TaskCall
-  make = record { task = 0; place = 0; step = record { call = MakeTemp dest (Ok temp); held = made_files } }
+  make = record { task = 0; events_before = 0; step = record { call = MakeTemp dest (Ok temp); held = made_files } }
 
   abbrev write_two : TaskCall
-  write_two = record { task = 0; place = 2; step = record { call = WriteAt temp 1 (b ∷ []) true; held = part_files } }
+  write_two = record { task = 0; events_before = 2; step = record { call = WriteAt temp 1 (b ∷ []) true; held = part_files } }
 
   abbrev write_one : TaskCall
-  write_one = record { task = 0; place = 4; step = record { call = WriteAt temp 0 (a ∷ []) true; held = full_files } }
+  write_one = record { task = 0; events_before = 4; step = record { call = WriteAt temp 0 (a ∷ []) true; held = full_files } }
 
   abbrev rename : TaskCall
-  rename = record { task = 0; place = 4; step = record { call = Rename temp dest None; held = renamed_files } }
+  rename = record { task = 0; events_before = 4; step = record { call = Rename temp dest None; held = renamed_files } }
 
   abbrev stamp : TaskCall
-  stamp = record { task = 0; place = 4; step = record { call = Stamp dest 0 true; held = insert renamed_files dest (with_bytes (written_at 0 (a ∷ []) (written_at 1 (b ∷ []) []))) } }
+  stamp = record { task = 0; events_before = 4; step = record { call = Stamp dest 0 true; held = insert renamed_files dest (with_bytes (written_at 0 (a ∷ []) (written_at 1 (b ∷ []) []))) } }
 
   abbrev calls : List TaskCall
   calls = make ∷ write_two ∷ write_one ∷ rename ∷ stamp ∷ []
@@ -467,7 +467,7 @@ module _ (bucket key : List ℕ) (a b : ℕ) where
         )
       ]
 
-  done_met : (done : IsFileTaskMet task outcome.Done) × (places_written done.run.calls ≡ 1 ∷ 0 ∷ [])
+  done_met : (done : IsFileTaskMet task outcome.Done) × (offsets_written done.run.calls ≡ 1 ∷ 0 ∷ [])
   unfolding met
   done_met = (
     met 2 1 (omega arith) (omega arith) (omega arith) (omega arith) two_is_one (b ∷ []) (a ∷ []) refl false backwards_served excused calls keep runs outcome.Done
@@ -500,7 +500,7 @@ module _ (bucket key : List ℕ) (a b : ℕ) where
   half_files = insert made_files temp (with_bytes (written_at 0 (a ∷ []) []))
 
   abbrev write_half : TaskCall
-  write_half = record { task = 0; place = 2; step = record { call = WriteAt temp 0 (a ∷ []) true; held = half_files } }
+  write_half = record { task = 0; events_before = 2; step = record { call = WriteAt temp 0 (a ∷ []) true; held = half_files } }
 
   body_half : IsBody Told setting halved 0 task 2 0 (a ∷ [])
   body_half = body_of 0 1 (a ∷ []) halved refl (omega arith) (omega arith) (0, omega arith, refl) 2 0 (omega arith) refl
@@ -509,7 +509,7 @@ module _ (bucket key : List ℕ) (a b : ℕ) where
   module _ (fine : Bool) (warnings : Excused) (warned : IsWarned warnings (DropTemp temp fine)) (after : MapOf HeldFile) (leads : Leads (DropTemp temp fine) half_files after)
       (untimed_none : (path : List ℕ) → Contains warnings.untimed path → ⊥) (left_is : (path : List ℕ) → Contains warnings.left path → (temp ≡ path) × (fine ≡ false)) where
     abbrev drop_temp : TaskCall
-    drop_temp = record { task = 0; place = 4; step = record { call = DropTemp temp fine; held = after } }
+    drop_temp = record { task = 0; events_before = 4; step = record { call = DropTemp temp fine; held = after } }
 
     abbrev half_calls : List TaskCall
     half_calls = make ∷ write_half ∷ drop_temp ∷ []
@@ -533,18 +533,18 @@ module _ (bucket key : List ℕ) (a b : ℕ) where
         by (inr (inr (inr h))) = h
 
     -- the refusal came after the write and before the drop
-    early : (c : TaskCall) → c.place ≤ 3 → IsBefore setting.cancelled_at c.place ⊎ HasFailedBefore Told setting halved c.task c.place → ⊥
+    early : (c : TaskCall) → c.events_before ≤ 3 → IsBefore setting.cancelled_at c.events_before ⊎ HasFailedBefore Told setting halved c.task c.events_before → ⊥
     early c low (inl cancelled) = cancelled
     early c low (inr failed) =
         let second = only_second_fails 1 2 (omega arith) (omega arith) (omega arith) (omega arith) one_is_two (a ∷ []) denied refl true half_served failed.0 failed.1 in
-        let later : 3 < c.place = subst (λ (d : Dispatched). IsBefore d.dispatch.came_at c.place) (sym second) failed.3 in
+        let later : 3 < c.events_before = subst (λ (d : Dispatched). IsBefore d.dispatch.came_at c.events_before) (sym second) failed.3 in
         absurd (omega arith)
 
-    stops_half : (c : TaskCall) → Contains half_calls c → IsBefore setting.cancelled_at c.place ⊎ HasFailedBefore Told setting halved c.task c.place → IsTidying c.step.call
+    stops_half : (c : TaskCall) → Contains half_calls c → IsBefore setting.cancelled_at c.events_before ⊎ HasFailedBefore Told setting halved c.task c.events_before → IsTidying c.step.call
     stops_half c known stopped = by (has half_calls c known)
       where
-        low : (x : TaskCall) → x ≡ c → x.place ≤ 3 → IsTidying c.step.call
-        low x e small = absurd (early c (subst (λ (y : TaskCall). y.place ≤ 3) e small) stopped)
+        low : (x : TaskCall) → x ≡ c → x.events_before ≤ 3 → IsTidying c.step.call
+        low x e small = absurd (early c (subst (λ (y : TaskCall). y.events_before ≤ 3) e small) stopped)
 
         by : Has half_calls c → IsTidying c.step.call
         by (inl e) = low make e (omega arith)
@@ -616,7 +616,7 @@ module _ (bucket key : List ℕ) (a b : ℕ) where
         other_code : codes "PreconditionFailed" ≡ denied → ⊥
         other_code e = let level : ◌≡◌ {A = ℕ} 18 12 = ap length e in absurd (omega arith)
 
-    refused_met : (failed : IsFileTaskMet task (outcome.Failed (cause.Service op.Get denied []))) × (places_written failed.run.calls ≡ 0 ∷ []) × IsDropped failed.run.calls 0
+    refused_met : (failed : IsFileTaskMet task (outcome.Failed (cause.Service op.Get denied []))) × (offsets_written failed.run.calls ≡ 0 ∷ []) × IsDropped failed.run.calls 0
     unfolding met
     refused_met = (
       met 1 2 (omega arith) (omega arith) (omega arith) (omega arith) one_is_two (a ∷ []) denied refl true half_served warnings half_calls keep_half runs_half (outcome.Failed (cause.Service op.Get denied [])) (

@@ -337,8 +337,8 @@ module _ (Shows : Ask → ℕ → Talk → Class → List ℕ → Type 0) (s : S
               let b = brought number at long range in
               let body = a.keep.writes b.w task temp at b.bytes true b.known (ap (slice_get s.tasks) b.of ∙ is_task) b.is_write in
               let bytes_is : b.bytes ≡ take long (drop at file.bytes) = sym b.stands ∙ ap (λ (k : ℕ). take k (drop at file.bytes)) b.long_is in (
-                b.w.place,
-                subst (λ (xs : List ℕ). IsBody Shows s dispatched n task b.w.place at xs) bytes_is (subst (λ (m : ℕ). IsBody Shows s dispatched m task b.w.place at b.bytes) b.of body),
+                b.w.events_before,
+                subst (λ (xs : List ℕ). IsBody Shows s dispatched n task b.w.events_before at xs) bytes_is (subst (λ (m : ℕ). IsBody Shows s dispatched m task b.w.events_before at b.bytes) b.of body),
               )
 
       pub new_from : (part late : List TaskCall) → calls ≡ part ++ late → IsRenamed part n → (file : HeldFile) × (get (files_after s.held part) path ≡ Some file) × IsContent file.bytes

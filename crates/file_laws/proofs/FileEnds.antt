@@ -33,7 +33,7 @@ use Rattle.shared_lemmas.proofs.Clashes.{some_is}
 use Rattle.shared_lemmas.proofs.Members.{has, split_of}
 use Rattle.file_laws.specs.FileTasks.{IsRemoved, IsRenamed, TaskCall, files_after}
 use Rattle.file_laws.specs.FileLaws.{AreCalls}
-use Rattle.file_laws.specs.FileEnds.{FileTaskEnds, HasFailedAct, IsPlaced, IsShownByCalls, MovedFilesAreLeft, PromisedFilesStay, run_shown}
+use Rattle.file_laws.specs.FileEnds.{FileTaskEnds, HasFailedAct, IsDestChanged, IsShownByCalls, MovedFilesAreLeft, PromisedFilesStay, run_shown}
 use Rattle.file_laws.proofs.Downloads as downloads
 use Rattle.file_laws.proofs.Files as files
 use Rattle.file_laws.proofs.Keeping as keeping
@@ -177,9 +177,9 @@ module _ (Shows : Ask → ℕ → Talk → Class → List ℕ → Type 0) (HasSt
   pub file_task_ends : FileTaskEnds Shows HasStatus CallFailed
   file_task_ends run start trace part journal a r traced whole n task how is_task by source is shown = elim by.decided [
     | inl load ↦ download_ends Shows HasStatus CallFailed run.setting run.excused run.dispatched run.coming run.calls start trace part journal a r traced whole n task is_task by.path by.is_dest load (by.from load) how
-        (λ new. source new load) is (subst (λ (k : Kind). IsShownByCalls how (IsPlaced k run.calls n) (HasFailedAct run.calls n)) load shown)
+        (λ new. source new load) is (subst (λ (k : Kind). IsShownByCalls how (IsDestChanged k run.calls n) (HasFailedAct run.calls n)) load shown)
     | inr removal ↦ removal_ends Shows HasStatus CallFailed run.setting run.excused run.dispatched run.coming run.calls start trace part journal a r traced whole n task is_task by.path by.is_dest removal (by.keeps removal) how is
-        (subst (λ (k : Kind). IsShownByCalls how (IsPlaced k run.calls n) (HasFailedAct run.calls n)) removal shown)
+        (subst (λ (k : Kind). IsShownByCalls how (IsDestChanged k run.calls n) (HasFailedAct run.calls n)) removal shown)
   ]
 
 -- ---- moved files

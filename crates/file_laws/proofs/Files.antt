@@ -17,7 +17,7 @@ use Rattle.local_files.specs.Calls.{Call, MakeTemp, Remove}
 use Rattle.shared_lemmas.proofs.Maps.{text_decided}
 use Rattle.shared_lemmas.proofs.Members.{contains_of, Has, has, has-append_left, has_at}
 use Rattle.file_laws.specs.FileTasks.{IsDecidedBefore, IsMade, IsRemoved, TaskCall, files_after}
-use Rattle.file_laws.specs.FileLaws.{AreCalls, FileIsMoved, FileIsRemoved, FilesStay, HasStayed, IsDecidedIn, IsUntouched}
+use Rattle.file_laws.specs.FileLaws.{AreCalls, FileIsMoved, FileIsRemoved, FilesStay, HasStayed, IsCalledOnceDecided, IsUntouched}
 use Rattle.file_laws.proofs.Keeping as keeping
 use Rattle.file_laws.proofs.Keeping.{IsClosing, only_download_makes, removal_downloads, run_of, same_path, same_task, some_none, some_place, true_false, upload_downloads, upload_removes, who_removes}
 use Rattle.file_laws.proofs.TempFiles as temps
@@ -253,17 +253,17 @@ module _ (Shows : Ask → ℕ → Talk → Class → List ℕ → Type 0) (s : S
         by (InUse m there made unclosed others freed) = absurd (no_temp part late is made.0 made.1 made.3 made.4)
         by (Stayed excuse there m made all freed) = absurd (no_temp part late is made.0 made.1 made.3 made.4)
 
-    until_decided : (part late : List TaskCall) → calls ≡ part ++ late → (get (files_after s.held part) p ≡ get s.held p) ⊎ IsDecidedIn Shows (run_of s excused dispatched coming calls) part n task
+    until_decided : (part late : List TaskCall) → calls ≡ part ++ late → (get (files_after s.held part) p ≡ get s.held p) ⊎ IsCalledOnceDecided Shows (run_of s excused dispatched coming calls) part n task
     until_decided part late is = by (temps.standing Shows s excused dispatched coming calls a p only_moved part late is)
       where
-        decided : (c : TaskCall) → Has part c → c.step.call ≡ Remove p true → IsDecidedIn Shows (run_of s excused dispatched coming calls) part n task
+        decided : (c : TaskCall) → Has part c → c.step.call ≡ Remove p true → IsCalledOnceDecided Shows (run_of s excused dispatched coming calls) part n task
         decided c h e =
             let known = known_in part late is c h in
             let one = source_task c known e in
             let at : slice_get s.tasks c.task ≡ Some task = ap (slice_get s.tasks) one ∙ is_task in
-            (c, contains_of part c h, one, subst (λ (k : ℕ). IsDecidedBefore Shows s dispatched k task c.place) one (a.keep.moves_last c task p true known at upload e))
+            (c, contains_of part c h, one, subst (λ (k : ℕ). IsDecidedBefore Shows s dispatched k task c.events_before) one (a.keep.moves_last c task p true known at upload e))
 
-        by : temps.Standing Shows s excused dispatched coming calls a p only_moved part (files_after s.held part) → (get (files_after s.held part) p ≡ get s.held p) ⊎ IsDecidedIn Shows (run_of s excused dispatched coming calls) part n task
+        by : temps.Standing Shows s excused dispatched coming calls a p only_moved part (files_after s.held part) → (get (files_after s.held part) p ≡ get s.held p) ⊎ IsCalledOnceDecided Shows (run_of s excused dispatched coming calls) part n task
         by (Untouched e none kept) = inl e
         by (Absent e all (inl none)) = inl (e ∙ sym none)
         by (Absent e all (inr removed)) = inr (decided removed.0 removed.1 removed.2)

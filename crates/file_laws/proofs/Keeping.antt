@@ -15,7 +15,7 @@ use Rattle.run_promise.specs.Endings.{Excused}
 use Rattle.run_promise.specs.Schedule.{Setting}
 use Rattle.local_files.specs.Calls.{Call, DropTemp, Fault, MakeTemp, Remove, Rename, Stamp, WriteAt}
 use Rattle.shared_lemmas.proofs.Members.{contains_of, Has, has-append_cases, has-append_left, has_middle}
-use Rattle.file_laws.specs.FileTasks.{IsCallOf, MayFollow, TaskCall, UsesTemp}
+use Rattle.file_laws.specs.FileTasks.{IsCallFor, MayFollow, TaskCall, UsesTemp}
 use Rattle.file_laws.specs.FileLaws.{AreCalls, FileRun}
 
 abbrev pub run_of : Setting → Excused → (dispatched coming : List Dispatched) → List TaskCall → FileRun
@@ -85,20 +85,20 @@ closes_own dest temp (DropTemp same fine) follows closes = follows
 closes_own dest temp (Rename same to (Some fault)) follows closes = absurd closes
 closes_own dest temp y follows closes = absurd closes
 
-pub only_download_makes : (task : Task) (of_kind : Kind) (dest : List ℕ) (answer : Result (List ℕ) Fault) → IsCallOf task of_kind (MakeTemp dest answer) → (of_kind ≡ kind.Download) × (task.dest ≡ place.File dest)
+pub only_download_makes : (task : Task) (of_kind : Kind) (dest : List ℕ) (answer : Result (List ℕ) Fault) → IsCallFor task of_kind (MakeTemp dest answer) → (of_kind ≡ kind.Download) × (task.dest ≡ place.File dest)
 only_download_makes task kind.Download dest answer h = (refl, h)
 only_download_makes task of_kind dest answer h = absurd h
 
-pub only_download_renames : (task : Task) (of_kind : Kind) (temp dest : List ℕ) (fault : Option Fault) → IsCallOf task of_kind (Rename temp dest fault) → (of_kind ≡ kind.Download) × (task.dest ≡ place.File dest)
+pub only_download_renames : (task : Task) (of_kind : Kind) (temp dest : List ℕ) (fault : Option Fault) → IsCallFor task of_kind (Rename temp dest fault) → (of_kind ≡ kind.Download) × (task.dest ≡ place.File dest)
 only_download_renames task kind.Download temp dest fault h = (refl, h)
 only_download_renames task of_kind temp dest fault h = absurd h
 
-pub only_download_stamps : (task : Task) (of_kind : Kind) (path : List ℕ) (micros : ℕ) (fine : Bool) → IsCallOf task of_kind (Stamp path micros fine)
+pub only_download_stamps : (task : Task) (of_kind : Kind) (path : List ℕ) (micros : ℕ) (fine : Bool) → IsCallFor task of_kind (Stamp path micros fine)
     → (of_kind ≡ kind.Download) × (task.dest ≡ place.File path) × (micros ≡ task.micros)
 only_download_stamps task kind.Download path micros fine h = (refl, h.0, h.1)
 only_download_stamps task of_kind path micros fine h = absurd h
 
-pub who_removes : (task : Task) (of_kind : Kind) (path : List ℕ) (fine : Bool) → IsCallOf task of_kind (Remove path fine)
+pub who_removes : (task : Task) (of_kind : Kind) (path : List ℕ) (fine : Bool) → IsCallFor task of_kind (Remove path fine)
     → ((of_kind ≡ kind.RemoveFile) × (task.dest ≡ place.File path)) ⊎ ((of_kind ≡ kind.Upload) × (task.moves ≡ true) × (task.source ≡ Some (place.File path)))
 who_removes task kind.RemoveFile path fine h = inl (refl, h)
 who_removes task kind.Upload path fine h = inr (refl, h.0, h.1)
@@ -131,9 +131,9 @@ module _ (Shows : Ask → ℕ → Talk → Class → List ℕ → Type 0) (s : S
   pub record Named (c : TaskCall) (call : Call) : Type 0 where
     pub task : Task
     pub is_task : slice_get s.tasks c.task ≡ Some task
-    pub is_call : IsCallOf task task.kind call
+    pub is_call : IsCallFor task task.kind call
 
   pub named : (c : TaskCall) (call : Call) → Contains calls c → c.step.call ≡ call → Named c call
   named c call known is =
       let own = a.keep.named c known in
-      record { task = own.0; is_task = own.1; is_call = subst (λ (x : Call). IsCallOf own.0 own.0.kind x) is own.2 }
+      record { task = own.0; is_task = own.1; is_call = subst (λ (x : Call). IsCallFor own.0 own.0.kind x) is own.2 }

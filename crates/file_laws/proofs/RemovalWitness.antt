@@ -99,7 +99,7 @@ module _ (path : List ℕ) where
   -- the one call
   module _ (fine : Bool) (after : MapOf HeldFile) where
     abbrev removal : TaskCall
-    removal = record { task = 0; place = 0; step = record { call = Remove path fine; held = after } }
+    removal = record { task = 0; events_before = 0; step = record { call = Remove path fine; held = after } }
 
     abbrev calls : List TaskCall
     calls = removal ∷ []
@@ -165,7 +165,7 @@ module _ (bucket key path : List ℕ) where
   put_sent = dispatch_at 0 put ∷ []
 
   abbrev take_away : TaskCall
-  take_away = record { task = 0; place = 2; step = record { call = Remove path true; held = remove file_there path } }
+  take_away = record { task = 0; events_before = 2; step = record { call = Remove path true; held = remove file_there path } }
 
   no_file : (p : List ℕ) → place.Object bucket key ≡ place.File p → ⊥
   no_file p e = cc
@@ -194,7 +194,7 @@ module _ (bucket key path : List ℕ) where
   keep_moving = calls_keep Told moving_setting excused_none put_sent put_sent moving (λ n other is. (one_task moving n other is).1) refl (take_away ∷ [])
       (record { first = refl; is_call = (refl, refl); warned = tt; follows = tt; uses = tt; writes = tt; renames = tt; stamps = tt }, tt)
       refl
-      (λ c known upload. (dispatch_at 0 put, (0, omega arith, refl), refl, subst (λ (x : TaskCall). IsBefore (Some 1) x.place) (only_call c known) (omega arith), (reply.Stored, (refl, [], (refl, refl)))))
+      (λ c known upload. (dispatch_at 0 put, (0, omega arith, refl), refl, subst (λ (x : TaskCall). IsBefore (Some 1) x.events_before) (only_call c known) (omega arith), (reply.Stored, (refl, [], (refl, refl)))))
       (tt, tt)
       (λ c known is. put_or_delete (ap (λ (d : Dispatched). d.dispatch.job.op) (only_put c known) ∙ is))
       (λ c known is_get. absurd (put_or_get (ap (λ (d : Dispatched). d.dispatch.job.op) (only_put c known) ∙ is_get)))

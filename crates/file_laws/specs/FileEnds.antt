@@ -16,13 +16,13 @@ use Rattle.s3_model.specs.declared.tasks.Task.{Task}
 use Rattle.s3_model.specs.Talks.{Talk}
 use Rattle.s3_service.specs.ServiceState.{State}
 use Rattle.run_promise.specs.Dispatches.{Dispatched}
-use Rattle.run_promise.specs.Endings.{IsEnded, Scene}
+use Rattle.run_promise.specs.Endings.{IsEnded}
 use Rattle.run_promise.specs.Outcomes.{HasOutcome}
-use Rattle.run_promise.specs.Traces.{Step, state_after, states}
+use Rattle.run_promise.specs.Traces.{Step, states}
 use Rattle.run_promise.specs.Truthful.{HasJournal, OtherFilesStay, Shown}
 use Rattle.local_files.specs.Calls.{Blocked, Call, Failed, MakeTemp, Remove, Rename, WriteAt}
 use Rattle.world_laws.specs.Promises.{AreFilesLeft, IsFileLeft}
-use Rattle.world_laws.specs.Tasks.{HasSourceObject, IsScheduled, IsTraceOf, MayBeNew}
+use Rattle.world_laws.specs.Tasks.{HasSourceObject, IsScheduled, IsTraceOf, MayBeNew, scene_after, scene_before}
 use Rattle.file_laws.specs.FileLaws.{AreCalls, FileRun, with_trace}
 use Rattle.file_laws.specs.FileTasks.{IsMoveOf, IsRemoved, IsRenamed, TaskCall, files_after}
 
@@ -71,10 +71,10 @@ abbrev pub HasFailedAct : List TaskCall → ℕ → Type 0
 HasFailedAct calls n = (c : TaskCall) × Contains calls c × (c.task ≡ n) × IsFailedAct c.step.call
 
 -- the destination was replaced, or removed
-abbrev pub IsPlaced : Kind → List TaskCall → ℕ → Type 0
-IsPlaced kind.Download calls n = IsRenamed calls n
-IsPlaced kind.RemoveFile calls n = IsRemoved calls n
-IsPlaced other calls n = ⊥
+abbrev pub IsDestChanged : Kind → List TaskCall → ℕ → Type 0
+IsDestChanged kind.Download calls n = IsRenamed calls n
+IsDestChanged kind.RemoveFile calls n = IsRemoved calls n
+IsDestChanged other calls n = ⊥
 
 -- A cause that no call shows stands only where no such call failed. Memory wins over every other cause.
 abbrev pub IsCauseBeside : Cause → (failed : Type 0) → Type 0
@@ -89,15 +89,15 @@ IsOutcomeBeside (outcome.Failed why) failed = IsCauseBeside why failed
 IsOutcomeBeside how failed = Unit {0}
 
 -- Done and copied are tasks whose destination was replaced or removed, and failed those where it was not.
-abbrev pub IsShownByDest : Outcome → (placed : Type 0) → Type 0
-IsShownByDest outcome.Done placed = placed
-IsShownByDest (outcome.Copied why) placed = placed
-IsShownByDest (outcome.Failed why) placed = ¬ placed
-IsShownByDest how placed = Unit {0}
+abbrev pub IsShownByDest : Outcome → (changed : Type 0) → Type 0
+IsShownByDest outcome.Done changed = changed
+IsShownByDest (outcome.Copied why) changed = changed
+IsShownByDest (outcome.Failed why) changed = ¬ changed
+IsShownByDest how changed = Unit {0}
 
 -- what the calls show of a task's outcome, and of the task of a moved file
-abbrev pub IsShownByCalls : Outcome → (placed failed : Type 0) → Type 0
-IsShownByCalls how placed failed = IsShownByDest how placed × IsOutcomeBeside how failed
+abbrev pub IsShownByCalls : Outcome → (changed failed : Type 0) → Type 0
+IsShownByCalls how changed failed = IsShownByDest how changed × IsOutcomeBeside how failed
 
 abbrev pub IsMoveShown : Outcome → (removed failed : Type 0) → Type 0
 IsMoveShown how removed failed = IsFileLeft how removed (¬ removed) × IsOutcomeBeside how failed
@@ -107,24 +107,19 @@ abbrev pub run_shown : Shown → (dispatched coming : List Dispatched) → List 
 run_shown shown dispatched coming calls =
     record { setting = shown.setting; excused = shown.excused; dispatched = dispatched; coming = coming; calls = calls }
 
--- the files and a state when the run begins, and after all of its calls
-abbrev pub scene_before : FileRun → State → Scene
-scene_before run start = record { state = start; held = run.setting.held; others = run.setting.others }
-
-abbrev pub scene_after : FileRun → State → Scene
-scene_after run state = record { state = state; held = files_after run.setting.held run.calls; others = run.setting.others }
-
 -- `Shows ask limit talk class bytes`: the talk has that class for the ask, and its answer that body
 module _ (Shows : Ask → ℕ → Talk → Class → List ℕ → Type 0) where
   -- So a run that ends with the files that its calls left keeps what it promises of all other files.
   abbrev pub PromisedFilesStay : Type 0
   PromisedFilesStay = (shown : Shown) (dispatched coming : List Dispatched) (calls : List TaskCall)
-      → AreCalls Shows (run_shown shown dispatched coming calls) → shown.held_after ≡ files_after shown.setting.held calls → OtherFilesStay shown
+      → AreCalls Shows (run_shown shown dispatched coming calls)
+      → shown.held_after ≡ files_after shown.setting.held calls → OtherFilesStay shown
 
   -- Where the calls show the removal of a moved file just where its task is done, the file goes just there.
   abbrev pub MovedFilesAreLeft : Type 0
   MovedFilesAreLeft = (shown : Shown) (dispatched coming : List Dispatched) (calls : List TaskCall)
-      → AreCalls Shows (run_shown shown dispatched coming calls) → shown.held_after ≡ files_after shown.setting.held calls
+      → AreCalls Shows (run_shown shown dispatched coming calls)
+      → shown.held_after ≡ files_after shown.setting.held calls
       → ((n : ℕ) (task : Task) (how : Outcome) (path : List ℕ) → IsMoveOf shown.setting.tasks n task path
       → slice_get shown.outcomes n ≡ Some how → IsMoveShown how (IsRemoved calls n) (HasFailedAct calls n))
       → AreFilesLeft shown
@@ -136,12 +131,14 @@ module _ (Shows : Ask → ℕ → Talk → Class → List ℕ → Type 0) where
     -- its jobs and its calls show.
     -- The source of a download is to be as planned only where its destination may be new.
     abbrev pub FileTaskEnds : Type 0
-    FileTaskEnds = (run : FileRun) (start : State) (trace part : List Step) (journal : List Event) → AreCalls Shows run
-        → IsScheduled Shows run.setting journal run.dispatched run.coming
+    FileTaskEnds = (run : FileRun) (start : State) (trace part : List Step) (journal : List Event)
+        → AreCalls Shows run → IsScheduled Shows run.setting journal run.dispatched run.coming
         → IsTraceOf Shows run.setting (with_trace run journal start trace)
         → HasJournal journal trace part → (n : ℕ) (task : Task) (how : Outcome)
         → slice_get run.setting.tasks n ≡ Some task → IsByFiles task
         → (MayBeNew how → task.kind ≡ kind.Download → HasSourceObject (states start trace) task)
         → HasOutcome Shows HasStatus CallFailed run.setting run.dispatched run.coming n task how
-        → IsShownByCalls how (IsPlaced task.kind run.calls n) (HasFailedAct run.calls n)
-        → IsEnded run.excused journal start trace (scene_before run start) (scene_after run (state_after start part)) n task how
+        → IsShownByCalls how (IsDestChanged task.kind run.calls n) (HasFailedAct run.calls n)
+        → IsEnded run.excused journal start trace (scene_before run.setting (with_trace run journal start trace))
+        (scene_after run.setting (files_after run.setting.held run.calls) (with_trace run journal start trace) part)
+        n task how

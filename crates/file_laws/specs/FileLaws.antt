@@ -90,9 +90,9 @@ module _ (Shows : Ask → ℕ → Talk → Class → List ℕ → Type 0) where
     pub apart : AreFilesApart run.setting.held run.setting.tasks
 
   -- the task made one of these calls after the success that decides it
-  abbrev pub IsDecidedIn : FileRun → List TaskCall → ℕ → Task → Type 0
-  IsDecidedIn run part n task = (c : TaskCall) × Contains part c × (c.task ≡ n)
-      × IsDecidedBefore Shows run.setting run.dispatched n task c.place
+  abbrev pub IsCalledOnceDecided : FileRun → List TaskCall → ℕ → Task → Type 0
+  IsCalledOnceDecided run part n task = (c : TaskCall) × Contains part c × (c.task ≡ n)
+      × IsDecidedBefore Shows run.setting run.dispatched n task c.events_before
 
   -- ---- the laws
 
@@ -101,8 +101,8 @@ module _ (Shows : Ask → ℕ → Talk → Class → List ℕ → Type 0) where
   FilesStay = (run : FileRun) → AreCalls run → (path : List ℕ)
       → IsTouchedFile run.setting.tasks path ⊎ IsUntouched run path
 
-  -- After a removal that went well the file is absent, unless a temporary file that stayed has its name; until then it is
-  -- as before.
+  -- After a removal that went well the file is absent, unless a temporary file that stayed has its name; until then it
+  -- is as before.
   abbrev pub FileIsRemoved : Type 0
   FileIsRemoved = (run : FileRun) → AreCalls run → (n : ℕ) (task : Task) (path : List ℕ)
       → IsTaskTo run.setting.tasks n task path → task.kind ≡ kind.RemoveFile
@@ -110,8 +110,8 @@ module _ (Shows : Ask → ℕ → Talk → Class → List ℕ → Type 0) where
       × ((part late : List TaskCall) → run.calls ≡ part ++ late → ¬ (IsRemoved part n)
       → after_calls run part path ≡ at_first run path)
 
-  -- The file of a move is gone after its removal went well, and until then as before; and it goes only after the success
-  -- that decides its task.
+  -- The file of a move is gone after its removal went well, and until then as before; and it goes only after the
+  -- success that decides its task.
   abbrev pub FileIsMoved : Type 0
   FileIsMoved = (run : FileRun) → AreCalls run → (n : ℕ) (task : Task) (path : List ℕ)
       → IsMoveOf run.setting.tasks n task path
@@ -119,7 +119,7 @@ module _ (Shows : Ask → ℕ → Talk → Class → List ℕ → Type 0) where
       × ((part late : List TaskCall) → run.calls ≡ part ++ late → ¬ (IsRemoved part n)
       → after_calls run part path ≡ at_first run path)
       × ((part late : List TaskCall) → run.calls ≡ part ++ late → (after_calls run part path ≡ at_first run path)
-      ⊎ IsDecidedIn run part n task)
+      ⊎ IsCalledOnceDecided run part n task)
 
   -- A download leaves its destination as it was until it is renamed, and its temporary file stays with a warning only.
   abbrev pub FileIsKeptSafe : Type 0

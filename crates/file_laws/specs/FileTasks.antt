@@ -27,7 +27,7 @@ use Rattle.local_files.specs.Calls.{Call, CallStep, DropTemp, Fault, MakeTemp, R
 -- a call that was made for a task, and how many events of the journal stood before it
 pub record TaskCall : Type 0 where
   pub task : ℕ
-  pub place : ℕ
+  pub events_before : ℕ
   pub step : CallStep
 
 abbrev pub steps_of : List TaskCall → List CallStep
@@ -39,17 +39,17 @@ files_after held calls = held_after held (steps_of calls)
 
 -- Which calls a task makes. A download makes, writes, renames or drops its temporary file, and sets the time of its
 -- destination. The removal of a file removes it, and an upload that moves its file removes this.
-abbrev pub IsCallOf : Task → Kind → Call → Type 0
-IsCallOf task kind.Download (MakeTemp dest answer) = task.dest ≡ place.File dest
-IsCallOf task kind.Download (WriteAt temp at bytes fine) = Unit {0}
-IsCallOf task kind.Download (Rename temp dest fault) = task.dest ≡ place.File dest
-IsCallOf task kind.Download (DropTemp temp fine) = Unit {0}
-IsCallOf task kind.Download (Stamp path micros fine) = (task.dest ≡ place.File path) × (micros ≡ task.micros)
-IsCallOf task kind.RemoveFile (Remove path fine) = task.dest ≡ place.File path
-IsCallOf task kind.Upload (Remove path fine) = (task.moves ≡ true) × (task.source ≡ Some (place.File path))
-IsCallOf task of_kind call = ⊥
+abbrev pub IsCallFor : Task → Kind → Call → Type 0
+IsCallFor task kind.Download (MakeTemp dest answer) = task.dest ≡ place.File dest
+IsCallFor task kind.Download (WriteAt temp at bytes fine) = Unit {0}
+IsCallFor task kind.Download (Rename temp dest fault) = task.dest ≡ place.File dest
+IsCallFor task kind.Download (DropTemp temp fine) = Unit {0}
+IsCallFor task kind.Download (Stamp path micros fine) = (task.dest ≡ place.File path) × (micros ≡ task.micros)
+IsCallFor task kind.RemoveFile (Remove path fine) = task.dest ≡ place.File path
+IsCallFor task kind.Upload (Remove path fine) = (task.moves ≡ true) × (task.source ≡ Some (place.File path))
+IsCallFor task of_kind call = ⊥
 
--- Which call of a task may come after which: one temporary file, each place written once, one rename, and nothing
+-- Which call of a task may come after which: one temporary file, each offset written once, one rename, and nothing
 -- after a failed call but the drop.
 abbrev pub MayFollow : (earlier later : Call) → Type 0
 MayFollow (MakeTemp dest (Ok temp)) (WriteAt same at bytes fine) = same ≡ temp
@@ -141,35 +141,37 @@ pub record AreFilesApart (held : MapOf HeldFile) (tasks : List Task) : Type 0 wh
   pub uploads : (n : ℕ) (task : Task) (path : List ℕ) → IsMoveOf tasks n task path → task.kind ≡ kind.Upload
   pub one_way : (m n : ℕ) (a b : Task) (path : List ℕ) → IsMoveOf tasks m a path → slice_get tasks n ≡ Some b
       → b.kind ≡ kind.Download → ⊥
-  -- a download to a place with the name of a temporary file is the only one
+  -- a download to a path with the name of a temporary file is the only one
   pub names : (m n : ℕ) (a b : Task) (path : List ℕ) → IsTaskTo tasks m a path → slice_get tasks n ≡ Some b
       → a.kind ≡ kind.Download → b.kind ≡ kind.Download → is_temp_name path ≡ true → m ≡ n
   -- a file that is to be removed is there
   pub there : (n : ℕ) (task : Task) (path : List ℕ) → IsTaskTo tasks n task path → task.kind ≡ kind.RemoveFile
       → IsSome (get held path)
 
--- place and length of what a Get of that number is to bring: the whole, or a piece
-abbrev pub IsRangeIn : Bool → (size piece count number at long : ℕ) → Type 0
-IsRangeIn true size piece count number at long = (number ≡ 0) × (at ≡ 0) × (long ≡ size)
-IsRangeIn false size piece count number at long = (1 ≤ number) × (number ≤ count)
-    × (piece_range size piece number ≡ (at, long))
+-- offset and length of what a Get of that number is to bring: the whole, or a piece
+abbrev pub IsRangeIn : Bool → (size piece count number at length_of : ℕ) → Type 0
+IsRangeIn true size piece count number at length_of = (number ≡ 0) × (at ≡ 0) × (length_of ≡ size)
+IsRangeIn false size piece count number at length_of = (1 ≤ number) × (number ≤ count)
+    × (piece_range size piece number ≡ (at, length_of))
 
-abbrev pub IsRange : Setting → Task → (number at long : ℕ) → Type 0
-IsRange s task number at long = (piece : ℕ) × (count : ℕ) × HasPieces s.config s.limits task.kind task.size piece count
-    × IsRangeIn (is_small s task) task.size piece count number at long
+abbrev pub IsRange : Setting → Task → (number at length_of : ℕ) → Type 0
+IsRange s task number at length_of =
+    (piece : ℕ) × (count : ℕ) × HasPieces s.config s.limits task.kind task.size piece count
+    × IsRangeIn (is_small s task) task.size piece count number at length_of
 
 -- each range of a download was written to that temporary file
 pub record AreWritten (s : Setting) (calls : List TaskCall) (n : ℕ) (task : Task) (temp : List ℕ) : Type 0 where
   pub piece : ℕ
   pub count : ℕ
   pub pieces : HasPieces s.config s.limits task.kind task.size piece count
-  pub each : (number at long : ℕ) → IsRangeIn (is_small s task) task.size piece count number at long
+  pub each : (number at length_of : ℕ) → IsRangeIn (is_small s task) task.size piece count number at length_of
       → (w : TaskCall) × Contains calls w × (w.task ≡ n) × (bytes : List ℕ) × (w.step.call ≡ WriteAt temp at bytes true)
 
 -- `Shows ask limit talk class bytes`: the talk has that class for the ask, and its answer that body
 module _ (Shows : Ask → ℕ → Talk → Class → List ℕ → Type 0) where
   -- a Get of the task came before that place of the journal with what was asked for: these bytes, which belong there
-  pub record IsBody (s : Setting) (dispatched : List Dispatched) (n : ℕ) (task : Task) (before at : ℕ) (bytes : List ℕ) : Type 0 where
+  pub record IsBody (s : Setting) (dispatched : List Dispatched) (n : ℕ) (task : Task) (before at : ℕ) (bytes : List ℕ)
+      : Type 0 where
     pub get : Dispatched
     pub known : Contains dispatched get
     pub number : ℕ
@@ -197,12 +199,12 @@ module _ (Shows : Ask → ℕ → Talk → Class → List ℕ → Type 0) where
       × (failed.dispatch.job.task ≡ Some n) × IsBefore failed.dispatch.came_at before
 
   -- What the calls on files of a run keep to.
-  pub record AreFileCalls (s : Setting) (excused : Excused) (dispatched coming : List Dispatched) (calls : List TaskCall)
-      : Type 0 where
+  pub record AreFileCalls (s : Setting) (excused : Excused) (dispatched coming : List Dispatched)
+      (calls : List TaskCall) : Type 0 where
     -- each is one that its task makes; they stand in the order of the journal; and a dry run makes none
     pub named : (c : TaskCall) → Contains calls c → (task : Task) × (slice_get s.tasks c.task ≡ Some task)
-        × IsCallOf task task.kind c.step.call
-    pub placed : AllPairs (λ (a b : TaskCall). a.place ≤ b.place) calls
+        × IsCallFor task task.kind c.step.call
+    pub in_order : AllPairs (λ (a b : TaskCall). a.events_before ≤ b.events_before) calls
     pub dry : s.dryrun ≡ true → calls ≡ []
     -- those of one task follow each other as they may
     pub order : (front : List TaskCall) (earlier later : TaskCall) → ComesAfter calls front later
@@ -210,7 +212,8 @@ module _ (Shows : Ask → ℕ → Talk → Class → List ℕ → Type 0) where
         → MayFollow earlier.step.call later.step.call
     -- after the run was cancelled, or a request of the task failed, it only tidies up
     pub stops : (c : TaskCall) → Contains calls c
-        → IsBefore s.cancelled_at c.place ⊎ HasFailedBefore s coming c.task c.place → IsTidying c.step.call
+        → IsBefore s.cancelled_at c.events_before ⊎ HasFailedBefore s coming c.task c.events_before
+        → IsTidying c.step.call
     -- a temporary file is made before it is used, and before any Get of its task is given
     pub made : (front : List TaskCall) (c : TaskCall) (temp : List ℕ) → ComesAfter calls front c
         → UsesTemp c.step.call temp → IsMade front c.task temp
@@ -218,11 +221,11 @@ module _ (Shows : Ask → ℕ → Talk → Class → List ℕ → Type 0) where
         → get.dispatch.job ≡ job_of n op.Get number
         → (c : TaskCall) × Contains calls c × (c.task ≡ n) × (dest : List ℕ) × (temp : List ℕ)
         × (c.step.call ≡ MakeTemp dest (Ok temp))
-        × (c.place ≤ get.dispatch.given_at)
-    -- what is written is the body of a Get of the task, at its place
+        × (c.events_before ≤ get.dispatch.given_at)
+    -- what is written is the body of a Get of the task, at its offset
     pub writes : (c : TaskCall) (task : Task) (temp : List ℕ) (at : ℕ) (bytes : List ℕ) (fine : Bool) → Contains calls c
         → slice_get s.tasks c.task ≡ Some task → c.step.call ≡ WriteAt temp at bytes fine
-        → IsBody s dispatched c.task task c.place at bytes
+        → IsBody s dispatched c.task task c.events_before at bytes
     -- the file is renamed only once each range was written
     pub renames : (front : List TaskCall) (c : TaskCall) (task : Task) (temp dest : List ℕ) (fault : Option Fault)
         → ComesAfter calls front c
@@ -244,11 +247,12 @@ module _ (Shows : Ask → ℕ → Talk → Class → List ℕ → Type 0) where
     -- a moved file is removed only after the success that decides its task
     pub moves_last : (c : TaskCall) (task : Task) (path : List ℕ) (fine : Bool) → Contains calls c
         → slice_get s.tasks c.task ≡ Some task
-        → task.kind ≡ kind.Upload → c.step.call ≡ Remove path fine → IsDecidedBefore s dispatched c.task task c.place
+        → task.kind ≡ kind.Upload → c.step.call ≡ Remove path fine
+        → IsDecidedBefore s dispatched c.task task c.events_before
     -- the Delete of a downloaded object is given only after the file was renamed
     pub deletes_last : (delete : Dispatched) (n : ℕ) (task : Task) → Contains dispatched delete
         → delete.dispatch.job.task ≡ Some n
         → delete.dispatch.job.op ≡ op.Delete → slice_get s.tasks n ≡ Some task → task.kind ≡ kind.Download
         → (c : TaskCall) × Contains calls c × (c.task ≡ n) × (temp : List ℕ) × (dest : List ℕ)
         × (c.step.call ≡ Rename temp dest None)
-        × (c.place ≤ delete.dispatch.given_at)
+        × (c.events_before ≤ delete.dispatch.given_at)

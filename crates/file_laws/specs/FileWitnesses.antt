@@ -17,7 +17,7 @@ use Rattle.run_promise.specs.Truthful.{HasJournal}
 use Rattle.local_files.specs.Calls.{Call, WriteAt}
 use Rattle.world_laws.specs.Rounds.{Told, ToldStatus}
 use Rattle.world_laws.specs.Tasks.{HasSourceObject, IsScheduled, IsTraceOf, MayBeNew}
-use Rattle.file_laws.specs.FileEnds.{HasFailedAct, HasFailedCall, IsByFiles, IsPlaced, IsShownByCalls}
+use Rattle.file_laws.specs.FileEnds.{HasFailedAct, HasFailedCall, IsByFiles, IsDestChanged, IsShownByCalls}
 use Rattle.file_laws.specs.FileLaws.{AreCalls, FileRun, in_the_end, with_trace}
 use Rattle.file_laws.specs.FileTasks.{IsDropped, IsMoveOf, IsRemoved, TaskCall}
 
@@ -62,13 +62,13 @@ moved_upload bucket key path = record {
   fresh = false;
 }
 
--- the places that calls wrote, in order
-abbrev pub place_written : Call → Option ℕ
-place_written (WriteAt temp at bytes fine) = Some at
-place_written call = None
+-- the offsets at which calls wrote, in order
+abbrev pub offset_written : Call → Option ℕ
+offset_written (WriteAt temp at bytes fine) = Some at
+offset_written call = None
 
-abbrev pub places_written : List TaskCall → List ℕ
-places_written calls = filter_map (λ (c : TaskCall). place_written c.step.call) calls
+abbrev pub offsets_written : List TaskCall → List ℕ
+offsets_written calls = filter_map (λ (c : TaskCall). offset_written c.step.call) calls
 
 -- a run with a task that meets all that the laws ask, with that outcome
 pub record IsFileTaskMet (task : Task) (how : Outcome) : Type 0 where
@@ -84,18 +84,18 @@ pub record IsFileTaskMet (task : Task) (how : Outcome) : Type 0 where
   pub by_files : IsByFiles task
   pub sourced : MayBeNew how → task.kind ≡ kind.Download → HasSourceObject (states start trace) task
   pub caused : HasOutcome Told ToldStatus (HasFailedCall run.calls) run.setting run.dispatched run.coming 0 task how
-  pub shown : IsShownByCalls how (IsPlaced task.kind run.calls 0) (HasFailedAct run.calls 0)
+  pub shown : IsShownByCalls how (IsDestChanged task.kind run.calls 0) (HasFailedAct run.calls 0)
 
 -- two ranges that came and were written in reverse order
 abbrev pub DownloadIsMet : Type 0
 DownloadIsMet = (bucket key : List ℕ) (a b : ℕ) → (met : IsFileTaskMet (two_bytes bucket key a b) outcome.Done)
-    × (places_written met.run.calls ≡ 1 ∷ 0 ∷ [])
+    × (offsets_written met.run.calls ≡ 1 ∷ 0 ∷ [])
 
 -- the second Get was refused, and the temporary file was dropped
 abbrev pub RefusedGetIsMet : Type 0
 RefusedGetIsMet = (bucket key : List ℕ) (a b : ℕ)
     → (met : IsFileTaskMet (two_bytes bucket key a b) (outcome.Failed (cause.Service op.Get (codes "AccessDenied") [])))
-    × (places_written met.run.calls ≡ 0 ∷ []) × IsDropped met.run.calls 0
+    × (offsets_written met.run.calls ≡ 0 ∷ []) × IsDropped met.run.calls 0
 
 -- so it was, but it could not be dropped, and stays with a warning
 abbrev pub LeftFileIsMet : Type 0

@@ -7,24 +7,28 @@ ghost use Rattle.world_laws.specs.Rounds.{AreNone, NeverFailed, Told, ToldStatus
 
 use world_laws::{Command, Reading};
 
-/// Every file that is no destination and no source of a move is as at the start, whatever calls failed; but a temporary
-/// file that could not be dropped may stay, and a warning names it.
+/// Every file that is no destination and no source of a move is as at the start after each call, whatever calls
+/// failed. But where nothing was, a temporary file may stand until it is renamed or dropped, and it stays where its drop
+/// failed; a warning then names it, or memory ran out for that warning.
 pub fn other_files<R: Reading>()
     ensures stay { FilesStay R.shows }
     ensures promised { PromisedFilesStay R.shows }
     ensures met { LeftFileIsMet }
 {}
 
-/// A file that is to be removed is absent after its removal went well, and else as before.
+/// A file that is to be removed is as before until its removal went well, and then absent; but a temporary file that
+/// could not be dropped may have its name in the end.
 pub fn file_removal<R: Reading>()
     ensures removed { FileIsRemoved R.shows }
     ensures met { RemovalIsMet }
     ensures met_failed { FailedRemovalIsMet }
 {}
 
-/// The destination of a download is as before until its temporary file is renamed. From then on it has what the object
-/// had under the planned ETag at some moment, whoever rewrites the object and in whatever order its ranges came; in the
-/// end it has the planned time, or a warning says that this failed.
+/// The destination of a download is as before until its temporary file is renamed, and no call writes to it. Where it was
+/// renamed, the destination has the planned time in the end, unless setting it failed. The temporary file is gone in the
+/// end, unless dropping it failed. A warning then names the file, or memory ran out for that warning.
+/// Over every honest service that fits, the destination has from its rename on what the object had under the planned
+/// ETag at some moment, whoever rewrites the object and in whatever order its ranges came.
 pub fn download<R: Reading>()
     ensures safe { FileIsKeptSafe R.shows }
     ensures downloaded { FileIsDownloaded R.shows }
@@ -32,16 +36,17 @@ pub fn download<R: Reading>()
     ensures met_dropped { RefusedGetIsMet }
 {}
 
-/// The file of a move is there until the success that decides its task, gone after its removal went well, and else as
-/// before. So it goes just where its task is done, where the calls show its removal just there.
+/// The file of a move is as before until its removal went well, which comes after the success that decides its task.
+/// Then it is gone. A run whose calls remove such files for the tasks that are done, and for no others, ends with these
+/// files gone and all other moved files as before.
 pub fn moved_file<R: Reading>()
     ensures moved { FileIsMoved R.shows }
     ensures left { MovedFilesAreLeft R.shows }
     ensures met { MovedFileIsMet }
 {}
 
-/// A task whose destination is a file ends as its outcome says, over every honest service that fits, where that outcome
-/// is what its jobs and its calls on files show.
+/// A download of an object to a file, or the removal of a file, ends as its outcome says, over every honest service
+/// that fits, where that outcome is what its jobs and its calls on files show.
 pub fn file_task<C: Command>()
     ensures ends { FileTaskEnds C.shows C.has_status C.call_failed }
     ensures met_done { DownloadIsMet }

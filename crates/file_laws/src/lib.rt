@@ -1,4 +1,4 @@
-//! Laws on local files: what the calls of a run leave of destinations, of moved files and of all others, whatever fails.
+//! Laws on local files: what a run's calls leave of destinations, of moved files and of all others, whatever fails.
 #![tactic(auto)]
 
 mod laws;

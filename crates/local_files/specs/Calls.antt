@@ -36,7 +36,7 @@ folder_of (byte ∷ path) = if list_any (λ (b : ℕ). b == 47) (byte ∷ path) 
 abbrev pub IsTempFor : List ℕ → List ℕ → Type 0
 IsTempFor dest temp = (temp ≢ dest) × (folder_of temp ≡ folder_of dest) × (is_temp_name temp ≡ true)
 
--- bytes written over others from a place on, with zeros up to that place where they end before it
+-- bytes written over others from an offset on, with zeros up to that offset where they end before it
 abbrev pub written_at : ℕ → List ℕ → List ℕ → List ℕ
 written_at at bytes old = take at (old ++ replicate (at - length old) 0) ++ bytes ++ drop (at + length bytes) old
 
