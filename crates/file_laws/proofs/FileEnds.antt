@@ -83,7 +83,7 @@ module _ (Shows : Ask → ℕ → Talk → Class → List ℕ → Type 0) (HasSt
         let timed = downloads.timed_in_the_end Shows s excused dispatched coming calls a n task path is_task load is_dest renamed in
         let same : timed.0 ≡ content.0 = some_is timed.0 content.0 (sym timed.1 ∙ content.1) in
         let time : (content.0.micros ≡ task.micros) ⊎ IsUntimed excused path =
-            subst (λ (f : HeldFile). (f.micros ≡ task.micros) ⊎ IsUntimed excused path) same (elim timed.2 [ inl set ↦ inl set | inr failed ↦ inr failed.1 ]) in
+        subst (λ (f : HeldFile). (f.micros ≡ task.micros) ⊎ IsUntimed excused path) same (elim timed.2 [ inl set ↦ inl set | inr failed ↦ inr failed.1 ]) in
         let holds : Holds excused after (place.File path) task.micros content.0.bytes = (content.0, content.1, refl, time) in
         subst (λ (k : Kind). IsNew excused s.held (states start trace) after task k) (sym load)
         (content.0.bytes, content.2, subst (λ (d : Place). Holds excused after d task.micros content.0.bytes) (sym is_dest) holds)
@@ -157,7 +157,7 @@ module _ (Shows : Ask → ℕ → Talk → Class → List ℕ → Type 0) (HasSt
     removal_ends : (how : Outcome) → HasOutcome Shows HasStatus CallFailed s dispatched coming n task how → IsShownByCalls how (IsRemoved calls n) (HasFailedAct calls n) → IsEnded excused journal start trace before after n task how
     removal_ends outcome.Done is shown =
         let absent : IsAbsent excused after (place.File path) =
-            elim ((files.file_is_removed Shows (run_of s excused dispatched coming calls) a n task path (is_task, is_dest) removal).0 shown.0) [ inl e ↦ inl e | inr stayed ↦ inr stayed.1 ] in (
+        elim ((files.file_is_removed Shows (run_of s excused dispatched coming calls) a n task path (is_task, is_dest) removal).0 shown.0) [ inl e ↦ inl e | inr stayed ↦ inr stayed.1 ] in (
           subst (λ (k : Kind). IsNew excused s.held (states start trace) after task k) (sym removal) (subst (λ (d : Place). IsAbsent excused after d) (sym is_dest) absent),
           moves_nothing _,
         )

@@ -234,9 +234,27 @@ module _ (page_of : List ℕ → Listed) where
     comes = λ other. refl;
     gained = λ other. refl;
     noted = λ other. (
-      [], 5, Pause 1 ∷ Moment 6 ∷ Began ∷ Pause 2 ∷ Moment 8 ∷ Began ∷ [], [], refl, carrying.nothing_begins, refl, inl refl, said _ 1 5 mark.Uncertain Failed [],
-      (Pause 1 ∷ [], 6, Pause 2 ∷ Moment 8 ∷ Began ∷ [], [], refl, only_pause 1, refl, inl refl, said _ 2 6 mark.Uncertain Failed [],
-      (Pause 2 ∷ [], 8, [], [], refl, only_pause 2, refl, inl refl, said _ 3 8 mark.Success Finished [], (carrying.nothing_begins, inl refl))),
+      [],
+      5,
+      Pause 1 ∷ Moment 6 ∷ Began ∷ Pause 2 ∷ Moment 8 ∷ Began ∷ [],
+      [],
+      refl,
+      carrying.nothing_begins,
+      refl,
+      inl refl,
+      said _ 1 5 mark.Uncertain Failed [],
+      (
+        Pause 1 ∷ [],
+        6,
+        Pause 2 ∷ Moment 8 ∷ Began ∷ [],
+        [],
+        refl,
+        only_pause 1,
+        refl,
+        inl refl,
+        said _ 2 6 mark.Uncertain Failed [],
+        (Pause 2 ∷ [], 8, [], [], refl, only_pause 2, refl, inl refl, said _ 3 8 mark.Success Finished [], (carrying.nothing_begins, inl refl)),
+      ),
     );
     marks = λ other. (refl, (refl, (refl, tt)));
     again = λ other. ((λ more. refl), ((λ more. refl), ((λ more. absurd (omega arith)), tt)));
