@@ -85,4 +85,5 @@ IsOpen head_only limit got =
 
 -- What is open has no end as long as the talk goes on: neither an answer nor a break, so more bytes have to come.
 abbrev pub NoEndYet : Type 0
-NoEndYet = (head_only : Bool) (limit : Option ℕ) (got : List ℕ) (end : End) → IsOpen head_only limit got → ¬ (EndsAs head_only limit got Finished end)
+NoEndYet = (head_only : Bool) (limit : Option ℕ) (got : List ℕ) (end : End)
+    → IsOpen head_only limit got → ¬ (EndsAs head_only limit got Finished end)

@@ -1,8 +1,8 @@
 -- What was taken for a head, and then for its body, makes an answer or a break.
-use Rattle.std.proofs.Common.{◌≡◌, ◌≢◌, ◌⊎◌, ℕ, ◌≤◌, Bool, true, false, cond, List, [], ◌++◌, length, take, drop, Option, Some, None, Result, Ok, Err, sym, refl, ap, subst, ◌∙◌, append_assoc, arith, inl, inr}
+use Rattle.std.proofs.Common.{◌≡◌, ◌≢◌, ◌⊎◌, ℕ, ◌≤◌, Bool, true, false, cond, List, [], ◌++◌, length, take, drop, Option, Some, None, Result, Ok, Err, sym, refl, ap, subst, ◌∙◌, arith, inl, inr}
 use Rattle.std.specs.Prelude.{IfSome}
 use Rattle.std.proofs.lemmas.Bool.{false≢true, and_parts, both_ways}
-use Rattle.std.proofs.lemmas.List.{append-nil, take-append-drop}
+use Rattle.std.proofs.lemmas.List.{take-append-drop}
 use Rattle.httparse.specs.Grammar.{ResponseHead, ReadsResponse, status_code}
 use Rattle.httparse.proofs.GrammarLemmas.{ReadsResponse-append}
 use Rattle.s3_model.specs.Lists.{Buffer}
@@ -11,15 +11,14 @@ use Rattle.s3_model.specs.declared.answers.Answered.{Answered}
 use Rattle.s3_model.specs.declared.answers.Why.{Why}
 use Rattle.s3_model.specs.declared.answers.Why.TheVariants as why
 use Rattle.answer_grammar.specs.declared.framing.Framing.{Framing}
-use Rattle.answer_grammar.specs.declared.framing.Framing.TheVariants as framing
 use Rattle.answer_grammar.specs.declared.head.Head.{Head}
 use Rattle.answer_grammar.specs.Answer.{HasBody, IsAnswer, Describes, body_limit, goes_into, is_success}
-use Rattle.answer_grammar.specs.Breaks.{HasUnfitHead, Breaks, BreaksBody, no_head, unfit, too_long, cut, in_head, in_lines, in_body, IsBreak, IsOpen}
+use Rattle.answer_grammar.specs.Breaks.{HasUnfitHead, Breaks, BreaksBody, no_head, unfit, too_long, cut, in_head, in_lines, in_body, IsBreak}
 use Rattle.answer_grammar.specs.Head.{ReadsHead}
 use Rattle.answer_grammar.specs.Parts.{IsHeadAt, RefusesHead, memory, not_http, bad_length}
 use Rattle.answer_grammar.proofs.HeadLemmas.{reads_more}
 use Rattle.http_exchange.specs.Exchange.{BeginsByLine, InPieces, IsOpenByLine}
-use Rattle.http_exchange.specs.Steps.{NoHead, HeadComes, TakesHead, IsOpenBody, FailsOr, AnswerFilled, AnswerComes, FillsPlace, FillsAnswer, Receives, held_body}
+use Rattle.http_exchange.specs.Steps.{NoHead, TakesHead, IsOpenBody, FailsOr, AnswerFilled, FillsPlace, FillsAnswer, Receives}
 use Rattle.http_exchange.proofs.PieceLemmas.{pieces_as, pieces_after, closed_fine}
 
 -- ---- the head

@@ -1,8 +1,8 @@
 -- Content that comes in pieces, and the CRLF behind it.
-use Rattle.std.proofs.Common.{◌≡◌, ◌≢◌, ◌⊎◌, ℕ, ◌+◌, ◌-◌, ◌<◌, ◌≤◌, List, [], ◌∷◌, ◌++◌, length, take, drop, replicate, get_or, sym, refl, ap, subst, ◌∙◌, arith, append_assoc, inl, inr, length-append, Result, Ok, Err}
-use Rattle.std.proofs.lemmas.List.{append-nil, take-append-drop, length-replicate}
+use Rattle.std.proofs.Common.{◌≡◌, ◌≢◌, ◌⊎◌, ℕ, ◌-◌, ◌<◌, ◌≤◌, List, [], ◌∷◌, ◌++◌, length, take, drop, replicate, get_or, sym, refl, ap, subst, ◌∙◌, arith, append_assoc, inl, inr, length-append, Result, Ok, Err}
+use Rattle.std.proofs.lemmas.List.{take-append-drop, length-replicate}
 use Rattle.httparse.specs.Ascii.{crlf_bytes}
-use Rattle.s3_model.specs.Talks.{Ending, Failed, Closed, Finished}
+use Rattle.s3_model.specs.Talks.{Ending, Failed, Finished}
 use Rattle.s3_model.specs.declared.answers.Why.{Why}
 use Rattle.s3_model.specs.declared.answers.Why.TheVariants as why
 use Rattle.answer_grammar.specs.declared.framing.Framing.TheVariants as framing

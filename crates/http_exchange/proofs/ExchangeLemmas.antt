@@ -18,7 +18,7 @@ use Rattle.answer_grammar.specs.Breaks.{BreaksHead, no_head, unfit, too_long, cu
 use Rattle.answer_grammar.specs.Chunks.{BreaksOff, BreaksBehind}
 use Rattle.answer_grammar.specs.Chunks as chunks
 use Rattle.http_exchange.specs.Exchange.{IsExchange, Request, InPieces, IsOpenByLine}
-use Rattle.http_exchange.specs.Steps.{IsAsked, Receives, AnswerComes, ends_kept, talked_of}
+use Rattle.http_exchange.specs.Steps.{IsAsked, Receives, ends_kept, talked_of}
 use Rattle.http_exchange.specs.Seen.{hears, with_talk}
 
 hears_host : (got : List ℕ) (ending : Ending) (talk : Talk) → (hears got ending talk).host ≡ talk.host

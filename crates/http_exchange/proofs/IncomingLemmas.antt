@@ -1,8 +1,8 @@
 -- The bytes between two places of a buffer.
-use Rattle.std.proofs.Common.{◌≡◌, ℕ, ◌+◌, ◌-◌, ◌<◌, ◌≤◌, min, List, [], ◌∷◌, ◌++◌, length, take, drop, sym, refl, ap, ◌∙◌, arith}
+use Rattle.std.proofs.Common.{◌≡◌, ℕ, ◌+◌, ◌-◌, ◌≤◌, List, ◌++◌, length, take, drop, sym, ap, ◌∙◌, arith}
 use Rattle.std.specs.Prelude.{slice_range}
 use Rattle.std.proofs.Math.Seq.{take-append-add}
-use Rattle.std.proofs.lemmas.List.{length-take, length-drop, take-append-le, drop-take, drop-drop}
+use Rattle.std.proofs.lemmas.List.{length-take, take-append-le, drop-take, drop-drop}
 
 -- a piece behind the bytes at the front
 pub refilled : (n count : ℕ) (bytes piece rest : List ℕ) → n ≤ length bytes → count ≤ length piece

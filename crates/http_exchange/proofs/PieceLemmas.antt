@@ -1,5 +1,5 @@
 -- Bytes that come in pieces.
-use Rattle.std.proofs.Common.{◌≡◌, ◌≢◌, ℕ, ◌<◌, ◌≤◌, List, [], ◌++◌, length, sym, refl, ap, subst, ◌∙◌, append_assoc, inl, inr, Result, Ok, Err, arith}
+use Rattle.std.proofs.Common.{◌≡◌, ◌≢◌, ℕ, ◌≤◌, List, [], ◌++◌, length, sym, refl, ap, subst, ◌∙◌, append_assoc, inl, inr, Err, arith}
 use Rattle.std.proofs.lemmas.List.{append-nil}
 use Rattle.s3_model.specs.Talks.{Ending, Failed, Closed, Finished}
 use Rattle.s3_model.specs.declared.answers.Why.{Why}

@@ -1,5 +1,5 @@
 -- What one call after the other does to the last talk of a log.
-use Rattle.std.proofs.Common.{◌≡◌, ℕ, zero, suc, ◌<◌, ◌≤◌, List, [], ◌∷◌, ◌++◌, length, get_or, take, Option, Some, None, Ok, cond, not, eqb, ◌&&◌, sym, refl, ap, subst, ◌∙◌, arith, append_assoc, inl, inr}
+use Rattle.std.proofs.Common.{◌≡◌, ℕ, zero, suc, ◌<◌, ◌≤◌, List, [], ◌∷◌, ◌++◌, length, take, Option, Some, None, Ok, cond, not, eqb, ◌&&◌, sym, refl, ap, subst, ◌∙◌, arith, append_assoc, inl, inr}
 use Rattle.std.specs.Option.{option_map}
 use Rattle.std.proofs.lemmas.List.{append-nil}
 use Rattle.s3_model.specs.Talks.{Talk, Ending, Failed, Closed, Finished, Began, WireLog}

@@ -1,5 +1,5 @@
 -- What each step of a talk does to the wire's log.
-use Rattle.std.specs.Prelude.{◌≡◌, ◌≢◌, ◌⊎◌, ℕ, ◌+◌, ◌<◌, ◌≤◌, ◌&&◌, Bool, true, false, List, [], ◌++◌, length, take, drop, Option, Some, None, option_map, Result, Ok, Err, OnOk, OnErr, IfErr, slice_range}
+use Rattle.std.specs.Prelude.{◌≡◌, ◌≢◌, ◌⊎◌, ℕ, ◌+◌, ◌<◌, ◌≤◌, ◌&&◌, Bool, true, false, List, [], ◌++◌, length, min, take, drop, Option, option_map, Result, Ok, Err, OnOk, OnErr, IfErr, slice_range}
 use Rattle.s3_model.specs.Counts.{Rose}
 use Rattle.s3_model.specs.Talks.{Talk, Ending, Failed, Closed, Finished, WireLog}
 use Rattle.s3_model.specs.Lists.{Buffer}
@@ -16,8 +16,8 @@ use Rattle.answer_grammar.specs.declared.framing.Framing.TheVariants as framing
 use Rattle.answer_grammar.specs.declared.head.Head.{Head}
 use Rattle.answer_grammar.specs.Answer.{Begins, HasBody, IsAnswer, Delivers}
 use Rattle.answer_grammar.specs.Breaks.{BeginsHead, BreaksBody, IsBreak}
-use Rattle.answer_grammar.specs.Chunks.{BreaksOff, CannotBeContent, BeginsContent, ReadsChunks, BreaksChunks}
-use Rattle.answer_grammar.specs.Parts.{IsHeadAt, ReadsStep, RefusesHead}
+use Rattle.answer_grammar.specs.Chunks.{BreaksOff, CannotBeContent, BeginsContent}
+use Rattle.answer_grammar.specs.Parts.{IsHeadAt, RefusesHead}
 use Rattle.httparse.specs.Ascii.{crlf_bytes}
 use Rattle.http_exchange.specs.Exchange.{BeginsByLine, InPieces, IsOpenByLine, LacksLineEnd}
 use Rattle.http_exchange.specs.Seen.{with_talk, hears}
@@ -133,6 +133,13 @@ ChunkComes size before after body_before body_after (Err reason) got ending =
 pub record TakesChunk (size : ℕ) (before after body_before body_after : List ℕ) (result : Result Unit Why) (got : List ℕ) (ending : Ending) : Type 0 where
   pub pieces : InPieces (BeginsContent size) before got ending
   pub comes : ChunkComes size before after body_before body_after result got ending
+
+-- how many bytes a body within the limit has at most
+abbrev pub body_room : Framing → ℕ → ℕ
+body_room framing.NoBody limit = 0
+body_room (framing.Length n) limit = min n limit
+body_room framing.Chunked limit = limit
+body_room framing.ToClose limit = limit
 
 -- the bytes behind the head begin a body, or are one that the connection's end may end
 abbrev pub IsOpenBody : Framing → ℕ → List ℕ → Type 0

@@ -1,8 +1,8 @@
 //! Taking the body of an answer.
 
-ghost use Rattle.std.specs.Prelude.{◌≡◌, ◌≤◌, ◌+◌, [], length};
+ghost use Rattle.std.specs.Prelude.{◌≡◌, ◌≤◌, ◌+◌, [], length, min};
 ghost use Rattle.answer_grammar.specs.declared.framing.Framing.TheVariants as Framings;
-ghost use Rattle.http_exchange.specs.Steps.{HasWireCause, Hears, TakesBody, TakesContent};
+ghost use Rattle.http_exchange.specs.Steps.{HasWireCause, Hears, TakesBody, TakesContent, body_room};
 
 use crate::chunked::take_chunks;
 use crate::incoming::Incoming;
@@ -20,7 +20,7 @@ pub(crate) fn take_body<W: Wire>(
     body: &mut Bytes,
 ) -> Result<(), Why>
     requires empty { body.old.bytes ≡ [] }
-    requires room { limit ≤ body.old.room }
+    requires room { body_room framing limit ≤ body.old.room }
     ensures heard { Hears (W.seen wire.old) (W.seen wire.new)
         (TakesBody framing limit room.old.incoming room.new.incoming body.new.bytes result) }
     ensures cause { HasWireCause (W.faults wire.old) (W.faults wire.new) result }
@@ -44,7 +44,7 @@ fn take_sized<W: Wire>(
     limit: u64,
 ) -> Result<(), Why>
     requires empty { body.old.bytes ≡ [] }
-    requires room { limit ≤ body.old.room }
+    requires room { min n limit ≤ body.old.room }
     ensures heard { Hears (W.seen wire.old) (W.seen wire.new)
         (TakesBody (Framings.Length n) limit incoming.old incoming.new body.new.bytes result) }
     ensures cause { HasWireCause (W.faults wire.old) (W.faults wire.new) result }

@@ -6,13 +6,13 @@ ghost use Rattle.s3_model.specs.Counts.{Rose};
 ghost use Rattle.answer_grammar.specs.Answer.{IsOfTalk, body_limit, goes_into, is_success};
 ghost use Rattle.s3_outside.specs.Wire.{is_kept};
 ghost use Rattle.http_exchange.specs.Exchange.{IfBroken, Exchanges, Request};
-ghost use Rattle.http_exchange.specs.Steps.{FillsPlace, FillsAnswer, HasWireCause, Hears, Receives, ends_kept, talked_of};
+ghost use Rattle.http_exchange.specs.Steps.{FillsPlace, FillsAnswer, HasWireCause, Hears, Receives, body_room, ends_kept, talked_of};
 
 use crate::body::take_body;
 use crate::receive::take_head;
 use crate::room::AnswerRoom;
 use crate::send::ask;
-use answer_grammar::Head;
+use answer_grammar::{Framing, Head};
 use s3_model::{Answered, Bytes, Endpoint, Talked, Why};
 use s3_outside::Wire;
 use std::alloc::Global;
@@ -151,7 +151,7 @@ fn fill_answer<W: Wire>(
         (FillsAnswer head most room.old.incoming room.new.incoming result) }
     ensures cause { HasWireCause (W.faults wire.old) (W.faults wire.new) result }
 {
-    let Ok(mut body) = Bytes::make(alloc, most) else {
+    let Ok(mut body) = Bytes::make(alloc, body_room(head.framing, most)) else {
         return Err(Why::Memory);
     };
     take_body(wire, room, head.framing, most, &mut body)?;
@@ -159,6 +159,17 @@ fn fill_answer<W: Wire>(
     answered.taken = body.as_slice().len() as u64;
     answered.body = body;
     Ok(answered)
+}
+
+/// How many bytes a body within the limit has at most.
+fn body_room(framing: Framing, limit: u64) -> u64
+    ensures { result ≡ body_room framing limit }
+{
+    match framing {
+        Framing::NoBody => 0,
+        Framing::Length(n) => n.min(limit),
+        Framing::Chunked | Framing::ToClose => limit,
+    }
 }
 
 /// Whether the body goes to the place that the caller gave.

@@ -14,7 +14,7 @@ use std::{io, thread};
 /// The last second before the year 10,000.
 const LAST_MOMENT: u64 = 253_402_300_799;
 
-/// How many seconds a call may wait for a byte, or for one address, as the AWS CLI's defaults for connecting and reading.
+/// How many seconds a call waits for a byte or an address, as the AWS CLI's defaults for connecting and reading.
 const LIMIT: u32 = 60;
 
 /// The greatest length of a host's name in bytes (RFC 1035, section 2.3.4).

@@ -1,4 +1,4 @@
-use Rattle.std.proofs.Common.{[], ◌++◌, length, sym, refl, inl, arith, ap}
+use Rattle.std.proofs.Common.{[], length, sym, refl, inl, arith, ap}
 use Rattle.std.proofs.lemmas.List.{append-nil}
 use Rattle.s3_model.specs.Talks.{Finished}
 use Rattle.http_exchange.proofs.PieceLemmas.{finished_fine}

@@ -1,4 +1,4 @@
-use Rattle.std.proofs.Common.{◌++◌, Err, Ok, refl}
+use Rattle.std.proofs.Common.{◌++◌, Err, Ok}
 use Rattle.std.proofs.lemmas.Result.{err_from_is_err_and}
 use Rattle.http_exchange.proofs.BodyLemmas.{chunk_cut, chunk_after}
 use Rattle.http_exchange.proofs.TalkLemmas.{heard_after}

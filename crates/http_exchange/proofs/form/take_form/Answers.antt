@@ -1,7 +1,7 @@
-use Rattle.std.proofs.Common.{◌≡◌, ℕ, List, [], ◌++◌, length, sym, refl, ap, subst, ◌∙◌, arith, inl, append_assoc}
+use Rattle.std.proofs.Common.{◌≡◌, ℕ, List, [], ◌++◌, sym, refl, ap, subst, ◌∙◌, arith, inl, append_assoc}
 use Rattle.std.proofs.lemmas.List.{append-nil}
 use Rattle.std.proofs.lemmas.Result.{err_from_is_err_and}
-use Rattle.s3_model.specs.Talks.{Closed, Finished}
+use Rattle.s3_model.specs.Talks.{Finished}
 use Rattle.http_exchange.proofs.PieceLemmas.{form_failed, form_ended, one_more}
 use Rattle.http_exchange.proofs.TalkLemmas.{heard_nothing, heard_after, ending_is, nothing_taken}
 use Rattle.http_exchange.proofs.form.take_form.Goals as goal

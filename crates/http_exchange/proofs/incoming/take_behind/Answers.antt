@@ -1,5 +1,4 @@
 use Rattle.std.proofs.Common.{◌≡◌, ◌+◌, ◌-◌, ◌≤◌, ℕ, List, ◌++◌, length, take, drop, ap, ◌∙◌, arith}
-use Rattle.std.specs.Prelude.{slice_range}
 use Rattle.std.proofs.lemmas.List.{length-take, length-take-le, length-drop}
 use Rattle.http_exchange.proofs.IncomingLemmas.{refilled}
 use Rattle.http_exchange.proofs.TalkLemmas.{taken_ending, taken_none, taken_some, take_heard}

@@ -1,16 +1,12 @@
-use Rattle.std.proofs.Common.{◌≡◌, ℕ, ◌<◌, ◌≤◌, List, [], ◌++◌, length, take, drop, Option, None, sym, refl, ap, subst, ◌∙◌, arith, inl, inr, append_assoc, Ok, Err, length-append}
-use Rattle.std.proofs.lemmas.List.{take_all, length-take, take-append-drop, drop-append-le, append-nil}
+use Rattle.std.proofs.Common.{ℕ, ◌<◌, List, [], ◌++◌, length, take, drop, sym, refl, ap, subst, ◌∙◌, arith, inl, inr}
+use Rattle.std.proofs.lemmas.List.{length-take, take-append-drop, drop-append-le}
 use Rattle.std.proofs.lemmas.Result.{err_from_is_err_and}
-use Rattle.std.specs.Option.{option_map}
-use Rattle.s3_model.specs.Talks.{Ending, Closed, Finished}
-use Rattle.s3_outside.specs.Wire.{last_talk}
+use Rattle.s3_model.specs.Talks.{Finished}
 use Rattle.answer_grammar.specs.Breaks.{BeginsHead}
 use Rattle.answer_grammar.specs.Parts.{IsHeadAt, RefusesHead}
-use Rattle.answer_grammar.specs.Head.{ReadsHead}
 use Rattle.http_exchange.specs.Exchange.{BeginsByLine, InPieces}
-use Rattle.http_exchange.specs.Seen.{hears}
 use Rattle.http_exchange.specs.Steps.{IsBegun}
-use Rattle.http_exchange.proofs.LineLemmas.{by_line, begins_all, head_at_lines, no_head_yet}
+use Rattle.http_exchange.proofs.LineLemmas.{by_line, begins_all, head_at_lines}
 use Rattle.http_exchange.proofs.PieceLemmas.{pieces_after, closed_fine, finished_fine}
 use Rattle.http_exchange.proofs.TalkLemmas.{heard_nothing, heard_after, ending_is, heard_is}
 use Rattle.http_exchange.proofs.receive.take_head.Goals as goal

@@ -1,4 +1,4 @@
-use Rattle.std.proofs.Common.{◌≡◌, ℕ, ◌-◌, ◌≤◌, List, [], length}
+use Rattle.std.proofs.Common.{◌≡◌, ◌-◌, ◌≤◌, [], length}
 use Rattle.std.specs.Option.{option_map}
 use Rattle.s3_model.specs.Talks.{Finished}
 use Rattle.s3_outside.specs.Wire.{last_talk}

@@ -1,11 +1,11 @@
-use Rattle.std.proofs.Common.{◌≡◌, ℕ, ◌-◌, ◌<◌, ◌≤◌, true, not, eqb, List, [], ◌++◌, length, take, drop, sym, refl, ap, subst, ◌∙◌, arith, inl, append_assoc, length-append}
+use Rattle.std.proofs.Common.{◌≡◌, ℕ, ◌-◌, ◌<◌, List, [], ◌++◌, length, take, drop, sym, refl, ap, subst, ◌∙◌, arith, inl, append_assoc, length-append}
 use Rattle.std.proofs.lemmas.List.{append-nil, drop_at, take_rest}
 use Rattle.std.proofs.lemmas.Result.{err_from_is_err_and}
-use Rattle.s3_model.specs.Talks.{Closed, Finished}
+use Rattle.s3_model.specs.Talks.{Finished}
 use Rattle.http_exchange.specs.Exchange.{LacksLineEnd}
 use Rattle.http_exchange.specs.Steps.{IsBegun}
 use Rattle.http_exchange.proofs.LineLemmas.{lacks_both}
-use Rattle.http_exchange.proofs.PieceLemmas.{one_more, none_more, nothing_more}
+use Rattle.http_exchange.proofs.PieceLemmas.{one_more, none_more}
 use Rattle.http_exchange.proofs.TalkLemmas.{heard_nothing, heard_after, ending_is, nothing_taken}
 use Rattle.http_exchange.proofs.receive.take_lines.Goals as goal
 

@@ -1,4 +1,3 @@
-use Rattle.std.proofs.Common.{◌++◌}
 use Rattle.std.proofs.lemmas.Result.{err_from_is_err_and}
 use Rattle.http_exchange.proofs.AskLemmas.{sends_first, sends_both}
 use Rattle.http_exchange.proofs.send.send_apart.Goals as goal

@@ -1,6 +1,6 @@
-use Rattle.std.proofs.Common.{ℕ, List, [], ◌++◌, sym, ap, subst, ◌∙◌, refl}
+use Rattle.std.proofs.Common.{ℕ, List, [], ◌++◌, sym, subst, ◌∙◌}
 use Rattle.std.proofs.lemmas.Result.{err_from_is_err_and}
-use Rattle.s3_model.specs.Talks.{Ending, Finished}
+use Rattle.s3_model.specs.Talks.{Ending}
 use Rattle.answer_grammar.specs.Answer.{body_limit}
 use Rattle.http_exchange.specs.Exchange.{BeginsByLine, InPieces}
 use Rattle.http_exchange.specs.Steps.{FillsPlace, FillsAnswer}
