@@ -121,7 +121,7 @@ module _ (Shows : Ask → ℕ → Talk → Class → List ℕ → Type 0) where
       × ((part late : List TaskCall) → run.calls ≡ part ++ late → (after_calls run part path ≡ at_first run path)
       ⊎ IsCalledOnceDecided run part n task)
 
-  -- A download leaves its destination as it was until it is renamed, and its temporary file stays with a warning only.
+  -- A download leaves its destination as it was until it is renamed, and no temporary file but one whose drop failed.
   abbrev pub FileIsKeptSafe : Type 0
   FileIsKeptSafe = (run : FileRun) → AreCalls run → (n : ℕ) (task : Task) (path : List ℕ)
       → IsTaskTo run.setting.tasks n task path → task.kind ≡ kind.Download → IsKeptSafe run n task path
