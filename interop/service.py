@@ -47,8 +47,11 @@ def free_ports(count):
     return ports
 
 
-def program(root, crate="s3", words=("--", "--version")):
-    """The path of a built program of this repository; it is built first, and run with these words."""
+def program(root, crate="s3", words=("--", "--version"), progress=None):
+    """The path of a built program of this repository; it is built first, and run with these words.
+
+    `progress` is called with each line in which the toolchain says how far it is.
+    """
     folder = os.path.join(root, "crates", crate)
     if shutil.which("rt") is None:
         sys.exit("rt, the toolchain, is not on this machine")
@@ -60,14 +63,19 @@ def program(root, crate="s3", words=("--", "--version")):
         text=True,
         start_new_session=True,
     )
+    shown = []
     try:
-        shown, _ = building.communicate()
+        for line in building.stdout:
+            shown.append(line)
+            if progress and line.startswith(("so far", "crate ")):
+                progress(line.rstrip())
+        building.wait()
     except BaseException:
         os.killpg(building.pid, signal.SIGTERM)
         building.wait()
         raise
     if building.returncode != 0:
-        sys.exit("the program was not built:\n" + shown)
+        sys.exit("the program was not built:\n" + "".join(shown))
     return os.path.join(folder, "out", crate)
 
 
