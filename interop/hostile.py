@@ -324,14 +324,14 @@ ROWS = [
 ]
 
 # These wait for the program's limit of 60 seconds, or stay below it. Where a write took some bytes before it gave up,
-# the next one waits once more.
+# the next one waits once more; the system's buffers take some twice.
 SLOW_ROWS = [
     Row("accepts no connection", hold, FAILED, opened=0, server=DeafServer, seconds=75),
     Row("is silent", says(b""), FAILED, seconds=75),
     Row("is silent in the head", says(b"HTTP/1.1 200 OK\r\n"), FAILED, seconds=75),
     Row("is silent in the body", says(head(OK, "content-length: 9") + b"abc"), FAILED, seconds=75),
-    Row("reads nothing", reads_nothing, FAILED, BIG, seconds=135),
-    Row("403 behind the head, then reads nothing", says_early(DENIED, reads_nothing), refused(403), BIG, seconds=135),
+    Row("reads nothing", reads_nothing, FAILED, BIG, seconds=200),
+    Row("403 behind the head, then reads nothing", says_early(DENIED, reads_nothing), refused(403), BIG, seconds=200),
     Row("answers in three pieces, 27 seconds apart", dribbles(EMPTY, 27, 13), STORED, seconds=100),
     Row("reads with two pauses of 40 seconds", reads_with_pauses, STORED, BIG, seconds=100),
 ]
