@@ -1,0 +1,5 @@
+pub mod Causes
+pub mod Faults
+pub mod Rows
+pub mod Tasks
+pub mod Warnings

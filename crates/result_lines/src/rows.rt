@@ -1,0 +1,133 @@
+//! The rows of `ls`.
+
+ghost use Rattle.std.specs.Prelude.{◌≡◌, ◌<◌, ◌++◌, ◌/◌, ◌%◌, ◌^◌, IfOk, codes, decimal};
+ghost use Rattle.result_lines.specs.Rows.{IsBucketRow, IsRow, IsTimed, clock_text, date_text, in_digits, prefix_row, right_in};
+
+use jiff_core::civil::Date;
+use s3_model::{Entry, OutOfMemory, Text};
+use std::alloc::Global;
+
+const MICROS_PER_SECOND: u64 = 1_000_000;
+
+const SECONDS_PER_DAY: u64 = 86_400;
+
+/// 1970-01-01, in days since the first day that the calendar library has.
+const EPOCH: u32 = 4_371_587;
+
+#[tactic(auto, using(crate::proofs::PaddingLemmas::zeros))]
+fn two_digits(alloc: Global, n: u32) -> Result<Text, OutOfMemory>
+    ensures { IfOk result (λ text. text ≡ in_digits 2 n) }
+{
+    match format!(in alloc; "{n:02}") {
+        Ok(text) => Ok(Text::from(text)),
+        Err(_) => Err(OutOfMemory),
+    }
+}
+
+#[tactic(auto, using(crate::proofs::PaddingLemmas::zeros))]
+fn four_digits(alloc: Global, n: u32) -> Result<Text, OutOfMemory>
+    ensures { IfOk result (λ text. text ≡ in_digits 4 n) }
+{
+    match format!(in alloc; "{n:04}") {
+        Ok(text) => Ok(Text::from(text)),
+        Err(_) => Err(OutOfMemory),
+    }
+}
+
+fn date_text(alloc: Global, year: u16, month: u8, day: u8) -> Result<Text, OutOfMemory>
+    ensures { IfOk result (λ text. text ≡ date_text year month day) }
+{
+    let year = four_digits(alloc, u32::from(year))?;
+    let month = two_digits(alloc, u32::from(month))?;
+    let day = two_digits(alloc, u32::from(day))?;
+    Text::joined(
+        alloc,
+        &[year.as_str(), "-", month.as_str(), "-", day.as_str()],
+    )
+}
+
+/// The time of the day so many seconds after midnight.
+fn clock_text(alloc: Global, seconds: u32) -> Result<Text, OutOfMemory>
+    ensures { IfOk result (λ text. text ≡ clock_text seconds) }
+{
+    let hour = two_digits(alloc, seconds / 3600)?;
+    let minute = two_digits(alloc, seconds / 60 % 60)?;
+    let second = two_digits(alloc, seconds % 60)?;
+    Text::joined(
+        alloc,
+        &[hour.as_str(), ":", minute.as_str(), ":", second.as_str()],
+    )
+}
+
+fn timed(alloc: Global, date: &str, clock: &str, rest: &str) -> Result<Text, OutOfMemory>
+    ensures { IfOk result (λ text. text ≡ date.now ++ codes " " ++ clock.now ++ rest.now) }
+{
+    Text::joined(alloc, &[date, " ", clock, rest])
+}
+
+fn moment_row(
+    alloc: Global,
+    year: u16,
+    month: u8,
+    day: u8,
+    seconds: u32,
+    rest: &str,
+) -> Result<Text, OutOfMemory>
+    ensures { IfOk result (λ text. text ≡ date_text year month day ++ codes " " ++ clock_text seconds ++ rest.now) }
+{
+    let date = date_text(alloc, year, month, day)?;
+    let clock = clock_text(alloc, seconds)?;
+    timed(alloc, date.as_str(), clock.as_str(), rest)
+}
+
+/// The time of a moment in UTC, and what follows it in a row.
+fn timed_row(alloc: Global, micros: u64, rest: &str) -> Result<Text, OutOfMemory>
+    requires { micros < 253402300800000000 }
+    ensures { IfOk result (IsTimed micros rest.now) }
+{
+    let seconds = micros / MICROS_PER_SECOND;
+    let date = Date::from_days_since_min(EPOCH + (seconds / SECONDS_PER_DAY) as u32);
+    let clock = (seconds % SECONDS_PER_DAY) as u32;
+    moment_row(alloc, date.year as u16, date.month, date.day, clock, rest)
+}
+
+/// The size right in 10 places.
+#[tactic(auto, using(crate::proofs::PaddingLemmas::blanks))]
+fn size_text(alloc: Global, size: u64) -> Result<Text, OutOfMemory>
+    ensures { IfOk result (λ text. text ≡ right_in 10 32 (decimal size)) }
+{
+    match format!(in alloc; "{size:>10}") {
+        Ok(text) => Ok(Text::from(text)),
+        Err(_) => Err(OutOfMemory),
+    }
+}
+
+/// The row of an object under that name, as the AWS CLI prints it: its time in UTC, its size right in 10 places, its
+/// name.
+///
+/// The time is that of the entry, in microseconds since 1970, and lies before the year 10000.
+pub fn ls_row(alloc: Global, entry: &Entry, name: &str) -> Result<Text, OutOfMemory>
+    requires { entry.now.micros < 253402300800000000 }
+    ensures { IfOk result (IsRow entry.now name.now) }
+{
+    let size = size_text(alloc, entry.size)?;
+    let rest = Text::joined(alloc, &[" ", size.as_str(), " ", name, "\n"])?;
+    timed_row(alloc, entry.micros, rest.as_str())
+}
+
+/// The row of a prefix: `PRE` right in 30 places, and its name.
+pub fn ls_prefix(alloc: Global, name: &str) -> Result<Text, OutOfMemory>
+    ensures { IfOk result (λ text. text ≡ prefix_row name.now) }
+{
+    let front = "                           PRE ";
+    Text::joined(alloc, &[front, name, "\n"])
+}
+
+/// The row of a bucket: the time in UTC when it was made, which lies before the year 10000, and its name.
+pub fn bucket_row(alloc: Global, entry: &Entry) -> Result<Text, OutOfMemory>
+    requires { entry.now.micros < 253402300800000000 }
+    ensures { IfOk result (IsBucketRow entry.now) }
+{
+    let rest = Text::joined(alloc, &[" ", entry.key.as_str(), "\n"])?;
+    timed_row(alloc, entry.micros, rest.as_str())
+}
