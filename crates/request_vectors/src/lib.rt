@@ -13,3 +13,5 @@ mod fixtures;
 mod hashes;
 #[cfg(test)]
 mod heads;
+#[cfg(test)]
+mod presigned;

@@ -12,8 +12,9 @@ use Rattle.s3_requests.specs.declared.description.Query.TheVariants as query
 use Rattle.s3_requests.specs.declared.description.Resource.{Resource}
 use Rattle.s3_requests.specs.declared.description.Resource.TheVariants as resource
 use Rattle.s3_requests.specs.declared.description.Source.{Source}
-use Rattle.s3_requests.specs.Pairs.{Pair}
-use Rattle.s3_requests.specs.Requests.{Request, bucket_path, object_path, uploads, upload_id, part_parameters, list_parameters, content_type, if_none_match, read_headers, copy_source, copy_range}
+use Rattle.s3_signing.specs.Pairs.{Pair}
+use Rattle.s3_signing.specs.Paths.{bucket_path, object_path}
+use Rattle.s3_requests.specs.Requests.{Request, uploads, upload_id, part_parameters, list_parameters, content_type, if_none_match, read_headers, copy_source, copy_range}
 
 abbrev pub path_in : Resource → List ℕ
 path_in resource.Service = codes "/"

@@ -7,9 +7,10 @@ use Rattle.s3_model.specs.declared.requests.Ask.{Ask}
 use Rattle.s3_model.specs.declared.requests.Ask.TheVariants as ask
 use Rattle.s3_model.specs.declared.settings.Keys.{Keys}
 use Rattle.s3_model.specs.Documents.{completion}
-use Rattle.s3_requests.specs.Pairs.{Pair, sort_pairs}
-use Rattle.s3_requests.specs.Signing.{encode_path, encode_pair, canonical_request, credential_scope, parameter, signature, signed_names, hex_sha256}
-use Rattle.s3_requests.specs.Times.{basic_date, basic_time}
+use Rattle.s3_signing.specs.Pairs.{Pair, optional, sort_pairs}
+use Rattle.s3_signing.specs.Paths.{bucket_path, object_path}
+use Rattle.s3_signing.specs.Signing.{encode_path, encode_pair, canonical_request, credential, parameter, signature, signed_names, hex_sha256}
+use Rattle.s3_signing.specs.Times.{basic_time}
 
 -- a request before it is encoded and signed: its own headers are those beside the headers of every request; the body is the document, and empty where the caller has an object's bytes
 pub record Request : Type 0 where
@@ -23,18 +24,6 @@ pub record Request : Type 0 where
 -- a method and a path, and nothing else
 abbrev pub plain : (method path : List ℕ) → Request
 plain method path = record { method = method; path = path; query = []; own_headers = []; has_body = false; body = [] }
-
--- the path of a bucket, and of an object in it
-abbrev pub bucket_path : List ℕ → List ℕ
-bucket_path bucket = codes "/" ++ bucket
-
-abbrev pub object_path : List ℕ → List ℕ → List ℕ
-object_path bucket key = bucket_path bucket ++ codes "/" ++ key
-
--- a pair where there is a value, else none
-abbrev pub optional : List ℕ → Option (List ℕ) → List Pair
-optional name None = []
-optional name (Some value) = (name, value) ∷ []
 
 -- the parameters of queries
 abbrev pub uploads : Pair
@@ -152,10 +141,6 @@ header_line h = h.0 ++ codes ": " ++ h.1 ++ codes "\r\n"
 -- the length of the body, where there is one
 abbrev pub length_line : Bool → ℕ → List ℕ
 length_line has_body length = if has_body then header_line (codes "content-length", decimal length) else []
-
--- id/scope
-unfoldable pub credential : Keys → ℕ → List ℕ
-credential keys moment = keys.id ++ codes "/" ++ credential_scope (basic_date moment) keys.region
 
 -- the value of the authorization header, under these signed headers and with that signature
 unfoldable pub authorization : (keys : Keys) (moment : ℕ) (headers : List Pair) (signed : List ℕ) → List ℕ

@@ -3,19 +3,21 @@ ghost use Rattle.std.specs.Prelude.{◌≡◌, ◌++◌, ◌<◌, OnOk, IfOk, co
 ghost use Rattle.std.specs.List.{flat_map};
 ghost use Rattle.s3_requests.specs.Requests as spec;
 ghost use Rattle.s3_requests.specs.Descriptions.{has_body_in, path_in, query_in, request_in};
-ghost use Rattle.s3_requests.specs.Headers.{pairs_of, text_pairs};
+ghost use Rattle.s3_signing.specs.Headers.{pairs_of, text_pairs};
 ghost use Rattle.s3_requests.specs.Keeping.{IsKey};
-ghost use Rattle.s3_requests.specs.Signing.{canonical_query, encode_path};
-ghost use Rattle.s3_requests.specs.Times.{basic_time};
+ghost use Rattle.s3_signing.specs.Signing.{canonical_query, encode_path};
+ghost use Rattle.s3_signing.specs.Times.{basic_time};
 
 use crate::description::{Body, Description, describe, lent};
-use crate::headers::{Header, lend_texts, push_header_line, push_header_lines, push_signed_names};
+use crate::lines::{push_header_line, push_header_lines};
 use crate::own::{CommonHeaders, signed_headers};
-use crate::signing::{SignedParts, canonical_text, push_scope, signature_under};
 use crate::target::{push_resource, push_signed_query, push_target_query};
-use crate::times::push_basic_time;
 use itoa::Buffer;
 use s3_model::{Ask, Endpoint, Keys};
+use s3_signing::{
+    Header, SignedParts, canonical_text, lend_texts, push_basic_time, push_credential,
+    push_signed_names, signature_under,
+};
 use std::alloc::{AllocError, Global};
 
 /// What a request is signed with: the keys, a moment in seconds since 1970, and the signing key of its date.
@@ -45,7 +47,7 @@ fn target_of(alloc: Global, request: &Description<'_>) -> Result<Target, AllocEr
 }
 
 /// Adds the method and the escaped path.
-#[tactic(auto, using(crate::proofs::JoinLemmas::pieces), unfolding(crate::specs::Requests::method_and_path))]
+#[tactic(auto, using(s3_signing::proofs::JoinLemmas::pieces), unfolding(crate::specs::Requests::method_and_path))]
 fn push_method_and_path(
     out: &mut String,
     request: &Description<'_>,
@@ -61,7 +63,7 @@ fn push_method_and_path(
 }
 
 /// Adds the request line.
-#[tactic(auto, using(crate::proofs::JoinLemmas::pieces), unfolding(crate::specs::Requests::request_line))]
+#[tactic(auto, using(s3_signing::proofs::JoinLemmas::pieces), unfolding(crate::specs::Requests::request_line))]
 fn push_request_line(
     out: &mut String,
     request: &Description<'_>,
@@ -89,19 +91,8 @@ fn push_length_line(out: &mut String, body: Body<'_>, length: u64) -> Result<(),
     }
 }
 
-/// Adds the credential: the id of the keys and the scope.
-#[tactic(auto, using(crate::proofs::JoinLemmas::pieces), unfolding(crate::specs::Requests::credential))]
-fn push_credential(out: &mut String, keys: &Keys, moment: u64) -> Result<(), AllocError>
-    requires { moment < 253402300800 }
-    ensures { OnOk result (string_bytes out.new ≡ string_bytes out.old ++ spec.credential keys.now moment) }
-{
-    out.push_str(keys.id.as_str())?;
-    out.push_str("/")?;
-    push_scope(out, moment, keys.region.as_str())
-}
-
 /// Adds the value of the authorization header.
-#[tactic(auto, using(crate::proofs::JoinLemmas::pieces), unfolding(crate::specs::Requests::authorization))]
+#[tactic(auto, using(s3_signing::proofs::JoinLemmas::pieces), unfolding(crate::specs::Requests::authorization))]
 fn push_authorization(
     out: &mut String,
     keys: &Keys,
@@ -122,7 +113,7 @@ fn push_authorization(
 }
 
 /// Adds the headers, the content length and the authorization, and an empty line.
-#[tactic(auto, using(crate::proofs::JoinLemmas::pieces))]
+#[tactic(auto, using(s3_signing::proofs::JoinLemmas::pieces))]
 fn push_lines(
     out: &mut String,
     request: &Description<'_>,
@@ -141,7 +132,7 @@ fn push_lines(
 }
 
 /// The signature of a request with these headers.
-#[tactic(auto, unfolding(crate::specs::Requests::signature_of, crate::specs::Signing::canonical_request))]
+#[tactic(auto, unfolding(crate::specs::Requests::signature_of, s3_signing::specs::Signing::canonical_request))]
 fn sign(
     alloc: Global,
     request: &Description<'_>,

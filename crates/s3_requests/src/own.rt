@@ -3,20 +3,20 @@ ghost use Rattle.std.specs.Prelude.{◌≡◌, ◌++◌, ◌∷◌, [], OnOk, If
 ghost use Rattle.std.specs.Option.{option_copied};
 ghost use Rattle.s3_requests.specs.Requests as spec;
 ghost use Rattle.s3_requests.specs.Descriptions.{own_in, source_in};
-ghost use Rattle.s3_requests.specs.Headers.{common_in, text_pairs};
-ghost use Rattle.s3_requests.specs.Pairs.{sort_pairs};
+ghost use Rattle.s3_requests.specs.Headers.{common_in};
+ghost use Rattle.s3_signing.specs.Headers.{text_pairs};
+ghost use Rattle.s3_signing.specs.Pairs.{optional, sort_pairs};
 
 use crate::description::{OwnHeaders, Source};
-use crate::escapes::push_path;
-use crate::query::sort;
 use itoa::Buffer;
+use s3_signing::{push_path, sort};
 use std::alloc::{AllocError, Global};
 
 /// Names and values of headers.
 pub type Headers = Vec<(String, String)>;
 
 /// The value of a range: bytes=first-last.
-#[tactic(auto, using(crate::proofs::JoinLemmas::pieces))]
+#[tactic(auto, using(s3_signing::proofs::JoinLemmas::pieces))]
 fn byte_range(alloc: Global, range: (u64, u64)) -> Result<String, AllocError>
     ensures { IfOk result (λ text. string_bytes text ≡ spec.byte_range range) }
 {
@@ -29,7 +29,7 @@ fn byte_range(alloc: Global, range: (u64, u64)) -> Result<String, AllocError>
 }
 
 /// The source of a copy: the bucket, `/` and the escaped key.
-#[tactic(auto, using(crate::proofs::JoinLemmas::pieces))]
+#[tactic(auto, using(s3_signing::proofs::JoinLemmas::pieces))]
 fn source_text(alloc: Global, bucket: &str, key: &str) -> Result<String, AllocError>
     ensures { IfOk result (λ text. string_bytes text ≡ spec.source_of bucket.now key.now) }
 {
@@ -67,7 +67,7 @@ fn push_header(
 }
 
 /// Adds a header, where there is a value.
-#[tactic(auto, using(crate::proofs::JoinLemmas::pieces))]
+#[tactic(auto, using(s3_signing::proofs::JoinLemmas::pieces))]
 fn push_optional(
     alloc: Global,
     headers: &mut Headers,
@@ -75,7 +75,7 @@ fn push_optional(
     value: Option<&str>,
 ) -> Result<(), AllocError>
     ensures { OnOk result (text_pairs headers.new.items
-        ≡ text_pairs headers.old.items ++ spec.optional name.now (option_copied value.entry)) }
+        ≡ text_pairs headers.old.items ++ optional name.now (option_copied value.entry)) }
 {
     if let Some(value) = value {
         push_header(alloc, headers, name, value)?;
@@ -84,7 +84,7 @@ fn push_optional(
 }
 
 /// Adds the headers of an upload: its content type, and that there may be no object yet.
-#[tactic(auto, using(crate::proofs::JoinLemmas::pieces))]
+#[tactic(auto, using(s3_signing::proofs::JoinLemmas::pieces))]
 fn push_upload_headers(
     alloc: Global,
     headers: &mut Headers,
@@ -102,7 +102,7 @@ fn push_upload_headers(
 }
 
 /// Adds the headers of a read: the ETag that the object still has to have, and the range.
-#[tactic(auto, using(crate::proofs::JoinLemmas::pieces))]
+#[tactic(auto, using(s3_signing::proofs::JoinLemmas::pieces))]
 fn push_read_headers(
     alloc: Global,
     headers: &mut Headers,

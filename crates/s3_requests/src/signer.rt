@@ -1,12 +1,12 @@
 //! Heads of requests, and a signer that keeps the key of a day.
 ghost use Rattle.std.specs.Prelude.{◌≡◌, ◌<◌, IfOk, string_bytes};
 ghost use Rattle.s3_requests.specs.Requests as spec;
-ghost use Rattle.s3_requests.specs.Signing.{signing_key};
-ghost use Rattle.s3_requests.specs.Times.{basic_date};
+ghost use Rattle.s3_signing.specs.Signing.{signing_key};
+ghost use Rattle.s3_signing.specs.Times.{basic_date};
 
 use crate::head::{Key, head_under};
-use crate::signing::key_at;
 use s3_model::{Ask, Endpoint, Keys, OutOfMemory, Text};
+use s3_signing::key_at;
 use std::alloc::{AllocError, Global};
 use std::marker::Model;
 

@@ -4,32 +4,15 @@ ghost use Rattle.std.specs.Option.{option_copied};
 ghost use Rattle.s3_requests.specs.Requests as spec;
 ghost use Rattle.s3_requests.specs.Descriptions.{path_in, query_in};
 ghost use Rattle.s3_requests.specs.Headers.{delimiter_text, token_text};
-ghost use Rattle.s3_requests.specs.Signing.{canonical_query, encode_path, encode_query};
+ghost use Rattle.s3_signing.specs.Signing.{canonical_query, encode_path, encode_query};
 
 use crate::description::{Query, Resource};
-use crate::escapes::{push_path, push_query};
 use itoa::Buffer;
+use s3_signing::{push_bucket_path, push_object_path, push_query};
 use std::alloc::AllocError;
 
-#[tactic(auto, using(crate::proofs::RequestLemmas::bucket_path_encoded))]
-fn push_bucket_path(out: &mut String, bucket: &str) -> Result<(), AllocError>
-    ensures { OnOk result (string_bytes out.new ≡ string_bytes out.old ++ encode_path (spec.bucket_path bucket.now)) }
-{
-    out.push_str("/")?;
-    push_path(out, bucket)
-}
-
-#[tactic(auto, using(crate::proofs::RequestLemmas::object_path_encoded))]
-fn push_object_path(out: &mut String, bucket: &str, key: &str) -> Result<(), AllocError>
-    ensures { OnOk result (string_bytes out.new
-        ≡ string_bytes out.old ++ encode_path (spec.object_path bucket.now key.now)) }
-{
-    push_bucket_path(out, bucket)?;
-    out.push_str("/")?;
-    push_path(out, key)
-}
-
 /// Adds the path of a resource, escaped.
+#[tactic(auto, using(crate::proofs::RequestLemmas::service_path))]
 pub fn push_resource(out: &mut String, resource: Resource<'_>) -> Result<(), AllocError>
     ensures { OnOk result (string_bytes out.new ≡ string_bytes out.old ++ encode_path (path_in resource.entry)) }
 {
@@ -41,7 +24,7 @@ pub fn push_resource(out: &mut String, resource: Resource<'_>) -> Result<(), All
 }
 
 /// Adds a parameter of a query, its value escaped.
-#[tactic(auto, using(crate::proofs::JoinLemmas::pieces))]
+#[tactic(auto, using(s3_signing::proofs::JoinLemmas::pieces))]
 fn push_parameter(out: &mut String, name: &str, value: &str) -> Result<(), AllocError>
     ensures { OnOk result (string_bytes out.new ≡ string_bytes out.old ++ (name.now ++ encode_query value.now)) }
 {
@@ -73,7 +56,7 @@ fn push_part_query(out: &mut String, number: u32, upload: &str) -> Result<(), Al
     push_parameter(out, "&uploadId=", upload)
 }
 
-#[tactic(auto, using(crate::proofs::JoinLemmas::pieces))]
+#[tactic(auto, using(s3_signing::proofs::JoinLemmas::pieces))]
 fn push_token(out: &mut String, token: Option<&str>) -> Result<(), AllocError>
     ensures { OnOk result (string_bytes out.new ≡ string_bytes out.old ++ token_text (option_copied token.entry)) }
 {
@@ -131,7 +114,7 @@ pub fn push_signed_query(out: &mut String, query: Query<'_>) -> Result<(), Alloc
 }
 
 /// Adds `?` and a query.
-#[tactic(auto, using(crate::proofs::JoinLemmas::pieces))]
+#[tactic(auto, using(s3_signing::proofs::JoinLemmas::pieces))]
 fn push_marked(out: &mut String, query: &str) -> Result<(), AllocError>
     ensures { OnOk result (string_bytes out.new ≡ string_bytes out.old ++ (codes "?" ++ query.now)) }
 {

@@ -1,7 +1,7 @@
 use Rattle.std.proofs.Common.{◌++◌, ◌∙◌, ap, codes, string_bytes}
 use Rattle.s3_requests.specs.Requests.{method_and_path, request_line, target_query}
 use Rattle.s3_requests.specs.Descriptions.{query_in, request_in}
-use Rattle.s3_requests.proofs.JoinLemmas.{on_ok_pushed, three_pieces}
+use Rattle.s3_signing.proofs.JoinLemmas.{on_ok_pushed, three_pieces}
 use Rattle.s3_requests.proofs.head.push_request_line.Goals as goal
 
 pub returns : goal.returns

@@ -1,10 +1,10 @@
 use Rattle.std.proofs.Common.{◌∷◌, [], codes}
 use Rattle.std.proofs.lemmas.Result.{on_ok_weaker}
 use Rattle.std.specs.Option.{option_copied}
-use Rattle.s3_requests.specs.Headers.{text_pairs}
-use Rattle.s3_requests.specs.Pairs.{Pair}
-use Rattle.s3_requests.specs.Requests.{optional}
-use Rattle.s3_requests.proofs.JoinLemmas.{grown}
+use Rattle.s3_signing.specs.Headers.{text_pairs}
+use Rattle.s3_signing.specs.Pairs.{Pair}
+use Rattle.s3_signing.specs.Pairs.{optional}
+use Rattle.s3_signing.proofs.JoinLemmas.{grown}
 use Rattle.s3_requests.proofs.own.push_common.Goals as goal
 
 pub returns : goal.returns

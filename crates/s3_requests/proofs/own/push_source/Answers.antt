@@ -1,8 +1,8 @@
 use Rattle.std.proofs.Common.{◌∷◌, ◌++◌, ◌∙◌, ℕ, List, [], ap, codes}
 use Rattle.std.proofs.lemmas.Result.{on_ok_weaker}
-use Rattle.s3_requests.specs.Headers.{text_pairs}
+use Rattle.s3_signing.specs.Headers.{text_pairs}
 use Rattle.s3_requests.specs.Requests.{source_of}
-use Rattle.s3_requests.proofs.JoinLemmas.{grown}
+use Rattle.s3_signing.proofs.JoinLemmas.{grown}
 use Rattle.s3_requests.proofs.own.push_source.Goals as goal
 
 pub returns : goal.returns

@@ -2,7 +2,7 @@ use Rattle.std.proofs.Common.{◌++◌, ◌∙◌, ap, codes, string_bytes}
 use Rattle.std.proofs.lemmas.Result.{on_ok_weaker}
 use Rattle.std.specs.Option.{option_copied}
 use Rattle.s3_requests.specs.Headers.{delimiter_text}
-use Rattle.s3_requests.specs.Signing.{encode_query}
+use Rattle.s3_signing.specs.Signing.{encode_query}
 use Rattle.s3_requests.proofs.RequestLemmas.{listing_written}
 use Rattle.s3_requests.proofs.target.push_list_query.Goals as goal
 

@@ -1,6 +1,0 @@
-use Rattle.std.proofs.Common.{◌≡◌, take}
-use Rattle.s3_requests.specs.Headers.{pairs_of}
-use Rattle.s3_requests.proofs.headers.lend.Given as goal
-
-abbrev pub invariant-loop-pair : goal.invariant-loop-pair
-invariant-loop-pair l = pairs_of l.headers.items ≡ take l.pair-index l.pair-items

@@ -1,0 +1,6 @@
+pub mod EscapeLemmas
+pub mod HeaderLemmas
+pub mod JoinLemmas
+pub mod PathLemmas
+pub mod SortLemmas
+pub mod TimesLemmas

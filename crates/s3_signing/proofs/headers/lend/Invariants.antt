@@ -1,0 +1,6 @@
+use Rattle.std.proofs.Common.{◌≡◌, take}
+use Rattle.s3_signing.specs.Headers.{pairs_of}
+use Rattle.s3_signing.proofs.headers.lend.Given as goal
+
+abbrev pub invariant-loop-pair : goal.invariant-loop-pair
+invariant-loop-pair l = pairs_of l.headers.items ≡ take l.pair-index l.pair-items
