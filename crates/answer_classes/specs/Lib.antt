@@ -1,0 +1,3 @@
+pub mod Classifying
+pub mod Documents
+pub mod Showing
