@@ -32,9 +32,11 @@ NeedsDocument asked = ⊥
 
 -- the answers whose document is read, or whose refusal gets the text of its status: for no other does memory run out
 abbrev pub WantsMemory : Ask → (status : ℕ) → Type 0
-WantsMemory asked status = (IsTwoHundred status × NeedsDocument asked) ⊎ ((300 ≤ status) × (status < 500)) ⊎ (status ≡ 503)
+WantsMemory asked status =
+    (IsTwoHundred status × NeedsDocument asked) ⊎ ((300 ≤ status) × (status < 500)) ⊎ (status ≡ 503)
 
 -- The class of an answer, unless memory ran out where it is wanted. The body of the answer is its document.
 abbrev pub IsClassed : Ask → Answered → Class → Type 0
 IsClassed asked answered shown =
-    HasClass asked answered answered.body.bytes shown ⊎ ((shown ≡ class.Uncertain why.Memory) × WantsMemory asked answered.status)
+    HasClass asked answered answered.body.bytes shown
+    ⊎ ((shown ≡ class.Uncertain why.Memory) × WantsMemory asked answered.status)

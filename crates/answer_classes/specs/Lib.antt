@@ -1,3 +1,4 @@
 pub mod Classifying
 pub mod Documents
 pub mod Showing
+pub mod Steps

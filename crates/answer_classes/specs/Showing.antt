@@ -27,7 +27,8 @@ HasClass asked answered document shown = IsClass ReadsError ReadsReply asked ans
 abbrev pub IsAnswered : Ask → (limit : ℕ) → Talk → Answered → (body : List ℕ) → Type 0
 IsAnswered asked limit talk answered body = HasAnswer (is_head asked) (Some limit) talk.got talk.ending answered body
 
--- a break of the talk: what its bytes and its ending come to; and a call of the wire failed in it exactly where that is the reason
+-- a break of the talk: what its bytes and its ending come to; and a call of the wire failed in it exactly where that
+-- is the reason
 pub record IsBroken (asked : Ask) (limit : ℕ) (talk : Talk) (reason : Why) : Type 0 where
   pub of_talk : IsOfTalk reason
   pub breaks : IsBreak (is_head asked) (Some limit) talk.got talk.ending reason
@@ -41,9 +42,10 @@ Shows asked limit talk shown bytes =
 
 -- the answer of the talk has that HTTP status
 abbrev pub HasStatus : Ask → (limit : ℕ) → Talk → (status : ℕ) → Type 0
-HasStatus asked limit talk status = (answered : Answered) × (body : List ℕ) × IsAnswered asked limit talk answered body × (answered.status ≡ status)
+HasStatus asked limit talk status =
+    (answered : Answered) × (body : List ℕ) × IsAnswered asked limit talk answered body × (answered.status ≡ status)
 
 -- No talk shows two classes or two bodies. A page and a list of buckets are compared by their items.
 abbrev pub OneShown : Type 0
-OneShown = (asked : Ask) (limit : ℕ) (talk : Talk) (one same : Class) (bytes body : List ℕ) → Shows asked limit talk one bytes → Shows asked limit talk same body
-    → IsSameClass one same × (bytes ≡ body)
+OneShown = (asked : Ask) (limit : ℕ) (talk : Talk) (one same : Class) (bytes body : List ℕ)
+    → Shows asked limit talk one bytes → Shows asked limit talk same body → IsSameClass one same × (bytes ≡ body)

@@ -13,7 +13,6 @@ pub mod Honest
 pub mod IdleRun
 pub mod Lies
 pub mod Misfits
-pub mod OneClass
 pub mod Orders
 pub mod Plannings
 pub mod Readings

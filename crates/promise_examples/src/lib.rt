@@ -2,11 +2,9 @@
 #![tactic(auto)]
 
 mod changes;
-mod classes;
 mod runs;
 mod untried;
 
 pub use changes::{refused, single_breaks};
-pub use classes::{Documents, one_class};
 pub use runs::{Reading, everything, failed_upload, given_again, two_pages};
 pub use untried::idleness;
