@@ -59,7 +59,7 @@ fn shape_on_disk(runtime: &impl rt::Files, path: &str) -> io::Result<Shape> {
     }
 }
 
-fn is_absent(kind: ErrorKind) -> bool {
+pub(crate) fn is_absent(kind: ErrorKind) -> bool {
     kind == ErrorKind::NotFound || kind == ErrorKind::NotADirectory
 }
 

@@ -1,12 +1,16 @@
 //! The environment of the process.
 
-ghost use Rattle.std.specs.Prelude.{◌≡◌, None};
+ghost use Rattle.std.specs.Prelude.{◌≡◌, ◌≤◌, None, IfOk, IfSome, length};
 ghost use Rattle.s3_outside.specs.declared.real_env.TheConstants.{S3_LIMITS};
 
-use crate::env::Env;
+use crate::disk_files::is_absent;
+use crate::env::{Env, EnvFault, MOST_FILE_BYTES};
+use crate::wire::count_fault;
 use s3_model::{Limits, OutOfMemory, Text};
 use std::alloc::Global;
 use std::env::{self, VarError};
+use std::fs::File;
+use std::io::{self, ErrorKind, Read};
 use std::rt;
 
 /// What Amazon S3 allows, in bytes but for `max_parts` (Amazon S3 User Guide, "Amazon S3 multipart upload limits").
@@ -17,26 +21,27 @@ pub const S3_LIMITS: Limits = Limits {
     max_object: 1_099_511_627_776,
 };
 
-/// The environment of this process and the limits of Amazon S3. No variables are seen.
+/// The environment of this process, the files of the system and the limits of Amazon S3. Nothing of them is seen.
 #[derive(Drop)]
 pub struct RealEnv<R> {
     runtime: R,
+    faults: u64,
 }
 
-impl<R: rt::Env + AllocGlobal> RealEnv<R> {
+impl<R: rt::Env + rt::Files + AllocGlobal> RealEnv<R> {
     pub fn new(runtime: R) -> RealEnv<R>
         ensures { ⟦<RealEnv<R> as Env>⟧.faults result ≡ 0 }
     {
-        RealEnv { runtime }
+        RealEnv { runtime, faults: 0 }
     }
 }
 
-impl<R: rt::Env + AllocGlobal> Env for RealEnv<R> {
+impl<R: rt::Env + rt::Files + AllocGlobal> Env for RealEnv<R> {
     ghost seen = { λ _. None };
 
     ghost allows = { λ _. S3_LIMITS };
 
-    ghost faults = { λ _. 0 };
+    ghost faults = { λ e. e.faults };
 
     fn word(&mut self, _alloc: Global, name: &str) -> Result<Option<Text>, OutOfMemory> {
         match env::var(&self.runtime, name) {
@@ -46,7 +51,29 @@ impl<R: rt::Env + AllocGlobal> Env for RealEnv<R> {
         }
     }
 
+    /// What is not found, or lies below a file, is absent; a folder is a fault.
+    fn file(&mut self, alloc: Global, path: &str) -> Result<Option<Vec<u8>>, EnvFault> {
+        match read_front(&self.runtime, alloc, path) {
+            Ok(bytes) if bytes.len() <= MOST_FILE_BYTES => Ok(Some(bytes)),
+            Err(e) if is_absent(e.kind()) => Ok(None),
+            Err(e) if e.kind() == ErrorKind::OutOfMemory => Err(EnvFault::Memory),
+            _ => {
+                count_fault(&mut self.faults);
+                Err(EnvFault::Failed)
+            }
+        }
+    }
+
     fn limits(&self) -> Limits {
         S3_LIMITS
     }
+}
+
+// The bytes of a file, up to one more than may be read.
+fn read_front(runtime: &impl rt::Files, alloc: Global, path: &str) -> io::Result<Vec<u8>> {
+    let file = File::open(runtime, path)?;
+    let mut bytes = Vec::new(alloc);
+    file.take(MOST_FILE_BYTES as u64 + 1)
+        .read_to_end(&mut bytes)?;
+    Ok(bytes)
 }
