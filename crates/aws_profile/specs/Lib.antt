@@ -3,6 +3,7 @@ pub mod Contexts
 pub mod Lines
 pub mod Sections
 pub mod Shown
+pub mod ShownAnswers
 pub mod ShownKeys
 pub mod ShownLimits
 pub mod ShownValues

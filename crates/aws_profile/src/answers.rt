@@ -1,18 +1,36 @@
 //! The settings of a run.
 
-ghost use Rattle.std.specs.Prelude.{◌≡◌, ◌≢◌, ◌≤◌, ◌||◌, Err, IfErr, IfOk, Ok, Some, codes, length};
+ghost use Rattle.std.specs.Prelude.{◌≡◌, ◌≢◌, ◌≤◌, ◌||◌, Err, IfErr, IfOk, Ok, codes, length};
 ghost use Rattle.std.specs.Str.{bytes_eq};
 ghost use Rattle.s3_model.specs.Validity.{IsValidConfig};
-ghost use Rattle.aws_profile.specs.Answers.{answer, line_fault, profile_of, setting_fault};
-ghost use Rattle.aws_profile.specs.ShownLimits.{misread_shown};
+ghost use Rattle.aws_profile.specs.Answers.{answer, profile_of};
+ghost use Rattle.aws_profile.specs.ShownAnswers.{IsWithoutText, choice_shown, decided_shown, refusal_shown};
 
-use crate::keys::{key_from, keys_of, region_from};
-use crate::limits::{Misread, config_of};
+use crate::keys::{AccessKey, key_from, keys_of, region_from};
+use crate::limits::config_of;
 use crate::values::{read_config, read_keys};
-use s3_model::{EnvWords, ProfileFault, Settings, Text};
+use s3_model::{Config, EnvWords, OutOfMemory, ProfileFault, Settings, Text};
 use std::alloc::Global;
 
 const DEFAULT_PROFILE: &str = "default";
+
+/// The settings of a run, lent from where they were found. It has no `Debug`, so that no secret is printed.
+#[derive(Clone, Copy)]
+pub struct Choice<'a> {
+    pub key: AccessKey<'a>,
+    pub region: &'a str,
+    pub config: Config,
+}
+
+/// Why there are no settings, lent from where it was found; lines are counted from 1.
+#[derive(Clone, Copy, Debug)]
+pub enum Refusal<'a> {
+    NoKeys,
+    NoRegion,
+    NoProfile(&'a str),
+    BadLine { credentials: bool, line: u32 },
+    BadSetting { line: u32, name: &'static str },
+}
 
 fn profile_of(words: &EnvWords) -> &str
     ensures { result.now ≡ profile_of words.now }
@@ -29,40 +47,101 @@ fn is_known(profile: &str, in_config: bool, in_credentials: bool) -> bool
     profile == DEFAULT_PROFILE || in_config || in_credentials
 }
 
-fn bad_line(credentials: bool, line: u32) -> ProfileFault
-    ensures { line_fault credentials (Some line) ≡ Some result }
-{
-    ProfileFault::BadLine { credentials, line }
-}
-
-/// The fault of a profile that is in neither file.
-fn no_profile(alloc: Global, profile: &str) -> ProfileFault
-    ensures { result ≢ ProfileFault.Memory → result ≡ ProfileFault.NoProfile profile.now }
-{
-    match Text::of(alloc, profile) {
-        Ok(name) => ProfileFault::NoProfile(name),
-        Err(_) => ProfileFault::Memory,
+impl Choice<'_> {
+    /// An owned copy.
+    pub fn to_settings(self, alloc: Global) -> Result<Settings, OutOfMemory>
+        ensures { IfOk result (λ settings. settings ≡ choice_shown self.entry) }
+    {
+        let keys = keys_of(alloc, self.key, self.region)?;
+        Ok(Settings {
+            keys,
+            config: self.config,
+        })
     }
 }
 
-/// The fault of a number that is out of its form.
-fn bad_setting(alloc: Global, bad: Misread) -> ProfileFault
-    ensures { result ≢ ProfileFault.Memory → setting_fault (Some (misread_shown bad)) ≡ Some result }
-{
-    let line = bad.line;
-    match Text::of(alloc, bad.name) {
-        Ok(name) => ProfileFault::BadSetting { line, name },
-        Err(_) => ProfileFault::Memory,
+impl Refusal<'_> {
+    /// An owned copy. Only a text wants memory.
+    pub fn to_fault(self, alloc: Global) -> Result<ProfileFault, OutOfMemory>
+        ensures fault { IfOk result (λ fault. fault ≡ refusal_shown self.entry) }
+        ensures plain { IsWithoutText (refusal_shown self.entry) → result ≡ Ok (refusal_shown self.entry) }
+    {
+        match self {
+            Refusal::NoKeys => Ok(ProfileFault::NoKeys),
+            Refusal::NoRegion => Ok(ProfileFault::NoRegion),
+            Refusal::NoProfile(name) => Ok(ProfileFault::NoProfile(Text::of(alloc, name)?)),
+            Refusal::BadLine { credentials, line } => {
+                Ok(ProfileFault::BadLine { credentials, line })
+            }
+            Refusal::BadSetting { line, name } => {
+                let name = Text::of(alloc, name)?;
+                Ok(ProfileFault::BadSetting { line, name })
+            }
+        }
     }
 }
 
-/// The settings of a run, from the environment's words and the bytes of the AWS CLI's config and credentials files
-/// (AWS CLI User Guide, "Configuration and credential file settings" and "Environment variables").
+/// What the environment's words and the bytes of the AWS CLI's config and credentials files make, without memory (AWS CLI
+/// User Guide, "Configuration and credential file settings" and "Environment variables").
 ///
-/// A file has at most 1,048,576 bytes, and an absent one is empty. The first fault in this order is answered: a bad line
+/// A file has at most 1,048,576 bytes, and an absent one is empty. The first refusal in this order is answered: a bad line
 /// of the config file, one of the credentials file, a profile that neither has, a number out of its form or range, no
-/// key, no region. Lines are counted from 1. Sizes are bytes, with powers of 1,024 as units. No fault has a part of a key
-/// in it.
+/// key, no region. Sizes are bytes, with powers of 1,024 as units. No refusal has a part of a key in it.
+pub fn decide<'a>(
+    words: &'a EnvWords,
+    config: &'a [u8],
+    credentials: &'a [u8],
+) -> Result<Choice<'a>, Refusal<'a>>
+    requires config { length config.now ≤ 1048576 }
+    requires credentials { length credentials.now ≤ 1048576 }
+    ensures answer { decided_shown result ≡ answer words.now config.now credentials.now }
+    ensures valid { IfOk result (λ choice. IsValidConfig choice.config) }
+{
+    let profile = profile_of(words);
+    let values = match read_config(config, profile) {
+        Ok(values) => values,
+        Err(line) => {
+            return Err(Refusal::BadLine {
+                credentials: false,
+                line,
+            });
+        }
+    };
+    let keys = match read_keys(credentials, profile) {
+        Ok(keys) => keys,
+        Err(line) => {
+            return Err(Refusal::BadLine {
+                credentials: true,
+                line,
+            });
+        }
+    };
+    if !is_known(profile, values.has_section, keys.has_section) {
+        return Err(Refusal::NoProfile(profile));
+    }
+    let config = match config_of(&values) {
+        Ok(config) => config,
+        Err(bad) => {
+            return Err(Refusal::BadSetting {
+                line: bad.line,
+                name: bad.name,
+            });
+        }
+    };
+    let Some(key) = key_from(words, &keys) else {
+        return Err(Refusal::NoKeys);
+    };
+    let Some(region) = region_from(words, &values) else {
+        return Err(Refusal::NoRegion);
+    };
+    Ok(Choice {
+        key,
+        region,
+        config,
+    })
+}
+
+/// The settings of a run: an owned copy of what `decide` answers. Only texts want memory.
 pub fn settings(
     alloc: Global,
     words: &EnvWords,
@@ -74,35 +153,22 @@ pub fn settings(
     ensures settings { IfOk result (λ settings. answer words.now config.now credentials.now ≡ Ok settings) }
     ensures fault { IfErr result (λ fault. fault ≢ ProfileFault.Memory →
         answer words.now config.now credentials.now ≡ Err fault) }
+    ensures plain { (fault : ProfileFault) → answer words.now config.now credentials.now ≡ Err fault →
+        IsWithoutText fault → result ≡ Err fault }
     ensures valid { IfOk result (λ settings. IsValidConfig settings.config) }
 {
-    let profile = profile_of(words);
-    let values = match read_config(config, profile) {
-        Ok(values) => values,
-        Err(line) => return Err(bad_line(false, line)),
-    };
-    let keys = match read_keys(credentials, profile) {
-        Ok(keys) => keys,
-        Err(line) => return Err(bad_line(true, line)),
-    };
-    if !is_known(profile, values.has_section, keys.has_section) {
-        return Err(no_profile(alloc, profile));
+    match decide(words, config, credentials) {
+        Ok(choice) => choice.to_settings(alloc).map_err(|_| ProfileFault::Memory),
+        Err(refusal) => Err(owned(alloc, refusal)),
     }
-    let limits = match config_of(&values) {
-        Ok(limits) => limits,
-        Err(bad) => return Err(bad_setting(alloc, bad)),
-    };
-    let Some(key) = key_from(words, &keys) else {
-        return Err(ProfileFault::NoKeys);
-    };
-    let Some(region) = region_from(words, &values) else {
-        return Err(ProfileFault::NoRegion);
-    };
-    match keys_of(alloc, key, region) {
-        Ok(keys) => Ok(Settings {
-            keys,
-            config: limits,
-        }),
-        Err(_) => Err(ProfileFault::Memory),
+}
+
+fn owned(alloc: Global, refusal: Refusal<'_>) -> ProfileFault
+    ensures fault { result ≢ ProfileFault.Memory → result ≡ refusal_shown refusal.entry }
+    ensures plain { IsWithoutText (refusal_shown refusal.entry) → result ≡ refusal_shown refusal.entry }
+{
+    match refusal.to_fault(alloc) {
+        Ok(fault) => fault,
+        Err(_) => ProfileFault::Memory,
     }
 }

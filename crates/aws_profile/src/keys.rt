@@ -33,7 +33,8 @@ fn all_visible(text: &[u8]) -> bool
     text.iter().all(|byte| is_visible_byte(*byte))
 }
 
-fn is_visible(text: &[u8]) -> bool
+/// Whether a text can stand in a header: visible ASCII characters, at least one.
+pub fn is_visible(text: &[u8]) -> bool
     ensures { result ≡ is_visible text.now }
 {
     !text.is_empty() && all_visible(text)

@@ -15,5 +15,6 @@ mod tests;
 mod texts;
 mod values;
 
-pub use answers::settings;
+pub use answers::{Choice, Refusal, decide, settings};
+pub use keys::{AccessKey, is_visible};
 pub use s3_model::{Config, EnvWords, Keys, ProfileFault, Settings};
