@@ -1,0 +1,12 @@
+//! The settings of a run, from the variables and the files of its environment.
+#![tactic(auto)]
+
+mod fault;
+mod files;
+mod settings;
+#[cfg(test)]
+mod tests;
+mod variables;
+
+pub use fault::SettingsFault;
+pub use settings::read_settings;

@@ -1,0 +1,65 @@
+//! The settings of a run.
+
+ghost use Rattle.std.specs.Prelude.{◌≡◌, ◌≢◌, ◌≤◌, Err, IfOk, IfSome, length, option_copied};
+ghost use Rattle.s3_model.specs.Counts.{Rose};
+ghost use Rattle.s3_model.specs.Validity.{IsValidConfig};
+ghost use Rattle.aws_profile.specs.Answers.{answer};
+ghost use Rattle.env_settings.specs.Calls.{AnswersAs, AsksFirst};
+ghost use Rattle.env_settings.specs.Places.{settings_paths};
+ghost use Rattle.env_settings.specs.Settings.{settings_of};
+
+use crate::fault::SettingsFault;
+use crate::files::{SettingsFiles, read_files};
+use crate::variables::{read_paths, read_words};
+use aws_profile::settings;
+use s3_model::{EnvWords, ProfileFault, Settings, Text};
+use s3_outside::Env;
+use std::alloc::Global;
+
+fn settings_from(
+    alloc: Global,
+    words: &EnvWords,
+    files: &SettingsFiles,
+) -> Result<Settings, SettingsFault>
+    requires config { length files.now.config.items ≤ 1048576 }
+    requires credentials { length files.now.credentials.items ≤ 1048576 }
+    ensures settings { AnswersAs (answer words.now files.now.config.items files.now.credentials.items) result }
+    ensures profile { result ≢ Err (SettingsFault.Profile ProfileFault.Memory) }
+    ensures read { result ≢ Err SettingsFault.EnvRead }
+    ensures valid { IfOk result (λ settings. IsValidConfig settings.config) }
+{
+    match settings(alloc, words, &files.config, &files.credentials) {
+        Ok(settings) => Ok(settings),
+        Err(ProfileFault::Memory) => Err(SettingsFault::Memory),
+        Err(fault) => Err(SettingsFault::Profile(fault)),
+    }
+}
+
+/// Reads the settings of a run: variables, the AWS CLI's config and credentials files, and the command's `--region` and
+/// `--profile` (AWS CLI User Guide, "Configuration and credential file settings", "Environment variables").
+///
+/// The config file is at AWS_CONFIG_FILE, else at `.aws/config` below HOME, the credentials file at
+/// AWS_SHARED_CREDENTIALS_FILE, else at `.aws/credentials` there; one without a place, and one that is absent, is empty. A
+/// variable that is empty counts as not set. Both files are read before anything is judged, each at most once, and a read
+/// that fails ends the call with `EnvRead`.
+pub fn read_settings<E: Env>(
+    alloc: Global,
+    env: &mut E,
+    region: Option<&Text>,
+    profile: Option<&Text>,
+) -> Result<Settings, SettingsFault>
+    ensures settings { IfSome (E.seen env.new) (λ seen. AnswersAs
+        (settings_of seen.variables seen.files (option_copied region.entry) (option_copied profile.entry)) result) }
+    ensures profile { result ≢ Err (SettingsFault.Profile ProfileFault.Memory) }
+    ensures read { result ≡ Err SettingsFault.EnvRead → Rose (E.faults env.old) (E.faults env.new) }
+    ensures asked { AsksFirst (λ seen. settings_paths seen.variables) result (E.seen env.old) (E.seen env.new)
+        (E.faults env.old) (E.faults env.new) }
+    ensures valid { IfOk result (λ settings. IsValidConfig settings.config) }
+    ensures limits { E.allows env.new ≡ E.allows env.old }
+    ensures later { E.faults env.old ≤ E.faults env.new }
+{
+    let paths = read_paths(alloc, env)?;
+    let words = read_words(alloc, env, region, profile)?;
+    let files = read_files(alloc, env, &paths)?;
+    settings_from(alloc, &words, &files)
+}
