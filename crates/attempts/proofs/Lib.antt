@@ -1,0 +1,4 @@
+pub mod AttemptLemmas
+pub mod ClassLemmas
+pub mod GainLemmas
+pub mod SaidLemmas

@@ -1,0 +1,9 @@
+use Rattle.attempts.specs.Steps.{IsJudged}
+use Rattle.attempts.proofs.ClassLemmas.{failed_call}
+use Rattle.attempts.proofs.send.send.Goals as goal
+
+pub returns-clause-failed : goal.returns-clause-failed
+returns-clause-failed g c is =
+    let (talk, kept, tells, lives, e) = c.exchange-talked.ensures.talk in
+    let judged : IsJudged c.args.ask.now c.exchange-talked.result c.classify.result = record { broken = c.classify.ensures.broken; classed = c.classify.ensures.answered } in
+    c.exchange-talked.ensures.failed (failed_call _ _ _ talk kept c.args.ask.now c.exchange-talked.result c.classify.result e judged is)

@@ -1,0 +1,3 @@
+pub mod Attempts
+pub mod Payloads
+pub mod Steps

@@ -1,0 +1,31 @@
+//! What the requests to one service have in common.
+
+ghost use Rattle.std.specs.Prelude.{◌≡◌, IfOk};
+
+use http_exchange::AnswerRoom;
+use s3_model::{Endpoint, Keys, OutOfMemory};
+use s3_requests::Signer;
+use std::alloc::Global;
+
+/// Where the requests to a service go, what signs them, and the room in which their answers are read. One client serves
+/// one request after the other; the signing key of a day is made once.
+#[derive(Drop)]
+pub struct Client {
+    pub endpoint: Endpoint,
+    pub signer: Signer,
+    pub room: AnswerRoom,
+}
+
+impl Client {
+    /// A client of the service at `endpoint`, some 800 KiB of memory.
+    pub fn make(alloc: Global, endpoint: Endpoint, keys: Keys) -> Result<Client, OutOfMemory>
+        ensures endpoint { IfOk result (λ client. client.endpoint ≡ endpoint) }
+        ensures keys { IfOk result (λ client. client.signer ≡ keys) }
+    {
+        Ok(Client {
+            endpoint,
+            signer: Signer::new(keys),
+            room: AnswerRoom::make(alloc)?,
+        })
+    }
+}

@@ -1,0 +1,12 @@
+//! One attempt of a request over a wire: it is signed and sent, and its answer is judged.
+#![tactic(auto)]
+
+mod client;
+mod payload;
+mod send;
+#[cfg(test)]
+mod tests;
+
+pub use client::Client;
+pub use payload::Payload;
+pub use send::{Attempted, attempt};

@@ -1,0 +1,85 @@
+//! What requests send behind their heads.
+
+ghost use Rattle.std.specs.Prelude.{◌≡◌, IfOk};
+ghost use Rattle.s3_requests.specs.Signing.{hex_sha256};
+ghost use Rattle.attempts.specs.Payloads.{body_of, content_of};
+
+use s3_model::{Ask, Bytes, OutOfMemory, Text};
+use s3_requests::{body_text, payload_hash};
+use std::alloc::Global;
+use std::marker::Model;
+
+/// Bytes that the caller lends, or a document that was made.
+#[derive(Drop)]
+pub enum Content<'a> {
+    Lent(&'a [u8]),
+    Document(Bytes),
+}
+
+/// The body of a request with its hash, which is made once, however often the request is sent. Contracts see the bytes.
+#[derive(Drop)]
+pub struct Payload<'a> {
+    content: Content<'a>,
+    hash: Text,
+}
+
+impl<'a> Model for Payload<'a> {
+    ghost use Rattle.std.specs.Prelude.{◌≡◌, List, ℕ};
+    ghost use Rattle.s3_requests.specs.Signing.{hex_sha256};
+    ghost use Rattle.attempts.specs.Payloads.{content_of};
+
+    ghost Value = { List ℕ };
+
+    ghost view = { λ p. content_of p.content };
+
+    ghost invariant = { λ p. p.hash ≡ hex_sha256 (content_of p.content) };
+}
+
+impl Content<'_> {
+    fn as_slice(&self) -> &[u8]
+        ensures { result.now ≡ content_of self.now }
+    {
+        match self {
+            Content::Lent(bytes) => bytes,
+            Content::Document(bytes) => bytes.as_slice(),
+        }
+    }
+}
+
+/// The content of a request: an object's bytes for Put and Part, else its document.
+fn content_for<'a>(alloc: Global, ask: &Ask, bytes: &'a [u8]) -> Result<Content<'a>, OutOfMemory>
+    ensures { IfOk result (λ content. content_of content ≡ body_of ask.now bytes.now) }
+{
+    match ask {
+        Ask::Put { .. } | Ask::Part { .. } => Ok(Content::Lent(bytes)),
+        _ => match body_text(alloc, ask) {
+            Ok(document) => Ok(Content::Document(document)),
+            Err(fault) => Err(fault),
+        },
+    }
+}
+
+impl<'a> Payload<'a> {
+    /// What a request sends: these bytes where it is a Put or a Part, the document of a Complete, else nothing.
+    pub fn of(alloc: Global, ask: &Ask, bytes: &'a [u8]) -> Result<Payload<'a>, OutOfMemory>
+        ensures { IfOk result (λ payload. payload ≡ body_of ask.now bytes.now) }
+    {
+        let content = content_for(alloc, ask, bytes)?;
+        let hash = payload_hash(alloc, content.as_slice())?;
+        Ok(Payload { content, hash })
+    }
+
+    /// The bytes, lent.
+    pub fn as_slice(&self) -> &[u8]
+        ensures { result.now ≡ self.now }
+    {
+        self.content.as_slice()
+    }
+
+    /// The SHA-256 of the bytes in 64 lower-case hexadecimal digits.
+    pub fn hash(&self) -> &str
+        ensures { result.now ≡ hex_sha256 self.now }
+    {
+        self.hash.as_str()
+    }
+}

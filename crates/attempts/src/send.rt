@@ -1,0 +1,146 @@
+//! A request is signed and sent, in one talk, and its answer is judged.
+
+ghost use Rattle.std.specs.Prelude.{◌≡◌, ◌≢◌, ◌≤◌, false, true, Some, None, IfSome, IfOk, OnErr};
+ghost use Rattle.s3_model.specs.Counts.{Rose};
+ghost use Rattle.attempts.specs.Attempts.{Gains, IfMade, IsGet, IsSilent, Makes, Request};
+ghost use Rattle.attempts.specs.Steps.{IsAnsweredBy, IsSigned};
+ghost use Rattle.answer_classes.specs.Showing.{is_head};
+
+use crate::client::Client;
+use crate::payload::Payload;
+use answer_classes::classify;
+use http_exchange::exchange;
+use s3_model::{Ask, Bytes, Class, OutOfMemory, Text, Why};
+use s3_outside::Wire;
+use std::alloc::Global;
+
+/// What came of one attempt.
+#[derive(Debug, Drop)]
+pub enum Attempted {
+    /// Memory ran out before the talk.
+    Memory,
+    /// One talk was made; the class is what its answer means.
+    Made(Class),
+}
+
+/// The head of a request, signed at the wire's moment.
+fn sign<W: Wire>(
+    alloc: Global,
+    wire: &mut W,
+    client: &mut Client,
+    ask: &Ask,
+    payload: &Payload<'_>,
+) -> Result<Text, OutOfMemory>
+    ensures signed { IfOk result (λ head. Gains (W.seen wire.old) (W.seen wire.new)
+        (IsSigned client.old.endpoint client.old.signer ask.now payload.now head)) }
+    ensures silent { OnErr result (Gains (W.seen wire.old) (W.seen wire.new) IsSilent) }
+    ensures later { W.faults wire.old ≤ W.faults wire.new }
+    ensures endpoint { client.new.endpoint ≡ client.old.endpoint }
+    ensures keys { client.new.signer ≡ client.old.signer }
+{
+    let moment = wire.moment();
+    client.signer.head_text(
+        alloc,
+        ask,
+        &client.endpoint,
+        moment,
+        payload.hash(),
+        payload.as_slice().len() as u64,
+    )
+}
+
+/// Whether a request is a HEAD, whose answer has no body.
+fn is_head(ask: &Ask) -> bool
+    ensures { result ≡ is_head ask.now }
+{
+    matches!(ask, Ask::Head { .. })
+}
+
+/// Sends a request whose head is signed, and judges the answer.
+fn send<W: Wire>(
+    alloc: Global,
+    wire: &mut W,
+    client: &mut Client,
+    ask: &Ask,
+    head: &Text,
+    payload: &Payload<'_>,
+    limit: Option<u64>,
+    into: &mut Bytes,
+    keep: bool,
+) -> Class
+    requires limit { IfSome limit (λ most. IsGet ask.now × (most ≤ into.old.room)) }
+    ensures answered { let request : Request = record {
+      endpoint = client.old.endpoint;
+      keys = client.old.signer;
+      asked = ask.now;
+      body = payload.now;
+      limit = limit;
+    } in IsAnsweredBy request keep head.now (W.seen wire.old) (W.seen wire.new) (W.alive wire.new)
+        (W.faults wire.old) (W.faults wire.new) into.old into.new result }
+    ensures failed { result ≡ Class.Uncertain Why.WireFailed → Rose (W.faults wire.old) (W.faults wire.new) }
+    ensures later { W.faults wire.old ≤ W.faults wire.new }
+    ensures endpoint { client.new.endpoint ≡ client.old.endpoint }
+    ensures keys { client.new.signer ≡ client.old.signer }
+    ensures untouched { limit ≡ None → into.new ≡ into.old }
+    ensures room { into.new.room ≡ into.old.room }
+{
+    let talked = exchange(
+        alloc,
+        wire,
+        &mut client.room,
+        &client.endpoint,
+        head.as_str().as_bytes(),
+        payload.as_slice(),
+        is_head(ask),
+        keep,
+        limit,
+        into,
+    );
+    classify(alloc, ask, talked)
+}
+
+/// Makes one attempt of a request: signs it at the wire's moment, sends it in one talk, and judges the answer.
+///
+/// `payload` is what the request sends behind its head. Under `Some(limit)`, for a Get alone, the body of a 2xx answer
+/// goes to `into`, which is cleared first, and has at most `limit` bytes. Under `None` `into` stays as it is, and such
+/// a body has at most 8,388,608 bytes. The connection is kept for the next request only where `keep` is true and the
+/// answer allows it. What was not a success leaves any bytes in `into`.
+///
+/// # Errors
+///
+/// `Memory` where memory ran out before the talk. Else the class is that of the talk, or `Uncertain(Memory)` where
+/// memory ran out in it or behind it; `Uncertain(WireFailed)` comes only where a call of the wire failed.
+pub fn attempt<W: Wire>(
+    alloc: Global,
+    wire: &mut W,
+    client: &mut Client,
+    ask: &Ask,
+    payload: &Payload<'_>,
+    limit: Option<u64>,
+    into: &mut Bytes,
+    keep: bool,
+) -> Attempted
+    requires limit { IfSome limit (λ most. IsGet ask.now × (most ≤ into.old.room)) }
+    ensures gained { let request : Request = record {
+      endpoint = client.old.endpoint;
+      keys = client.old.signer;
+      asked = ask.now;
+      body = payload.now;
+      limit = limit;
+    } in Gains (W.seen wire.old) (W.seen wire.new) (Makes request result into.new.bytes) }
+    ensures kept { IfMade result (λ shown. keep ≡ false → W.alive wire.new ≢ Some true) }
+    ensures failed { result ≡ Attempted.Made (Class.Uncertain Why.WireFailed)
+        → Rose (W.faults wire.old) (W.faults wire.new) }
+    ensures later { W.faults wire.old ≤ W.faults wire.new }
+    ensures endpoint { client.new.endpoint ≡ client.old.endpoint }
+    ensures keys { client.new.signer ≡ client.old.signer }
+    ensures untouched { limit ≡ None → into.new ≡ into.old }
+    ensures room { into.new.room ≡ into.old.room }
+{
+    match sign(alloc, wire, client, ask, payload) {
+        Ok(head) => Attempted::Made(send(
+            alloc, wire, client, ask, &head, payload, limit, into, keep,
+        )),
+        Err(_) => Attempted::Memory,
+    }
+}
