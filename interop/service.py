@@ -20,6 +20,11 @@ OTHER_KEYS = {**KEYS, "AWS_ACCESS_KEY_ID": "AKIAOTHER", "AWS_SECRET_ACCESS_KEY":
 
 PACKAGES = {"moto": "'moto[server]'", "boto3": "boto3"}
 
+NO_TOOLCHAIN = (
+    "rt is not on this machine: it is the command of the Rattle kit, which builds the program;"
+    " unpack the kit that README.md names, and put its folder bin/ on the PATH"
+)
+
 
 def missing(*modules):
     """Which of these Python packages this machine lacks, and how to get them; empty where all are there."""
@@ -50,33 +55,35 @@ def free_ports(count):
 def program(root, crate="s3", words=("--", "--version"), progress=None):
     """The path of a built program of this repository; it is built first, and run with these words.
 
-    `progress` is called with each line in which the toolchain says how far it is.
+    `progress` is called with each line that the toolchain prints.
     """
     folder = os.path.join(root, "crates", crate)
     if shutil.which("rt") is None:
-        sys.exit("rt, the toolchain, is not on this machine")
-    building = subprocess.Popen(
-        ["rt", "run", *words],
-        cwd=folder,
-        stdout=subprocess.PIPE,
-        stderr=subprocess.STDOUT,
-        text=True,
-        start_new_session=True,
-    )
+        sys.exit(NO_TOOLCHAIN)
     shown = []
-    try:
-        for line in building.stdout:
-            shown.append(line)
-            if progress and line.startswith(("so far", "crate ")):
-                progress(line.rstrip())
-        building.wait()
-    except BaseException:
-        os.killpg(building.pid, signal.SIGTERM)
-        building.wait()
-        raise
-    if building.returncode != 0:
+
+    def heard(line):
+        shown.append(line)
+        if progress:
+            progress(line.rstrip())
+
+    if run_group(["rt", "run", *words], heard, cwd=folder) != 0:
         sys.exit("the program was not built:\n" + "".join(shown))
     return os.path.join(folder, "out", crate)
+
+
+def run_group(command, heard, **how):
+    """The status of a command, of which each line is heard as it comes; what it started ends with an interrupt."""
+    output = {"stdout": subprocess.PIPE, "stderr": subprocess.STDOUT, "text": True}
+    running = subprocess.Popen(command, start_new_session=True, **output, **how)
+    try:
+        for line in running.stdout:
+            heard(line)
+        return running.wait()
+    except BaseException:
+        os.killpg(running.pid, signal.SIGTERM)
+        running.wait()
+        raise
 
 
 def interrupt(*_):
