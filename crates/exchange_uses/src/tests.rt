@@ -327,6 +327,33 @@ fn failed_calls_break_the_talk(rt: HostRuntime) -> Result<(), Fail> {
     Ok(())
 }
 
+const NO_BODY: &str = "HTTP/1.1 204 No\r\n\r\n";
+
+/// How many connections two talks with the same service open, of which the first gets this answer.
+fn connections_of(alloc: Global, answer: &str) -> Result<u32, Fail> {
+    let endpoint = endpoint(alloc)?;
+    let mut room = AnswerRoom::make(alloc)?;
+    let mut into = Bytes::make(alloc, 8)?;
+    let second = NO_BODY.as_bytes().to_vec(alloc)?;
+    let answers = vec![in alloc; answer.as_bytes().to_vec(alloc)?, second]?;
+    let mut wire = ScriptWire::make(alloc, answers, Vec::new(alloc), 0);
+    for _ in 0..2 {
+        exchange(
+            alloc, &mut wire, &mut room, &endpoint, HEAD, b"", false, true, None, &mut into,
+        );
+    }
+    Ok(wire.opened())
+}
+
+#[test]
+fn a_kept_connection_is_taken_up(rt: HostRuntime) -> Result<(), Fail> {
+    let alloc = rt.alloc();
+    assert!(rt; connections_of(alloc, NO_BODY)? == 1);
+    assert!(rt; connections_of(alloc, "HTTP/1.1 204 No\r\nconnection: close\r\n\r\n")? == 2);
+    assert!(rt; connections_of(alloc, "HTTP/1.1 204 No\r\n\r\nx")? == 2);
+    Ok(())
+}
+
 /// Whether the connection is kept after this answer.
 fn is_kept(alloc: Global, answer: &str) -> Result<bool, Fail> {
     let endpoint = endpoint(alloc)?;

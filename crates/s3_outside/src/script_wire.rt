@@ -24,6 +24,7 @@ pub struct ScriptWire {
     moment: u64,
     log: TalkLog,
     is_alive: bool,
+    opened: u32,
     begins: usize,
     sends: usize,
     takes: usize,
@@ -58,6 +59,7 @@ impl ScriptWire {
             moment,
             log: TalkLog::make(alloc),
             is_alive: false,
+            opened: 0,
             begins: 0,
             sends: 0,
             takes: 0,
@@ -95,6 +97,30 @@ impl ScriptWire {
         ensures { IfSome (⟦<ScriptWire as Wire>⟧.alive self.now) (λ alive. alive ≡ result) }
     {
         self.is_alive
+    }
+
+    /// How many connections were opened: one for each talk that did not go over a kept one to the same host and port.
+    pub fn opened(&self) -> u32 {
+        self.opened
+    }
+
+    // Whether the last talk went to that host and port.
+    fn is_last_service(&self, host: &str, port: u16) -> bool {
+        match self.log.talks().last() {
+            Some(talk) => talk.host.as_str() == host && talk.port == port,
+            None => false,
+        }
+    }
+
+    // Counts a connection that was opened, which is none where the last one is kept for that service.
+    fn count_opening(&mut self, begun: bool, host: &str, port: u16)
+        ensures log { self.new.log ≡ self.old.log }
+        ensures alive { self.new.is_alive ≡ self.old.is_alive }
+        ensures faults { self.new.faults ≡ self.old.faults }
+    {
+        if begun && !(self.is_alive && self.is_last_service(host, port)) {
+            self.opened = self.opened.saturating_add(1);
+        }
     }
 
     // Whether that call is listed to fail.
@@ -135,14 +161,15 @@ impl Wire for ScriptWire {
     ghost faults = { λ w. w.faults };
 
     fn begin(&mut self, host: &str, port: u16) -> Result<(), Failed> {
-        let opened = !self.is_failing(WireCall::Begin, self.begins);
+        let begun = !self.is_failing(WireCall::Begin, self.begins);
         self.begins = self.begins.saturating_add(1);
         self.place = 0;
-        self.is_alive = opened && self.is_alive;
-        if self.log.begin(host, port, opened).is_err() {
+        self.is_alive = begun && self.is_alive;
+        self.count_opening(begun, host, port);
+        if self.log.begin(host, port, begun).is_err() {
             count_fault(&mut self.faults);
         }
-        if opened {
+        if begun {
             Ok(())
         } else {
             Err(count_fault(&mut self.faults))
