@@ -32,6 +32,3 @@ pub use std_sink::StdSink;
 pub use talk_log::{TalkEnding, TalkLog, TalkRecord, WireNote};
 pub use text_map::TextMap;
 pub use wire::{Failed, Wire};
-
-#[cfg(test)]
-mod tests;
