@@ -31,7 +31,8 @@ abbrev pub asks_first : ℕ → (SeenEnv → List (List ℕ)) → SeenEnv → Se
 asks_first count paths env = record env { asked = env.asked ++ take count (paths env) }
 
 -- the first of at most two paths were asked for, each once, in order, and no other; nothing else changed
-pub record AsksFirst {T : Type 0} (paths : SeenEnv → List (List ℕ)) (result : Result T SettingsFault) (old new : Option SeenEnv) (before after : ℕ) : Type 0 where
+pub record AsksFirst {T : Type 0} (paths : SeenEnv → List (List ℕ)) (result : Result T SettingsFault)
+    (old new : Option SeenEnv) (before after : ℕ) : Type 0 where
   pub count : ℕ
   pub least : least_asked result ≤ count
   pub asked : IsSeenAfter (asks_first count paths) old new before after

@@ -1,4 +1,4 @@
--- Where the settings files are (AWS CLI User Guide, "Configuration and credential file settings", "Where are configuration settings stored?").
+-- Where the settings files are (AWS CLI User Guide, "Configuration and credential file settings").
 use Rattle.std.specs.Prelude.{◌++◌, ◌==◌, ℕ, List, [], ◌∷◌, Option, Some, None, length, codes, option_map, unwrap_or, if◌then◌else◌}
 use Rattle.std.specs.Option.{option_or}
 use Rattle.std.specs.FinMap.{get}
@@ -14,7 +14,8 @@ set_value variables name = not_empty (get variables name)
 
 -- the path that a variable names, else the one below the home folder
 abbrev pub path_of : MapOf (List ℕ) → (name below : List ℕ) → Option (List ℕ)
-path_of variables name below = option_or (set_value variables name) (option_map (λ home. home ++ below) (set_value variables (codes "HOME")))
+path_of variables name below =
+    option_or (set_value variables name) (option_map (λ home. home ++ below) (set_value variables (codes "HOME")))
 
 abbrev pub config_path : MapOf (List ℕ) → Option (List ℕ)
 config_path variables = path_of variables (codes "AWS_CONFIG_FILE") (codes "/.aws/config")

@@ -1,4 +1,4 @@
--- The settings of a run, as a function of its environment's variables and files (AWS CLI User Guide, "Environment variables" and "Command line options").
+-- The settings of a run, from its variables and files (AWS CLI User Guide, "Environment variables").
 use Rattle.std.specs.Prelude.{ℕ, List, Option, Result, codes, is_some}
 use Rattle.std.specs.Option.{option_or}
 use Rattle.std.specs.FinMap.{get}
@@ -13,7 +13,8 @@ use Rattle.env_settings.specs.Places.{set_value, config_path, credentials_path, 
 -- of `--region`, AWS_REGION and AWS_DEFAULT_REGION the first that can stand in a header
 abbrev pub region_of : MapOf (List ℕ) → Option (List ℕ) → Option (List ℕ)
 region_of variables region =
-    option_or (usable region) (option_or (usable (get variables (codes "AWS_REGION"))) (usable (get variables (codes "AWS_DEFAULT_REGION"))))
+    option_or (usable region)
+    (option_or (usable (get variables (codes "AWS_REGION"))) (usable (get variables (codes "AWS_DEFAULT_REGION"))))
 
 -- what variables and command line say; `--profile` is asked before AWS_PROFILE
 abbrev pub words_of : MapOf (List ℕ) → (region profile : Option (List ℕ)) → EnvWords
@@ -26,6 +27,8 @@ words_of variables region profile = record {
   named = is_some profile;
 }
 
-abbrev pub settings_of : (variables files : MapOf (List ℕ)) → (region profile : Option (List ℕ)) → Result Settings ProfileFault
+abbrev pub settings_of : (variables files : MapOf (List ℕ)) → (region profile : Option (List ℕ))
+    → Result Settings ProfileFault
 settings_of variables files region profile =
-    answer (words_of variables region profile) (bytes_at files (config_path variables)) (bytes_at files (credentials_path variables))
+    answer (words_of variables region profile) (bytes_at files (config_path variables))
+    (bytes_at files (credentials_path variables))
