@@ -1,6 +1,6 @@
 //! What requests send behind their heads.
 
-ghost use Rattle.std.specs.Prelude.{◌≡◌, IfOk};
+ghost use Rattle.std.specs.Prelude.{◌≡◌, [], IfOk};
 ghost use Rattle.s3_requests.specs.Signing.{hex_sha256};
 ghost use Rattle.attempts.specs.Payloads.{body_of, content_of};
 
@@ -66,6 +66,15 @@ impl<'a> Payload<'a> {
     {
         let content = content_for(alloc, ask, bytes)?;
         let hash = payload_hash(alloc, content.as_slice())?;
+        Ok(Payload { content, hash })
+    }
+
+    /// What a request sends that has no body.
+    pub fn empty(alloc: Global) -> Result<Payload<'a>, OutOfMemory>
+        ensures { IfOk result (λ payload. payload ≡ []) }
+    {
+        let hash = payload_hash(alloc, &[])?;
+        let content = Content::Lent(&[]);
         Ok(Payload { content, hash })
     }
 
