@@ -1,0 +1,6 @@
+pub mod AskedLemmas
+pub mod BucketLemmas
+pub mod CarriedLaw
+pub mod CarriedLemmas
+pub mod ListLemmas
+pub mod PageLemmas

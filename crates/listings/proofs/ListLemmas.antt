@@ -1,0 +1,111 @@
+-- A listing goes on by one page, or ends, as its wire gains; and it cannot go on for ever.
+use Rattle.std.proofs.Common.{◌≡◌, ◌∙◌, ◌==◌, ◌+◌, ◌*◌, ◌<◌, ◌≤◌, ℕ, Bool, true, false, List, [], Option, None, refl, sym, ap, subst, inl, arith, length-append}
+use Rattle.shared_lemmas.proofs.Clashes.{true_is_false}
+use Rattle.std.specs.Prelude.{◌||◌, not, Result, Ok, Err}
+use Rattle.s3_model.specs.declared.requests.Ask.{Ask}
+use Rattle.s3_model.specs.declared.answers.Class.{Class}
+use Rattle.s3_model.specs.declared.answers.Listed.{Listed}
+use Rattle.s3_model.specs.declared.outcomes.Event.{Event}
+use Rattle.s3_model.specs.declared.places.Endpoint.{Endpoint}
+use Rattle.s3_model.specs.declared.settings.Keys.{Keys}
+use Rattle.s3_model.specs.Talks.{WireLog}
+use Rattle.attempts.specs.Attempts.{Gains}
+use Rattle.attempts.proofs.GainLemmas.{gains_both, gains_nothing}
+use Rattle.list_walk.specs.Pages.{Gathered, IsSound, Walk, count_of, gathered_with, new_walk, refusal_of, total_of, with_page}
+use Rattle.list_walk.proofs.LawLemmas.{taken_where_sound}
+use Rattle.listings.specs.Asked.{IsGiven}
+use Rattle.listings.specs.Pages.{IsNext, Listing, Lists}
+use Rattle.listings.specs.declared.fault.ListingFault.{ListingFault}
+use Rattle.listings.specs.declared.fault.ListingFault.TheVariants as fault
+use Rattle.listings.proofs.PageLemmas.{IsUnderway, at_first, last_page, more_pages, no_page, stops_here}
+
+-- ---- nothing was asked
+
+pub none_given : (endpoint : Endpoint) (keys : Keys) (asked : Ask) (number : ℕ) (before after : List Event) (given : Option Class) (seen : Option WireLog) → given ≡ None → after ≡ before
+    → Gains seen seen (IsGiven endpoint keys asked number before after given)
+none_given endpoint keys asked number before after given seen none same =
+    subst (λ (o : Option Class). Gains seen seen (IsGiven endpoint keys asked number before after o)) (sym none)
+    (gains_nothing (IsGiven endpoint keys asked number before after None) seen (inl (same, refl, refl)))
+
+pub none_next : (endpoint : Endpoint) (keys : Keys) (number : ℕ) (walk : Walk) (events : List Event) (seen : Option WireLog)
+    → Gains seen seen (IsNext endpoint keys number walk walk events events (Err fault.Memory))
+none_next endpoint keys number walk events seen =
+    gains_nothing (IsNext endpoint keys number walk walk events events (Err fault.Memory)) seen (record { given = None; gives = inl (refl, refl, refl); takes = refl })
+
+pub none_listed : (l : Listing) (events : List Event) (seen : Option WireLog) → Gains seen seen (Lists l events events (Err fault.Memory))
+none_listed l events seen =
+    gains_nothing (Lists l events events (Err fault.Memory)) seen
+    (stops_here l (new_walk l.bucket l.prefix l.delimited) l.first events events [] [] (at_first l events) events refl)
+
+pub begins : (l : Listing) (walk : Walk) (events : List Event) (seen : Option WireLog) → walk ≡ new_walk l.bucket l.prefix l.delimited
+    → Gains seen seen (IsUnderway l walk l.first events events)
+begins l walk events seen is =
+    subst (λ (w : Walk). Gains seen seen (IsUnderway l w l.first events events)) (sym is)
+    (gains_nothing (IsUnderway l (new_walk l.bucket l.prefix l.delimited) l.first events events) seen (at_first l events))
+
+-- ---- one page more
+
+module _ (l : Listing) (walk after_walk : Walk) (number : ℕ) (before middle after : List Event) (first second third : Option WireLog) (endpoint : Endpoint) (keys : Keys)
+    (same_endpoint : endpoint ≡ l.endpoint) (same_keys : keys ≡ l.keys) (result : Result Bool ListingFault) (u : Gains first second (IsUnderway l walk number before middle))
+    (n : Gains second third (IsNext endpoint keys number walk after_walk middle after result)) where
+  abbrev Next : Endpoint → Keys → Result Bool ListingFault → Type 0
+  Next e k r = Gains second third (IsNext e k number walk after_walk middle after r)
+
+  next_is : (r : Result Bool ListingFault) → result ≡ r → Next l.endpoint l.keys r
+  next_is r is =
+      subst (λ (other : Result Bool ListingFault). Next l.endpoint l.keys other) is
+      (subst (λ (k : Keys). Next l.endpoint k result) same_keys (subst (λ (e : Endpoint). Next e keys result) same_endpoint n))
+
+  pub goes_on : result ≡ Ok true → Gains first third (IsUnderway l after_walk (number + 1) before after)
+  goes_on is =
+      gains_both (IsUnderway l walk number before middle) (IsNext l.endpoint l.keys number walk after_walk middle after (Ok true)) (IsUnderway l after_walk (number + 1) before after)
+      (λ talks more notes others under next. more_pages l walk number before middle talks notes under after_walk more others after next) first second third u (next_is (Ok true) is)
+
+  pub ends : result ≡ Ok false → Gains first third (Lists l before after (Ok after_walk))
+  ends is =
+      gains_both (IsUnderway l walk number before middle) (IsNext l.endpoint l.keys number walk after_walk middle after (Ok false)) (Lists l before after (Ok after_walk))
+      (λ talks more notes others under next. last_page l walk number before middle talks notes under after_walk more others after next) first second third u (next_is (Ok false) is)
+
+  pub fails : (f : ListingFault) → result ≡ Err f → Gains first third (Lists l before after (Err f))
+  fails f is =
+      gains_both (IsUnderway l walk number before middle) (IsNext l.endpoint l.keys number walk after_walk middle after (Err f)) (Lists l before after (Err f))
+      (λ talks more notes others under next. no_page l walk number before middle talks notes under after_walk more others after f next) first second third u (next_is (Err f) is)
+
+-- ---- it ends
+
+pub sound_behind : (prefix : List ℕ) (g : Gathered) (page : Listed) → IsSound prefix g → refusal_of prefix g page ≡ None → IsSound prefix (gathered_with g page)
+sound_behind prefix g page sound none = ((taken_where_sound prefix g page sound).0 none).0
+
+-- each page adds an entry, or is one more without any
+pub steps_up : (g : Gathered) (page : Listed) → g.empty < 1000 → 1000 * total_of g + g.empty + 1 ≤ 1000 * total_of (gathered_with g page) + (gathered_with g page).empty
+steps_up g page few = by_count (count_of page == 0) refl
+  where
+    by_count : (none : Bool) → (count_of page == 0) ≡ none → 1000 * total_of g + g.empty + 1 ≤ 1000 * total_of (gathered_with g page) + (gathered_with g page).empty
+    by_count true e =
+        let entries = length-append g.entries page.entries.items in
+        let prefixes = length-append g.prefixes page.prefixes.items in
+        rw e (omega (arith, entries, prefixes))
+    by_count false e =
+        let entries = length-append g.entries page.entries.items in
+        let prefixes = length-append g.prefixes page.prefixes.items in
+        let some : 1 ≤ count_of page = grind (arith, e) in
+        rw e (omega (arith, entries, prefixes, some))
+
+open_behind : (over more : Bool) → over ≡ false → true ≡ more → (over || not more) ≡ false
+open_behind true more e is = absurd (true_is_false e)
+open_behind false true e is = refl
+open_behind false false e is = absurd (true_is_false is)
+
+-- what holds of a walk that goes on holds behind one page more
+module _ (walk after : Walk) (page : Listed) (is : after ≡ with_page walk page) where
+  pub still_open : walk.over ≡ false → true ≡ page.more → after.over ≡ false
+  still_open open_before more = ap (λ (w : Walk). w.over) is ∙ open_behind walk.over page.more open_before more
+
+  pub still_sound : IsSound walk.prefix walk.gathered → refusal_of walk.prefix walk.gathered page ≡ None → IsSound after.prefix after.gathered
+  still_sound sound none = subst (λ (w : Walk). IsSound w.prefix w.gathered) (sym is) (sound_behind walk.prefix walk.gathered page sound none)
+
+  pub still_bound : (first number : ℕ) → walk.gathered.empty < 1000 → number ≤ first + (1000 * total_of walk.gathered + walk.gathered.empty)
+      → number + 1 ≤ first + (1000 * total_of after.gathered + after.gathered.empty)
+  still_bound first number few bound =
+      let up = steps_up walk.gathered page few in
+      subst (λ (w : Walk). number + 1 ≤ first + (1000 * total_of w.gathered + w.gathered.empty)) (sym is) (omega (arith, up))

@@ -1,0 +1,50 @@
+use Rattle.std.proofs.Common.{◌≡◌, ◌∙◌, Bool, true, ap, arith, refl, subst, sym}
+use Rattle.std.specs.Prelude.{IfOk, Result, Ok}
+use Rattle.list_walk.specs.Pages.{IsSound, Walk}
+use Rattle.list_walk.proofs.PageLemmas.{nothing_is_sound}
+use Rattle.listings.proofs.ListLemmas.{begins, ends, fails, goes_on, none_listed, still_bound, still_open, still_sound}
+use Rattle.listings.specs.Pages.{TookPage}
+use Rattle.listings.specs.declared.fault.ListingFault.{ListingFault}
+use Rattle.listings.proofs.pages.list_pages.Goals as goal
+
+pub returns-in_default-clause-listed : goal.returns-in_default-clause-listed
+returns-in_default-clause-listed g c = none_listed _ _ _
+
+pub loop-number-init : goal.loop-number-init
+loop-number-init g c = record {
+  underway = begins _ _ _ _ c.in-Ok.ensures;
+  goes_on = ap (λ (w : Walk). w.over) c.in-Ok.ensures;
+  sound = subst (λ (w : Walk). IsSound w.prefix w.gathered) (sym c.in-Ok.ensures) (nothing_is_sound c.args.prefix.now);
+  bound = omega arith;
+  few = omega arith;
+  later = omega arith;
+  endpoint = refl;
+  keys = refl;
+}
+
+pub returns-in-Err-clause-listed : goal.returns-in-Err-clause-listed
+returns-in-Err-clause-listed g c =
+    fails _ _ _ _ _ _ _ _ _ _ _ _ c.loop-number.invariant.endpoint c.loop-number.invariant.keys c.next_page.result c.loop-number.invariant.underway c.next_page.ensures.next _ c.in-Err.is
+
+pub returns-in-Ok-false-clause-listed : goal.returns-in-Ok-false-clause-listed
+returns-in-Ok-false-clause-listed g c =
+    let is = c.in-Ok-false.is ∙ ap (λ (more : Bool). Ok more) c.in-Ok-false.field-0-test in
+    ends _ _ _ _ _ _ _ _ _ _ _ _ c.loop-number.invariant.endpoint c.loop-number.invariant.keys c.next_page.result c.loop-number.invariant.underway c.next_page.ensures.next is
+
+pub loop-number-preserved : goal.loop-number-preserved
+loop-number-preserved g c =
+    let is : c.next_page.result ≡ Ok true = c.in-Ok-true.is ∙ ap (λ (more : Bool). Ok more) c.in-Ok-true.field-0-test in
+    let before = c.loop-number.pages in
+    let after = c.next_page.new.pages in
+    let before_is = c.loop-number.invariant in
+    let (page, none, is_with, more) = subst (λ (r : Result Bool ListingFault). IfOk r (TookPage before after)) is c.next_page.ensures.took in
+    record {
+      underway = goes_on _ _ _ _ _ _ _ _ _ _ _ _ before_is.endpoint before_is.keys c.next_page.result before_is.underway c.next_page.ensures.next is;
+      goes_on = still_open before after page is_with before_is.goes_on more;
+      sound = still_sound before after page is_with before_is.sound none;
+      bound = still_bound before after page is_with c.args.first c.loop-number.number before_is.sound.few_empty before_is.bound;
+      few = omega (arith, before_is.few, c.next_page.ensures.few);
+      later = omega (arith, before_is.later, c.next_page.ensures.later);
+      endpoint = c.next_page.ensures.endpoint ∙ before_is.endpoint;
+      keys = c.next_page.ensures.keys ∙ before_is.keys;
+    }

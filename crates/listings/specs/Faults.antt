@@ -1,0 +1,15 @@
+-- Why a listing ends early, by the class of its last request.
+use Rattle.s3_model.specs.declared.answers.Class.{Class}
+use Rattle.s3_model.specs.declared.answers.Class.TheVariants as class
+use Rattle.s3_model.specs.declared.answers.Why.TheVariants as why
+use Rattle.s3_model.specs.declared.outcomes.Cause.TheVariants as cause
+use Rattle.s3_model.specs.declared.requests.Op.{Op}
+use Rattle.listings.specs.declared.fault.ListingFault.{ListingFault}
+use Rattle.listings.specs.declared.fault.ListingFault.TheVariants as fault
+
+-- the fault of a request that did not list what was asked
+abbrev pub fault_of : Op → Class → ListingFault
+fault_of op (class.Success said) = fault.Answer (cause.BadReply op)
+fault_of op (class.Refusal code message) = fault.Answer (cause.Service op code message)
+fault_of op (class.Uncertain why.Memory) = fault.Memory
+fault_of op (class.Uncertain reason) = fault.Answer (cause.Lost op reason)

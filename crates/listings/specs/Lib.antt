@@ -1,0 +1,5 @@
+pub mod Asked
+pub mod Buckets
+pub mod Carried
+pub mod Faults
+pub mod Pages

@@ -1,0 +1,31 @@
+//! Why a listing ends early.
+
+ghost use Rattle.std.specs.Prelude.{◌≡◌};
+ghost use Rattle.listings.specs.Faults.{fault_of};
+
+use s3_model::{BadListing, Cause, Class, Op, Why};
+
+/// Why a listing has no end.
+#[derive(Debug, Drop)]
+pub enum ListingFault {
+    /// A page is refused.
+    Listing(BadListing),
+    /// A request had no success.
+    Answer(Cause),
+    /// Memory ran out.
+    Memory,
+}
+
+/// What a request came to that did not list what was asked.
+pub(crate) fn fault_of(op: Op, class: Class) -> ListingFault
+    ensures { result ≡ fault_of op class }
+{
+    match class {
+        Class::Success(_) => ListingFault::Answer(Cause::BadReply { op }),
+        Class::Refusal { code, message } => {
+            ListingFault::Answer(Cause::Service { op, code, message })
+        }
+        Class::Uncertain(Why::Memory) => ListingFault::Memory,
+        Class::Uncertain(why) => ListingFault::Answer(Cause::Lost { op, why }),
+    }
+}

@@ -1,0 +1,75 @@
+//! One request of the planning, given to the first lane.
+
+ghost use Rattle.std.specs.Prelude.{◌≡◌, ◌≤◌, ◌+◌, length};
+ghost use Rattle.run_promise.specs.Schedule.{op_of};
+ghost use Rattle.attempts.specs.Attempts.{Gains};
+ghost use Rattle.run_promise.specs.Carried.{mark_of};
+ghost use Rattle.listings.specs.Asked.{IsGiven, tries_of};
+
+use attempts::{Attempted, Client, Payload, attempt};
+use s3_model::{Ask, Bytes, Class, Event, JobId, Journal, Mark, Op, Tries};
+use s3_outside::Wire;
+use std::alloc::Global;
+
+/// The mark of an attempt whose talk has that class.
+fn mark_of(class: &Class) -> Mark
+    ensures { result ≡ mark_of class.now }
+{
+    match class {
+        Class::Success(_) => Mark::Success,
+        Class::Refusal { .. } => Mark::Refusal,
+        Class::Uncertain(_) => Mark::Uncertain,
+    }
+}
+
+/// The mark of the attempt, or none where no talk was made.
+fn tries_of(attempted: &Attempted) -> Tries
+    ensures { result ≡ tries_of attempted.now }
+{
+    let mut tries = Tries::none();
+    if let Attempted::Made(class) = attempted {
+        tries.add(mark_of(class));
+    }
+    tries
+}
+
+/// Gives a request as the planning job of that number, and makes its one attempt: the class of its talk, or None where
+/// memory ran out before it. The journal has the job, unless memory ran out before that.
+pub(crate) fn give<W: Wire>(
+    alloc: Global,
+    wire: &mut W,
+    client: &mut Client,
+    ask: &Ask,
+    op: Op,
+    number: u32,
+    journal: &mut Journal,
+) -> Option<Class>
+    requires { op ≡ op_of ask.now }
+    ensures given { Gains (W.seen wire.old) (W.seen wire.new) (IsGiven client.old.endpoint client.old.signer ask.now
+        number journal.old.items journal.new.items result) }
+    ensures few { length journal.new.items ≤ length journal.old.items + 2 }
+    ensures later { W.faults wire.old ≤ W.faults wire.new }
+    ensures endpoint { client.new.endpoint ≡ client.old.endpoint }
+    ensures keys { client.new.signer ≡ client.old.signer }
+{
+    journal.reserve(2).ok()?;
+    let payload = Payload::empty(alloc).ok()?;
+    let mut into = Bytes::make(alloc, 0).ok()?;
+    let job = JobId {
+        task: None,
+        op,
+        number,
+    };
+    journal.push(Event::Given { job, lane: 0 });
+    let attempted = attempt(alloc, wire, client, ask, &payload, None, &mut into, true);
+    let tries = tries_of(&attempted);
+    journal.push(Event::Came {
+        job,
+        lane: 0,
+        tries,
+    });
+    match attempted {
+        Attempted::Made(class) => Some(class),
+        Attempted::Memory => None,
+    }
+}

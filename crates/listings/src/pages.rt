@@ -1,0 +1,110 @@
+//! All pages of a listing.
+
+ghost use Rattle.std.specs.Prelude.{◌≡◌, ◌≤◌, ◌+◌, false, IfOk, length};
+ghost use Rattle.attempts.specs.Attempts.{Gains};
+ghost use Rattle.listings.specs.Pages.{IsNext, Listing, Lists, TakesClass, TakesPage, TookPage};
+
+use crate::fault::{ListingFault, fault_of};
+use crate::one::give;
+use attempts::Client;
+use list_walk::Pages;
+use s3_model::{BadListing, Class, Journal, Listed, Op, Reply};
+use s3_outside::Wire;
+use std::alloc::Global;
+
+/// Takes a page, and answers whether more follow.
+fn take_page(pages: &mut Pages, page: &Listed) -> Result<bool, ListingFault>
+    ensures takes { TakesPage pages.old page.now pages.new result }
+{
+    match pages.feed(page) {
+        Ok(()) => Ok(page.more),
+        Err(BadListing::Memory) => Err(ListingFault::Memory),
+        Err(fault) => Err(ListingFault::Listing(fault)),
+    }
+}
+
+/// Takes the page that an answer has, and answers whether more follow.
+fn take_class(pages: &mut Pages, class: Class) -> Result<bool, ListingFault>
+    ensures takes { TakesClass pages.old class pages.new result }
+    ensures took { IfOk result (TookPage pages.old pages.new) }
+{
+    match class {
+        Class::Success(Reply::Listed(page)) => take_page(pages, &page),
+        other => Err(fault_of(Op::List, other)),
+    }
+}
+
+/// Asks for the next page and takes it, and answers whether more follow.
+fn next_page<W: Wire>(
+    alloc: Global,
+    wire: &mut W,
+    client: &mut Client,
+    pages: &mut Pages,
+    number: u32,
+    journal: &mut Journal,
+) -> Result<bool, ListingFault>
+    requires { pages.old.over ≡ false }
+    ensures next { Gains (W.seen wire.old) (W.seen wire.new) (IsNext client.old.endpoint client.old.signer number
+        pages.old pages.new journal.old.items journal.new.items result) }
+    ensures took { IfOk result (TookPage pages.old pages.new) }
+    ensures few { length journal.new.items ≤ length journal.old.items + 2 }
+    ensures later { W.faults wire.old ≤ W.faults wire.new }
+    ensures endpoint { client.new.endpoint ≡ client.old.endpoint }
+    ensures keys { client.new.signer ≡ client.old.signer }
+{
+    let Ok(Some(ask)) = pages.ask() else {
+        return Err(ListingFault::Memory);
+    };
+    match give(alloc, wire, client, &ask, Op::List, number, journal) {
+        Some(class) => take_class(pages, class),
+        None => Err(ListingFault::Memory),
+    }
+}
+
+/// Asks for all pages of the listing of a prefix in a bucket, one after the other, and gathers them (Amazon S3 API,
+/// ListObjectsV2). Each page has one attempt.
+///
+/// The requests are planning jobs of the first lane, numbered from `first`; the journal has the events of each as it is
+/// given and as it comes. Where `delimited` is true, keys that have a `/` behind the prefix are listed by their first
+/// part alone.
+///
+/// # Errors
+///
+/// `Listing` where a page is refused, by [`Pages::feed`]; `Answer` where a request had no success; `Memory` where
+/// memory ran out. Nothing is asked after it.
+pub fn list_pages<W: Wire>(
+    alloc: Global,
+    wire: &mut W,
+    client: &mut Client,
+    bucket: &str,
+    prefix: &str,
+    delimited: bool,
+    first: u32,
+    journal: &mut Journal,
+) -> Result<Pages, ListingFault>
+    requires { first ≤ 2_000_000_000 }
+    ensures listed { let listing : Listing = record {
+      endpoint = client.old.endpoint;
+      keys = client.old.signer;
+      bucket = bucket.now;
+      prefix = prefix.now;
+      delimited = delimited;
+      first = first;
+    } in Gains (W.seen wire.old) (W.seen wire.new) (Lists listing journal.old.items journal.new.items result) }
+    ensures few { length journal.new.items ≤ length journal.old.items + 2_000_002_000 }
+    ensures later { W.faults wire.old ≤ W.faults wire.new }
+    ensures endpoint { client.new.endpoint ≡ client.old.endpoint }
+    ensures keys { client.new.signer ≡ client.old.signer }
+{
+    let Ok(mut pages) = Pages::make(alloc, bucket, prefix, delimited) else {
+        return Err(ListingFault::Memory);
+    };
+    for number in first..u32::MAX {
+        match next_page(alloc, wire, client, &mut pages, number, journal) {
+            Ok(true) => {}
+            Ok(false) => return Ok(pages),
+            Err(fault) => return Err(fault),
+        }
+    }
+    unreachable!()
+}
