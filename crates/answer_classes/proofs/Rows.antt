@@ -61,8 +61,23 @@ found_none doc bytes found at says is =
 abbrev Says : Ask → Answered → (document : List ℕ) → Reply → Type 0
 Says asked answered document said = Succeeded ReadsError ReadsReply asked answered document said
 
-pub succeeds : (asked : Ask) (answered : Answered) (said : Reply) → IsTwoHundred answered.status → Says asked answered answered.body.bytes said → IsClassed asked answered (class.Success said)
-succeeds asked answered said fine says = inl (row.succeeded said fine says)
+-- the class that an answer has with any document is its class with its own
+pub with_any : (asked : Ask) (answered : Answered) (shown : Class) → ((document : List ℕ) → HasClass asked answered document shown) → IsClassed asked answered shown
+with_any asked answered shown has = inl (has answered.body.bytes)
+
+pub get_reads : (bucket key etag : List ℕ) (range : Option (ℕ × ℕ)) (answered : Answered) → IsTwoHundred answered.status
+    → (document : List ℕ) → HasClass (ask.Get bucket key etag range) answered document (class.Success (reply.Got answered.status answered.range answered.taken))
+get_reads bucket key etag range answered fine document = row.succeeded (reply.Got answered.status answered.range answered.taken) fine (refl, refl, refl)
+
+pub put_stores : (bucket key : List ℕ) (content : Option (List ℕ)) (fresh : Bool) (answered : Answered) → IsTwoHundred answered.status
+    → (document : List ℕ) → HasClass (ask.Put bucket key content fresh) answered document (class.Success reply.Stored)
+put_stores bucket key content fresh answered fine document = row.succeeded reply.Stored fine tt
+
+pub delete_removes : (bucket key : List ℕ) (answered : Answered) → IsTwoHundred answered.status → (document : List ℕ) → HasClass (ask.Delete bucket key) answered document (class.Success reply.Gone)
+delete_removes bucket key answered fine document = row.succeeded reply.Gone fine tt
+
+pub abort_removes : (bucket key upload : List ℕ) (answered : Answered) → IsTwoHundred answered.status → (document : List ℕ) → HasClass (ask.Abort bucket key upload) answered document (class.Success reply.Gone)
+abort_removes bucket key upload answered fine document = row.succeeded reply.Gone fine tt
 
 head_has_all : (bucket key : List ℕ) (answered : Answered) (document : List ℕ) (said : Reply) → (answered.length ≡ None) ⊎ (answered.micros ≡ None) ⊎ (answered.etag ≡ None)
     → Says (ask.Head bucket key) answered document said → ⊥
@@ -73,25 +88,26 @@ head_has_all bucket key answered document said none h = absurd h
 
 pub head_reads : (answered : Answered) (size : ℕ) (etag : List ℕ) (micros : ℕ) → IsTwoHundred answered.status → answered.length ≡ Some size → answered.etag ≡ Some etag → answered.micros ≡ Some micros
     → IsHeadClass answered (class.Success (reply.Found size etag micros))
-head_reads answered size etag micros fine l e m bucket key = row.succeeded (reply.Found size etag micros) fine (l, e, m)
+head_reads answered size etag micros fine l e m bucket key document = row.succeeded (reply.Found size etag micros) fine (l, e, m)
 
 pub head_lacks : (answered : Answered) → IsTwoHundred answered.status → (answered.length ≡ None) ⊎ (answered.micros ≡ None) ⊎ (answered.etag ≡ None) → IsHeadClass answered (class.Uncertain why.Document)
-head_lacks answered fine none bucket key = row.unreadable fine (λ said h. head_has_all bucket key answered answered.body.bytes said none h) (λ code message fails. fails.0)
+head_lacks answered fine none bucket key document = row.unreadable fine (λ said h. head_has_all bucket key answered document said none h) (λ code message fails. fails.0)
 
 part_has_etag : (bucket key upload : List ℕ) (number : ℕ) (answered : Answered) (document : List ℕ) (said : Reply) → answered.etag ≡ None → Says (ask.Part bucket key upload number) answered document said → ⊥
 part_has_etag bucket key upload number answered document (reply.PartStored etag) none h = none_is_some etag (sym none ∙ h)
 part_has_etag bucket key upload number answered document said none h = absurd h
 
 part_by : (bucket key upload : List ℕ) (number : ℕ) (answered : Answered) (shown : Class) (found : Option (List ℕ)) → answered.etag ≡ found → IsTwoHundred answered.status → IsPartClass found shown
-    → HasClass (ask.Part bucket key upload number) answered answered.body.bytes shown
-part_by bucket key upload number answered shown (Some etag) is fine same =
-    subst (λ (c : Class). HasClass (ask.Part bucket key upload number) answered answered.body.bytes c) (sym same) (row.succeeded (reply.PartStored etag) fine is)
-part_by bucket key upload number answered shown None is fine same =
-    subst (λ (c : Class). HasClass (ask.Part bucket key upload number) answered answered.body.bytes c) (sym same)
-    (row.unreadable fine (λ said h. part_has_etag bucket key upload number answered answered.body.bytes said is h) (λ code message fails. fails.0))
+    → (document : List ℕ) → HasClass (ask.Part bucket key upload number) answered document shown
+part_by bucket key upload number answered shown (Some etag) is fine same document =
+    subst (λ (c : Class). HasClass (ask.Part bucket key upload number) answered document c) (sym same) (row.succeeded (reply.PartStored etag) fine is)
+part_by bucket key upload number answered shown None is fine same document =
+    subst (λ (c : Class). HasClass (ask.Part bucket key upload number) answered document c) (sym same)
+    (row.unreadable fine (λ said h. part_has_etag bucket key upload number answered document said is h) (λ code message fails. fails.0))
 
-pub part_reads : (bucket key upload : List ℕ) (number : ℕ) (answered : Answered) (shown : Class) → IsTwoHundred answered.status → IsPartClass answered.etag shown → IsClassed (ask.Part bucket key upload number) answered shown
-part_reads bucket key upload number answered shown fine same = inl (part_by bucket key upload number answered shown answered.etag refl fine same)
+pub part_reads : (bucket key upload : List ℕ) (number : ℕ) (answered : Answered) (shown : Class) → IsTwoHundred answered.status → IsPartClass answered.etag shown
+    → (document : List ℕ) → HasClass (ask.Part bucket key upload number) answered document shown
+part_reads bucket key upload number answered shown fine same document = part_by bucket key upload number answered shown answered.etag refl fine same document
 
 -- ---- refusals
 

@@ -30,6 +30,10 @@ NeedsDocument (ask.List bucket prefix delimited token) = ⊤
 NeedsDocument ask.Buckets = ⊤
 NeedsDocument asked = ⊥
 
+-- a success that no document decides: its class is the same with any
+abbrev pub IsUnread : Ask → (status : ℕ) → Type 0
+IsUnread asked status = IsTwoHundred status × (NeedsDocument asked → ⊥)
+
 -- the answers whose document is read, or whose refusal gets the text of its status: for no other does memory run out
 abbrev pub WantsMemory : Ask → (status : ℕ) → Type 0
 WantsMemory asked status =

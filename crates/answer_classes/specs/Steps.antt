@@ -12,9 +12,9 @@ use Rattle.s3_model.specs.Files.{is_listed}
 use Rattle.answer_classes.specs.Documents.{ReadsError}
 use Rattle.answer_classes.specs.Showing.{HasClass}
 
--- a 2xx to HeadObject
+-- a 2xx to HeadObject, with any document
 abbrev pub IsHeadClass : Answered → Class → Type 0
-IsHeadClass answered shown = (bucket key : List ℕ) → HasClass (ask.Head bucket key) answered answered.body.bytes shown
+IsHeadClass answered shown = (bucket key document : List ℕ) → HasClass (ask.Head bucket key) answered document shown
 
 -- a 2xx to UploadPart, by its entity tag
 abbrev pub IsPartClass : Option (List ℕ) → Class → Type 0

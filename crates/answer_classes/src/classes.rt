@@ -1,14 +1,15 @@
 //! The class of what came back for a request.
 
-ghost use Rattle.std.specs.Prelude.{◌≡◌, ◌≤◌, ◌<◌};
+ghost use Rattle.std.specs.Prelude.{◌≡◌, ◌≤◌, ◌<◌, ℕ, List};
 ghost use Rattle.s3_model.specs.Classes.{IsTwoHundred};
 ghost use Rattle.s3_model.specs.declared.answers.Class.TheVariants as class;
 ghost use Rattle.s3_model.specs.declared.answers.Why.TheVariants as why;
-ghost use Rattle.answer_classes.specs.Classifying.{IfAnswered, IfBroken, IsClassed};
+ghost use Rattle.answer_classes.specs.Classifying.{IfAnswered, IfBroken, IsClassed, IsUnread, NeedsDocument};
+ghost use Rattle.answer_classes.specs.Showing.{HasClass};
 ghost use Rattle.answer_classes.specs.Steps.{IsHeadClass, IsPartClass};
 
 use crate::refusals::{class_of_busy, class_of_refusal};
-use crate::replies::class_of_document;
+use crate::replies::{class_of_document, needs_document};
 use s3_model::{Answered, Ask, Class, Reply, Talked, Text, Why};
 use std::alloc::Global;
 
@@ -46,11 +47,12 @@ fn class_of_part(etag: Option<Text>) -> Class
     }
 }
 
-/// The class of an answer with a status 2xx.
-#[tactic(auto, using(crate::proofs::Rows::succeeds, crate::proofs::Rows::part_reads))]
-fn class_of_success(alloc: Global, ask: &Ask, answered: Answered) -> Class
-    requires { IsTwoHundred answered.status }
-    ensures { IsClassed ask.now answered result }
+/// The class of a 2xx that no document decides.
+#[tactic(auto, using(crate::proofs::Rows::part_reads))]
+fn class_of_headers(ask: &Ask, answered: Answered) -> Class
+    requires success { IsTwoHundred answered.status }
+    requires unread { NeedsDocument ask.now → ⊥ }
+    ensures { (document : List ℕ) → HasClass ask.now answered document result }
 {
     match ask {
         Ask::Head { .. } => class_of_head(answered),
@@ -60,21 +62,36 @@ fn class_of_success(alloc: Global, ask: &Ask, answered: Answered) -> Class
             length: answered.taken,
         }),
         Ask::Put { .. } => Class::Success(Reply::Stored),
-        Ask::Delete { .. } | Ask::Abort { .. } => Class::Success(Reply::Gone),
+        Ask::Delete { .. } => Class::Success(Reply::Gone),
+        Ask::Abort { .. } => Class::Success(Reply::Gone),
         Ask::Part { .. } => class_of_part(answered.etag),
         Ask::Copy { .. }
         | Ask::PartCopy { .. }
         | Ask::Create { .. }
         | Ask::Complete { .. }
         | Ask::List { .. }
-        | Ask::Buckets => class_of_document(alloc, ask, &answered),
+        | Ask::Buckets => unreachable!(),
     }
+}
+
+/// The class of an answer with a status 2xx.
+#[tactic(auto, using(crate::proofs::Rows::with_any))]
+fn class_of_success(alloc: Global, ask: &Ask, answered: Answered) -> Class
+    requires { IsTwoHundred answered.status }
+    ensures classed { IsClassed ask.now answered result }
+    ensures unread { (NeedsDocument ask.now → ⊥) → (document : List ℕ) → HasClass ask.now answered document result }
+{
+    if needs_document(ask) {
+        return class_of_document(alloc, ask, &answered);
+    }
+    class_of_headers(ask, answered)
 }
 
 /// The class of an answer: its status decides which of its documents is read, if any.
 #[tactic(auto, using(crate::proofs::Rows::open_ended))]
 fn class_of_answer(alloc: Global, ask: &Ask, answered: Answered) -> Class
     ensures classed { 200 ≤ answered.status → IsClassed ask.now answered result }
+    ensures unread { IsUnread ask.now answered.status → (document : List ℕ) → HasClass ask.now answered document result }
     ensures interim { answered.status < 200 → result ≡ class.Uncertain (why.Status answered.status) }
 {
     match answered.status {
@@ -93,10 +110,12 @@ fn class_of_answer(alloc: Global, ask: &Ask, answered: Answered) -> Class
 /// refusals, with the code and the message of their Error document, or of the status where none reads. A 503 is a
 /// refusal where its document says `SlowDown` or `ServiceUnavailable`. All else is left open, by its reason.
 ///
-/// Memory runs out only where a document is read or a refusal is named by its status.
+/// A success that no document decides has its class with any document, wherever its body went. Memory runs out only where a document is read or a refusal is named by its status.
 pub fn classify(alloc: Global, ask: &Ask, talked: Talked) -> Class
     ensures broken { IfBroken talked (λ reason. result ≡ class.Uncertain reason) }
     ensures answered { IfAnswered talked (λ answered. 200 ≤ answered.status → IsClassed ask.now answered result) }
+    ensures unread { IfAnswered talked (λ answered. IsUnread ask.now answered.status
+        → (document : List ℕ) → HasClass ask.now answered document result) }
     ensures interim { IfAnswered talked (λ answered. answered.status < 200
         → result ≡ class.Uncertain (why.Status answered.status)) }
 {

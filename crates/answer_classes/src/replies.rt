@@ -79,6 +79,26 @@ fn reply_of(alloc: Global, ask: &Ask, doc: &[u8]) -> Result<Reply, DocFault>
     }
 }
 
+/// Whether the success of the request stands in the document of its answer.
+pub(crate) fn needs_document(ask: &Ask) -> bool
+    ensures { IsTrue result ↔ NeedsDocument ask.now }
+{
+    match ask {
+        Ask::Copy { .. }
+        | Ask::PartCopy { .. }
+        | Ask::Create { .. }
+        | Ask::Complete { .. }
+        | Ask::List { .. }
+        | Ask::Buckets => true,
+        Ask::Head { .. }
+        | Ask::Get { .. }
+        | Ask::Put { .. }
+        | Ask::Delete { .. }
+        | Ask::Part { .. }
+        | Ask::Abort { .. } => false,
+    }
+}
+
 /// Whether a 2xx to the request may still say that it failed.
 fn may_fail_late(ask: &Ask) -> bool
     ensures { IsTrue result ↔ MayFailLate ask.now }
