@@ -91,7 +91,8 @@ fn class_of_success(alloc: Global, ask: &Ask, answered: Answered) -> Class
 #[tactic(auto, using(crate::proofs::Rows::open_ended))]
 fn class_of_answer(alloc: Global, ask: &Ask, answered: Answered) -> Class
     ensures classed { 200 ≤ answered.status → IsClassed ask.now answered result }
-    ensures unread { IsUnread ask.now answered.status → (document : List ℕ) → HasClass ask.now answered document result }
+    ensures unread { IsUnread ask.now answered.status
+        → (document : List ℕ) → HasClass ask.now answered document result }
     ensures interim { answered.status < 200 → result ≡ class.Uncertain (why.Status answered.status) }
 {
     match answered.status {
@@ -110,7 +111,8 @@ fn class_of_answer(alloc: Global, ask: &Ask, answered: Answered) -> Class
 /// refusals, with the code and the message of their Error document, or of the status where none reads. A 503 is a
 /// refusal where its document says `SlowDown` or `ServiceUnavailable`. All else is left open, by its reason.
 ///
-/// A success that no document decides has its class with any document, wherever its body went. Memory runs out only where a document is read or a refusal is named by its status.
+/// A success that no document decides has its class with any document, wherever its body went. Memory runs out only
+/// where a document is read or a refusal is named by its status.
 pub fn classify(alloc: Global, ask: &Ask, talked: Talked) -> Class
     ensures broken { IfBroken talked (λ reason. result ≡ class.Uncertain reason) }
     ensures answered { IfAnswered talked (λ answered. 200 ≤ answered.status → IsClassed ask.now answered result) }
