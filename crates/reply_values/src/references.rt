@@ -1,6 +1,6 @@
 //! References to characters, and the text that character data spells.
 
-ghost use Rattle.std.specs.Prelude.{◌≡◌, ◌∷◌, ℕ, List, IfOk, IfSome, IfNone, encode_utf8};
+ghost use Rattle.std.specs.Prelude.{◌≡◌, ◌≤◌, ◌∷◌, ℕ, List, IfOk, IfSome, IfNone, encode_utf8};
 ghost use Rattle.reply_values.specs.References.{IsNumbered, Names, IsReference, IsUnescaped, IsBadReference};
 ghost use Rattle.reply_values.specs.Spelling.{StartsPiece, StartsNoPiece};
 
@@ -81,4 +81,52 @@ pub fn unescape(alloc: Global, raw: &str) -> Result<Text, ReferenceFault>
         return Err(ReferenceFault::Memory);
     }
     Ok(Text::from(text))
+}
+
+/// The place in bytes of the first `&` that begins no reference.
+pub fn bad_reference(raw: &str) -> Option<usize>
+    ensures bad { IfSome result (IsBadReference raw.now) }
+    ensures good { IfNone result ((text : List ℕ) × IsUnescaped raw.now text) }
+{
+    let mut rest = raw;
+    while let Some((_plain, behind)) = rest.split_once('&') {
+        let Some((_char, next)) = reference(behind) else {
+            return Some(raw.len() - behind.len() - 1);
+        };
+        rest = next;
+    }
+    None
+}
+
+const NAMES: [&str; 5] = ["lt;", "gt;", "amp;", "quot;", "apos;"];
+
+/// Whether a number written so far in this radix, perhaps without a digit, may be that of a character.
+fn may_be_number(digits: &str, radix: u32) -> bool
+    requires least { 2 ≤ radix }
+    requires most { radix ≤ 36 }
+{
+    if digits.is_empty() {
+        return true;
+    }
+    match unsigned(digits, radix) {
+        Some(number) => number <= 0x10FFFF,
+        None => false,
+    }
+}
+
+/// Whether the text behind the `&` at this place begins a reference that more characters could complete.
+pub fn may_begin_reference(raw: &str, place: usize) -> bool {
+    let Some((_, behind)) = raw.split_at_checked(place) else {
+        return false;
+    };
+    let Some(name) = behind.strip_prefix('&') else {
+        return false;
+    };
+    if let Some(digits) = name.strip_prefix("#x") {
+        return may_be_number(digits, 16);
+    }
+    if let Some(digits) = name.strip_prefix('#') {
+        return may_be_number(digits, 10);
+    }
+    NAMES.iter().any(|whole| whole.starts_with(name))
 }

@@ -1,7 +1,13 @@
 -- Bytes begin with one content, and in one way.
-use Rattle.std.proofs.Common.{◌≡◌, ◌<◌, ◌-◌, ◌⊎◌, inl, inr, ⊎_elim, ◌∙◌, ℕ, Bool, true, false, List, ◌∷◌, Option, sym, ap, subst}
+use Rattle.std.proofs.Common.{◌≡◌, ◌<◌, ◌-◌, ◌⊎◌, inl, inr, ⊎_elim, ◌∙◌, ℕ, Bool, true, false, List, [], ◌∷◌, Option, refl, sym, ap, subst}
 use Rattle.std.proofs.lemmas.Bool.{false≢true}
+use Rattle.std.specs.Bool.{MatchBool}
+use Rattle.std.specs.Str.{IsUtf8}
+use Rattle.reply_values.specs.References.{IsUnescaped}
+use Rattle.reply_xml.specs.Runs.{ReadsRun}
 use Rattle.reply_xml.specs.declared.elements.Element.{Element}
+use Rattle.reply_xml.specs.declared.reader.Tag.{Tag}
+use Rattle.reply_xml.specs.Reading.{AtEnd, EndsContent}
 use Rattle.reply_xml.specs.declared.runs.Sort.TheVariants as sort
 use Rattle.reply_xml.specs.Elements.{element_named}
 use Rattle.reply_xml.specs.Tags.{ReadsTag, ReadsEndTag}
@@ -65,10 +71,11 @@ pub content_inner : (closed : Bool) (inner : Content) (room : ℕ) (name bytes r
 content_inner true inner room name bytes rest e r = absurd (false≢true (sym e))
 content_inner false inner room name bytes rest e r = r
 
--- every content begins with a text
-pub content_text : (c : Content) (room : ℕ) (name bytes rest : List ℕ) → ReadsContent c room name bytes rest → (text : List ℕ) × (at : List ℕ) × ReadsText text bytes at
-content_text (Only text) room name bytes rest r = (text, r.0, r.1)
-content_text (Then text child inner more) room name bytes rest r = (text, r.1.1.at_tag, r.1.1.before)
+-- every content begins with a text that `<` follows
+pub content_begins : (c : Content) (room : ℕ) (name bytes rest : List ℕ) → ReadsContent c room name bytes rest → (text : List ℕ) × (more : List ℕ) × ReadsText text bytes (60 ∷ more)
+content_begins (Only text) room name bytes rest r = (text, 47 ∷ r.2.at_name, subst (λ (b : List ℕ). ReadsText text bytes b) r.2.opens r.1)
+content_begins (Then text child inner more) room name bytes rest r =
+    (text, r.1.1.tag.at_name, subst (λ (b : List ℕ). ReadsText text bytes b) r.1.1.tag.opens r.1.1.before)
 
 -- behind the text stands the end tag, or an element
 pub content_cases : (c : Content) (room : ℕ) (text name bytes at rest : List ℕ) → ReadsText text bytes at → ReadsContent c room name bytes rest
@@ -89,3 +96,66 @@ pub child_there : (c : Content) (room : ℕ) (text name bytes at rest : List ℕ
     → (0 < room) × (closed : Bool) × (tag : List ℕ) × (from : List ℕ) × ReadsTag closed tag at from
 child_there c room text name bytes at rest t other r =
     ⊎_elim (λ end. absurd (other end.at_name end.opens)) (λ child. child) (content_cases c room text name bytes at rest t r)
+
+-- where the content ends, only a text stands
+pub only_of : (closed : Bool) (c : Content) (room : ℕ) (name before at rest : List ℕ) → MatchBool closed (at ≡ before) ((text : List ℕ) × ReadsText text before at × (more : List ℕ) × (at ≡ 60 ∷ 47 ∷ more))
+    → ReadsInner closed c room name before rest → (text : List ℕ) × (c ≡ Only text)
+only_of true c room name before at rest e r = ([], r.0)
+only_of false (Only text) room name before at rest e r = (text, refl)
+only_of false (Then text child inner more) room name before at rest e r =
+    let a = r.1.1 in
+    let same = (ReadsText-same e.0 text before at a.at_tag e.1 a.before).1 in
+    absurd (tag_at_end a.closed a.name at a.at_inner e.2 e.3 (subst (λ (t : List ℕ). ReadsTag a.closed a.name t a.at_inner) same a.tag))
+
+-- the end of the content, with its end tag
+pub closed_end : (tag : Tag) (before at : List ℕ) → tag.closed ≡ true → AtEnd tag before at → EndsContent tag before at
+closed_end tag before at e h = closed_ends tag.closed tag.room tag.name.now e h
+  where
+    closed_ends : (closed : Bool) (room : ℕ) (name : List ℕ) → closed ≡ true → MatchBool closed (at ≡ before) ((text : List ℕ) × ReadsText text before at × (more : List ℕ) × (at ≡ 60 ∷ 47 ∷ more))
+        → (text : List ℕ) × ReadsInner closed (Only text) room name before at
+    closed_ends true room name f k = ([], (refl, k))
+    closed_ends false room name f k = absurd (false≢true f)
+
+pub open_end : (tag : Tag) (before at rest : List ℕ) → tag.closed ≡ false → AtEnd tag before at → ReadsEndTag tag.name.now at rest → EndsContent tag before rest
+open_end tag before at rest e h t = open_ends tag.closed tag.room tag.name.now e h t
+  where
+    open_ends : (closed : Bool) (room : ℕ) (name : List ℕ) → closed ≡ false → MatchBool closed (at ≡ before) ((text : List ℕ) × ReadsText text before at × (more : List ℕ) × (at ≡ 60 ∷ 47 ∷ more))
+        → ReadsEndTag name at rest → (text : List ℕ) × ReadsInner closed (Only text) room name before rest
+    open_ends true room name f k u = absurd (false≢true (sym f))
+    open_ends false room name f k u = (k.0, (at, k.1, u))
+
+pub no_open_end : (tag : Tag) (before at rest : List ℕ) (inner : Content) → tag.closed ≡ false → AtEnd tag before at → ((left : List ℕ) → ¬ (ReadsEndTag tag.name.now at left))
+    → ReadsInner tag.closed inner tag.room tag.name.now before rest → ⊥
+no_open_end tag before at rest inner e h none r = no_open_ends tag.closed inner tag.room tag.name.now e h none r
+  where
+    no_open_ends : (closed : Bool) (c : Content) (room : ℕ) (name : List ℕ) → closed ≡ false → MatchBool closed (at ≡ before) ((text : List ℕ) × ReadsText text before at × (more : List ℕ) × (at ≡ 60 ∷ 47 ∷ more))
+        → ((left : List ℕ) → ¬ (ReadsEndTag name at left)) → ReadsInner closed c room name before rest → ⊥
+    no_open_ends true c room name f k u i = absurd (false≢true (sym f))
+    no_open_ends false c room name f k u i = u rest (ends_there c room k.0 name before at rest k.2 k.1 k.3 i)
+
+-- the same places, by whether the tag is closed
+pub at_closed : (tag : Tag) (bytes : List ℕ) → tag.closed ≡ true → AtEnd tag bytes bytes
+at_closed tag bytes e = at_close tag.closed e
+  where
+    at_close : (closed : Bool) → closed ≡ true → MatchBool closed (bytes ≡ bytes) ((text : List ℕ) × ReadsText text bytes bytes × (more : List ℕ) × (bytes ≡ 60 ∷ 47 ∷ more))
+    at_close true f = refl
+    at_close false f = absurd (false≢true f)
+
+pub at_open : (tag : Tag) (before at text more : List ℕ) → tag.closed ≡ false → ReadsText text before at → at ≡ 60 ∷ 47 ∷ more → AtEnd tag before at
+at_open tag before at text more e t o = at_tag tag.closed e
+  where
+    at_tag : (closed : Bool) → closed ≡ false → MatchBool closed (at ≡ before) ((text : List ℕ) × ReadsText text before at × (more : List ℕ) × (at ≡ 60 ∷ 47 ∷ more))
+    at_tag true f = absurd (false≢true (sym f))
+    at_tag false f = (text, t, more, o)
+
+-- no text ends at the end of the bytes, and none without a meaning
+pub no_text_at_end : (text bytes rest found more : List ℕ) → ReadsRun sort.Text text bytes rest → rest ≡ [] → ReadsText found bytes (60 ∷ more) → ⊥
+no_text_at_end text bytes rest found more run e r = nothing (sym e ∙ sym (ReadsRun-same sort.Text text found bytes rest (60 ∷ more) run r.run).1)
+  where
+    nothing : [] ≡ 60 ∷ more → ⊥
+    nothing f = cc
+
+pub no_meaning : (text bytes rest found left : List ℕ) → ReadsRun sort.Text text bytes rest → (IsUtf8 text → (meaning : List ℕ) → ¬ (IsUnescaped text meaning)) → ReadsText found bytes left → ⊥
+no_meaning text bytes rest found left run none r =
+    let same = (ReadsRun-same sort.Text text found bytes rest left run r.run).0 in
+    none (subst IsUtf8 same r.characters) r.meaning (subst (λ (b : List ℕ). IsUnescaped b r.meaning) same r.unescaped)

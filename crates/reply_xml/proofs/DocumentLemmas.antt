@@ -2,11 +2,11 @@
 use Rattle.std.proofs.Common.{◌≡◌, ◌<◌, ◌+◌, ◌∙◌, ℕ, Bool, List, sym, subst, ap, drop, codes, ⊎_elim, arith}
 use Rattle.std.proofs.lemmas.List.{append_cancel_left}
 use Rattle.reply_xml.specs.declared.runs.Sort.TheVariants as sort
-use Rattle.reply_xml.specs.Documents.{EndsAt, ReadsDeclaration, MayDeclare, BeginsDocument}
+use Rattle.reply_xml.specs.Documents.{EndsAt, ReadsDeclaration, MayDeclare, BeginsDocument, NamesRoot}
 use Rattle.reply_xml.specs.Runs.{ReadsRun}
-use Rattle.reply_xml.specs.Tags.{ReadsTag}
+use Rattle.reply_xml.specs.Tags.{NamesTag, ReadsTag, ReadsTagEnd}
 use Rattle.reply_xml.proofs.RunLemmas.{ReadsRun-same}
-use Rattle.reply_xml.proofs.TagLemmas.{ReadsTag-same}
+use Rattle.reply_xml.proofs.TagLemmas.{ReadsTag-same, tag_end_of}
 
 place_same : (bytes : List ℕ) (i j : ℕ) → EndsAt bytes i → ((k : ℕ) → k < i → ¬ (EndsAt bytes k)) → EndsAt bytes j → ((k : ℕ) → k < j → ¬ (EndsAt bytes k)) → j ≡ i
 place_same bytes i j a f b g =
@@ -47,3 +47,35 @@ BeginsDocument-same root bytes rest left closed other r s =
     let tag = root_at root bytes r.before.0 r.at_declaration r.at_space r.between.0 r.at_root left other r.before.1 r.declared r.between.1 s in
     let same = ReadsTag-same closed other root root r.at_root rest left r.tag tag in
     (same.0, same.2)
+
+-- what stands behind the name of the root
+pub root_end : (root doc at rest : List ℕ) (closed : Bool) → NamesRoot root doc at → BeginsDocument root doc closed rest → ReadsTagEnd closed at rest
+root_end root doc at rest closed n b =
+    let tag = root_at root doc n.before.0 n.at_declaration n.at_space n.between.0 n.at_root rest closed n.before.1 n.declared n.between.1 b in
+    (tag_end_of closed root n.at_root n.names.at_name root at rest n.names.opens n.names.named tag).1
+
+pub root_begins : (root doc at rest : List ℕ) (closed : Bool) → NamesRoot root doc at → ReadsTagEnd closed at rest → BeginsDocument root doc closed rest
+root_begins root doc at rest closed n e = record {
+  at_declaration = n.at_declaration;
+  before = n.before;
+  at_space = n.at_space;
+  declared = n.declared;
+  at_root = n.at_root;
+  between = n.between;
+  tag = record { at_name = n.names.at_name; opens = n.names.opens; at_attributes = at; named = n.names.named; ends = e };
+}
+
+pub other_root : (root name at_root from rest : List ℕ) (closed : Bool) → NamesTag name at_root from → ReadsTag closed root at_root rest → root ≡ name
+other_root root name at_root from rest closed n r = (tag_end_of closed root at_root n.at_name name from rest n.opens n.named r).0
+
+-- bytes begin with one root's name
+pub NamesRoot-declared : (name bytes space at rest : List ℕ) → ReadsRun sort.Space space bytes at → (n : NamesRoot name bytes rest) → MayDeclare at n.at_space
+NamesRoot-declared name bytes space at rest run n =
+    subst (λ (t : List ℕ). MayDeclare t n.at_space) (ReadsRun-same sort.Space space n.before.0 bytes at n.at_declaration run n.before.1).1 n.declared
+
+pub NamesRoot-tag : (name bytes space at at_space between at_root rest : List ℕ) → ReadsRun sort.Space space bytes at → MayDeclare at at_space → ReadsRun sort.Space between at_space at_root
+    → NamesRoot name bytes rest → NamesTag name at_root rest
+NamesRoot-tag name bytes space at at_space between at_root rest run declared gap n =
+    let there = MayDeclare-same at at_space n.at_space declared (NamesRoot-declared name bytes space at rest run n) in
+    let root_is = ReadsRun-same sort.Space between n.between.0 at_space at_root n.at_root gap (subst (λ (t : List ℕ). ReadsRun sort.Space n.between.0 t n.at_root) there n.between.1) in
+    subst (λ (t : List ℕ). NamesTag name t rest) root_is.1 n.names

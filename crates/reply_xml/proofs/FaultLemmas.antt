@@ -1,9 +1,11 @@
 -- What a fault says, through what it implies.
-use Rattle.std.proofs.Common.{◌≡◌, Result, Ok, Err, subst, sym}
+use Rattle.std.proofs.Common.{◌≡◌, ◌∙◌, ap, ℕ, IfOk, Result, Ok, Err, refl, subst, sym}
 use Rattle.std.specs.Result.{IsErrAnd, OnOk}
 use Rattle.reply_xml.specs.declared.faults.DocFault.{DocFault}
 use Rattle.reply_xml.specs.declared.faults.DocFault.TheVariants as fault
-use Rattle.reply_xml.specs.Faults.{Tells, IfRefused}
+use Rattle.reply_xml.specs.declared.texts.TextFault.{TextFault}
+use Rattle.reply_xml.specs.declared.texts.TextFault.TheVariants as text_fault
+use Rattle.reply_xml.specs.Faults.{Tells, IfRefused, TextTells}
 
 pub Tells-map : {P Q : Type 0} (e : DocFault) → (P → Q) → Tells e P → Tells e Q
 Tells-map fault.Memory f h = tt
@@ -34,3 +36,51 @@ OnOk-map (Err e) f h = h
 pub OnOk-all : {T E P Q S X : Type 0} (r : Result T E) → (P → Q → S → X) → OnOk r P → OnOk r Q → OnOk r S → OnOk r X
 OnOk-all (Ok x) f p q s = f p q s
 OnOk-all (Err e) f p q s = p
+
+-- what holds is told by any fault
+pub Tells-any : {P : Type 0} (e : DocFault) → P → Tells e P
+Tells-any fault.Memory h = tt
+Tells-any (fault.NotADocument n) h = h
+Tells-any (fault.Missing element) h = h
+Tells-any (fault.Twice element) h = h
+Tells-any fault.BadNumber h = h
+Tells-any fault.BadTime h = h
+Tells-any fault.BadEscape h = h
+Tells-any fault.TooDeep h = h
+Tells-any (fault.BadText element) h = h
+
+-- what the fault of a text tells
+pub ends_told : {P : Type 0} (e : TextFault) (place : ℕ) → e ≡ text_fault.Ends place → TextTells e P → P
+ends_told {P} e place same h = subst (λ (f : TextFault). TextTells f P) same h
+
+pub bad_told : {P : Type 0} (e : TextFault) → e ≡ text_fault.BadReference → TextTells e P → P
+bad_told {P} e same h = subst (λ (f : TextFault). TextTells f P) same h
+
+-- what holds of a value
+pub IfOk-map : {T E : Type 0} {P Q : T → Type 0} (r : Result T E) → ((x : T) → P x → Q x) → IfOk r P → IfOk r Q
+IfOk-map (Ok x) f h = f x h
+IfOk-map (Err e) f h = h
+
+-- a fault that is told instead of another one
+pub told_instead : (P : Type 0) (e f : DocFault) → (e ≡ fault.Memory → f ≡ fault.Memory) → Tells e P → Tells f P
+told_instead P fault.Memory f kept h = subst (λ (d : DocFault). Tells d P) (sym (kept refl)) tt
+told_instead P (fault.NotADocument n) f kept h = Tells-any f h
+told_instead P (fault.Missing element) f kept h = Tells-any f h
+told_instead P (fault.Twice element) f kept h = Tells-any f h
+told_instead P fault.BadNumber f kept h = Tells-any f h
+told_instead P fault.BadTime f kept h = Tells-any f h
+told_instead P fault.BadEscape f kept h = Tells-any f h
+told_instead P fault.TooDeep f kept h = Tells-any f h
+told_instead P (fault.BadText element) f kept h = Tells-any f h
+
+-- answers are told apart
+pub err_same : {T E : Type 0} (a b : E) → ◌≡◌ {A = Result T E} (Err a) (Err b) → a ≡ b
+err_same a b e = cc
+
+pub not_err : {T E : Type 0} (x : T) (e : E) → ◌≡◌ {A = Result T E} (Ok x) (Err e) → ⊥
+not_err x e same = cc
+
+-- a fault that is handed on is the same one
+pub err_past : {U : Type 0} (r : Result U DocFault) (e f : DocFault) → IsErrAnd r (λ d. d ≡ e) → e ≡ f → r ≡ Err f
+err_past (Ok x) e f h same = absurd h
+err_past (Err d) e f h same = ap Err (h ∙ same)

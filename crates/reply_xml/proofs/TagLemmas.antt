@@ -1,13 +1,13 @@
 -- Bytes begin with one tag, and in one way.
-use Rattle.std.proofs.Common.{◌≡◌, ◌≢◌, ◌==◌, ◌++◌, ◌∙◌, ◌⊎◌, ℕ, zero, suc, Bool, true, false, List, [], ◌∷◌, refl, sym, ap, subst, length, inl, inr, ⊎_elim, Result, Ok, Err}
+use Rattle.std.proofs.Common.{◌≡◌, ◌≢◌, ◌==◌, ◌||◌, ◌++◌, ◌∙◌, ◌⊎◌, ℕ, zero, suc, Bool, true, false, List, [], ◌∷◌, refl, sym, ap, subst, length, inl, inr, ⊎_elim, Result, Ok, Err, Some, None, slice_get}
 use Rattle.reply_xml.specs.declared.runs.Sort.TheVariants as sort
 use Rattle.std.specs.Result.{OnErr}
 use Rattle.std.proofs.lemmas.List.{nil_from_length}
 use Rattle.std.specs.List.{AllPass}
 use Rattle.std.proofs.lemmas.Bool.{eqb-false, eqb-true, eq-eqb, false≢true}
 use Rattle.std.proofs.lemmas.List.Elements.{All-head}
-use Rattle.reply_xml.specs.Runs.{is_name_byte, ReadsRun}
-use Rattle.reply_xml.specs.Tags.{ReadsName, ReadsValue, ReadsAttribute, ReadsAttributes, ReadsTagEnd, ReadsTag, ReadsEndTag, tag_close}
+use Rattle.reply_xml.specs.Runs.{is_name_byte, is_space, ReadsRun}
+use Rattle.reply_xml.specs.Tags.{NamesTag, ReadsName, ReadsValue, ReadsAttribute, ReadsAttributes, ReadsTagEnd, ReadsTag, ReadsEndTag, tag_close, ends_name, NameEnds}
 use Rattle.reply_xml.proofs.RunLemmas.{parts_same, ReadsRun-same}
 
 pub ReadsName-same : (name other bytes rest left : List ℕ) → ReadsName name bytes rest → ReadsName other bytes left → (other ≡ name) × (left ≡ rest)
@@ -149,6 +149,12 @@ end_tag_of name bytes at_name found at_space space at_close rest e named run r =
     let runs = ReadsRun-same sort.Space space r.space at_space at_close r.at_close run (subst (λ (b : List ℕ). ReadsRun sort.Space r.space b r.at_close) same.1 r.run) in
     (same.0, sym runs.1 ∙ r.closes)
 
+-- the name of an end tag
+pub end_tag_name : (name bytes at_name found at_space rest : List ℕ) → bytes ≡ 60 ∷ 47 ∷ at_name → ReadsName found at_name at_space → ReadsEndTag name bytes rest → name ≡ found
+end_tag_name name bytes at_name found at_space rest e named r =
+    let at : r.at_name ≡ at_name = (parts_same 47 47 r.at_name at_name (parts_same 60 60 (47 ∷ r.at_name) (47 ∷ at_name) (sym r.opens ∙ e)).1).1 in
+    (ReadsName-same found name at_name at_space r.at_space named (subst (λ (b : List ℕ). ReadsName name b r.at_space) at r.named)).0
+
 close_same : (closed other : Bool) (rest left : List ℕ) → tag_close closed ++ rest ≡ tag_close other ++ left → (other ≡ closed) × (left ≡ rest)
 close_same false false rest left e = (refl, sym (parts_same 62 62 rest left e).1)
 close_same false true rest left e = absurd (eqb-false 62 47 refl (parts_same 62 47 rest (62 ∷ left) e).0)
@@ -191,3 +197,76 @@ tag_or_end closed name found bytes rest left r s =
 pub tag_at_end : (closed : Bool) (name bytes rest more : List ℕ) → bytes ≡ 60 ∷ 47 ∷ more → ReadsTag closed name bytes rest → ⊥
 tag_at_end closed name bytes rest more e r =
     false≢true (ReadsName-first name r.at_name r.at_attributes more 47 r.named (parts_same 60 60 r.at_name (47 ∷ more) (sym r.opens ∙ e)).1)
+
+pub ReadsTagEnd-same : (closed other : Bool) (bytes rest left : List ℕ) → ReadsTagEnd closed bytes rest → ReadsTagEnd other bytes left → (other ≡ closed) × (left ≡ rest)
+ReadsTagEnd-same closed other bytes rest left r s = tag_end_same closed other rest left r.count bytes r.at_space r.space r.at_close r.attributes r.run r.closes s
+
+-- no bytes begin with a start tag's name and with an end tag
+pub name_or_end : (name found bytes rest left : List ℕ) → NamesTag name bytes rest → ReadsEndTag found bytes left → ⊥
+name_or_end name found bytes rest left r s =
+    let at : r.at_name ≡ 47 ∷ s.at_name = (parts_same 60 60 r.at_name (47 ∷ s.at_name) (sym r.opens ∙ s.opens)).1 in
+    false≢true (ReadsName-first name r.at_name rest s.at_name 47 r.named at)
+
+space_ends : (byte : ℕ) → is_space byte ≡ true → ends_name byte ≡ true
+space_ends byte e = ap (λ b. b || (byte == 47 || byte == 62)) e
+
+gap_first : (gap here at : List ℕ) → ReadsRun sort.Space gap here at → gap ≢ [] → (byte : ℕ) × (more : List ℕ) × (here ≡ byte ∷ more) × (ends_name byte ≡ true)
+gap_first [] here at r some = absurd (some refl)
+gap_first (x ∷ gap) here at r some = (x, gap ++ at, r.split, space_ends x (All-head (λ b. is_space b ≡ true) x gap r.inside))
+
+-- behind the name of a tag stands white space or its end
+tag_end_first : (closed : Bool) (count : ℕ) (bytes at_space space at_close rest : List ℕ) → ReadsAttributes count bytes at_space → ReadsRun sort.Space space at_space at_close → at_close ≡ tag_close closed ++ rest
+    → (byte : ℕ) × (more : List ℕ) × (bytes ≡ byte ∷ more) × (ends_name byte ≡ true)
+tag_end_first false zero bytes at_space [] at_close rest a run e = (62, rest, sym a ∙ run.split ∙ e, refl)
+tag_end_first true zero bytes at_space [] at_close rest a run e = (47, 62 ∷ rest, sym a ∙ run.split ∙ e, refl)
+tag_end_first closed zero bytes at_space (x ∷ space) at_close rest a run e =
+    (x, space ++ at_close, sym a ∙ run.split, space_ends x (All-head (λ b. is_space b ≡ true) x space run.inside))
+tag_end_first closed (suc n) bytes at_space space at_close rest a run e = gap_first a.2.space bytes a.0 a.2.run a.2.some
+
+pub ReadsTagEnd-first : (closed : Bool) (bytes rest : List ℕ) → ReadsTagEnd closed bytes rest → (byte : ℕ) × (more : List ℕ) × (bytes ≡ byte ∷ more) × (ends_name byte ≡ true)
+ReadsTagEnd-first closed bytes rest r = tag_end_first closed r.count bytes r.at_space r.space r.at_close rest r.attributes r.run r.closes
+
+pub no_tag_end-first : (bytes more : List ℕ) (byte : ℕ) → bytes ≡ byte ∷ more → ends_name byte ≡ false → (closed : Bool) (rest : List ℕ) → ReadsTagEnd closed bytes rest → ⊥
+no_tag_end-first bytes more byte e other closed rest r =
+    let first = ReadsTagEnd-first closed bytes rest r in
+    false≢true (sym other ∙ ap ends_name (parts_same byte first.0 more first.1 (sym e ∙ first.2)).0 ∙ first.3)
+
+pub no_tag_end-none : (bytes : List ℕ) → bytes ≡ [] → (closed : Bool) (rest : List ℕ) → ReadsTagEnd closed bytes rest → ⊥
+no_tag_end-none bytes e closed rest r = let first = ReadsTagEnd-first closed bytes rest r in nothing first.0 first.1 (sym first.2 ∙ e)
+  where
+    nothing : (x : ℕ) (xs : List ℕ) → x ∷ xs ≡ [] → ⊥
+    nothing x xs f = cc
+
+-- the first byte of a list
+some_same : (x y : ℕ) → Some x ≡ Some y → x ≡ y
+some_same x y e = cc
+
+none_some : (x : ℕ) → Some x ≡ None → ⊥
+none_some x e = cc
+
+pub first_of : (bytes : List ℕ) (x : ℕ) → Some x ≡ slice_get bytes 0 → (more : List ℕ) × (bytes ≡ x ∷ more)
+first_of [] x e = absurd (none_some x e)
+first_of (y ∷ ys) x e = (ys, ap (λ z. z ∷ ys) (sym (some_same x y e)))
+
+pub first_none : (bytes : List ℕ) → None ≡ slice_get bytes 0 → bytes ≡ []
+first_none [] e = refl
+first_none (y ∷ ys) e = absurd (none_some y (sym e))
+
+-- one name stands at the front of a tag
+pub NamesTag-of : (name bytes at_name found rest left : List ℕ) → bytes ≡ 60 ∷ at_name → ReadsName found at_name left → NamesTag name bytes rest → (name ≡ found) × (rest ≡ left)
+NamesTag-of name bytes at_name found rest left e named n =
+    let at : n.at_name ≡ at_name = (parts_same 60 60 n.at_name at_name (sym n.opens ∙ e)).1 in
+    ReadsName-same found name at_name left rest named (subst (λ (b : List ℕ). ReadsName name b rest) at n.named)
+
+pub NamesTag-same : (name other bytes rest left : List ℕ) → NamesTag name bytes rest → NamesTag other bytes left → (other ≡ name) × (left ≡ rest)
+NamesTag-same name other bytes rest left n m = NamesTag-of other bytes n.at_name name left rest n.opens n.named m
+
+-- where nothing stands, or a byte that ends no name
+pub no_name_end-none : (bytes : List ℕ) → bytes ≡ [] → NameEnds bytes → ⊥
+no_name_end-none bytes e n = nothing n.0 n.1 (sym n.2 ∙ e)
+  where
+    nothing : (x : ℕ) (xs : List ℕ) → x ∷ xs ≡ [] → ⊥
+    nothing x xs f = cc
+
+pub no_name_end-first : (bytes more : List ℕ) (byte : ℕ) → bytes ≡ byte ∷ more → ends_name byte ≡ false → NameEnds bytes → ⊥
+no_name_end-first bytes more byte e other n = false≢true (sym other ∙ ap ends_name (parts_same byte n.0 more n.1 (sym e ∙ n.2)).0 ∙ n.3)

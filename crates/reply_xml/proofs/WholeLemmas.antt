@@ -3,9 +3,9 @@ use Rattle.std.proofs.Common.{◌≡◌, ℕ, Bool, List, [], sym, refl, subst}
 use Rattle.reply_xml.specs.declared.reader.Tag.{Tag}
 use Rattle.reply_xml.specs.Contents.{Content}
 use Rattle.reply_xml.specs.Documents.{IsOf, IsDocument, BeginsDocument, ReadsSpace}
-use Rattle.reply_xml.specs.Reading.{ReadsAs, ReadsNone}
+use Rattle.reply_xml.specs.Reading.{HoldsAs, HoldsNone}
 use Rattle.reply_xml.proofs.OpenLemmas.{inner_at, ReadsInner-same}
-use Rattle.reply_xml.proofs.LeafLemmas.{ReadsAs-same}
+use Rattle.reply_xml.proofs.LeafLemmas.{HoldsAs-same}
 use Rattle.reply_xml.proofs.DocumentLemmas.{BeginsDocument-same}
 
 -- without a root there is no document
@@ -14,7 +14,7 @@ no_root Means root doc value none d = none d.1.closed d.1.at_content d.1.begins
 
 -- what stands inside the root
 pub inside_root : {V : Type 0} (Means : Content → V → Type 0) (root doc from : List ℕ) (tag : Tag) (value : V) → BeginsDocument root doc tag.closed from → tag.room ≡ 15 → tag.name.now ≡ root
-    → (d : IsOf root Means doc value) → (rest : List ℕ) × ReadsAs Means tag from rest value × ReadsSpace rest []
+    → (d : IsOf root Means doc value) → (rest : List ℕ) × HoldsAs Means tag from rest value × ReadsSpace rest []
 inside_root Means root doc from tag value begins room name d =
     let same = BeginsDocument-same root doc from d.1.at_content tag.closed d.1.closed begins d.1.begins in (
       d.1.at_space,
@@ -23,13 +23,13 @@ inside_root Means root doc from tag value begins room name d =
     )
 
 pub no_inside : {V : Type 0} (Means : Content → V → Type 0) (root doc from : List ℕ) (tag : Tag) → BeginsDocument root doc tag.closed from → tag.room ≡ 15 → tag.name.now ≡ root
-    → ReadsNone Means tag from → (value : V) → ¬ (IsOf root Means doc value)
+    → HoldsNone Means tag from → (value : V) → ¬ (IsOf root Means doc value)
 no_inside Means root doc from tag begins room name none value d =
     let inside = inside_root Means root doc from tag value begins room name d in none inside.0 value inside.1
 
 -- the whole document, where white space follows the root
 pub whole : {V : Type 0} (Means : Content → V → Type 0) (root doc from rest : List ℕ) (tag : Tag) (value : V) → BeginsDocument root doc tag.closed from → tag.room ≡ 15 → tag.name.now ≡ root
-    → ReadsAs Means tag from rest value → ReadsSpace rest [] → IsOf root Means doc value
+    → HoldsAs Means tag from rest value → ReadsSpace rest [] → IsOf root Means doc value
 whole Means root doc from rest tag value begins room name r space = (
   r.0,
   record {
@@ -45,10 +45,10 @@ whole Means root doc from rest tag value begins room name r space = (
 
 -- and none, where anything else does
 pub no_whole : {V : Type 0} (Means : Content → V → Type 0) (root doc from rest : List ℕ) (tag : Tag) (found : V) → BeginsDocument root doc tag.closed from → tag.room ≡ 15 → tag.name.now ≡ root
-    → ReadsAs Means tag from rest found → ¬ (ReadsSpace rest []) → (value : V) → ¬ (IsOf root Means doc value)
+    → HoldsAs Means tag from rest found → ¬ (ReadsSpace rest []) → (value : V) → ¬ (IsOf root Means doc value)
 no_whole Means root doc from rest tag found begins room name r none value d =
     let inside = inside_root Means root doc from tag value begins room name d in
-    none (subst (λ (b : List ℕ). ReadsSpace b []) (ReadsAs-same Means Means tag from rest inside.0 found value r inside.1).1 inside.2)
+    none (subst (λ (b : List ℕ). ReadsSpace b []) (HoldsAs-same Means Means tag from rest inside.0 found value r inside.1).1 inside.2)
 
 -- A document has one content, and so one value.
 pub IsDocument-same : (root doc : List ℕ) (c d : Content) → IsDocument root doc c → IsDocument root doc d → d ≡ c

@@ -34,6 +34,14 @@ HasForm other text = ⊤
 abbrev pub IsFormed : Element → List ℕ → List ℕ → Type 0
 IsFormed of text value = (value ≡ text) × HasForm of text
 
+-- a text of any form
+abbrev pub IsPlain : List ℕ → List ℕ → Type 0
+IsPlain text value = value ≡ text
+
+-- one leaf of this name stands in the content, and its text has this value
+abbrev pub HasOnly : {V : Type 0} → (List ℕ → V → Type 0) → Element → Content → V → Type 0
+HasOnly Spells of content value = Once (IsLeafOf Spells) (named of content) value
+
 -- one leaf of this name stands in the content, and has this text
 abbrev pub HasLeaf : Element → Content → List ℕ → Type 0
 HasLeaf of content text = Once (IsLeafOf (IsFormed of)) (named of content) text

@@ -4,7 +4,7 @@ use Rattle.std.specs.Str.{IsUtf8}
 use Rattle.reply_xml.specs.declared.runs.Sort.TheVariants as sort
 use Rattle.reply_xml.specs.Contents.{Content, ReadsInner}
 use Rattle.reply_xml.specs.Runs.{ReadsRun}
-use Rattle.reply_xml.specs.Tags.{ReadsTag}
+use Rattle.reply_xml.specs.Tags.{NamesTag, ReadsTag}
 
 -- white space, perhaps none
 abbrev pub ReadsSpace : List ℕ → List ℕ → Type 0
@@ -39,6 +39,16 @@ pub record BeginsDocument (root bytes : List ℕ) (closed : Bool) (rest : List �
   pub at_root : List ℕ
   pub between : ReadsSpace at_space at_root
   pub tag : ReadsTag closed root at_root rest
+
+-- the bytes up to the end of the root's name
+pub record NamesRoot (root bytes rest : List ℕ) : Type 0 where
+  pub at_declaration : List ℕ
+  pub before : ReadsSpace bytes at_declaration
+  pub at_space : List ℕ
+  pub declared : MayDeclare at_declaration at_space
+  pub at_root : List ℕ
+  pub between : ReadsSpace at_space at_root
+  pub names : NamesTag root at_root rest
 
 -- The bytes are a document with this root and this content, of at most 16 levels.
 pub record IsDocument (root bytes : List ℕ) (content : Content) : Type 0 where

@@ -1,5 +1,7 @@
 -- What a fault says of a document.
-use Rattle.std.specs.Prelude.{⊤, Result, Ok, Err}
+use Rattle.std.specs.Prelude.{◌≤◌, ⊤, ℕ, Result, Ok, Err}
+use Rattle.reply_xml.specs.declared.texts.TextFault.{TextFault}
+use Rattle.reply_xml.specs.declared.texts.TextFault.TheVariants as text_fault
 use Rattle.reply_xml.specs.declared.faults.DocFault.{DocFault}
 use Rattle.reply_xml.specs.declared.faults.DocFault.TheVariants as fault
 
@@ -12,3 +14,22 @@ Tells other P = P
 abbrev pub IfRefused : {T : Type 0} → Result T DocFault → Type 0 → Type 0
 IfRefused (Ok value) P = ⊤
 IfRefused (Err reason) P = Tells reason P
+
+-- a text cannot go on behind a place of its own
+abbrev pub EndsIn : TextFault → ℕ → Type 0
+EndsIn (text_fault.Ends place) size = place ≤ size
+EndsIn other size = ⊤
+
+abbrev pub EndsWithin : {T : Type 0} → Result T TextFault → ℕ → Type 0
+EndsWithin (Ok value) size = ⊤
+EndsWithin (Err fault) size = EndsIn fault size
+
+-- every fault of a text but memory that ran out says that P holds
+abbrev pub TextTells : TextFault → Type 0 → Type 0
+TextTells text_fault.Memory P = ⊤
+TextTells other P = P
+
+-- P, where a text is refused for another reason than memory that ran out
+abbrev pub TellsText : {T : Type 0} → Result T TextFault → Type 0 → Type 0
+TellsText (Ok value) P = ⊤
+TellsText (Err fault) P = TextTells fault P

@@ -4,6 +4,7 @@ pub mod Documents
 pub mod Elements
 pub mod Faults
 pub mod Meaning
+pub mod Places
 pub mod Reading
 pub mod Runs
 pub mod Tags

@@ -1,61 +1,82 @@
 -- What the reader finds at the front of what is left of a document.
-use Rattle.std.specs.Prelude.{◌≡◌, ◌+◌, ◌++◌, ◌↔◌, ℕ, List, [], ◌∷◌, Option, Some, None}
+use Rattle.std.specs.Prelude.{◌≡◌, ◌+◌, ◌++◌, ◌↔◌, ℕ, Bool, List, [], ◌∷◌, Option, Some, None}
+use Rattle.std.specs.Bool.{MatchBool}
+use Rattle.reply_xml.specs.declared.reader.Child.{Child}
 use Rattle.reply_xml.specs.declared.reader.Tag.{Tag}
 use Rattle.reply_xml.specs.Contents.{Content, Only, Then, ReadsText, ReadsInner, named}
 use Rattle.reply_xml.specs.Children.{Once, AtMostOnce, Each, IsLeafOf}
 use Rattle.reply_xml.specs.declared.elements.Element.{Element}
 use Rattle.reply_xml.specs.Elements.{element_named}
-use Rattle.reply_xml.specs.Tags.{ReadsTag}
+use Rattle.reply_xml.specs.Tags.{NamesTag, ReadsTagEnd}
 
--- the tag stands at the front, with the element of its name
-pub record IsTagOf (tag : Tag) (bytes rest : List ℕ) : Type 0 where
-  pub opens : ReadsTag tag.closed tag.name.now bytes rest
-  pub known : tag.element ≡ element_named tag.name.now
-
--- a text and the tag of an element, one level below an element with this room
-pub record BeginsChild (room : ℕ) (bytes : List ℕ) (tag : Tag) (rest : List ℕ) : Type 0 where
+-- an element begins one level below an element with this room: a text, and its tag up to the end of the name
+pub record NamesChild (room : ℕ) (bytes : List ℕ) (child : Child) (rest : List ℕ) : Type 0 where
   pub text : List ℕ
   pub at_tag : List ℕ
   pub before : ReadsText text bytes at_tag
-  pub opens : ReadsTag tag.closed tag.name.now at_tag rest
-  pub known : tag.element ≡ element_named tag.name.now
-  pub deeper : tag.room + 1 ≡ room
+  pub names : NamesTag child.name.now at_tag rest
+  pub known : child.element ≡ element_named child.name.now
+  pub deeper : child.room + 1 ≡ room
+
+-- the tag of an element that began, with what stands in it behind the name
+pub record IsTagOf (child : Child) (tag : Tag) (bytes rest : List ℕ) : Type 0 where
+  pub ends : ReadsTagEnd tag.closed bytes rest
+  pub name : tag.name.now ≡ child.name.now
+  pub element : tag.element ≡ child.element
+  pub room : tag.room ≡ child.room
+
+-- The content ends at this place: none stands in a closed tag, and in another one the end tag begins behind a text.
+abbrev pub AtEnd : Tag → (before at : List ℕ) → Type 0
+AtEnd tag before at = MatchBool tag.closed (at ≡ before) ((text : List ℕ) × ReadsText text before at × (more : List ℕ) × (at ≡ 60 ∷ 47 ∷ more))
 
 -- the content ends here, with no element in what is left of it
 abbrev pub EndsContent : Tag → List ℕ → List ℕ → Type 0
 EndsContent tag bytes rest = (text : List ℕ) × ReadsInner tag.closed (Only text) tag.room tag.name.now bytes rest
 
--- what stands inside an element, whatever it is, with the end tag
-abbrev pub ReadsSome : Tag → List ℕ → List ℕ → Type 0
-ReadsSome tag bytes rest = (inner : Content) × ReadsInner tag.closed inner tag.room tag.name.now bytes rest
+-- what stands behind the tag of an element, whatever it is, with the end tag
+abbrev pub HoldsSome : Tag → List ℕ → List ℕ → Type 0
+HoldsSome tag bytes rest = (inner : Content) × ReadsInner tag.closed inner tag.room tag.name.now bytes rest
+
+-- what stands behind the tag has the value
+abbrev pub HoldsAs : {V : Type 0} → (Content → V → Type 0) → Tag → List ℕ → List ℕ → V → Type 0
+HoldsAs Means tag bytes rest value = (inner : Content) × ReadsInner tag.closed inner tag.room tag.name.now bytes rest × Means inner value
+
+-- nothing that stands behind the tag has a value
+abbrev pub HoldsNone : {V : Type 0} → (Content → V → Type 0) → Tag → List ℕ → Type 0
+HoldsNone {V} Means tag bytes = (rest : List ℕ) (value : V) → ¬ (HoldsAs Means tag bytes rest value)
 
 -- what is left of open elements, the innermost last
 abbrev pub ReadsOpen : List Tag → List ℕ → List ℕ → Type 0
 ReadsOpen [] bytes rest = rest ≡ bytes
-ReadsOpen (tag ∷ tags) bytes rest = (at : List ℕ) × ReadsOpen tags bytes at × ReadsSome tag at rest
+ReadsOpen (tag ∷ tags) bytes rest = (at : List ℕ) × ReadsOpen tags bytes at × HoldsSome tag at rest
 
--- what stands inside the tag, and what follows its end, has the value
-abbrev pub ReadsAs : {V : Type 0} → (Content → V → Type 0) → Tag → List ℕ → List ℕ → V → Type 0
-ReadsAs Means tag bytes rest value = (inner : Content) × ReadsInner tag.closed inner tag.room tag.name.now bytes rest × Means inner value
+-- what stands behind the name of an element: the rest of its tag, the content and the end tag
+abbrev pub ReadsElement : Child → Content → List ℕ → List ℕ → Type 0
+ReadsElement child inner bytes rest =
+    (closed : Bool) × (at : List ℕ) × ReadsTagEnd closed bytes at × ReadsInner closed inner child.room child.name.now at rest
 
--- nothing that stands inside the tag has a value
-abbrev pub ReadsNone : {V : Type 0} → (Content → V → Type 0) → Tag → List ℕ → Type 0
-ReadsNone {V} Means tag bytes = (rest : List ℕ) (value : V) → ¬ (ReadsAs Means tag bytes rest value)
+abbrev pub ReadsSome : Child → List ℕ → List ℕ → Type 0
+ReadsSome child bytes rest = (inner : Content) × ReadsElement child inner bytes rest
+
+-- what stands inside the element, and what follows its end, has the value
+abbrev pub ReadsAs : {V : Type 0} → (Content → V → Type 0) → Child → List ℕ → List ℕ → V → Type 0
+ReadsAs Means child bytes rest value = (inner : Content) × ReadsElement child inner bytes rest × Means inner value
+
+-- nothing that stands inside the element has a value
+abbrev pub ReadsNone : {V : Type 0} → (Content → V → Type 0) → Child → List ℕ → Type 0
+ReadsNone {V} Means child bytes = (rest : List ℕ) (value : V) → ¬ (ReadsAs Means child bytes rest value)
 
 -- An element is read. With it the content has a value in the first sense exactly where what follows has it in the second.
-abbrev pub Advances : {V : Type 0} → (Before After : Content → V → Type 0) → Tag → List ℕ → List ℕ → Type 0
-Advances {V} Before After tag bytes rest =
-    (inner : Content) × ReadsInner tag.closed inner tag.room tag.name.now bytes rest
-    × ((text : List ℕ) (more : Content) (value : V) → Before (Then text tag.element inner more) value ↔ After more value)
+abbrev pub Advances : {V : Type 0} → (Before After : Content → V → Type 0) → Child → List ℕ → List ℕ → Type 0
+Advances {V} Before After child bytes rest =
+    (inner : Content) × ReadsElement child inner bytes rest
+    × ((text : List ℕ) (more : Content) (value : V) → Before (Then text child.element inner more) value ↔ After more value)
 
 -- with this element no content has a value
-abbrev pub Stops : {V : Type 0} → (Before : Content → V → Type 0) → Tag → List ℕ → Type 0
-Stops {V} Before tag bytes =
-    (inner : Content) (rest text : List ℕ) (more : Content) (value : V) → ReadsInner tag.closed inner tag.room tag.name.now bytes rest → ¬ (Before (Then text tag.element inner more) value)
-
--- what stands inside the tag has a value exactly where the second sense has it of nothing more
-abbrev pub Finishes : {V : Type 0} → (Whole After : Content → V → Type 0) → Tag → List ℕ → List ℕ → Type 0
-Finishes {V} Whole After tag bytes rest = (left : List ℕ) (value : V) → ReadsAs Whole tag bytes left value ↔ ((left ≡ rest) × After (Only []) value)
+abbrev pub Stops : {V : Type 0} → (Before : Content → V → Type 0) → Child → List ℕ → Type 0
+Stops {V} Before child bytes =
+    (inner : Content) (rest text : List ℕ) (more : Content) (value : V) → ReadsElement child inner bytes rest
+    → ¬ (Before (Then text child.element inner more) value)
 
 -- what is left to be found of an element that stands once
 abbrev pub OnceLeft : {V : Type 0} → (Content → V → Type 0) → Option V → List Content → V → Type 0

@@ -1,8 +1,8 @@
 -- Tags (XML 1.0, productions 5, 10 and 40 to 44).
-use Rattle.std.specs.Prelude.{◌≡◌, ◌≢◌, ◌⊎◌, ℕ, zero, suc, Bool, true, false, List, [], ◌∷◌, ◌++◌}
+use Rattle.std.specs.Prelude.{◌≡◌, ◌≢◌, ◌==◌, ◌||◌, ◌⊎◌, ℕ, zero, suc, Bool, true, false, List, [], ◌∷◌, ◌++◌}
 use Rattle.std.specs.Str.{IsUtf8}
 use Rattle.reply_xml.specs.declared.runs.Sort.TheVariants as sort
-use Rattle.reply_xml.specs.Runs.{ReadsRun}
+use Rattle.reply_xml.specs.Runs.{ReadsRun, is_space}
 
 -- at least one byte of names
 pub record ReadsName (name bytes rest : List ℕ) : Type 0 where
@@ -74,3 +74,17 @@ pub record ReadsEndTag (name bytes rest : List ℕ) : Type 0 where
   pub at_close : List ℕ
   pub run : ReadsRun sort.Space space at_space at_close
   pub closes : at_close ≡ 62 ∷ rest
+
+-- a start tag or an empty-element tag begins, up to the end of its name
+pub record NamesTag (name bytes rest : List ℕ) : Type 0 where
+  pub at_name : List ℕ
+  pub opens : bytes ≡ 60 ∷ at_name
+  pub named : ReadsName name at_name rest
+
+-- the bytes that may follow the name of a tag: white space, `/` and `>`
+abbrev pub ends_name : ℕ → Bool
+ends_name byte = is_space byte || (byte == 47 || byte == 62)
+
+-- such a byte stands at the front
+abbrev pub NameEnds : List ℕ → Type 0
+NameEnds bytes = (byte : ℕ) × (more : List ℕ) × (bytes ≡ byte ∷ more) × (ends_name byte ≡ true)

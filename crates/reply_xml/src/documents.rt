@@ -1,17 +1,18 @@
 //! The front and the end of a document.
 
-ghost use Rattle.std.specs.Prelude.{◌≡◌, ◌++◌, ◌<◌, ◌≤◌, ◌+◌, ℕ, Bool, List, [], IfOk, OnOk, OnErr, MatchOption, codes, length, drop, take};
+ghost use Rattle.std.specs.Prelude.{◌≡◌, ◌++◌, ◌<◌, ◌≤◌, ◌+◌, ℕ, Bool, List, [], IfOk, OnOk, IfErr, OnErr, MatchOption, codes, length, drop, take};
 ghost use Rattle.reply_xml.specs.Contents.{Content};
-ghost use Rattle.reply_xml.specs.Documents.{BeginsDocument, EndsAt, IsDocument, MayDeclare, ReadsSpace};
+ghost use Rattle.reply_xml.specs.Documents.{BeginsDocument, EndsAt, IsDocument, MayDeclare, NamesRoot, ReadsSpace};
 ghost use Rattle.reply_xml.specs.Faults.{IfRefused};
+ghost use Rattle.reply_xml.specs.Places.{HasOtherRoot};
 ghost use Rattle.reply_xml.specs.Tags.{ReadsTag};
 
 use crate::elements::element_named;
 use crate::faults::DocFault;
-use crate::places::utf8_front;
-use crate::reader::{Reader, Tag, is_same};
+use crate::places::{common_front, is_same, utf8_front};
+use crate::reader::{Reader, Tag};
 use crate::runs::{Sort, split_run};
-use crate::tags::split_tag;
+use crate::tags::{after_tag_end, split_start};
 use std::alloc::Global;
 
 /// Levels of elements below the root.
@@ -45,18 +46,50 @@ fn after_opening(bytes: &[u8]) -> Option<&[u8]>
 /// grammar fails.
 fn after_declaration(bytes: &[u8]) -> Result<&[u8], usize>
     ensures value { IfOk result (λ rest. MayDeclare bytes.now rest.now) }
+    ensures shorter { IfOk result (λ rest. length rest.now ≤ length bytes.now) }
+    ensures left { IfErr result (λ left. left ≤ length bytes.now) }
     ensures refused { OnErr result ((rest : List ℕ) → ¬ (MayDeclare bytes.now rest)) }
 {
     let Some(after) = after_opening(bytes) else {
         return Ok(bytes);
     };
     let Some(end) = declaration_end(after) else {
-        return Err(0);
+        return Err(after.len() - utf8_front(after));
     };
     let Ok(_) = std::str::from_utf8(&after[..end]) else {
-        return Err(after.len().saturating_sub(utf8_front(&after[..end])));
+        return Err(after.len() - utf8_front(&after[..end]));
     };
     Ok(&after[end + 2..])
+}
+
+/// How many bytes are left where no root begins, if so many are left of its tag: those behind `<?`, `<?x`, `<?xm` or
+/// `<?xml` may be more of a declaration.
+fn root_left(at_declaration: &[u8], left: usize) -> usize
+    ensures { result ≤ left }
+{
+    left.min(at_declaration.len() - common_front(at_declaration, b"<?xml"))
+}
+
+/// The name of the root and what follows it. An error is the number of bytes that are left where the grammar fails.
+fn split_root<'a>(doc: &'a [u8], root: &str) -> Result<(&'a [u8], &'a [u8]), usize>
+    ensures value { IfOk result (λ parts. NamesRoot root.now doc.now parts.1.now) }
+    ensures named { IfOk result (λ parts. parts.0.now ≡ root.now) }
+    ensures shorter { IfOk result (λ parts. length parts.1.now ≤ length doc.now) }
+    ensures left { IfErr result (λ left. left ≤ length doc.now) }
+    ensures refused { OnErr result ((closed : Bool) (rest : List ℕ) → ¬ (BeginsDocument root.now doc.now closed rest)) }
+    ensures other { (place : ℕ) → (o : HasOtherRoot root.now doc.now place) → result ≡ Err (length o.rest) }
+{
+    let (_, at_declaration) = split_run(Sort::Space, doc);
+    let at_space = after_declaration(at_declaration)?;
+    let (_, at_root) = split_run(Sort::Space, at_space);
+    let (name, rest) = match split_start(at_root) {
+        Ok(parts) => parts,
+        Err(left) => return Err(root_left(at_declaration, left)),
+    };
+    if !is_same(name, root.as_bytes()) {
+        return Err(rest.len());
+    }
+    Ok((name, rest))
 }
 
 impl<'a> Reader<'a> {
@@ -67,21 +100,17 @@ impl<'a> Reader<'a> {
         ensures named { IfOk result (λ parts. parts.1.name.now ≡ root.now) }
         ensures refused { IfRefused result ((closed : Bool) (rest : List ℕ) →
             ¬ (BeginsDocument root.now doc.now closed rest)) }
+        ensures other { (place : ℕ) → HasOtherRoot root.now doc.now place →
+            result ≡ Err (DocFault.NotADocument place) }
     {
-        let (_, at_declaration) = split_run(Sort::Space, doc);
-        let at_space = match after_declaration(at_declaration) {
-            Ok(rest) => rest,
-            Err(left) => return Err(DocFault::NotADocument(doc.len().saturating_sub(left))),
-        };
-        let (_, at_root) = split_run(Sort::Space, at_space);
-        let (name, closed, rest) = match split_tag(at_root) {
+        let (name, at_attributes) = match split_root(doc, root) {
             Ok(parts) => parts,
-            Err(left) => return Err(DocFault::NotADocument(doc.len().saturating_sub(left))),
+            Err(left) => return Err(DocFault::NotADocument(doc.len() - left)),
         };
-        if !is_same(name, root.as_bytes()) {
-            let left = at_root.len().saturating_sub(name.len()).saturating_sub(1);
-            return Err(DocFault::NotADocument(doc.len().saturating_sub(left)));
-        }
+        let (closed, rest) = match after_tag_end(at_attributes) {
+            Ok(parts) => parts,
+            Err(left) => return Err(DocFault::NotADocument(doc.len() - left)),
+        };
         let reader = Reader {
             alloc,
             size: doc.len(),

@@ -1,17 +1,38 @@
 //! The values of elements that have no element inside.
 
-ghost use Rattle.std.specs.Prelude.{◌≡◌, ◌≤◌, ℕ, List, Bool, IfOk, OnOk, IsTrue, ◌↔◌, length};
-ghost use Rattle.reply_xml.specs.Children.{IsLeaf, IsLeafOf, IsFormed, HasForm};
-ghost use Rattle.reply_xml.specs.Faults.{IfRefused};
+ghost use Rattle.std.specs.Prelude.{◌≡◌, ◌≤◌, ℕ, Bool, List, IfOk, OnOk, IsTrue, ◌↔◌, length};
+ghost use Rattle.std.proofs.Common.{◌∙◌, sym};
 ghost use Rattle.reply_values.specs.Numbers.{SpellsNumber, SpellsTruth};
-ghost use Rattle.reply_xml.specs.Reading.{ReadsAs, ReadsNone};
 ghost use Rattle.reply_values.specs.Times.{SpellsTime};
+ghost use Rattle.reply_values.proofs.NumberLemmas.{SpellsNumber-same, SpellsTruth-same};
+ghost use Rattle.reply_values.proofs.TimeValues.{SpellsTime-same};
+ghost use Rattle.reply_xml.specs.Children.{HasForm, IsFormed, IsPlain};
+ghost use Rattle.reply_xml.specs.Faults.{IfRefused};
+ghost use Rattle.reply_xml.specs.Meaning.{meaning_of};
 
 use crate::elements::Element;
 use crate::faults::DocFault;
-use crate::reader::{Reader, Tag};
+use crate::texts::Meaning;
 use reply_values::{is_etag, is_upload_id, number, time, truth};
 use s3_model::Text;
+use std::alloc::Global;
+
+/// A sort of leaves: what their texts spell.
+pub trait Leaf {
+    ghost use Rattle.reply_xml.specs.declared.elements.Element.{Element};
+
+    type Value: Drop;
+
+    ghost spells: { Element → List ℕ → Self.Value → Type 0 };
+
+    /// The value that the text of an element spells.
+    fn value_of(alloc: Global, of: Element, text: Meaning<'_>) -> Result<Self::Value, DocFault>
+        ensures value { IfOk result (spells of (meaning_of text.entry)) }
+        ensures refused { IfRefused result ((value : Self.Value) → ¬ (spells of (meaning_of text.entry) value)) };
+
+    ghost alone: { (of : Element) (text : List ℕ) (v w : Self.Value) →
+        spells of text v → spells of text w → w ≡ v };
+}
 
 /// Whether a text has the form of its element, where that has one.
 fn has_form(element: Element, text: &str) -> bool
@@ -24,71 +45,97 @@ fn has_form(element: Element, text: &str) -> bool
     }
 }
 
-impl<'a> Reader<'a> {
-    /// The text of a leaf, unescaped.
-    pub fn text_leaf(&mut self, tag: &Tag<'a>) -> Result<Text, DocFault>
-        ensures value { IfOk result (λ text. ReadsAs IsLeaf tag.now self.old.rest.now self.new.rest.now text) }
-        ensures no_longer { length self.new.rest.now ≤ length self.old.rest.now }
-        ensures refused { IfRefused result (ReadsNone IsLeaf tag.now self.old.rest.now) }
-    {
-        let found = self.leaf(tag)?;
-        match found.into_text(self.alloc) {
-            Ok(text) => Ok(text),
-            Err(_) => Err(DocFault::Memory),
-        }
+fn text_of(alloc: Global, text: Meaning<'_>) -> Result<Text, DocFault>
+    ensures value { IfOk result (λ found. found ≡ meaning_of text.entry) }
+    ensures memory { IfRefused result ⊥ }
+{
+    match text.into_text(alloc) {
+        Ok(text) => Ok(text),
+        Err(_) => Err(DocFault::Memory),
     }
+}
 
-    /// The text of a leaf in the form of its element.
-    pub(crate) fn formed_leaf(&mut self, tag: &Tag<'a>, element: Element) -> Result<Text, DocFault>
-        ensures value { IfOk result (λ text. ReadsAs (IsLeafOf (IsFormed element))
-            tag.now self.old.rest.now self.new.rest.now text) }
-        ensures no_longer { length self.new.rest.now ≤ length self.old.rest.now }
-        ensures refused { IfRefused result (ReadsNone (IsLeafOf (IsFormed element)) tag.now self.old.rest.now) }
-    {
-        let text = self.text_leaf(tag)?;
-        if !has_form(element, text.as_str()) {
-            return Err(DocFault::BadText(element));
+/// Texts, in the form of their elements.
+pub struct FormedText;
+
+impl Leaf for FormedText {
+    type Value = Text;
+
+    ghost spells = { IsFormed };
+
+    ghost alone = { λ of text v w r s. s.0 ∙ sym r.0 };
+
+    fn value_of(alloc: Global, of: Element, text: Meaning<'_>) -> Result<Text, DocFault> {
+        if !has_form(of, text.as_str()) {
+            return Err(DocFault::BadText(of));
         }
-        Ok(text)
+        text_of(alloc, text)
     }
+}
 
-    /// The number that a leaf spells.
-    pub(crate) fn number_leaf(&mut self, tag: &Tag<'a>) -> Result<u64, DocFault>
-        ensures value { IfOk result (λ n. ReadsAs (IsLeafOf SpellsNumber)
-            tag.now self.old.rest.now self.new.rest.now n) }
-        ensures no_longer { length self.new.rest.now ≤ length self.old.rest.now }
-        ensures refused { IfRefused result (ReadsNone (IsLeafOf SpellsNumber) tag.now self.old.rest.now) }
-    {
-        let found = self.leaf(tag)?;
-        let Some(n) = number(found.as_str()) else {
+/// Texts of any form.
+pub struct PlainText;
+
+impl Leaf for PlainText {
+    type Value = Text;
+
+    ghost spells = { λ of. IsPlain };
+
+    ghost alone = { λ of text v w r s. s ∙ sym r };
+
+    fn value_of(alloc: Global, _: Element, text: Meaning<'_>) -> Result<Text, DocFault> {
+        text_of(alloc, text)
+    }
+}
+
+/// Decimal numbers below 2^64.
+pub struct Number;
+
+impl Leaf for Number {
+    type Value = u64;
+
+    ghost spells = { λ of. SpellsNumber };
+
+    ghost alone = { λ of text v w a b. SpellsNumber-same text w v b a };
+
+    fn value_of(_: Global, _: Element, text: Meaning<'_>) -> Result<u64, DocFault> {
+        let Some(number) = number(text.as_str()) else {
             return Err(DocFault::BadNumber);
         };
-        Ok(n)
+        Ok(number)
     }
+}
 
-    /// The truth value that a leaf names.
-    pub(crate) fn truth_leaf(&mut self, tag: &Tag<'a>) -> Result<bool, DocFault>
-        ensures value { IfOk result (λ b. ReadsAs (IsLeafOf SpellsTruth)
-            tag.now self.old.rest.now self.new.rest.now b) }
-        ensures no_longer { length self.new.rest.now ≤ length self.old.rest.now }
-        ensures refused { IfRefused result (ReadsNone (IsLeafOf SpellsTruth) tag.now self.old.rest.now) }
-    {
-        let found = self.leaf(tag)?;
-        let Some(b) = truth(found.as_str()) else {
+/// Truth values.
+pub struct Truth;
+
+impl Leaf for Truth {
+    type Value = bool;
+
+    ghost spells = { λ of. SpellsTruth };
+
+    ghost alone = { λ of text v w a b. SpellsTruth-same text w v b a };
+
+    fn value_of(_: Global, _: Element, text: Meaning<'_>) -> Result<bool, DocFault> {
+        let Some(truth) = truth(text.as_str()) else {
             return Err(DocFault::BadNumber);
         };
-        Ok(b)
+        Ok(truth)
     }
+}
 
-    /// The time that a leaf spells, in microseconds since 1970.
-    pub(crate) fn time_leaf(&mut self, tag: &Tag<'a>) -> Result<u64, DocFault>
-        ensures value { IfOk result (λ moment. ReadsAs (IsLeafOf SpellsTime)
-            tag.now self.old.rest.now self.new.rest.now moment) }
-        ensures no_longer { length self.new.rest.now ≤ length self.old.rest.now }
-        ensures refused { IfRefused result (ReadsNone (IsLeafOf SpellsTime) tag.now self.old.rest.now) }
-    {
-        let found = self.leaf(tag)?;
-        let Some(moment) = time(found.as_str()) else {
+/// Times, in microseconds since 1970.
+pub struct Time;
+
+impl Leaf for Time {
+    type Value = u64;
+
+    ghost spells = { λ of. SpellsTime };
+
+    ghost alone = { λ of text v w a b. SpellsTime-same text w v b a };
+
+    fn value_of(_: Global, _: Element, text: Meaning<'_>) -> Result<u64, DocFault> {
+        let Some(moment) = time(text.as_str()) else {
             return Err(DocFault::BadTime);
         };
         Ok(moment)

@@ -6,6 +6,7 @@ mod elements;
 mod faults;
 mod leaves;
 mod only;
+mod parts;
 mod places;
 mod reader;
 mod runs;
@@ -14,5 +15,8 @@ mod texts;
 
 pub use elements::Element;
 pub use faults::DocFault;
-pub use only::is_the;
-pub use reader::{Reader, Tag, is_same};
+pub use leaves::{FormedText, Leaf, Number, PlainText, Time, Truth};
+pub use only::{Only, is_the};
+pub use parts::{Parts, read_document};
+pub use reader::{Child, Reader, Tag};
+pub use texts::Meaning;

@@ -1,6 +1,13 @@
 //! Where bytes leave the grammar.
 
-ghost use Rattle.std.specs.Prelude.{◌≤◌, length};
+ghost use Rattle.std.specs.Prelude.{◌≡◌, ◌≢◌, ◌≤◌, length};
+ghost use Rattle.std.specs.Bool.{MatchBool};
+
+pub(crate) fn is_same(one: &[u8], other: &[u8]) -> bool
+    ensures { MatchBool result (one.now ≡ other.now) (one.now ≢ other.now) }
+{
+    one == other
+}
 
 /// How many bytes at the front of a name stand at the front of another one.
 pub(crate) fn common_front(name: &[u8], other: &[u8]) -> usize
@@ -20,13 +27,15 @@ fn is_lead(byte: u8) -> bool {
 }
 
 /// How many bytes at the front are UTF-8, or the beginning of a text that is.
-pub(crate) fn utf8_front(bytes: &[u8]) -> usize {
+pub(crate) fn utf8_front(bytes: &[u8]) -> usize
+    ensures { result ≤ length bytes.now }
+{
     let Err(fault) = std::str::from_utf8(bytes) else {
         return bytes.len();
     };
     let valid = fault.valid_up_to();
     match (bytes.get(valid), fault.error_len()) {
-        (Some(byte), Some(length)) if is_lead(*byte) => valid.saturating_add(length),
+        (Some(byte), Some(length)) if is_lead(*byte) => valid + length,
         (_, Some(_)) => valid,
         (_, None) => bytes.len(),
     }

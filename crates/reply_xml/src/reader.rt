@@ -1,23 +1,30 @@
 //! A document that is read from its front.
 
-ghost use Rattle.std.specs.Prelude.{◌∷◌, ◌≢◌, ◌≡◌, ◌≤◌, ◌<◌, ◌+◌, ℕ, List, Option, IfOk, OnOk, length, Bool, false, IfSome, OnSome, IfNone};
+ghost use Rattle.std.specs.Prelude.{◌∷◌, ◌≡◌, ◌≤◌, ◌<◌, ◌+◌, ℕ, List, Option, IfOk, OnOk, length, Bool, false, IfSome, OnSome, IfNone};
 ghost use Rattle.std.specs.Bool.{MatchBool};
-ghost use Rattle.reply_xml.specs.Children.{IsLeaf};
 ghost use Rattle.reply_xml.specs.Contents.{Content, ReadsText, ReadsInner};
-ghost use Rattle.reply_xml.specs.Elements.{element_named};
+ghost use Rattle.reply_xml.specs.Children.{IsLeafOf};
 ghost use Rattle.reply_xml.specs.Faults.{IfRefused};
-ghost use Rattle.reply_xml.specs.Tags.{ReadsTag, ReadsEndTag};
+ghost use Rattle.reply_xml.specs.Tags.{ReadsTag, ReadsTagEnd, ReadsEndTag};
 ghost use Rattle.reply_xml.specs.Meaning.{meaning_of};
-ghost use Rattle.reply_xml.specs.Reading.{BeginsChild, EndsContent, IsTagOf, ReadsAs, ReadsNone, ReadsSome};
+ghost use Rattle.reply_xml.specs.Reading.{AtEnd, EndsContent, IsTagOf, HoldsSome, NamesChild, ReadsAs, ReadsNone, ReadsSome};
 ghost use Rattle.reply_values.specs.References.{IsUnescaped};
 
 use crate::elements::{Element, element_named};
 use crate::faults::DocFault;
-use crate::places::{common_front, utf8_front};
+use crate::leaves::Leaf;
 use crate::runs::{Sort, split_run};
-use crate::tags::{split_end_tag, split_tag};
-use crate::texts::{Meaning, read_meaning};
+use crate::tags::{after_end_tag, after_tag_end, split_start};
+use crate::texts::{Meaning, TextFault, read_meaning, text_fault};
 use std::alloc::Global;
+
+/// An element that begins, up to the end of its name. On `room` levels elements may stand inside.
+#[derive(Clone, Copy)]
+pub struct Child<'a> {
+    pub name: &'a [u8],
+    pub element: Option<Element>,
+    pub room: usize,
+}
 
 /// The start tag of an element, or where it is closed its empty-element tag. On `room` levels elements may stand inside.
 #[derive(Clone, Copy)]
@@ -36,12 +43,7 @@ pub struct Reader<'a> {
     pub(crate) size: usize,
     /// What is left of it.
     pub rest: &'a [u8],
-}
-
-pub fn is_same(one: &[u8], other: &[u8]) -> bool
-    ensures { MatchBool result (one.now ≡ other.now) (one.now ≢ other.now) }
-{
-    one == other
+    ghost fits: { length rest.now ≤ size },
 }
 
 /// Whether an end tag begins here, and no other tag.
@@ -57,75 +59,55 @@ fn at_end_tag(bytes: &[u8]) -> bool
 
 impl<'a> Reader<'a> {
     /// The place where so many bytes are left.
-    pub(crate) fn place(&self, left: usize) -> usize {
-        self.size.saturating_sub(left)
+    pub(crate) fn place(&self, left: usize) -> usize
+        requires { left ≤ length self.now.rest.now }
+    {
+        self.size - left
     }
 
-    /// What the text up to the next tag means.
+    /// What the text up to the next `<` means.
     fn text(&mut self) -> Result<Meaning<'a>, DocFault>
         ensures value { IfOk result (λ found. (raw : List ℕ) × ReadsText raw self.old.rest.now self.new.rest.now ×
             IsUnescaped raw (meaning_of found)) }
-        ensures shorter { length self.new.rest.now ≤ length self.old.rest.now }
-        ensures refused { IfRefused result ((text rest : List ℕ) → ¬ (ReadsText text self.old.rest.now rest)) }
+        ensures no_longer { length self.new.rest.now ≤ length self.old.rest.now }
+        ensures refused { IfRefused result ((text rest : List ℕ) → ¬ (ReadsText text self.old.rest.now (60 ∷ rest))) }
     {
         let (text, rest) = split_run(Sort::Text, self.rest);
-        let Ok(text) = std::str::from_utf8(text) else {
-            let begun = self.place(self.rest.len());
-            return Err(DocFault::NotADocument(begun.saturating_add(utf8_front(text))));
-        };
-        let found = read_meaning(self.alloc, text)?;
-        self.rest = rest;
-        Ok(found)
-    }
-
-    /// The end tag of an element with that name.
-    fn end_tag(&mut self, name: &[u8]) -> Result<(), DocFault>
-        ensures value { OnOk result (ReadsEndTag name.now self.old.rest.now self.new.rest.now) }
-        ensures shorter { length self.new.rest.now ≤ length self.old.rest.now }
-        ensures refused { IfRefused result ((rest : List ℕ) → ¬ (ReadsEndTag name.now self.old.rest.now rest)) }
-    {
-        let (found, rest) = match split_end_tag(self.rest) {
-            Ok(parts) => parts,
-            Err(left) => return Err(DocFault::NotADocument(self.place(left))),
-        };
-        if !is_same(found, name) {
-            let front = common_front(found, name).saturating_add(2);
-            let begun = self.place(self.rest.len());
-            return Err(DocFault::NotADocument(begun.saturating_add(front)));
+        if rest.is_empty() {
+            return Err(self.last_text_fault(text));
         }
-        self.rest = rest;
-        Ok(())
+        match read_meaning(self.alloc, text) {
+            Ok(found) => {
+                self.rest = rest;
+                Ok(found)
+            }
+            Err(TextFault::Ends(place)) => {
+                Err(DocFault::NotADocument(self.place(self.rest.len() - place)))
+            }
+            Err(TextFault::BadReference) => Err(DocFault::BadEscape),
+            Err(TextFault::Memory) => Err(DocFault::Memory),
+        }
     }
 
-    /// The tag of an element on a level with so much room, at the front.
-    fn tag(&mut self, room: usize) -> Result<Tag<'a>, DocFault>
-        ensures value { IfOk result (λ tag. IsTagOf tag self.old.rest.now self.new.rest.now) }
-        ensures room { IfOk result (λ tag. tag.room ≡ room) }
-        ensures shorter { OnOk result (length self.new.rest.now < length self.old.rest.now) }
-        ensures no_longer { length self.new.rest.now ≤ length self.old.rest.now }
-        ensures refused { IfRefused result ((closed : Bool) (name rest : List ℕ) →
-            ¬ (ReadsTag closed name self.old.rest.now rest)) }
+    /// The fault of a text that no `<` follows.
+    fn last_text_fault(&self, text: &[u8]) -> DocFault
+        requires { length text.now ≤ length self.now.rest.now }
     {
-        let (name, closed, rest) = match split_tag(self.rest) {
-            Ok(parts) => parts,
-            Err(left) => return Err(DocFault::NotADocument(self.place(left))),
-        };
-        self.rest = rest;
-        Ok(Tag {
-            name,
-            element: element_named(name),
-            closed,
-            room,
-        })
+        match text_fault(text, true) {
+            TextFault::Ends(place) => {
+                DocFault::NotADocument(self.place(self.rest.len() - place))
+            }
+            _ => DocFault::BadEscape,
+        }
     }
 
-    /// The next element inside an element, or None behind its end.
-    pub fn next_child(&mut self, parent: &Tag<'a>) -> Result<Option<Tag<'a>>, DocFault>
+    /// The next element inside an element, or None where its end tag begins.
+    pub fn next_child(&mut self, parent: &Tag<'a>) -> Result<Option<Child<'a>>, DocFault>
         ensures child { IfOk result
-            (λ found. IfSome found (λ tag. BeginsChild parent.now.room self.old.rest.now tag self.new.rest.now)) }
-        ensures apart { IfOk result (λ found. IfSome found (λ tag. parent.now.closed ≡ false)) }
+            (λ found. IfSome found (λ child. NamesChild parent.now.room self.old.rest.now child self.new.rest.now)) }
+        ensures apart { IfOk result (λ found. IfSome found (λ child. parent.now.closed ≡ false)) }
         ensures shorter { IfOk result (λ found. OnSome found (length self.new.rest.now < length self.old.rest.now)) }
-        ensures end { IfOk result (λ found. IfNone found (EndsContent parent.now self.old.rest.now self.new.rest.now)) }
+        ensures end { IfOk result (λ found. IfNone found (AtEnd parent.now self.old.rest.now self.new.rest.now)) }
         ensures no_longer { length self.new.rest.now ≤ length self.old.rest.now }
         ensures refused { IfRefused result ((inner : Content) (rest : List ℕ) →
             ¬ (ReadsInner parent.now.closed inner parent.now.room parent.now.name.now self.old.rest.now rest)) }
@@ -135,48 +117,130 @@ impl<'a> Reader<'a> {
         }
         self.text()?;
         if at_end_tag(self.rest) {
-            self.end_tag(parent.name)?;
             return Ok(None);
         }
+        let (name, rest) = match split_start(self.rest) {
+            Ok(parts) => parts,
+            Err(left) => return Err(DocFault::NotADocument(self.place(left))),
+        };
         if parent.room == 0 {
             return Err(DocFault::TooDeep);
         }
-        Ok(Some(self.tag(parent.room - 1)?))
+        self.rest = rest;
+        Ok(Some(Child {
+            name,
+            element: element_named(name),
+            room: parent.room - 1,
+        }))
     }
 
-    /// What the text of an element means that has no element inside, with its end tag.
-    pub(crate) fn leaf(&mut self, tag: &Tag<'a>) -> Result<Meaning<'a>, DocFault>
-        ensures value { IfOk result
-            (λ found. ReadsAs IsLeaf tag.now self.old.rest.now self.new.rest.now (meaning_of found)) }
+    /// What stands in an element's tag behind its name.
+    pub fn tag(&mut self, child: &Child<'a>) -> Result<Tag<'a>, DocFault>
+        ensures value { IfOk result (λ tag. IsTagOf child.now tag self.old.rest.now self.new.rest.now) }
         ensures no_longer { length self.new.rest.now ≤ length self.old.rest.now }
-        ensures refused { IfRefused result (ReadsNone IsLeaf tag.now self.old.rest.now) }
+        ensures refused { IfRefused result ((closed : Bool) (rest : List ℕ) →
+            ¬ (ReadsTagEnd closed self.old.rest.now rest)) }
+    {
+        let (closed, rest) = match after_tag_end(self.rest) {
+            Ok(parts) => parts,
+            Err(left) => return Err(DocFault::NotADocument(self.place(left))),
+        };
+        self.rest = rest;
+        Ok(Tag {
+            name: child.name,
+            element: child.element,
+            closed,
+            room: child.room,
+        })
+    }
+
+    /// The end tag of an element whose content ends here, or none where its tag is closed.
+    pub fn end(&mut self, parent: &Tag<'a>) -> Result<(), DocFault>
+        ensures value { OnOk result ((before : List ℕ) → AtEnd parent.now before self.old.rest.now →
+            EndsContent parent.now before self.new.rest.now) }
+        ensures no_longer { length self.new.rest.now ≤ length self.old.rest.now }
+        ensures refused { IfRefused result ((before : List ℕ) → AtEnd parent.now before self.old.rest.now →
+            (inner : Content) (rest : List ℕ) →
+            ¬ (ReadsInner parent.now.closed inner parent.now.room parent.now.name.now before rest)) }
+    {
+        if parent.closed {
+            return Ok(());
+        }
+        match after_end_tag(parent.name, self.rest) {
+            Ok(rest) => {
+                self.rest = rest;
+                Ok(())
+            }
+            Err(left) => Err(DocFault::NotADocument(self.place(left))),
+        }
+    }
+
+    /// What the text of a leaf means, up to its end tag.
+    pub fn leaf_text(&mut self, tag: &Tag<'a>) -> Result<Meaning<'a>, DocFault>
+        ensures no_longer { length self.new.rest.now ≤ length self.old.rest.now }
     {
         if tag.closed {
             return Ok(Meaning::Itself(""));
         }
-        let found = self.text()?;
-        self.end_tag(tag.name)?;
-        Ok(found)
+        self.text()
+    }
+
+    /// The value of a leaf.
+    pub fn leaf<L: Leaf>(&mut self, child: &Child<'a>, of: Element) -> Result<L::Value, DocFault>
+        ensures value { IfOk result (λ value. ReadsAs (IsLeafOf (L.spells of))
+            child.now self.old.rest.now self.new.rest.now value) }
+        ensures no_longer { length self.new.rest.now ≤ length self.old.rest.now }
+        ensures refused { IfRefused result (ReadsNone (IsLeafOf (L.spells of)) child.now self.old.rest.now) }
+    {
+        let tag = self.tag(child)?;
+        if tag.closed {
+            return L::value_of(self.alloc, of, Meaning::Itself(""));
+        }
+        let text = self.text()?;
+        let value = L::value_of(self.alloc, of, text)?;
+        match after_end_tag(tag.name, self.rest) {
+            Ok(rest) => {
+                self.rest = rest;
+                Ok(value)
+            }
+            Err(left) => Err(DocFault::NotADocument(self.place(left))),
+        }
+    }
+
+    /// What stands in an element, with its end tag.
+    pub fn skip(&mut self, child: &Child<'a>) -> Result<(), DocFault>
+        ensures value { OnOk result (ReadsSome child.now self.old.rest.now self.new.rest.now) }
+        ensures no_longer { length self.new.rest.now ≤ length self.old.rest.now }
+        ensures refused { IfRefused result ((rest : List ℕ) → ¬ (ReadsSome child.now self.old.rest.now rest)) }
+    {
+        let tag = self.tag(child)?;
+        self.skip_content(&tag)
     }
 
     /// What stands inside an element, with its end tag.
-    pub fn skip(&mut self, tag: &Tag<'a>) -> Result<(), DocFault>
-        ensures value { OnOk result (ReadsSome tag.now self.old.rest.now self.new.rest.now) }
+    fn skip_content(&mut self, tag: &Tag<'a>) -> Result<(), DocFault>
+        ensures value { OnOk result (HoldsSome tag.now self.old.rest.now self.new.rest.now) }
         ensures no_longer { length self.new.rest.now ≤ length self.old.rest.now }
-        ensures refused { IfRefused result ((rest : List ℕ) → ¬ (ReadsSome tag.now self.old.rest.now rest)) }
+        ensures refused { IfRefused result ((rest : List ℕ) → ¬ (HoldsSome tag.now self.old.rest.now rest)) }
     {
         let mut inner = *tag;
         let mut outer = Vec::new(self.alloc);
         'elements: loop {
             match self.next_child(&inner)? {
-                Some(child) => match outer.push(inner) {
-                    Ok(()) => inner = child,
-                    Err(_) => return Err(DocFault::Memory),
-                },
-                None => match outer.pop() {
-                    Some(parent) => inner = parent,
-                    None => return Ok(()),
-                },
+                Some(child) => {
+                    let within = self.tag(&child)?;
+                    match outer.push(inner) {
+                        Ok(()) => inner = within,
+                        Err(_) => return Err(DocFault::Memory),
+                    }
+                }
+                None => {
+                    self.end(&inner)?;
+                    match outer.pop() {
+                        Some(parent) => inner = parent,
+                        None => return Ok(()),
+                    }
+                }
             }
         }
     }

@@ -14,7 +14,7 @@ pub(crate) enum Sort {
     Value(u8),
 }
 
-fn is_of(sort: Sort, byte: u8) -> bool
+pub(crate) fn is_of(sort: Sort, byte: u8) -> bool
     ensures { result ≡ is_of sort byte }
 {
     match sort {

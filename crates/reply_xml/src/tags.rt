@@ -1,10 +1,10 @@
 //! Tags, with their attributes.
 
-ghost use Rattle.std.specs.Prelude.{◌≡◌, ◌<◌, ◌≤◌, ◌∷◌, ℕ, Bool, List, length, IfOk, OnErr, IfSome, MatchOption};
-ghost use Rattle.reply_xml.specs.Tags.{ReadsAttribute, ReadsEndTag, ReadsGap, ReadsName, ReadsTag, ReadsTagEnd, ReadsValue};
+ghost use Rattle.std.specs.Prelude.{◌≡◌, ◌<◌, ◌≤◌, ◌∷◌, ℕ, Bool, List, length, IfOk, IfErr, OnErr, IfSome, MatchOption};
+ghost use Rattle.reply_xml.specs.Tags.{NameEnds, NamesTag, ReadsAttribute, ReadsEndTag, ReadsGap, ReadsName, ReadsTag, ReadsTagEnd, ReadsValue, ends_name};
 
-use crate::places::utf8_front;
-use crate::runs::{Sort, split_run};
+use crate::places::{common_front, is_same, utf8_front};
+use crate::runs::{Sort, is_of, split_run};
 
 /// What follows the byte, where it stands at the front.
 pub(crate) fn after_byte(byte: u8, bytes: &[u8]) -> Option<&[u8]>
@@ -22,6 +22,7 @@ pub(crate) fn after_byte(byte: u8, bytes: &[u8]) -> Option<&[u8]>
 pub(crate) fn split_name(bytes: &[u8]) -> Result<(&[u8], &[u8]), usize>
     ensures value { IfOk result (λ parts. ReadsName parts.0.now bytes.now parts.1.now) }
     ensures shorter { IfOk result (λ parts. length parts.1.now < length bytes.now) }
+    ensures left { IfErr result (λ left. left ≤ length bytes.now) }
     ensures refused { OnErr result ((name rest : List ℕ) → ¬ (ReadsName name bytes.now rest)) }
 {
     let (name, rest) = split_run(Sort::Name, bytes);
@@ -35,6 +36,7 @@ pub(crate) fn split_name(bytes: &[u8]) -> Result<(&[u8], &[u8]), usize>
 fn after_value(bytes: &[u8]) -> Result<&[u8], usize>
     ensures value { IfOk result (λ rest. ReadsValue bytes.now rest.now) }
     ensures shorter { IfOk result (λ rest. length rest.now < length bytes.now) }
+    ensures left { IfErr result (λ left. left ≤ length bytes.now) }
     ensures refused { OnErr result ((rest : List ℕ) → ¬ (ReadsValue bytes.now rest)) }
 {
     let Some((quote, inside)) = bytes.split_first() else {
@@ -46,7 +48,7 @@ fn after_value(bytes: &[u8]) -> Result<&[u8], usize>
     }
     let (value, last) = split_run(Sort::Value(quote), inside);
     let Ok(_) = std::str::from_utf8(value) else {
-        return Err(inside.len().saturating_sub(utf8_front(value)));
+        return Err(inside.len() - utf8_front(value));
     };
     match after_byte(quote, last) {
         Some(rest) => Ok(rest),
@@ -58,6 +60,7 @@ fn after_value(bytes: &[u8]) -> Result<&[u8], usize>
 fn after_attribute(bytes: &[u8]) -> Result<&[u8], usize>
     ensures value { IfOk result (λ rest. ReadsAttribute bytes.now rest.now) }
     ensures shorter { IfOk result (λ rest. length rest.now < length bytes.now) }
+    ensures left { IfErr result (λ left. left ≤ length bytes.now) }
     ensures refused { OnErr result ((rest : List ℕ) → ¬ (ReadsAttribute bytes.now rest)) }
 {
     let (_, equals) = split_name(bytes)?;
@@ -69,9 +72,10 @@ fn after_attribute(bytes: &[u8]) -> Result<&[u8], usize>
 
 /// What stands in a tag behind its name: attributes, white space, and the end. Also whether the end is that of an
 /// empty-element tag.
-fn after_tag_end(bytes: &[u8]) -> Result<(bool, &[u8]), usize>
+pub(crate) fn after_tag_end(bytes: &[u8]) -> Result<(bool, &[u8]), usize>
     ensures value { IfOk result (λ parts. ReadsTagEnd parts.0 bytes.now parts.1.now) }
     ensures shorter { IfOk result (λ parts. length parts.1.now < length bytes.now) }
+    ensures left { IfErr result (λ left. left ≤ length bytes.now) }
     ensures refused { OnErr result ((closed : Bool) (rest : List ℕ) → ¬ (ReadsTagEnd closed bytes.now rest)) }
 {
     let mut here = bytes;
@@ -93,25 +97,40 @@ fn after_tag_end(bytes: &[u8]) -> Result<(bool, &[u8]), usize>
     }
 }
 
-/// The name of the tag at the front, whether it is closed, and what follows it.
-pub(crate) fn split_tag(bytes: &[u8]) -> Result<(&[u8], bool, &[u8]), usize>
-    ensures value { IfOk result (λ parts. ReadsTag parts.1 parts.0.now bytes.now parts.2.now) }
-    ensures shorter { IfOk result (λ parts. length parts.2.now < length bytes.now) }
+/// Whether the name of a tag can end where this byte follows.
+fn ends_name(byte: u8) -> bool
+    ensures { result ≡ ends_name byte }
+{
+    is_of(Sort::Space, byte) || byte == b'/' || byte == b'>'
+}
+
+/// The name of the start tag or empty-element tag at the front, and what follows it.
+pub(crate) fn split_start(bytes: &[u8]) -> Result<(&[u8], &[u8]), usize>
+    ensures value { IfOk result (λ parts. NamesTag parts.0.now bytes.now parts.1.now) }
+    ensures shorter { IfOk result (λ parts. length parts.1.now < length bytes.now) }
+    ensures left { IfErr result (λ left. left ≤ length bytes.now) }
     ensures refused { OnErr result ((closed : Bool) (name rest : List ℕ) → ¬ (ReadsTag closed name bytes.now rest)) }
+    ensures unnamed { OnErr result ((name rest : List ℕ) → NamesTag name bytes.now rest → ¬ (NameEnds rest)) }
 {
     let Some(at_name) = after_byte(b'<', bytes) else {
         return Err(bytes.len());
     };
-    let (name, at_attributes) = split_name(at_name)?;
-    let (closed, rest) = after_tag_end(at_attributes)?;
-    Ok((name, closed, rest))
+    let (name, rest) = split_name(at_name)?;
+    let Some(next) = rest.first() else {
+        return Err(0);
+    };
+    if !ends_name(*next) {
+        return Err(rest.len());
+    }
+    Ok((name, rest))
 }
 
-/// The name of the end tag at the front, and what follows it.
-pub(crate) fn split_end_tag(bytes: &[u8]) -> Result<(&[u8], &[u8]), usize>
-    ensures value { IfOk result (λ parts. ReadsEndTag parts.0.now bytes.now parts.1.now) }
-    ensures shorter { IfOk result (λ parts. length parts.1.now < length bytes.now) }
-    ensures refused { OnErr result ((name rest : List ℕ) → ¬ (ReadsEndTag name bytes.now rest)) }
+/// What follows the end tag of that name at the front.
+pub(crate) fn after_end_tag<'a>(name: &[u8], bytes: &'a [u8]) -> Result<&'a [u8], usize>
+    ensures value { IfOk result (λ rest. ReadsEndTag name.now bytes.now rest.now) }
+    ensures shorter { IfOk result (λ rest. length rest.now < length bytes.now) }
+    ensures left { IfErr result (λ left. left ≤ length bytes.now) }
+    ensures refused { OnErr result ((rest : List ℕ) → ¬ (ReadsEndTag name.now bytes.now rest)) }
 {
     let Some(at_slash) = after_byte(b'<', bytes) else {
         return Err(bytes.len());
@@ -119,10 +138,13 @@ pub(crate) fn split_end_tag(bytes: &[u8]) -> Result<(&[u8], &[u8]), usize>
     let Some(at_name) = after_byte(b'/', at_slash) else {
         return Err(at_slash.len());
     };
-    let (name, at_space) = split_name(at_name)?;
+    let (found, at_space) = split_name(at_name)?;
+    if !is_same(found, name) {
+        return Err(at_name.len() - common_front(found, name));
+    }
     let (_, at_close) = split_run(Sort::Space, at_space);
     match after_byte(b'>', at_close) {
-        Some(rest) => Ok((name, rest)),
+        Some(rest) => Ok(rest),
         None => Err(at_close.len()),
     }
 }

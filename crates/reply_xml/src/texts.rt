@@ -1,36 +1,34 @@
 //! What the text between two tags means.
 
-ghost use Rattle.std.specs.Prelude.{◌≡◌, ℕ, List, IfOk};
-ghost use Rattle.reply_xml.specs.Faults.{IfRefused};
+ghost use Rattle.std.specs.Prelude.{◌≡◌, ℕ, List, IfOk, length};
+ghost use Rattle.std.specs.Str.{IsUtf8};
+ghost use Rattle.reply_xml.specs.Faults.{EndsIn, EndsWithin, TellsText};
 ghost use Rattle.reply_xml.specs.Meaning.{meaning_of};
 ghost use Rattle.reply_values.specs.References.{IsUnescaped};
 
-use crate::faults::DocFault;
-use reply_values::{ReferenceFault, unescape};
+use crate::places::utf8_front;
+use reply_values::{ReferenceFault, bad_reference, may_begin_reference, unescape};
 use s3_model::{OutOfMemory, Text};
 use std::alloc::Global;
 
-/// The text that raw text spells.
-pub(crate) fn unescaped(alloc: Global, raw: &str) -> Result<Text, DocFault>
-    ensures value { IfOk result (λ text. IsUnescaped raw.now text) }
-    ensures refused { IfRefused result ((text : List ℕ) → ¬ (IsUnescaped raw.now text)) }
-{
-    match unescape(alloc, raw) {
-        Ok(text) => Ok(text),
-        Err(ReferenceFault::Bad(_)) => Err(DocFault::BadEscape),
-        Err(ReferenceFault::Memory) => Err(DocFault::Memory),
-    }
+/// Why a text cannot be read.
+#[derive(Clone, Copy)]
+pub(crate) enum TextFault {
+    /// It leaves the grammar behind so many bytes.
+    Ends(usize),
+    BadReference,
+    Memory,
 }
 
 /// What a text means: itself where it has no reference, else another text.
 #[derive(Drop)]
-pub(crate) enum Meaning<'a> {
+pub enum Meaning<'a> {
     Itself(&'a str),
     Unescaped(Text),
 }
 
 impl Meaning<'_> {
-    pub(crate) fn as_str(&self) -> &str
+    pub fn as_str(&self) -> &str
         ensures { result.now ≡ meaning_of self.now }
     {
         match self {
@@ -49,13 +47,47 @@ impl Meaning<'_> {
     }
 }
 
-/// What a text means; without a reference nothing is allocated.
-pub(crate) fn read_meaning<'a>(alloc: Global, raw: &'a str) -> Result<Meaning<'a>, DocFault>
-    ensures value { IfOk result (λ found. IsUnescaped raw.now (meaning_of found)) }
-    ensures refused { IfRefused result ((text : List ℕ) → ¬ (IsUnescaped raw.now text)) }
+/// What a text means that `<` follows; without a reference nothing is allocated.
+pub(crate) fn read_meaning<'a>(alloc: Global, bytes: &'a [u8]) -> Result<Meaning<'a>, TextFault>
+    ensures value { IfOk result (λ found. IsUtf8 bytes.now × IsUnescaped bytes.now (meaning_of found)) }
+    ensures refused { TellsText result (IsUtf8 bytes.now → (text : List ℕ) → ¬ (IsUnescaped bytes.now text)) }
+    ensures place { EndsWithin result (length bytes.now) }
 {
+    let Ok(raw) = std::str::from_utf8(bytes) else {
+        return Err(text_fault(bytes, false));
+    };
     if !raw.as_bytes().contains(&b'&') {
         return Ok(Meaning::Itself(raw));
     }
-    Ok(Meaning::Unescaped(unescaped(alloc, raw)?))
+    match unescape(alloc, raw) {
+        Ok(text) => Ok(Meaning::Unescaped(text)),
+        Err(ReferenceFault::Bad(_)) => Err(TextFault::BadReference),
+        Err(ReferenceFault::Memory) => Err(TextFault::Memory),
+    }
+}
+
+/// The first fault of a text that is not UTF-8, or, where it is the `last`, that no `<` follows. A reference that the
+/// end of the document cuts short is not a bad one where more bytes could complete it.
+pub(crate) fn text_fault(bytes: &[u8], last: bool) -> TextFault
+    ensures { EndsIn result (length bytes.now) }
+{
+    let (raw, whole) = match std::str::from_utf8(bytes) {
+        Ok(raw) => (raw, true),
+        Err(fault) => (valid_front(&bytes[..fault.valid_up_to()]), false),
+    };
+    match bad_reference(raw) {
+        Some(place) if last && whole && may_begin_reference(raw, place) => {
+            TextFault::Ends(bytes.len())
+        }
+        Some(_) => TextFault::BadReference,
+        None => TextFault::Ends(utf8_front(bytes)),
+    }
+}
+
+/// The text of bytes, or an empty one where they are not UTF-8.
+fn valid_front(bytes: &[u8]) -> &str {
+    match std::str::from_utf8(bytes) {
+        Ok(text) => text,
+        Err(_) => "",
+    }
 }

@@ -5,7 +5,7 @@ use Rattle.std.proofs.lemmas.Bool.{false≢true}
 use Rattle.s3_model.specs.Lists.{Reserved}
 use Rattle.s3_model.specs.declared.places.Entry.{Entry}
 use Rattle.reply_xml.specs.declared.elements.Element.TheVariants as element
-use Rattle.reply_xml.specs.declared.reader.Tag.{Tag}
+use Rattle.reply_xml.specs.declared.reader.Child.{Child}
 use Rattle.s3_replies.specs.Buckets.{BucketLeft, HasBucket, HasEachBucket, ListLeft}
 use Rattle.reply_xml.specs.Contents.{Content, Only, is_the, named}
 use Rattle.reply_xml.specs.Children.{IsFormed, IsLeafOf}
@@ -23,45 +23,45 @@ NameLeft name c v = LeafLeft (IsFormed element.Name) element.Name name c v.0
 abbrev CreatedLeft : Option ℕ → Content → List ℕ × ℕ → Type 0
 CreatedLeft created c v = LeafLeft SpellsTime element.CreationDate created c v.1
 
-name_passes : (name : Option (List ℕ)) (tag : Tag) → is_the element.Name tag.element ≡ false → Passes (NameLeft name) tag
-name_passes name tag h = named_passes (λ cs v. OnceLeft (IsLeafOf (IsFormed element.Name)) name cs v.0) element.Name tag h
+name_passes : (name : Option (List ℕ)) (child : Child) → is_the element.Name child.element ≡ false → Passes (NameLeft name) child
+name_passes name child h = named_passes (λ cs v. OnceLeft (IsLeafOf (IsFormed element.Name)) name cs v.0) element.Name child h
 
-created_passes : (created : Option ℕ) (tag : Tag) → is_the element.CreationDate tag.element ≡ false → Passes (CreatedLeft created) tag
-created_passes created tag h = named_passes (λ cs v. OnceLeft (IsLeafOf SpellsTime) created cs v.1) element.CreationDate tag h
+created_passes : (created : Option ℕ) (child : Child) → is_the element.CreationDate child.element ≡ false → Passes (CreatedLeft created) child
+created_passes created child h = named_passes (λ cs v. OnceLeft (IsLeafOf SpellsTime) created cs v.1) element.CreationDate child h
 
-pub name_advanced : (name now : Option (List ℕ)) (created : Option ℕ) (tag : Tag) (bytes rest : List ℕ) → is_the element.Name tag.element ≡ true
-    → Advances (LeafLeft (IsFormed element.Name) element.Name name) (LeafLeft (IsFormed element.Name) element.Name now) tag bytes rest → Advances (BucketLeft name created) (BucketLeft now created) tag bytes rest
-name_advanced name now created tag bytes rest h a =
-    first_advanced (NameLeft name) (NameLeft now) (CreatedLeft created) tag bytes rest
-    (part_advanced (λ v. v.0) (LeafLeft (IsFormed element.Name) element.Name name) (LeafLeft (IsFormed element.Name) element.Name now) tag bytes rest a)
-    (created_passes created tag (is_other element.Name element.CreationDate tag.element h refl))
+pub name_advanced : (name now : Option (List ℕ)) (created : Option ℕ) (child : Child) (bytes rest : List ℕ) → is_the element.Name child.element ≡ true
+    → Advances (LeafLeft (IsFormed element.Name) element.Name name) (LeafLeft (IsFormed element.Name) element.Name now) child bytes rest → Advances (BucketLeft name created) (BucketLeft now created) child bytes rest
+name_advanced name now created child bytes rest h a =
+    first_advanced (NameLeft name) (NameLeft now) (CreatedLeft created) child bytes rest
+    (part_advanced (λ v. v.0) (LeafLeft (IsFormed element.Name) element.Name name) (LeafLeft (IsFormed element.Name) element.Name now) child bytes rest a)
+    (created_passes created child (is_other element.Name element.CreationDate child.element h refl))
 
-pub name_stopped : (name : Option (List ℕ)) (created : Option ℕ) (tag : Tag) (bytes : List ℕ) → Stops (LeafLeft (IsFormed element.Name) element.Name name) tag bytes → Stops (BucketLeft name created) tag bytes
-name_stopped name created tag bytes s =
-    first_stopped (NameLeft name) (CreatedLeft created) tag bytes (part_stopped (λ v. v.0) (LeafLeft (IsFormed element.Name) element.Name name) tag bytes s)
+pub name_stopped : (name : Option (List ℕ)) (created : Option ℕ) (child : Child) (bytes : List ℕ) → Stops (LeafLeft (IsFormed element.Name) element.Name name) child bytes → Stops (BucketLeft name created) child bytes
+name_stopped name created child bytes s =
+    first_stopped (NameLeft name) (CreatedLeft created) child bytes (part_stopped (λ v. v.0) (LeafLeft (IsFormed element.Name) element.Name name) child bytes s)
 
-pub created_advanced : (name : Option (List ℕ)) (created now : Option ℕ) (tag : Tag) (bytes rest : List ℕ) → is_the element.Name tag.element ≡ false → is_the element.CreationDate tag.element ≡ true
-    → Advances (LeafLeft SpellsTime element.CreationDate created) (LeafLeft SpellsTime element.CreationDate now) tag bytes rest → Advances (BucketLeft name created) (BucketLeft name now) tag bytes rest
-created_advanced name created now tag bytes rest other h a =
-    other_advanced (NameLeft name) (CreatedLeft created) (CreatedLeft now) tag bytes rest
-    (part_advanced (λ v. v.1) (LeafLeft SpellsTime element.CreationDate created) (LeafLeft SpellsTime element.CreationDate now) tag bytes rest a) (name_passes name tag other)
+pub created_advanced : (name : Option (List ℕ)) (created now : Option ℕ) (child : Child) (bytes rest : List ℕ) → is_the element.Name child.element ≡ false → is_the element.CreationDate child.element ≡ true
+    → Advances (LeafLeft SpellsTime element.CreationDate created) (LeafLeft SpellsTime element.CreationDate now) child bytes rest → Advances (BucketLeft name created) (BucketLeft name now) child bytes rest
+created_advanced name created now child bytes rest other h a =
+    other_advanced (NameLeft name) (CreatedLeft created) (CreatedLeft now) child bytes rest
+    (part_advanced (λ v. v.1) (LeafLeft SpellsTime element.CreationDate created) (LeafLeft SpellsTime element.CreationDate now) child bytes rest a) (name_passes name child other)
 
-pub created_stopped : (name : Option (List ℕ)) (created : Option ℕ) (tag : Tag) (bytes : List ℕ) → Stops (LeafLeft SpellsTime element.CreationDate created) tag bytes → Stops (BucketLeft name created) tag bytes
-created_stopped name created tag bytes s =
-    other_stopped (NameLeft name) (CreatedLeft created) tag bytes (part_stopped (λ v. v.1) (LeafLeft SpellsTime element.CreationDate created) tag bytes s)
+pub created_stopped : (name : Option (List ℕ)) (created : Option ℕ) (child : Child) (bytes : List ℕ) → Stops (LeafLeft SpellsTime element.CreationDate created) child bytes → Stops (BucketLeft name created) child bytes
+created_stopped name created child bytes s =
+    other_stopped (NameLeft name) (CreatedLeft created) child bytes (part_stopped (λ v. v.1) (LeafLeft SpellsTime element.CreationDate created) child bytes s)
 
-pub bucket_skipped : (name : Option (List ℕ)) (created : Option ℕ) (tag : Tag) (bytes rest : List ℕ) → is_the element.Name tag.element ≡ false → is_the element.CreationDate tag.element ≡ false
-    → ReadsSome tag bytes rest → Advances (BucketLeft name created) (BucketLeft name created) tag bytes rest
-bucket_skipped name created tag bytes rest n d s =
-    skipped (BucketLeft name created) tag bytes rest (both_pass (NameLeft name) (CreatedLeft created) tag (name_passes name tag n) (created_passes created tag d)) s
+pub bucket_skipped : (name : Option (List ℕ)) (created : Option ℕ) (child : Child) (bytes rest : List ℕ) → is_the element.Name child.element ≡ false → is_the element.CreationDate child.element ≡ false
+    → ReadsSome child bytes rest → Advances (BucketLeft name created) (BucketLeft name created) child bytes rest
+bucket_skipped name created child bytes rest n d s =
+    skipped (BucketLeft name created) child bytes rest (both_pass (NameLeft name) (CreatedLeft created) child (name_passes name child n) (created_passes created child d)) s
 
 -- a bucket, by what is left to be found of it at first
-pub bucket_opened : (tag : Tag) (bytes rest : List ℕ) (entry : Entry) → ReadsAs HasBucket tag bytes rest entry → ReadsAs (BucketLeft None None) tag bytes rest (entry.key, entry.micros)
-bucket_opened tag bytes rest entry r = (r.0, r.1, (r.2.name, r.2.created))
+pub bucket_opened : (child : Child) (bytes rest : List ℕ) (entry : Entry) → ReadsAs HasBucket child bytes rest entry → ReadsAs (BucketLeft None None) child bytes rest (entry.key, entry.micros)
+bucket_opened child bytes rest entry r = (r.0, r.1, (r.2.name, r.2.created))
 
-pub bucket_closed : (tag : Tag) (bytes rest : List ℕ) (entry : Entry) → entry.size ≡ 0 → entry.etag ≡ [] → ReadsAs (BucketLeft None None) tag bytes rest (entry.key, entry.micros)
-    → ReadsAs HasBucket tag bytes rest entry
-bucket_closed tag bytes rest entry size etag r = (r.0, r.1, record { name = r.2.0; created = r.2.1; size = size; etag = etag })
+pub bucket_closed : (child : Child) (bytes rest : List ℕ) (entry : Entry) → entry.size ≡ 0 → entry.etag ≡ [] → ReadsAs (BucketLeft None None) child bytes rest (entry.key, entry.micros)
+    → ReadsAs HasBucket child bytes rest entry
+bucket_closed child bytes rest entry size etag r = (r.0, r.1, record { name = r.2.0; created = r.2.1; size = size; etag = etag })
 
 pub bucket_left : (name : List ℕ) (created : ℕ) (found : Option (List ℕ)) (made : Option ℕ) (text : List ℕ) → found ≡ Some name → made ≡ Some created → BucketLeft found made (Only text) (name, created)
 bucket_left name created found made text e f =
@@ -85,20 +85,20 @@ pub HasEachBucket-same : (c : Content) (es fs : List Entry) → HasEachBucket c 
 HasEachBucket-same c es fs r s = Each-same HasBucket HasBucket-same (named element.Bucket c) es fs r s
 
 -- the list of buckets, found for the first time or not at all
-pub list_advanced : (found : Option (Reserved Entry)) (rows : Reserved Entry) (tag : Tag) (bytes rest : List ℕ) → is_some found ≡ false → is_the element.Buckets tag.element ≡ true
-    → ReadsAs HasEachBucket tag bytes rest rows.items → Advances (ListLeft found) (ListLeft (Some rows)) tag bytes rest
-list_advanced None rows tag bytes rest e h r = (
+pub list_advanced : (found : Option (Reserved Entry)) (rows : Reserved Entry) (child : Child) (bytes rest : List ℕ) → is_some found ≡ false → is_the element.Buckets child.element ≡ true
+    → ReadsAs HasEachBucket child bytes rest rows.items → Advances (ListLeft found) (ListLeft (Some rows)) child bytes rest
+list_advanced None rows child bytes rest e h r = (
   r.0,
   r.1,
-  λ text more values. once_here HasEachBucket element.Buckets text tag.element r.0 more rows.items values h r.2 (λ other s. HasEachBucket-same r.0 rows.items other r.2 s),
+  λ text more values. once_here HasEachBucket element.Buckets text child.element r.0 more rows.items values h r.2 (λ other s. HasEachBucket-same r.0 rows.items other r.2 s),
 )
-list_advanced (Some other) rows tag bytes rest e h r = absurd (false≢true (sym e))
+list_advanced (Some other) rows child bytes rest e h r = absurd (false≢true (sym e))
 
-pub list_stopped : (found : Option (Reserved Entry)) (tag : Tag) (bytes : List ℕ) → is_some found ≡ false → is_the element.Buckets tag.element ≡ true → ReadsNone HasEachBucket tag bytes
-    → Stops (ListLeft found) tag bytes
-list_stopped None tag bytes e h none inner rest text more values r l =
-    once_bad HasEachBucket element.Buckets text tag.element inner more values h (λ other s. none rest other (inner, r, s)) l
-list_stopped (Some other) tag bytes e h none inner rest text more values r l = absurd (false≢true (sym e))
+pub list_stopped : (found : Option (Reserved Entry)) (child : Child) (bytes : List ℕ) → is_some found ≡ false → is_the element.Buckets child.element ≡ true → ReadsNone HasEachBucket child bytes
+    → Stops (ListLeft found) child bytes
+list_stopped None child bytes e h none inner rest text more values r l =
+    once_bad HasEachBucket element.Buckets text child.element inner more values h (λ other s. none rest other (inner, r, s)) l
+list_stopped (Some other) child bytes e h none inner rest text more values r l = absurd (false≢true (sym e))
 
 pub list_left : (found : Option (Reserved Entry)) (rows : Reserved Entry) (text : List ℕ) → found ≡ Some rows → ListLeft found (Only text) rows.items
 list_left found rows text e = subst (λ (o : Option (Reserved Entry)). ListLeft o (Only text) rows.items) (sym e) (refl, refl)

@@ -6,7 +6,7 @@ use Rattle.s3_model.specs.declared.places.Entry.{Entry}
 use Rattle.reply_xml.specs.declared.elements.Element.TheVariants as element
 use Rattle.reply_xml.specs.Contents.{Content, named}
 use Rattle.reply_xml.specs.Children.{AtMostOnce, HasLeaf, IsFormed, IsLeafOf}
-use Rattle.s3_replies.specs.Listing.{HasEncoding, HasObject, HasPage, IsListing, IsWritten, MeansEntry, MeansText, Page}
+use Rattle.s3_replies.specs.Listing.{MeansPage, HasEncoding, HasObject, HasPage, IsListing, IsWritten, MeansEntry, MeansText, Page}
 use Rattle.reply_values.specs.Numbers.{SpellsTruth}
 use Rattle.reply_xml.proofs.ChildLemmas.{nothing_there, leaf_same, Once-same, IsLeafOf-same, IsFormed-same}
 use Rattle.s3_replies.proofs.EachLemmas.{Each-same}
@@ -55,15 +55,6 @@ pub IsWritten-same : (doc : List ℕ) (p q : Page) → IsWritten doc p → IsWri
 IsWritten-same doc p q r s = IsOf-same HasPage (codes "ListBucketResult") doc HasPage-same p q r s
 
 -- what a page's entries and prefixes cannot mean, no listing says
-pub no_entries : (doc : List ℕ) (page : Page) (rows : List Entry) → IsWritten doc page → rows ≡ page.entries → ((entries : List Entry) → ¬ (AllZip (MeansEntry page.url) rows entries)) → (listed : Listed) → ¬ (IsListing doc listed)
-no_entries doc page rows w e none listed l =
-    let same = IsWritten-same doc page l.0 w l.1 in
-    none listed.entries.items (subst (λ (es : List Entry). AllZip (MeansEntry page.url) es listed.entries.items) (sym e)
-    (subst (λ (p : Page). AllZip (MeansEntry p.url) p.entries listed.entries.items) same l.2.entries))
-
-pub no_prefixes : (doc : List ℕ) (page : Page) (rows : List (List ℕ)) → IsWritten doc page → rows ≡ page.prefixes → ((prefixes : List (List ℕ)) → ¬ (AllZip (MeansText page.url) rows prefixes)) → (listed : Listed)
-    → ¬ (IsListing doc listed)
-no_prefixes doc page rows w e none listed l =
-    let same = IsWritten-same doc page l.0 w l.1 in
-    none listed.prefixes.items (subst (λ (ps : List (List ℕ)). AllZip (MeansText page.url) ps listed.prefixes.items) (sym e)
-    (subst (λ (p : Page). AllZip (MeansText p.url) p.prefixes listed.prefixes.items) same l.2.prefixes))
+pub no_listing : (doc : List ℕ) (page : Page) → IsWritten doc page → ((listed : Listed) → ¬ (MeansPage page listed)) → (listed : Listed) → ¬ (IsListing doc listed)
+no_listing doc page written none listed l =
+    none listed (subst (λ (p : Page). MeansPage p listed) (IsWritten-same doc page l.0 written l.1) l.2)

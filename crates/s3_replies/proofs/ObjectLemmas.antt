@@ -2,7 +2,7 @@
 use Rattle.std.proofs.Common.{◌≡◌, ℕ, true, false, List, [], Option, Some, None, sym, refl, subst}
 use Rattle.s3_model.specs.declared.places.Entry.{Entry}
 use Rattle.reply_xml.specs.declared.elements.Element.TheVariants as element
-use Rattle.reply_xml.specs.declared.reader.Tag.{Tag}
+use Rattle.reply_xml.specs.declared.reader.Child.{Child}
 use Rattle.reply_xml.specs.Contents.{Content, Only, is_the, named}
 use Rattle.reply_xml.specs.Children.{IsFormed, IsLeafOf}
 use Rattle.s3_replies.specs.Listing.{HasObject, ObjectLeft}
@@ -18,75 +18,75 @@ use Rattle.reply_xml.proofs.TakeLemmas.{Both, Passes, first_advanced, other_adva
 abbrev KeyLeft : Option (List ℕ) → Content → Entry → Type 0
 KeyLeft key content entry = LeafLeft (IsFormed element.Key) element.Key key content entry.key
 
-key_passes : (key : Option (List ℕ)) (tag : Tag) → is_the element.Key tag.element ≡ false → Passes (KeyLeft key) tag
-key_passes key tag h = named_passes (λ cs (entry : Entry). OnceLeft (IsLeafOf (IsFormed element.Key)) key cs entry.key) element.Key tag h
+key_passes : (key : Option (List ℕ)) (child : Child) → is_the element.Key child.element ≡ false → Passes (KeyLeft key) child
+key_passes key child h = named_passes (λ cs (entry : Entry). OnceLeft (IsLeafOf (IsFormed element.Key)) key cs entry.key) element.Key child h
 
 abbrev ModifiedLeft : Option ℕ → Content → Entry → Type 0
 ModifiedLeft modified content entry = LeafLeft SpellsTime element.LastModified modified content entry.micros
 
-modified_passes : (modified : Option ℕ) (tag : Tag) → is_the element.LastModified tag.element ≡ false → Passes (ModifiedLeft modified) tag
-modified_passes modified tag h = named_passes (λ cs (entry : Entry). OnceLeft (IsLeafOf SpellsTime) modified cs entry.micros) element.LastModified tag h
+modified_passes : (modified : Option ℕ) (child : Child) → is_the element.LastModified child.element ≡ false → Passes (ModifiedLeft modified) child
+modified_passes modified child h = named_passes (λ cs (entry : Entry). OnceLeft (IsLeafOf SpellsTime) modified cs entry.micros) element.LastModified child h
 
 abbrev EtagLeft : Option (List ℕ) → Content → Entry → Type 0
 EtagLeft etag content entry = LeafLeft (IsFormed element.ETag) element.ETag etag content entry.etag
 
-etag_passes : (etag : Option (List ℕ)) (tag : Tag) → is_the element.ETag tag.element ≡ false → Passes (EtagLeft etag) tag
-etag_passes etag tag h = named_passes (λ cs (entry : Entry). OnceLeft (IsLeafOf (IsFormed element.ETag)) etag cs entry.etag) element.ETag tag h
+etag_passes : (etag : Option (List ℕ)) (child : Child) → is_the element.ETag child.element ≡ false → Passes (EtagLeft etag) child
+etag_passes etag child h = named_passes (λ cs (entry : Entry). OnceLeft (IsLeafOf (IsFormed element.ETag)) etag cs entry.etag) element.ETag child h
 
 abbrev SizeLeft : Option ℕ → Content → Entry → Type 0
 SizeLeft size content entry = LeafLeft SpellsNumber element.Size size content entry.size
 
-size_passes : (size : Option ℕ) (tag : Tag) → is_the element.Size tag.element ≡ false → Passes (SizeLeft size) tag
-size_passes size tag h = named_passes (λ cs (entry : Entry). OnceLeft (IsLeafOf SpellsNumber) size cs entry.size) element.Size tag h
+size_passes : (size : Option ℕ) (child : Child) → is_the element.Size child.element ≡ false → Passes (SizeLeft size) child
+size_passes size child h = named_passes (λ cs (entry : Entry). OnceLeft (IsLeafOf SpellsNumber) size cs entry.size) element.Size child h
 
-pub key_advanced : (key : Option (List ℕ)) (modified : Option ℕ) (etag : Option (List ℕ)) (size : Option ℕ) (now : Option (List ℕ)) (tag : Tag) (bytes rest : List ℕ) → is_the element.Key tag.element ≡ true
-    → Advances (LeafLeft (IsFormed element.Key) element.Key key) (LeafLeft (IsFormed element.Key) element.Key now) tag bytes rest → Advances (ObjectLeft key modified etag size) (ObjectLeft now modified etag size) tag bytes rest
-key_advanced key modified etag size now tag bytes rest h a =
-    first_advanced (Both (KeyLeft key) (ModifiedLeft modified)) (Both (KeyLeft now) (ModifiedLeft modified)) (Both (EtagLeft etag) (SizeLeft size)) tag bytes rest (first_advanced (KeyLeft key) (KeyLeft now) (ModifiedLeft modified) tag bytes rest (part_advanced (λ (entry : Entry). entry.key) (LeafLeft (IsFormed element.Key) element.Key key) (LeafLeft (IsFormed element.Key) element.Key now) tag bytes rest a) (modified_passes modified tag (is_other element.Key element.LastModified tag.element h refl))) (both_pass (EtagLeft etag) (SizeLeft size) tag (etag_passes etag tag (is_other element.Key element.ETag tag.element h refl)) (size_passes size tag (is_other element.Key element.Size tag.element h refl)))
+pub key_advanced : (key : Option (List ℕ)) (modified : Option ℕ) (etag : Option (List ℕ)) (size : Option ℕ) (now : Option (List ℕ)) (child : Child) (bytes rest : List ℕ) → is_the element.Key child.element ≡ true
+    → Advances (LeafLeft (IsFormed element.Key) element.Key key) (LeafLeft (IsFormed element.Key) element.Key now) child bytes rest → Advances (ObjectLeft key modified etag size) (ObjectLeft now modified etag size) child bytes rest
+key_advanced key modified etag size now child bytes rest h a =
+    first_advanced (Both (KeyLeft key) (ModifiedLeft modified)) (Both (KeyLeft now) (ModifiedLeft modified)) (Both (EtagLeft etag) (SizeLeft size)) child bytes rest (first_advanced (KeyLeft key) (KeyLeft now) (ModifiedLeft modified) child bytes rest (part_advanced (λ (entry : Entry). entry.key) (LeafLeft (IsFormed element.Key) element.Key key) (LeafLeft (IsFormed element.Key) element.Key now) child bytes rest a) (modified_passes modified child (is_other element.Key element.LastModified child.element h refl))) (both_pass (EtagLeft etag) (SizeLeft size) child (etag_passes etag child (is_other element.Key element.ETag child.element h refl)) (size_passes size child (is_other element.Key element.Size child.element h refl)))
 
-pub key_stopped : (key : Option (List ℕ)) (modified : Option ℕ) (etag : Option (List ℕ)) (size : Option ℕ) (tag : Tag) (bytes : List ℕ) → Stops (LeafLeft (IsFormed element.Key) element.Key key) tag bytes → Stops (ObjectLeft key modified etag size) tag bytes
-key_stopped key modified etag size tag bytes s = first_stopped (Both (KeyLeft key) (ModifiedLeft modified)) (Both (EtagLeft etag) (SizeLeft size)) tag bytes (first_stopped (KeyLeft key) (ModifiedLeft modified) tag bytes (part_stopped (λ (entry : Entry). entry.key) (LeafLeft (IsFormed element.Key) element.Key key) tag bytes s))
+pub key_stopped : (key : Option (List ℕ)) (modified : Option ℕ) (etag : Option (List ℕ)) (size : Option ℕ) (child : Child) (bytes : List ℕ) → Stops (LeafLeft (IsFormed element.Key) element.Key key) child bytes → Stops (ObjectLeft key modified etag size) child bytes
+key_stopped key modified etag size child bytes s = first_stopped (Both (KeyLeft key) (ModifiedLeft modified)) (Both (EtagLeft etag) (SizeLeft size)) child bytes (first_stopped (KeyLeft key) (ModifiedLeft modified) child bytes (part_stopped (λ (entry : Entry). entry.key) (LeafLeft (IsFormed element.Key) element.Key key) child bytes s))
 
-pub modified_advanced : (key : Option (List ℕ)) (modified : Option ℕ) (etag : Option (List ℕ)) (size : Option ℕ) (now : Option ℕ) (tag : Tag) (bytes rest : List ℕ) → is_the element.LastModified tag.element ≡ true
-    → Advances (LeafLeft SpellsTime element.LastModified modified) (LeafLeft SpellsTime element.LastModified now) tag bytes rest → Advances (ObjectLeft key modified etag size) (ObjectLeft key now etag size) tag bytes rest
-modified_advanced key modified etag size now tag bytes rest h a =
-    first_advanced (Both (KeyLeft key) (ModifiedLeft modified)) (Both (KeyLeft key) (ModifiedLeft now)) (Both (EtagLeft etag) (SizeLeft size)) tag bytes rest (other_advanced (KeyLeft key) (ModifiedLeft modified) (ModifiedLeft now) tag bytes rest (part_advanced (λ (entry : Entry). entry.micros) (LeafLeft SpellsTime element.LastModified modified) (LeafLeft SpellsTime element.LastModified now) tag bytes rest a) (key_passes key tag (is_other element.LastModified element.Key tag.element h refl))) (both_pass (EtagLeft etag) (SizeLeft size) tag (etag_passes etag tag (is_other element.LastModified element.ETag tag.element h refl)) (size_passes size tag (is_other element.LastModified element.Size tag.element h refl)))
+pub modified_advanced : (key : Option (List ℕ)) (modified : Option ℕ) (etag : Option (List ℕ)) (size : Option ℕ) (now : Option ℕ) (child : Child) (bytes rest : List ℕ) → is_the element.LastModified child.element ≡ true
+    → Advances (LeafLeft SpellsTime element.LastModified modified) (LeafLeft SpellsTime element.LastModified now) child bytes rest → Advances (ObjectLeft key modified etag size) (ObjectLeft key now etag size) child bytes rest
+modified_advanced key modified etag size now child bytes rest h a =
+    first_advanced (Both (KeyLeft key) (ModifiedLeft modified)) (Both (KeyLeft key) (ModifiedLeft now)) (Both (EtagLeft etag) (SizeLeft size)) child bytes rest (other_advanced (KeyLeft key) (ModifiedLeft modified) (ModifiedLeft now) child bytes rest (part_advanced (λ (entry : Entry). entry.micros) (LeafLeft SpellsTime element.LastModified modified) (LeafLeft SpellsTime element.LastModified now) child bytes rest a) (key_passes key child (is_other element.LastModified element.Key child.element h refl))) (both_pass (EtagLeft etag) (SizeLeft size) child (etag_passes etag child (is_other element.LastModified element.ETag child.element h refl)) (size_passes size child (is_other element.LastModified element.Size child.element h refl)))
 
-pub modified_stopped : (key : Option (List ℕ)) (modified : Option ℕ) (etag : Option (List ℕ)) (size : Option ℕ) (tag : Tag) (bytes : List ℕ) → Stops (LeafLeft SpellsTime element.LastModified modified) tag bytes → Stops (ObjectLeft key modified etag size) tag bytes
-modified_stopped key modified etag size tag bytes s = first_stopped (Both (KeyLeft key) (ModifiedLeft modified)) (Both (EtagLeft etag) (SizeLeft size)) tag bytes (other_stopped (KeyLeft key) (ModifiedLeft modified) tag bytes (part_stopped (λ (entry : Entry). entry.micros) (LeafLeft SpellsTime element.LastModified modified) tag bytes s))
+pub modified_stopped : (key : Option (List ℕ)) (modified : Option ℕ) (etag : Option (List ℕ)) (size : Option ℕ) (child : Child) (bytes : List ℕ) → Stops (LeafLeft SpellsTime element.LastModified modified) child bytes → Stops (ObjectLeft key modified etag size) child bytes
+modified_stopped key modified etag size child bytes s = first_stopped (Both (KeyLeft key) (ModifiedLeft modified)) (Both (EtagLeft etag) (SizeLeft size)) child bytes (other_stopped (KeyLeft key) (ModifiedLeft modified) child bytes (part_stopped (λ (entry : Entry). entry.micros) (LeafLeft SpellsTime element.LastModified modified) child bytes s))
 
-pub etag_advanced : (key : Option (List ℕ)) (modified : Option ℕ) (etag : Option (List ℕ)) (size : Option ℕ) (now : Option (List ℕ)) (tag : Tag) (bytes rest : List ℕ) → is_the element.ETag tag.element ≡ true
-    → Advances (LeafLeft (IsFormed element.ETag) element.ETag etag) (LeafLeft (IsFormed element.ETag) element.ETag now) tag bytes rest → Advances (ObjectLeft key modified etag size) (ObjectLeft key modified now size) tag bytes rest
-etag_advanced key modified etag size now tag bytes rest h a =
-    other_advanced (Both (KeyLeft key) (ModifiedLeft modified)) (Both (EtagLeft etag) (SizeLeft size)) (Both (EtagLeft now) (SizeLeft size)) tag bytes rest (first_advanced (EtagLeft etag) (EtagLeft now) (SizeLeft size) tag bytes rest (part_advanced (λ (entry : Entry). entry.etag) (LeafLeft (IsFormed element.ETag) element.ETag etag) (LeafLeft (IsFormed element.ETag) element.ETag now) tag bytes rest a) (size_passes size tag (is_other element.ETag element.Size tag.element h refl))) (both_pass (KeyLeft key) (ModifiedLeft modified) tag (key_passes key tag (is_other element.ETag element.Key tag.element h refl)) (modified_passes modified tag (is_other element.ETag element.LastModified tag.element h refl)))
+pub etag_advanced : (key : Option (List ℕ)) (modified : Option ℕ) (etag : Option (List ℕ)) (size : Option ℕ) (now : Option (List ℕ)) (child : Child) (bytes rest : List ℕ) → is_the element.ETag child.element ≡ true
+    → Advances (LeafLeft (IsFormed element.ETag) element.ETag etag) (LeafLeft (IsFormed element.ETag) element.ETag now) child bytes rest → Advances (ObjectLeft key modified etag size) (ObjectLeft key modified now size) child bytes rest
+etag_advanced key modified etag size now child bytes rest h a =
+    other_advanced (Both (KeyLeft key) (ModifiedLeft modified)) (Both (EtagLeft etag) (SizeLeft size)) (Both (EtagLeft now) (SizeLeft size)) child bytes rest (first_advanced (EtagLeft etag) (EtagLeft now) (SizeLeft size) child bytes rest (part_advanced (λ (entry : Entry). entry.etag) (LeafLeft (IsFormed element.ETag) element.ETag etag) (LeafLeft (IsFormed element.ETag) element.ETag now) child bytes rest a) (size_passes size child (is_other element.ETag element.Size child.element h refl))) (both_pass (KeyLeft key) (ModifiedLeft modified) child (key_passes key child (is_other element.ETag element.Key child.element h refl)) (modified_passes modified child (is_other element.ETag element.LastModified child.element h refl)))
 
-pub etag_stopped : (key : Option (List ℕ)) (modified : Option ℕ) (etag : Option (List ℕ)) (size : Option ℕ) (tag : Tag) (bytes : List ℕ) → Stops (LeafLeft (IsFormed element.ETag) element.ETag etag) tag bytes → Stops (ObjectLeft key modified etag size) tag bytes
-etag_stopped key modified etag size tag bytes s = other_stopped (Both (KeyLeft key) (ModifiedLeft modified)) (Both (EtagLeft etag) (SizeLeft size)) tag bytes (first_stopped (EtagLeft etag) (SizeLeft size) tag bytes (part_stopped (λ (entry : Entry). entry.etag) (LeafLeft (IsFormed element.ETag) element.ETag etag) tag bytes s))
+pub etag_stopped : (key : Option (List ℕ)) (modified : Option ℕ) (etag : Option (List ℕ)) (size : Option ℕ) (child : Child) (bytes : List ℕ) → Stops (LeafLeft (IsFormed element.ETag) element.ETag etag) child bytes → Stops (ObjectLeft key modified etag size) child bytes
+etag_stopped key modified etag size child bytes s = other_stopped (Both (KeyLeft key) (ModifiedLeft modified)) (Both (EtagLeft etag) (SizeLeft size)) child bytes (first_stopped (EtagLeft etag) (SizeLeft size) child bytes (part_stopped (λ (entry : Entry). entry.etag) (LeafLeft (IsFormed element.ETag) element.ETag etag) child bytes s))
 
-pub size_advanced : (key : Option (List ℕ)) (modified : Option ℕ) (etag : Option (List ℕ)) (size : Option ℕ) (now : Option ℕ) (tag : Tag) (bytes rest : List ℕ) → is_the element.Size tag.element ≡ true
-    → Advances (LeafLeft SpellsNumber element.Size size) (LeafLeft SpellsNumber element.Size now) tag bytes rest → Advances (ObjectLeft key modified etag size) (ObjectLeft key modified etag now) tag bytes rest
-size_advanced key modified etag size now tag bytes rest h a =
-    other_advanced (Both (KeyLeft key) (ModifiedLeft modified)) (Both (EtagLeft etag) (SizeLeft size)) (Both (EtagLeft etag) (SizeLeft now)) tag bytes rest (other_advanced (EtagLeft etag) (SizeLeft size) (SizeLeft now) tag bytes rest (part_advanced (λ (entry : Entry). entry.size) (LeafLeft SpellsNumber element.Size size) (LeafLeft SpellsNumber element.Size now) tag bytes rest a) (etag_passes etag tag (is_other element.Size element.ETag tag.element h refl))) (both_pass (KeyLeft key) (ModifiedLeft modified) tag (key_passes key tag (is_other element.Size element.Key tag.element h refl)) (modified_passes modified tag (is_other element.Size element.LastModified tag.element h refl)))
+pub size_advanced : (key : Option (List ℕ)) (modified : Option ℕ) (etag : Option (List ℕ)) (size : Option ℕ) (now : Option ℕ) (child : Child) (bytes rest : List ℕ) → is_the element.Size child.element ≡ true
+    → Advances (LeafLeft SpellsNumber element.Size size) (LeafLeft SpellsNumber element.Size now) child bytes rest → Advances (ObjectLeft key modified etag size) (ObjectLeft key modified etag now) child bytes rest
+size_advanced key modified etag size now child bytes rest h a =
+    other_advanced (Both (KeyLeft key) (ModifiedLeft modified)) (Both (EtagLeft etag) (SizeLeft size)) (Both (EtagLeft etag) (SizeLeft now)) child bytes rest (other_advanced (EtagLeft etag) (SizeLeft size) (SizeLeft now) child bytes rest (part_advanced (λ (entry : Entry). entry.size) (LeafLeft SpellsNumber element.Size size) (LeafLeft SpellsNumber element.Size now) child bytes rest a) (etag_passes etag child (is_other element.Size element.ETag child.element h refl))) (both_pass (KeyLeft key) (ModifiedLeft modified) child (key_passes key child (is_other element.Size element.Key child.element h refl)) (modified_passes modified child (is_other element.Size element.LastModified child.element h refl)))
 
-pub size_stopped : (key : Option (List ℕ)) (modified : Option ℕ) (etag : Option (List ℕ)) (size : Option ℕ) (tag : Tag) (bytes : List ℕ) → Stops (LeafLeft SpellsNumber element.Size size) tag bytes → Stops (ObjectLeft key modified etag size) tag bytes
-size_stopped key modified etag size tag bytes s = other_stopped (Both (KeyLeft key) (ModifiedLeft modified)) (Both (EtagLeft etag) (SizeLeft size)) tag bytes (other_stopped (EtagLeft etag) (SizeLeft size) tag bytes (part_stopped (λ (entry : Entry). entry.size) (LeafLeft SpellsNumber element.Size size) tag bytes s))
+pub size_stopped : (key : Option (List ℕ)) (modified : Option ℕ) (etag : Option (List ℕ)) (size : Option ℕ) (child : Child) (bytes : List ℕ) → Stops (LeafLeft SpellsNumber element.Size size) child bytes → Stops (ObjectLeft key modified etag size) child bytes
+size_stopped key modified etag size child bytes s = other_stopped (Both (KeyLeft key) (ModifiedLeft modified)) (Both (EtagLeft etag) (SizeLeft size)) child bytes (other_stopped (EtagLeft etag) (SizeLeft size) child bytes (part_stopped (λ (entry : Entry). entry.size) (LeafLeft SpellsNumber element.Size size) child bytes s))
 
-pub object_skipped : (key : Option (List ℕ)) (modified : Option ℕ) (etag : Option (List ℕ)) (size : Option ℕ) (tag : Tag) (bytes rest : List ℕ) → is_the element.Key tag.element ≡ false → is_the element.LastModified tag.element ≡ false → is_the element.ETag tag.element ≡ false
-    → is_the element.Size tag.element ≡ false → ReadsSome tag bytes rest → Advances (ObjectLeft key modified etag size) (ObjectLeft key modified etag size) tag bytes rest
-object_skipped key modified etag size tag bytes rest k m e s r =
-    skipped (ObjectLeft key modified etag size) tag bytes rest
+pub object_skipped : (key : Option (List ℕ)) (modified : Option ℕ) (etag : Option (List ℕ)) (size : Option ℕ) (child : Child) (bytes rest : List ℕ) → is_the element.Key child.element ≡ false → is_the element.LastModified child.element ≡ false → is_the element.ETag child.element ≡ false
+    → is_the element.Size child.element ≡ false → ReadsSome child bytes rest → Advances (ObjectLeft key modified etag size) (ObjectLeft key modified etag size) child bytes rest
+object_skipped key modified etag size child bytes rest k m e s r =
+    skipped (ObjectLeft key modified etag size) child bytes rest
     (
-    both_pass (Both (KeyLeft key) (ModifiedLeft modified)) (Both (EtagLeft etag) (SizeLeft size)) tag (both_pass (KeyLeft key) (ModifiedLeft modified) tag (key_passes key tag k) (modified_passes modified tag m))
-    (both_pass (EtagLeft etag) (SizeLeft size) tag (etag_passes etag tag e) (size_passes size tag s))
+    both_pass (Both (KeyLeft key) (ModifiedLeft modified)) (Both (EtagLeft etag) (SizeLeft size)) child (both_pass (KeyLeft key) (ModifiedLeft modified) child (key_passes key child k) (modified_passes modified child m))
+    (both_pass (EtagLeft etag) (SizeLeft size) child (etag_passes etag child e) (size_passes size child s))
     )
     r
 
 -- an object, by what is left to be found of it at first
-pub object_opened : (tag : Tag) (bytes rest : List ℕ) (entry : Entry) → ReadsAs HasObject tag bytes rest entry → ReadsAs (ObjectLeft None None None None) tag bytes rest entry
-object_opened tag bytes rest entry r = (r.0, r.1, ((r.2.key, r.2.modified), (r.2.etag, r.2.size)))
+pub object_opened : (child : Child) (bytes rest : List ℕ) (entry : Entry) → ReadsAs HasObject child bytes rest entry → ReadsAs (ObjectLeft None None None None) child bytes rest entry
+object_opened child bytes rest entry r = (r.0, r.1, ((r.2.key, r.2.modified), (r.2.etag, r.2.size)))
 
-pub object_closed : (tag : Tag) (bytes rest : List ℕ) (entry : Entry) → ReadsAs (ObjectLeft None None None None) tag bytes rest entry → ReadsAs HasObject tag bytes rest entry
-object_closed tag bytes rest entry r = (r.0, r.1, record { key = r.2.0.0; modified = r.2.0.1; etag = r.2.1.0; size = r.2.1.1 })
+pub object_closed : (child : Child) (bytes rest : List ℕ) (entry : Entry) → ReadsAs (ObjectLeft None None None None) child bytes rest entry → ReadsAs HasObject child bytes rest entry
+object_closed child bytes rest entry r = (r.0, r.1, record { key = r.2.0.0; modified = r.2.0.1; etag = r.2.1.0; size = r.2.1.1 })
 
 pub object_left : (entry : Entry) (text : List ℕ) (key : Option (List ℕ)) (modified : Option ℕ) (etag : Option (List ℕ)) (size : Option ℕ) → key ≡ Some entry.key → modified ≡ Some entry.micros
     → etag ≡ Some entry.etag → size ≡ Some entry.size → ObjectLeft key modified etag size (Only text) entry

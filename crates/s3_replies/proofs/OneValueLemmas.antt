@@ -4,14 +4,14 @@ use Rattle.std.specs.List.{AllZip}
 use Rattle.s3_model.specs.declared.places.Entry.{Entry}
 use Rattle.reply_xml.specs.declared.elements.Element.TheVariants as element
 use Rattle.s3_replies.specs.Buckets.{HasBuckets, HasEachBucket}
-use Rattle.reply_xml.specs.Children.{HasLeaf, IsFormed, IsLeafOf}
+use Rattle.reply_xml.specs.Children.{HasLeaf, HasOnly, IsFormed, IsLeafOf, IsPlain}
 use Rattle.reply_xml.specs.Contents.{Content, named}
 use Rattle.s3_replies.specs.Errors.{HasError}
 use Rattle.s3_replies.specs.Listing.{MeansEntry, MeansText, Page}
 use Rattle.s3_replies.specs.OneValue.{OneBucketList, OneEntityTag, OneError, OneListing, OneUpload}
 use Rattle.s3_replies.specs.Results.{copy_root}
 use Rattle.s3_replies.proofs.BucketLemmas.{HasEachBucket-same}
-use Rattle.reply_xml.proofs.ChildLemmas.{IsFormed-same, IsLeafOf-same, Once-same}
+use Rattle.reply_xml.proofs.ChildLemmas.{IsFormed-same, IsLeafOf-same, Once-same, leaf_same}
 use Rattle.s3_replies.proofs.EntryLemmas.{entries_same}
 use Rattle.s3_replies.proofs.ListingLemmas.{at_most_same, IsWritten-same}
 use Rattle.s3_replies.proofs.PageLemmas.{HasLeaf-same}
@@ -64,8 +64,11 @@ one_bucket_list doc a b r s = IsOf-same HasBuckets (codes "ListAllMyBucketsResul
 pub one_upload : OneUpload
 one_upload doc a b r s = IsOf-same (HasLeaf element.UploadId) (codes "InitiateMultipartUploadResult") doc (HasLeaf-same element.UploadId) a b r s
 
+HasPlain-same : (c : Content) (v w : List ℕ) → HasOnly IsPlain element.ETag c v → HasOnly IsPlain element.ETag c w → w ≡ v
+HasPlain-same c v w r s = leaf_same IsPlain (λ text x y a b. b ∙ sym a) (named element.ETag c) v w r s
+
 pub one_entity_tag : OneEntityTag
 one_entity_tag doc a b = (
-  λ r s. IsOf-same (HasLeaf element.ETag) (codes "CompleteMultipartUploadResult") doc (HasLeaf-same element.ETag) a b r s,
+  λ r s. IsOf-same (HasOnly IsPlain element.ETag) (codes "CompleteMultipartUploadResult") doc HasPlain-same a b r s,
   λ part r s. IsOf-same (HasLeaf element.ETag) (copy_root part) doc (HasLeaf-same element.ETag) a b r s,
 )

@@ -4,12 +4,13 @@ use Rattle.std.proofs.lemmas.Bool.{false≢true}
 use Rattle.s3_model.specs.declared.places.Entry.{Entry}
 use Rattle.reply_xml.specs.declared.elements.Element.{Element}
 use Rattle.reply_xml.specs.declared.elements.Element.TheVariants as element
+use Rattle.reply_xml.specs.declared.reader.Child.{Child}
 use Rattle.reply_xml.specs.declared.reader.Tag.{Tag}
 use Rattle.reply_xml.specs.Contents.{Content, Only, Then, is_the, named}
 use Rattle.reply_xml.specs.Children.{HasLeaf, IsFormed, IsLeaf, IsLeafOf}
 use Rattle.s3_replies.specs.Listing.{EncodingLeft, HasEncoding, HasObject, HasPage, ObjectsLeft, Page, PageLeft, PrefixesLeft}
 use Rattle.reply_values.specs.Numbers.{SpellsTruth}
-use Rattle.reply_xml.specs.Reading.{ReadsAs, ReadsNone, ReadsSome, Advances, Stops, OnceLeft, AtMostOnceLeft, LeafLeft, AtMostLeft, EachLeft}
+use Rattle.reply_xml.specs.Reading.{HoldsAs, ReadsAs, ReadsNone, ReadsSome, Advances, Stops, OnceLeft, AtMostOnceLeft, LeafLeft, AtMostLeft, EachLeft}
 use Rattle.reply_xml.proofs.ChildLemmas.{is_other, named_here, nothing_there, content_same, leaf_same, IsFormed-same}
 use Rattle.s3_replies.proofs.EachLemmas.{each_start, each_end}
 use Rattle.reply_xml.proofs.LeafLemmas.{IsLeaf-same, ReadsAs-same}
@@ -23,36 +24,29 @@ encoding_here inner contents all false e l = (λ h. absurd (nothing_there inner 
 encoding_here inner contents all true e l =
     (λ h. ((content_same inner h.0 contents [] (sym e ∙ h.1)).1, refl), λ h. (inner, e ∙ ap (λ cs. inner ∷ cs) h.0, l))
 
-pub encoding_advanced : (found : Bool) (tag : Tag) (bytes rest text : List ℕ) → found ≡ false → is_the element.EncodingType tag.element ≡ true → text ≡ codes "url" → ReadsAs IsLeaf tag bytes rest text
-    → Advances (EncodingLeft found) (EncodingLeft true) tag bytes rest
-encoding_advanced true tag bytes rest text e h u r = absurd (false≢true (sym e))
-encoding_advanced false tag bytes rest text e h u r = (
+pub encoding_advanced : (found : Bool) (child : Child) (bytes rest text : List ℕ) → found ≡ false → is_the element.EncodingType child.element ≡ true → text ≡ codes "url" → ReadsAs IsLeaf child bytes rest text
+    → Advances (EncodingLeft found) (EncodingLeft true) child bytes rest
+encoding_advanced true child bytes rest text e h u r = absurd (false≢true (sym e))
+encoding_advanced false child bytes rest text e h u r = (
   r.0,
   r.1,
-  λ before more url. encoding_here r.0 (named element.EncodingType more) (named element.EncodingType (Then before tag.element r.0 more)) url
-      (named_here element.EncodingType before tag.element r.0 more h) (subst (IsLeaf r.0) u r.2),
+  λ before more url. encoding_here r.0 (named element.EncodingType more) (named element.EncodingType (Then before child.element r.0 more)) url
+      (named_here element.EncodingType before child.element r.0 more h) (subst (IsLeaf r.0) u r.2),
 )
 
 encoding_is : (inner : Content) (contents all : List Content) (url : Bool) → all ≡ inner ∷ contents → HasEncoding all url → IsLeaf inner (codes "url")
 encoding_is inner contents all false e h = absurd (nothing_there inner contents (sym e ∙ h))
 encoding_is inner contents all true e h = subst (λ (c : Content). IsLeaf c (codes "url")) (sym (content_same inner h.0 contents [] (sym e ∙ h.1)).0) h.2
 
-pub encoding_none : (found : Bool) (tag : Tag) (bytes : List ℕ) → found ≡ false → is_the element.EncodingType tag.element ≡ true → ReadsNone IsLeaf tag bytes → Stops (EncodingLeft found) tag bytes
-encoding_none true tag bytes e h none inner rest text more url r l = absurd (false≢true (sym e))
-encoding_none false tag bytes e h none inner rest text more url r l =
-    none rest (codes "url") (inner, r, encoding_is inner (named element.EncodingType more) (named element.EncodingType (Then text tag.element inner more)) url (named_here element.EncodingType text tag.element inner more h) l)
+pub encoding_none : (found : Bool) (child : Child) (bytes : List ℕ) → found ≡ false → is_the element.EncodingType child.element ≡ true → ((rest : List ℕ) → ¬ (ReadsAs IsLeaf child bytes rest (codes "url")))
+    → Stops (EncodingLeft found) child bytes
+encoding_none true child bytes e h none inner rest text more url r l = absurd (false≢true (sym e))
+encoding_none false child bytes e h none inner rest text more url r l =
+    none rest (inner, r, encoding_is inner (named element.EncodingType more) (named element.EncodingType (Then text child.element inner more)) url (named_here element.EncodingType text child.element inner more h) l)
 
-pub encoding_other : (found : Bool) (tag : Tag) (bytes rest text : List ℕ) → found ≡ false → is_the element.EncodingType tag.element ≡ true → ¬ (text ≡ codes "url") → ReadsAs IsLeaf tag bytes rest text
-    → Stops (EncodingLeft found) tag bytes
-encoding_other true tag bytes rest text e h u r inner left before more url i l = absurd (false≢true (sym e))
-encoding_other false tag bytes rest text e h u r inner left before more url i l =
-    let leaf = encoding_is inner (named element.EncodingType more) (named element.EncodingType (Then before tag.element inner more)) url (named_here element.EncodingType before tag.element inner more h) l in
-    let same = ReadsAs-same IsLeaf IsLeaf tag bytes rest left text (codes "url") r (inner, i, leaf) in
-    u (sym (IsLeaf-same r.0 text (codes "url") r.2 same.0))
-
-pub encoding_twice : (found : Bool) (tag : Tag) (bytes : List ℕ) → found ≡ true → is_the element.EncodingType tag.element ≡ true → Stops (EncodingLeft found) tag bytes
-encoding_twice false tag bytes e h inner rest text more url r l = absurd (false≢true e)
-encoding_twice true tag bytes e h inner rest text more url r l = nothing_there inner (named element.EncodingType more) (sym (named_here element.EncodingType text tag.element inner more h) ∙ l.0)
+pub encoding_twice : (found : Bool) (child : Child) (bytes : List ℕ) → found ≡ true → is_the element.EncodingType child.element ≡ true → Stops (EncodingLeft found) child bytes
+encoding_twice false child bytes e h inner rest text more url r l = absurd (false≢true e)
+encoding_twice true child bytes e h inner rest text more url r l = nothing_there inner (named element.EncodingType more) (sym (named_here element.EncodingType text child.element inner more h) ∙ l.0)
 
 abbrev MoreLeft : Option Bool → Content → Page → Type 0
 MoreLeft more content page = LeafLeft SpellsTruth element.IsTruncated more content page.more
@@ -69,66 +63,66 @@ EntriesLeft entries content page = ObjectsLeft entries content page.entries
 abbrev PartsLeft : List (List ℕ) → Content → Page → Type 0
 PartsLeft prefixes content page = PrefixesLeft prefixes content page.prefixes
 
-more_passes : (more : Option Bool) (tag : Tag) → is_the element.IsTruncated tag.element ≡ false → Passes (MoreLeft more) tag
-more_passes more tag h = named_passes (λ cs (page : Page). OnceLeft (IsLeafOf SpellsTruth) more cs page.more) element.IsTruncated tag h
+more_passes : (more : Option Bool) (child : Child) → is_the element.IsTruncated child.element ≡ false → Passes (MoreLeft more) child
+more_passes more child h = named_passes (λ cs (page : Page). OnceLeft (IsLeafOf SpellsTruth) more cs page.more) element.IsTruncated child h
 
-token_passes : (token : Option (List ℕ)) (tag : Tag) → is_the element.NextContinuationToken tag.element ≡ false → Passes (TokenLeft token) tag
-token_passes token tag h = named_passes (λ cs (page : Page). AtMostOnceLeft (IsLeafOf (IsFormed element.NextContinuationToken)) token cs page.token) element.NextContinuationToken tag h
+token_passes : (token : Option (List ℕ)) (child : Child) → is_the element.NextContinuationToken child.element ≡ false → Passes (TokenLeft token) child
+token_passes token child h = named_passes (λ cs (page : Page). AtMostOnceLeft (IsLeafOf (IsFormed element.NextContinuationToken)) token cs page.token) element.NextContinuationToken child h
 
-url_passes : (url : Bool) (tag : Tag) → is_the element.EncodingType tag.element ≡ false → Passes (UrlLeft url) tag
-url_passes false tag h = named_passes (λ cs (page : Page). HasEncoding cs page.url) element.EncodingType tag h
-url_passes true tag h = named_passes (λ cs (page : Page). (cs ≡ []) × (page.url ≡ true)) element.EncodingType tag h
+url_passes : (url : Bool) (child : Child) → is_the element.EncodingType child.element ≡ false → Passes (UrlLeft url) child
+url_passes false child h = named_passes (λ cs (page : Page). HasEncoding cs page.url) element.EncodingType child h
+url_passes true child h = named_passes (λ cs (page : Page). (cs ≡ []) × (page.url ≡ true)) element.EncodingType child h
 
-entries_passes : (entries : List Entry) (tag : Tag) → is_the element.Contents tag.element ≡ false → Passes (EntriesLeft entries) tag
-entries_passes entries tag h = named_passes (λ cs (page : Page). EachLeft HasObject entries cs page.entries) element.Contents tag h
+entries_passes : (entries : List Entry) (child : Child) → is_the element.Contents child.element ≡ false → Passes (EntriesLeft entries) child
+entries_passes entries child h = named_passes (λ cs (page : Page). EachLeft HasObject entries cs page.entries) element.Contents child h
 
-prefixes_passes : (prefixes : List (List ℕ)) (tag : Tag) → is_the element.CommonPrefixes tag.element ≡ false → Passes (PartsLeft prefixes) tag
-prefixes_passes prefixes tag h = named_passes (λ cs (page : Page). EachLeft (HasLeaf element.Prefix) prefixes cs page.prefixes) element.CommonPrefixes tag h
+prefixes_passes : (prefixes : List (List ℕ)) (child : Child) → is_the element.CommonPrefixes child.element ≡ false → Passes (PartsLeft prefixes) child
+prefixes_passes prefixes child h = named_passes (λ cs (page : Page). EachLeft (HasLeaf element.Prefix) prefixes cs page.prefixes) element.CommonPrefixes child h
 
-pub more_advanced : (more : Option Bool) (token : Option (List ℕ)) (url : Bool) (entries : List Entry) (prefixes : List (List ℕ)) (now : Option Bool) (tag : Tag) (bytes rest : List ℕ) → is_the element.IsTruncated tag.element ≡ true → Advances (LeafLeft SpellsTruth element.IsTruncated more) (LeafLeft SpellsTruth element.IsTruncated now) tag bytes rest
-    → Advances (PageLeft more token url entries prefixes) (PageLeft now token url entries prefixes) tag bytes rest
-more_advanced more token url entries prefixes now tag bytes rest h a = first_advanced (Both (MoreLeft more) (TokenLeft token)) (Both (MoreLeft now) (TokenLeft token)) (Both (UrlLeft url) (Both (EntriesLeft entries) (PartsLeft prefixes))) tag bytes rest (first_advanced (MoreLeft more) (MoreLeft now) (TokenLeft token) tag bytes rest (part_advanced (λ (page : Page). page.more) (LeafLeft SpellsTruth element.IsTruncated more) (LeafLeft SpellsTruth element.IsTruncated now) tag bytes rest a) (token_passes token tag (is_other element.IsTruncated element.NextContinuationToken tag.element h refl))) (both_pass (UrlLeft url) (Both (EntriesLeft entries) (PartsLeft prefixes)) tag (url_passes url tag (is_other element.IsTruncated element.EncodingType tag.element h refl)) (both_pass (EntriesLeft entries) (PartsLeft prefixes) tag (entries_passes entries tag (is_other element.IsTruncated element.Contents tag.element h refl)) (prefixes_passes prefixes tag (is_other element.IsTruncated element.CommonPrefixes tag.element h refl))))
+pub more_advanced : (more : Option Bool) (token : Option (List ℕ)) (url : Bool) (entries : List Entry) (prefixes : List (List ℕ)) (now : Option Bool) (child : Child) (bytes rest : List ℕ) → is_the element.IsTruncated child.element ≡ true → Advances (LeafLeft SpellsTruth element.IsTruncated more) (LeafLeft SpellsTruth element.IsTruncated now) child bytes rest
+    → Advances (PageLeft more token url entries prefixes) (PageLeft now token url entries prefixes) child bytes rest
+more_advanced more token url entries prefixes now child bytes rest h a = first_advanced (Both (MoreLeft more) (TokenLeft token)) (Both (MoreLeft now) (TokenLeft token)) (Both (UrlLeft url) (Both (EntriesLeft entries) (PartsLeft prefixes))) child bytes rest (first_advanced (MoreLeft more) (MoreLeft now) (TokenLeft token) child bytes rest (part_advanced (λ (page : Page). page.more) (LeafLeft SpellsTruth element.IsTruncated more) (LeafLeft SpellsTruth element.IsTruncated now) child bytes rest a) (token_passes token child (is_other element.IsTruncated element.NextContinuationToken child.element h refl))) (both_pass (UrlLeft url) (Both (EntriesLeft entries) (PartsLeft prefixes)) child (url_passes url child (is_other element.IsTruncated element.EncodingType child.element h refl)) (both_pass (EntriesLeft entries) (PartsLeft prefixes) child (entries_passes entries child (is_other element.IsTruncated element.Contents child.element h refl)) (prefixes_passes prefixes child (is_other element.IsTruncated element.CommonPrefixes child.element h refl))))
 
-pub more_stopped : (more : Option Bool) (token : Option (List ℕ)) (url : Bool) (entries : List Entry) (prefixes : List (List ℕ)) (tag : Tag) (bytes : List ℕ) → Stops (LeafLeft SpellsTruth element.IsTruncated more) tag bytes → Stops (PageLeft more token url entries prefixes) tag bytes
-more_stopped more token url entries prefixes tag bytes s = first_stopped (Both (MoreLeft more) (TokenLeft token)) (Both (UrlLeft url) (Both (EntriesLeft entries) (PartsLeft prefixes))) tag bytes (first_stopped (MoreLeft more) (TokenLeft token) tag bytes (part_stopped (λ (page : Page). page.more) (LeafLeft SpellsTruth element.IsTruncated more) tag bytes s))
+pub more_stopped : (more : Option Bool) (token : Option (List ℕ)) (url : Bool) (entries : List Entry) (prefixes : List (List ℕ)) (child : Child) (bytes : List ℕ) → Stops (LeafLeft SpellsTruth element.IsTruncated more) child bytes → Stops (PageLeft more token url entries prefixes) child bytes
+more_stopped more token url entries prefixes child bytes s = first_stopped (Both (MoreLeft more) (TokenLeft token)) (Both (UrlLeft url) (Both (EntriesLeft entries) (PartsLeft prefixes))) child bytes (first_stopped (MoreLeft more) (TokenLeft token) child bytes (part_stopped (λ (page : Page). page.more) (LeafLeft SpellsTruth element.IsTruncated more) child bytes s))
 
-pub token_advanced : (more : Option Bool) (token : Option (List ℕ)) (url : Bool) (entries : List Entry) (prefixes : List (List ℕ)) (now : Option (List ℕ)) (tag : Tag) (bytes rest : List ℕ) → is_the element.NextContinuationToken tag.element ≡ true → Advances (AtMostLeft (IsFormed element.NextContinuationToken) element.NextContinuationToken token) (AtMostLeft (IsFormed element.NextContinuationToken) element.NextContinuationToken now) tag bytes rest
-    → Advances (PageLeft more token url entries prefixes) (PageLeft more now url entries prefixes) tag bytes rest
-token_advanced more token url entries prefixes now tag bytes rest h a = first_advanced (Both (MoreLeft more) (TokenLeft token)) (Both (MoreLeft more) (TokenLeft now)) (Both (UrlLeft url) (Both (EntriesLeft entries) (PartsLeft prefixes))) tag bytes rest (other_advanced (MoreLeft more) (TokenLeft token) (TokenLeft now) tag bytes rest (part_advanced (λ (page : Page). page.token) (AtMostLeft (IsFormed element.NextContinuationToken) element.NextContinuationToken token) (AtMostLeft (IsFormed element.NextContinuationToken) element.NextContinuationToken now) tag bytes rest a) (more_passes more tag (is_other element.NextContinuationToken element.IsTruncated tag.element h refl))) (both_pass (UrlLeft url) (Both (EntriesLeft entries) (PartsLeft prefixes)) tag (url_passes url tag (is_other element.NextContinuationToken element.EncodingType tag.element h refl)) (both_pass (EntriesLeft entries) (PartsLeft prefixes) tag (entries_passes entries tag (is_other element.NextContinuationToken element.Contents tag.element h refl)) (prefixes_passes prefixes tag (is_other element.NextContinuationToken element.CommonPrefixes tag.element h refl))))
+pub token_advanced : (more : Option Bool) (token : Option (List ℕ)) (url : Bool) (entries : List Entry) (prefixes : List (List ℕ)) (now : Option (List ℕ)) (child : Child) (bytes rest : List ℕ) → is_the element.NextContinuationToken child.element ≡ true → Advances (AtMostLeft (IsFormed element.NextContinuationToken) element.NextContinuationToken token) (AtMostLeft (IsFormed element.NextContinuationToken) element.NextContinuationToken now) child bytes rest
+    → Advances (PageLeft more token url entries prefixes) (PageLeft more now url entries prefixes) child bytes rest
+token_advanced more token url entries prefixes now child bytes rest h a = first_advanced (Both (MoreLeft more) (TokenLeft token)) (Both (MoreLeft more) (TokenLeft now)) (Both (UrlLeft url) (Both (EntriesLeft entries) (PartsLeft prefixes))) child bytes rest (other_advanced (MoreLeft more) (TokenLeft token) (TokenLeft now) child bytes rest (part_advanced (λ (page : Page). page.token) (AtMostLeft (IsFormed element.NextContinuationToken) element.NextContinuationToken token) (AtMostLeft (IsFormed element.NextContinuationToken) element.NextContinuationToken now) child bytes rest a) (more_passes more child (is_other element.NextContinuationToken element.IsTruncated child.element h refl))) (both_pass (UrlLeft url) (Both (EntriesLeft entries) (PartsLeft prefixes)) child (url_passes url child (is_other element.NextContinuationToken element.EncodingType child.element h refl)) (both_pass (EntriesLeft entries) (PartsLeft prefixes) child (entries_passes entries child (is_other element.NextContinuationToken element.Contents child.element h refl)) (prefixes_passes prefixes child (is_other element.NextContinuationToken element.CommonPrefixes child.element h refl))))
 
-pub token_stopped : (more : Option Bool) (token : Option (List ℕ)) (url : Bool) (entries : List Entry) (prefixes : List (List ℕ)) (tag : Tag) (bytes : List ℕ) → Stops (AtMostLeft (IsFormed element.NextContinuationToken) element.NextContinuationToken token) tag bytes → Stops (PageLeft more token url entries prefixes) tag bytes
-token_stopped more token url entries prefixes tag bytes s = first_stopped (Both (MoreLeft more) (TokenLeft token)) (Both (UrlLeft url) (Both (EntriesLeft entries) (PartsLeft prefixes))) tag bytes (other_stopped (MoreLeft more) (TokenLeft token) tag bytes (part_stopped (λ (page : Page). page.token) (AtMostLeft (IsFormed element.NextContinuationToken) element.NextContinuationToken token) tag bytes s))
+pub token_stopped : (more : Option Bool) (token : Option (List ℕ)) (url : Bool) (entries : List Entry) (prefixes : List (List ℕ)) (child : Child) (bytes : List ℕ) → Stops (AtMostLeft (IsFormed element.NextContinuationToken) element.NextContinuationToken token) child bytes → Stops (PageLeft more token url entries prefixes) child bytes
+token_stopped more token url entries prefixes child bytes s = first_stopped (Both (MoreLeft more) (TokenLeft token)) (Both (UrlLeft url) (Both (EntriesLeft entries) (PartsLeft prefixes))) child bytes (other_stopped (MoreLeft more) (TokenLeft token) child bytes (part_stopped (λ (page : Page). page.token) (AtMostLeft (IsFormed element.NextContinuationToken) element.NextContinuationToken token) child bytes s))
 
-pub url_advanced : (more : Option Bool) (token : Option (List ℕ)) (url : Bool) (entries : List Entry) (prefixes : List (List ℕ)) (now : Bool) (tag : Tag) (bytes rest : List ℕ) → is_the element.EncodingType tag.element ≡ true → Advances (EncodingLeft url) (EncodingLeft now) tag bytes rest
-    → Advances (PageLeft more token url entries prefixes) (PageLeft more token now entries prefixes) tag bytes rest
-url_advanced more token url entries prefixes now tag bytes rest h a = other_advanced (Both (MoreLeft more) (TokenLeft token)) (Both (UrlLeft url) (Both (EntriesLeft entries) (PartsLeft prefixes))) (Both (UrlLeft now) (Both (EntriesLeft entries) (PartsLeft prefixes))) tag bytes rest (first_advanced (UrlLeft url) (UrlLeft now) (Both (EntriesLeft entries) (PartsLeft prefixes)) tag bytes rest (part_advanced (λ (page : Page). page.url) (EncodingLeft url) (EncodingLeft now) tag bytes rest a) (both_pass (EntriesLeft entries) (PartsLeft prefixes) tag (entries_passes entries tag (is_other element.EncodingType element.Contents tag.element h refl)) (prefixes_passes prefixes tag (is_other element.EncodingType element.CommonPrefixes tag.element h refl)))) (both_pass (MoreLeft more) (TokenLeft token) tag (more_passes more tag (is_other element.EncodingType element.IsTruncated tag.element h refl)) (token_passes token tag (is_other element.EncodingType element.NextContinuationToken tag.element h refl)))
+pub url_advanced : (more : Option Bool) (token : Option (List ℕ)) (url : Bool) (entries : List Entry) (prefixes : List (List ℕ)) (now : Bool) (child : Child) (bytes rest : List ℕ) → is_the element.EncodingType child.element ≡ true → Advances (EncodingLeft url) (EncodingLeft now) child bytes rest
+    → Advances (PageLeft more token url entries prefixes) (PageLeft more token now entries prefixes) child bytes rest
+url_advanced more token url entries prefixes now child bytes rest h a = other_advanced (Both (MoreLeft more) (TokenLeft token)) (Both (UrlLeft url) (Both (EntriesLeft entries) (PartsLeft prefixes))) (Both (UrlLeft now) (Both (EntriesLeft entries) (PartsLeft prefixes))) child bytes rest (first_advanced (UrlLeft url) (UrlLeft now) (Both (EntriesLeft entries) (PartsLeft prefixes)) child bytes rest (part_advanced (λ (page : Page). page.url) (EncodingLeft url) (EncodingLeft now) child bytes rest a) (both_pass (EntriesLeft entries) (PartsLeft prefixes) child (entries_passes entries child (is_other element.EncodingType element.Contents child.element h refl)) (prefixes_passes prefixes child (is_other element.EncodingType element.CommonPrefixes child.element h refl)))) (both_pass (MoreLeft more) (TokenLeft token) child (more_passes more child (is_other element.EncodingType element.IsTruncated child.element h refl)) (token_passes token child (is_other element.EncodingType element.NextContinuationToken child.element h refl)))
 
-pub url_stopped : (more : Option Bool) (token : Option (List ℕ)) (url : Bool) (entries : List Entry) (prefixes : List (List ℕ)) (tag : Tag) (bytes : List ℕ) → Stops (EncodingLeft url) tag bytes → Stops (PageLeft more token url entries prefixes) tag bytes
-url_stopped more token url entries prefixes tag bytes s = other_stopped (Both (MoreLeft more) (TokenLeft token)) (Both (UrlLeft url) (Both (EntriesLeft entries) (PartsLeft prefixes))) tag bytes (first_stopped (UrlLeft url) (Both (EntriesLeft entries) (PartsLeft prefixes)) tag bytes (part_stopped (λ (page : Page). page.url) (EncodingLeft url) tag bytes s))
+pub url_stopped : (more : Option Bool) (token : Option (List ℕ)) (url : Bool) (entries : List Entry) (prefixes : List (List ℕ)) (child : Child) (bytes : List ℕ) → Stops (EncodingLeft url) child bytes → Stops (PageLeft more token url entries prefixes) child bytes
+url_stopped more token url entries prefixes child bytes s = other_stopped (Both (MoreLeft more) (TokenLeft token)) (Both (UrlLeft url) (Both (EntriesLeft entries) (PartsLeft prefixes))) child bytes (first_stopped (UrlLeft url) (Both (EntriesLeft entries) (PartsLeft prefixes)) child bytes (part_stopped (λ (page : Page). page.url) (EncodingLeft url) child bytes s))
 
-pub entries_advanced : (more : Option Bool) (token : Option (List ℕ)) (url : Bool) (entries : List Entry) (prefixes : List (List ℕ)) (now : List Entry) (tag : Tag) (bytes rest : List ℕ) → is_the element.Contents tag.element ≡ true → Advances (ObjectsLeft entries) (ObjectsLeft now) tag bytes rest
-    → Advances (PageLeft more token url entries prefixes) (PageLeft more token url now prefixes) tag bytes rest
-entries_advanced more token url entries prefixes now tag bytes rest h a = other_advanced (Both (MoreLeft more) (TokenLeft token)) (Both (UrlLeft url) (Both (EntriesLeft entries) (PartsLeft prefixes))) (Both (UrlLeft url) (Both (EntriesLeft now) (PartsLeft prefixes))) tag bytes rest (other_advanced (UrlLeft url) (Both (EntriesLeft entries) (PartsLeft prefixes)) (Both (EntriesLeft now) (PartsLeft prefixes)) tag bytes rest (first_advanced (EntriesLeft entries) (EntriesLeft now) (PartsLeft prefixes) tag bytes rest (part_advanced (λ (page : Page). page.entries) (ObjectsLeft entries) (ObjectsLeft now) tag bytes rest a) (prefixes_passes prefixes tag (is_other element.Contents element.CommonPrefixes tag.element h refl))) (url_passes url tag (is_other element.Contents element.EncodingType tag.element h refl))) (both_pass (MoreLeft more) (TokenLeft token) tag (more_passes more tag (is_other element.Contents element.IsTruncated tag.element h refl)) (token_passes token tag (is_other element.Contents element.NextContinuationToken tag.element h refl)))
+pub entries_advanced : (more : Option Bool) (token : Option (List ℕ)) (url : Bool) (entries : List Entry) (prefixes : List (List ℕ)) (now : List Entry) (child : Child) (bytes rest : List ℕ) → is_the element.Contents child.element ≡ true → Advances (ObjectsLeft entries) (ObjectsLeft now) child bytes rest
+    → Advances (PageLeft more token url entries prefixes) (PageLeft more token url now prefixes) child bytes rest
+entries_advanced more token url entries prefixes now child bytes rest h a = other_advanced (Both (MoreLeft more) (TokenLeft token)) (Both (UrlLeft url) (Both (EntriesLeft entries) (PartsLeft prefixes))) (Both (UrlLeft url) (Both (EntriesLeft now) (PartsLeft prefixes))) child bytes rest (other_advanced (UrlLeft url) (Both (EntriesLeft entries) (PartsLeft prefixes)) (Both (EntriesLeft now) (PartsLeft prefixes)) child bytes rest (first_advanced (EntriesLeft entries) (EntriesLeft now) (PartsLeft prefixes) child bytes rest (part_advanced (λ (page : Page). page.entries) (ObjectsLeft entries) (ObjectsLeft now) child bytes rest a) (prefixes_passes prefixes child (is_other element.Contents element.CommonPrefixes child.element h refl))) (url_passes url child (is_other element.Contents element.EncodingType child.element h refl))) (both_pass (MoreLeft more) (TokenLeft token) child (more_passes more child (is_other element.Contents element.IsTruncated child.element h refl)) (token_passes token child (is_other element.Contents element.NextContinuationToken child.element h refl)))
 
-pub entries_stopped : (more : Option Bool) (token : Option (List ℕ)) (url : Bool) (entries : List Entry) (prefixes : List (List ℕ)) (tag : Tag) (bytes : List ℕ) → Stops (ObjectsLeft entries) tag bytes → Stops (PageLeft more token url entries prefixes) tag bytes
-entries_stopped more token url entries prefixes tag bytes s = other_stopped (Both (MoreLeft more) (TokenLeft token)) (Both (UrlLeft url) (Both (EntriesLeft entries) (PartsLeft prefixes))) tag bytes (other_stopped (UrlLeft url) (Both (EntriesLeft entries) (PartsLeft prefixes)) tag bytes (first_stopped (EntriesLeft entries) (PartsLeft prefixes) tag bytes (part_stopped (λ (page : Page). page.entries) (ObjectsLeft entries) tag bytes s)))
+pub entries_stopped : (more : Option Bool) (token : Option (List ℕ)) (url : Bool) (entries : List Entry) (prefixes : List (List ℕ)) (child : Child) (bytes : List ℕ) → Stops (ObjectsLeft entries) child bytes → Stops (PageLeft more token url entries prefixes) child bytes
+entries_stopped more token url entries prefixes child bytes s = other_stopped (Both (MoreLeft more) (TokenLeft token)) (Both (UrlLeft url) (Both (EntriesLeft entries) (PartsLeft prefixes))) child bytes (other_stopped (UrlLeft url) (Both (EntriesLeft entries) (PartsLeft prefixes)) child bytes (first_stopped (EntriesLeft entries) (PartsLeft prefixes) child bytes (part_stopped (λ (page : Page). page.entries) (ObjectsLeft entries) child bytes s)))
 
-pub prefixes_advanced : (more : Option Bool) (token : Option (List ℕ)) (url : Bool) (entries : List Entry) (prefixes : List (List ℕ)) (now : List (List ℕ)) (tag : Tag) (bytes rest : List ℕ) → is_the element.CommonPrefixes tag.element ≡ true → Advances (PrefixesLeft prefixes) (PrefixesLeft now) tag bytes rest
-    → Advances (PageLeft more token url entries prefixes) (PageLeft more token url entries now) tag bytes rest
-prefixes_advanced more token url entries prefixes now tag bytes rest h a = other_advanced (Both (MoreLeft more) (TokenLeft token)) (Both (UrlLeft url) (Both (EntriesLeft entries) (PartsLeft prefixes))) (Both (UrlLeft url) (Both (EntriesLeft entries) (PartsLeft now))) tag bytes rest (other_advanced (UrlLeft url) (Both (EntriesLeft entries) (PartsLeft prefixes)) (Both (EntriesLeft entries) (PartsLeft now)) tag bytes rest (other_advanced (EntriesLeft entries) (PartsLeft prefixes) (PartsLeft now) tag bytes rest (part_advanced (λ (page : Page). page.prefixes) (PrefixesLeft prefixes) (PrefixesLeft now) tag bytes rest a) (entries_passes entries tag (is_other element.CommonPrefixes element.Contents tag.element h refl))) (url_passes url tag (is_other element.CommonPrefixes element.EncodingType tag.element h refl))) (both_pass (MoreLeft more) (TokenLeft token) tag (more_passes more tag (is_other element.CommonPrefixes element.IsTruncated tag.element h refl)) (token_passes token tag (is_other element.CommonPrefixes element.NextContinuationToken tag.element h refl)))
+pub prefixes_advanced : (more : Option Bool) (token : Option (List ℕ)) (url : Bool) (entries : List Entry) (prefixes : List (List ℕ)) (now : List (List ℕ)) (child : Child) (bytes rest : List ℕ) → is_the element.CommonPrefixes child.element ≡ true → Advances (PrefixesLeft prefixes) (PrefixesLeft now) child bytes rest
+    → Advances (PageLeft more token url entries prefixes) (PageLeft more token url entries now) child bytes rest
+prefixes_advanced more token url entries prefixes now child bytes rest h a = other_advanced (Both (MoreLeft more) (TokenLeft token)) (Both (UrlLeft url) (Both (EntriesLeft entries) (PartsLeft prefixes))) (Both (UrlLeft url) (Both (EntriesLeft entries) (PartsLeft now))) child bytes rest (other_advanced (UrlLeft url) (Both (EntriesLeft entries) (PartsLeft prefixes)) (Both (EntriesLeft entries) (PartsLeft now)) child bytes rest (other_advanced (EntriesLeft entries) (PartsLeft prefixes) (PartsLeft now) child bytes rest (part_advanced (λ (page : Page). page.prefixes) (PrefixesLeft prefixes) (PrefixesLeft now) child bytes rest a) (entries_passes entries child (is_other element.CommonPrefixes element.Contents child.element h refl))) (url_passes url child (is_other element.CommonPrefixes element.EncodingType child.element h refl))) (both_pass (MoreLeft more) (TokenLeft token) child (more_passes more child (is_other element.CommonPrefixes element.IsTruncated child.element h refl)) (token_passes token child (is_other element.CommonPrefixes element.NextContinuationToken child.element h refl)))
 
-pub prefixes_stopped : (more : Option Bool) (token : Option (List ℕ)) (url : Bool) (entries : List Entry) (prefixes : List (List ℕ)) (tag : Tag) (bytes : List ℕ) → Stops (PrefixesLeft prefixes) tag bytes → Stops (PageLeft more token url entries prefixes) tag bytes
-prefixes_stopped more token url entries prefixes tag bytes s = other_stopped (Both (MoreLeft more) (TokenLeft token)) (Both (UrlLeft url) (Both (EntriesLeft entries) (PartsLeft prefixes))) tag bytes (other_stopped (UrlLeft url) (Both (EntriesLeft entries) (PartsLeft prefixes)) tag bytes (other_stopped (EntriesLeft entries) (PartsLeft prefixes) tag bytes (part_stopped (λ (page : Page). page.prefixes) (PrefixesLeft prefixes) tag bytes s)))
+pub prefixes_stopped : (more : Option Bool) (token : Option (List ℕ)) (url : Bool) (entries : List Entry) (prefixes : List (List ℕ)) (child : Child) (bytes : List ℕ) → Stops (PrefixesLeft prefixes) child bytes → Stops (PageLeft more token url entries prefixes) child bytes
+prefixes_stopped more token url entries prefixes child bytes s = other_stopped (Both (MoreLeft more) (TokenLeft token)) (Both (UrlLeft url) (Both (EntriesLeft entries) (PartsLeft prefixes))) child bytes (other_stopped (UrlLeft url) (Both (EntriesLeft entries) (PartsLeft prefixes)) child bytes (other_stopped (EntriesLeft entries) (PartsLeft prefixes) child bytes (part_stopped (λ (page : Page). page.prefixes) (PrefixesLeft prefixes) child bytes s)))
 
-pub page_skipped : (more : Option Bool) (token : Option (List ℕ)) (url : Bool) (entries : List Entry) (prefixes : List (List ℕ)) (tag : Tag) (bytes rest : List ℕ) → is_the element.IsTruncated tag.element ≡ false → is_the element.NextContinuationToken tag.element ≡ false → is_the element.EncodingType tag.element ≡ false → is_the element.Contents tag.element ≡ false → is_the element.CommonPrefixes tag.element ≡ false → ReadsSome tag bytes rest
-    → Advances (PageLeft more token url entries prefixes) (PageLeft more token url entries prefixes) tag bytes rest
-page_skipped more token url entries prefixes tag bytes rest h_more h_token h_url h_entries h_prefixes s =
-    skipped (PageLeft more token url entries prefixes) tag bytes rest (both_pass (Both (MoreLeft more) (TokenLeft token)) (Both (UrlLeft url) (Both (EntriesLeft entries) (PartsLeft prefixes))) tag (both_pass (MoreLeft more) (TokenLeft token) tag (more_passes more tag h_more) (token_passes token tag h_token)) (both_pass (UrlLeft url) (Both (EntriesLeft entries) (PartsLeft prefixes)) tag (url_passes url tag h_url) (both_pass (EntriesLeft entries) (PartsLeft prefixes) tag (entries_passes entries tag h_entries) (prefixes_passes prefixes tag h_prefixes)))) s
+pub page_skipped : (more : Option Bool) (token : Option (List ℕ)) (url : Bool) (entries : List Entry) (prefixes : List (List ℕ)) (child : Child) (bytes rest : List ℕ) → is_the element.IsTruncated child.element ≡ false → is_the element.NextContinuationToken child.element ≡ false → is_the element.EncodingType child.element ≡ false → is_the element.Contents child.element ≡ false → is_the element.CommonPrefixes child.element ≡ false → ReadsSome child bytes rest
+    → Advances (PageLeft more token url entries prefixes) (PageLeft more token url entries prefixes) child bytes rest
+page_skipped more token url entries prefixes child bytes rest h_more h_token h_url h_entries h_prefixes s =
+    skipped (PageLeft more token url entries prefixes) child bytes rest (both_pass (Both (MoreLeft more) (TokenLeft token)) (Both (UrlLeft url) (Both (EntriesLeft entries) (PartsLeft prefixes))) child (both_pass (MoreLeft more) (TokenLeft token) child (more_passes more child h_more) (token_passes token child h_token)) (both_pass (UrlLeft url) (Both (EntriesLeft entries) (PartsLeft prefixes)) child (url_passes url child h_url) (both_pass (EntriesLeft entries) (PartsLeft prefixes) child (entries_passes entries child h_entries) (prefixes_passes prefixes child h_prefixes)))) s
 
 -- at the start nothing of a page is found
-pub page_started : (entries : List Entry) (prefixes : List (List ℕ)) (tag : Tag) (bytes rest : List ℕ) (page : Page) → entries ≡ [] → prefixes ≡ []
-    → ReadsAs HasPage tag bytes rest page ↔ ReadsAs (PageLeft None None false entries prefixes) tag bytes rest page
-page_started entries prefixes tag bytes rest page e f = (
+pub page_started : (entries : List Entry) (prefixes : List (List ℕ)) (root : Tag) (bytes rest : List ℕ) (page : Page) → entries ≡ [] → prefixes ≡ []
+    → HoldsAs HasPage root bytes rest page ↔ HoldsAs (PageLeft None None false entries prefixes) root bytes rest page
+page_started entries prefixes root bytes rest page e f = (
   λ r. (
     r.0,
     r.1,

@@ -2,15 +2,15 @@
 use Rattle.std.specs.Prelude.{ℕ, Bool, true, false, List, codes}
 use Rattle.reply_xml.specs.declared.elements.Element.TheVariants as element
 use Rattle.reply_xml.specs.Documents.{IsOf}
-use Rattle.reply_xml.specs.Children.{HasLeaf}
+use Rattle.reply_xml.specs.Children.{HasLeaf, HasOnly, IsPlain}
 
 -- an upload was made, with this id
 abbrev pub IsCreated : List ℕ → List ℕ → Type 0
 IsCreated = IsOf (codes "InitiateMultipartUploadResult") (HasLeaf element.UploadId)
 
--- an upload was completed, to an object with this entity tag
+-- an upload was completed, to an object with this entity tag, which may be any text
 abbrev pub IsCompleted : List ℕ → List ℕ → Type 0
-IsCompleted = IsOf (codes "CompleteMultipartUploadResult") (HasLeaf element.ETag)
+IsCompleted = IsOf (codes "CompleteMultipartUploadResult") (HasOnly IsPlain element.ETag)
 
 -- the root of the answer to a copy, of an object or of a part
 abbrev pub copy_root : Bool → List ℕ

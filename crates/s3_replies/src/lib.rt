@@ -4,6 +4,7 @@
 mod buckets;
 mod codes;
 mod errors;
+mod keys;
 mod law;
 mod listing;
 mod pages;

@@ -1,92 +1,98 @@
 //! A page of a listing, as it is written.
 
-ghost use Rattle.std.specs.Prelude.{◌≡◌, ◌≤◌, ℕ, List, None, Option, IfOk, OnOk, length, true};
-ghost use Rattle.reply_xml.specs.Contents.{is_the};
+ghost use Rattle.std.specs.Prelude.{◌≡◌, ◌≤◌, ℕ, List, [], None, Option, IfOk, OnOk, length, codes, true, refl};
+ghost use Rattle.reply_xml.specs.Contents.{Content, is_the};
+ghost use Rattle.reply_xml.specs.Documents.{ReadsSpace};
 ghost use Rattle.reply_xml.specs.declared.elements.Element.TheVariants as element;
 ghost use Rattle.reply_xml.specs.Faults.{IfRefused};
-ghost use Rattle.s3_replies.specs.Listing.{EncodingLeft, HasObject, HasPage, IsWritten, ObjectLeft, ObjectsLeft, Page, PageLeft, PrefixesLeft};
-ghost use Rattle.reply_xml.specs.Reading.{Advances, ReadsAs, ReadsNone, Stops};
+ghost use Rattle.reply_xml.specs.Reading.{Advances, HoldsAs, Stops};
+ghost use Rattle.s3_replies.specs.Listing.{EncodingLeft, HasPage, ObjectLeft, ObjectsLeft, Page, PageLeft, PrefixesLeft};
 
-use reply_xml::{DocFault, Element, Reader, Tag, is_same, is_the};
+use reply_xml::{
+    Child, DocFault, Element, FormedText, Leaf, Meaning, Number, Only, Parts, Reader, Tag, Time,
+    Truth, is_the,
+};
 use s3_model::{Entry, Text};
 use std::alloc::Global;
+use std::marker::Model;
 
-/// Takes in a part of an object, and passes over another element.
-fn take_part<'a>(
-    reader: &mut Reader<'a>,
-    tag: &Tag<'a>,
-    key: &mut Option<Text>,
-    modified: &mut Option<u64>,
-    etag: &mut Option<Text>,
-    size: &mut Option<u64>,
-) -> Result<(), DocFault>
-    ensures value { OnOk result (Advances (ObjectLeft key.old modified.old etag.old size.old)
-        (ObjectLeft key.new modified.new etag.new size.new) tag.now reader.old.rest.now reader.new.rest.now) }
-    ensures no_longer { length reader.new.rest.now ≤ length reader.old.rest.now }
-    ensures refused { IfRefused result (Stops (ObjectLeft key.old modified.old etag.old size.old)
-        tag.now reader.old.rest.now) }
-{
-    if is_the(Element::Key, tag.element) {
-        return reader.take_text(tag, Element::Key, key);
-    }
-    if is_the(Element::LastModified, tag.element) {
-        return reader.take_time(tag, Element::LastModified, modified);
-    }
-    if is_the(Element::ETag, tag.element) {
-        return reader.take_text(tag, Element::ETag, etag);
-    }
-    if is_the(Element::Size, tag.element) {
-        return reader.take_number(tag, Element::Size, size);
-    }
-    reader.skip(tag)
+/// An object's parts, with its key as it is written.
+#[derive(Drop)]
+struct ObjectFields {
+    key: Option<Text>,
+    modified: Option<u64>,
+    etag: Option<Text>,
+    size: Option<u64>,
 }
 
-/// An object as it is listed, with its key as it is written there.
-fn object<'a>(reader: &mut Reader<'a>, parent: &Tag<'a>) -> Result<Entry, DocFault>
-    ensures value { IfOk result (λ entry. ReadsAs HasObject parent.now reader.old.rest.now reader.new.rest.now entry) }
-    ensures no_longer { length reader.new.rest.now ≤ length reader.old.rest.now }
-    ensures refused { IfRefused result (ReadsNone HasObject parent.now reader.old.rest.now) }
-{
-    let mut key = None;
-    let mut modified = None;
-    let mut etag = None;
-    let mut size = None;
-    'children: while let Some(tag) = reader.next_child(parent)? {
-        take_part(reader, &tag, &mut key, &mut modified, &mut etag, &mut size)?;
+impl Parts for ObjectFields {
+    type Whole = Entry;
+
+    ghost left = { λ s content entry. ObjectLeft s.key s.modified s.etag s.size content entry };
+
+    fn take<'a>(&mut self, reader: &mut Reader<'a>, child: &Child<'a>) -> Result<(), DocFault> {
+        if is_the(Element::Key, child.element) {
+            return reader.take::<FormedText>(child, Element::Key, &mut self.key);
+        }
+        if is_the(Element::LastModified, child.element) {
+            return reader.take::<Time>(child, Element::LastModified, &mut self.modified);
+        }
+        if is_the(Element::ETag, child.element) {
+            return reader.take::<FormedText>(child, Element::ETag, &mut self.etag);
+        }
+        if is_the(Element::Size, child.element) {
+            return reader.take::<Number>(child, Element::Size, &mut self.size);
+        }
+        reader.skip(child)
     }
-    let Some(key) = key else {
-        return Err(DocFault::Missing(Element::Key));
-    };
-    let Some(micros) = modified else {
-        return Err(DocFault::Missing(Element::LastModified));
-    };
-    let Some(etag) = etag else {
-        return Err(DocFault::Missing(Element::ETag));
-    };
-    let Some(size) = size else {
-        return Err(DocFault::Missing(Element::Size));
-    };
-    Ok(Entry {
-        key,
-        size,
-        etag,
-        micros,
-    })
+
+    fn whole(self, _: Global) -> Result<Entry, DocFault> {
+        let ObjectFields {
+            key,
+            modified,
+            etag,
+            size,
+        } = self;
+        let Some(key) = key else {
+            return Err(DocFault::Missing(Element::Key));
+        };
+        let Some(micros) = modified else {
+            return Err(DocFault::Missing(Element::LastModified));
+        };
+        let Some(etag) = etag else {
+            return Err(DocFault::Missing(Element::ETag));
+        };
+        let Some(size) = size else {
+            return Err(DocFault::Missing(Element::Size));
+        };
+        Ok(Entry {
+            key,
+            size,
+            etag,
+            micros,
+        })
+    }
 }
 
 /// Takes in an object.
 fn take_object<'a>(
     reader: &mut Reader<'a>,
-    tag: &Tag<'a>,
+    child: &Child<'a>,
     rows: &mut Vec<Entry>,
 ) -> Result<(), DocFault>
-    requires { is_the element.Contents tag.now.element ≡ true }
+    requires { is_the element.Contents child.now.element ≡ true }
     ensures value { OnOk result (Advances (ObjectsLeft rows.old.items) (ObjectsLeft rows.new.items)
-        tag.now reader.old.rest.now reader.new.rest.now) }
+        child.now reader.old.rest.now reader.new.rest.now) }
     ensures no_longer { length reader.new.rest.now ≤ length reader.old.rest.now }
-    ensures refused { IfRefused result (Stops (ObjectsLeft rows.old.items) tag.now reader.old.rest.now) }
+    ensures refused { IfRefused result (Stops (ObjectsLeft rows.old.items) child.now reader.old.rest.now) }
 {
-    let row = object(reader, tag)?;
+    let object = ObjectFields {
+        key: None,
+        modified: None,
+        etag: None,
+        size: None,
+    };
+    let row = reader.element(child, object)?;
     let Ok(()) = rows.push(row) else {
         return Err(DocFault::Memory);
     };
@@ -96,74 +102,62 @@ fn take_object<'a>(
 /// Takes in a prefix.
 fn take_prefix<'a>(
     reader: &mut Reader<'a>,
-    tag: &Tag<'a>,
+    child: &Child<'a>,
     rows: &mut Vec<Text>,
 ) -> Result<(), DocFault>
-    requires { is_the element.CommonPrefixes tag.now.element ≡ true }
+    requires { is_the element.CommonPrefixes child.now.element ≡ true }
     ensures value { OnOk result (Advances (PrefixesLeft rows.old.items) (PrefixesLeft rows.new.items)
-        tag.now reader.old.rest.now reader.new.rest.now) }
+        child.now reader.old.rest.now reader.new.rest.now) }
     ensures no_longer { length reader.new.rest.now ≤ length reader.old.rest.now }
-    ensures refused { IfRefused result (Stops (PrefixesLeft rows.old.items) tag.now reader.old.rest.now) }
+    ensures refused { IfRefused result (Stops (PrefixesLeft rows.old.items) child.now reader.old.rest.now) }
 {
-    let row = reader.only(tag, Element::Prefix)?;
+    let only: Only<FormedText> = Only {
+        element: Element::Prefix,
+        found: None,
+    };
+    let row = reader.element(child, only)?;
     let Ok(()) = rows.push(row) else {
         return Err(DocFault::Memory);
     };
     Ok(())
 }
 
+/// The name of the one encoding of keys.
+struct UrlName;
+
+impl Leaf for UrlName {
+    type Value = ();
+
+    ghost spells = { λ of text value. text ≡ codes "url" };
+
+    ghost alone = { λ of text v w a b. refl };
+
+    fn value_of(_: Global, of: Element, text: Meaning<'_>) -> Result<(), DocFault> {
+        if text.as_str() != "url" {
+            return Err(DocFault::BadText(of));
+        }
+        Ok(())
+    }
+}
+
 /// Takes in the name of the encoding, of which `url` is the only one.
-fn take_encoding<'a>(reader: &mut Reader<'a>, tag: &Tag<'a>, url: &mut bool) -> Result<(), DocFault>
-    requires { is_the element.EncodingType tag.now.element ≡ true }
+fn take_encoding<'a>(
+    reader: &mut Reader<'a>,
+    child: &Child<'a>,
+    url: &mut bool,
+) -> Result<(), DocFault>
+    requires { is_the element.EncodingType child.now.element ≡ true }
     ensures value { OnOk result (Advances (EncodingLeft url.old) (EncodingLeft url.new)
-        tag.now reader.old.rest.now reader.new.rest.now) }
+        child.now reader.old.rest.now reader.new.rest.now) }
     ensures no_longer { length reader.new.rest.now ≤ length reader.old.rest.now }
-    ensures refused { IfRefused result (Stops (EncodingLeft url.old) tag.now reader.old.rest.now) }
+    ensures refused { IfRefused result (Stops (EncodingLeft url.old) child.now reader.old.rest.now) }
 {
     if *url {
         return Err(DocFault::Twice(Element::EncodingType));
     }
-    let text = reader.text_leaf(tag)?;
-    if !is_same(text.as_str().as_bytes(), b"url") {
-        return Err(DocFault::BadText(Element::EncodingType));
-    }
+    reader.leaf::<UrlName>(child, Element::EncodingType)?;
     *url = true;
     Ok(())
-}
-
-/// Takes in a part of a page, and passes over another element.
-fn take_page<'a>(
-    reader: &mut Reader<'a>,
-    tag: &Tag<'a>,
-    more: &mut Option<bool>,
-    token: &mut Option<Text>,
-    url: &mut bool,
-    entries: &mut Vec<Entry>,
-    prefixes: &mut Vec<Text>,
-) -> Result<(), DocFault>
-    ensures value { OnOk result (Advances (PageLeft more.old token.old url.old entries.old.items prefixes.old.items)
-        (PageLeft more.new token.new url.new entries.new.items prefixes.new.items)
-        tag.now reader.old.rest.now reader.new.rest.now) }
-    ensures no_longer { length reader.new.rest.now ≤ length reader.old.rest.now }
-    ensures refused { IfRefused result (Stops (PageLeft more.old token.old url.old entries.old.items prefixes.old.items)
-        tag.now reader.old.rest.now) }
-{
-    if is_the(Element::Contents, tag.element) {
-        return take_object(reader, tag, entries);
-    }
-    if is_the(Element::CommonPrefixes, tag.element) {
-        return take_prefix(reader, tag, prefixes);
-    }
-    if is_the(Element::IsTruncated, tag.element) {
-        return reader.take_truth(tag, Element::IsTruncated, more);
-    }
-    if is_the(Element::NextContinuationToken, tag.element) {
-        return reader.take_text(tag, Element::NextContinuationToken, token);
-    }
-    if is_the(Element::EncodingType, tag.element) {
-        return take_encoding(reader, tag, url);
-    }
-    reader.skip(tag)
 }
 
 /// A page as it is written, with keys that may be those of URLs.
@@ -176,62 +170,94 @@ pub(crate) struct Written {
     pub(crate) prefixes: Vec<Text>,
 }
 
-/// The page inside the root of a document, as it is written.
-fn page<'a>(reader: &mut Reader<'a>, root: &Tag<'a>) -> Result<Written, DocFault>
-    ensures value { IfOk result (λ page. ReadsAs HasPage root.now reader.old.rest.now reader.new.rest.now (record {
-      more = page.more;
-      token = page.token;
-      url = page.url;
-      entries = page.entries.items;
-      prefixes = page.prefixes.items;
-    })) }
-    ensures refused { IfRefused result (ReadsNone HasPage root.now reader.old.rest.now) }
-{
-    let mut more = None;
-    let mut token = None;
-    let mut url = false;
-    let mut entries = Vec::new(reader.alloc);
-    let mut prefixes = Vec::new(reader.alloc);
-    'children: while let Some(tag) = reader.next_child(root)? {
-        take_page(
-            reader,
-            &tag,
-            &mut more,
-            &mut token,
-            &mut url,
-            &mut entries,
-            &mut prefixes,
-        )?;
-    }
-    let Some(more) = more else {
-        return Err(DocFault::Missing(Element::IsTruncated));
-    };
-    Ok(Written {
-        more,
-        token,
-        url,
-        entries,
-        prefixes,
-    })
+impl Model for Written {
+    ghost use Rattle.s3_replies.specs.Listing.{Page};
+
+    ghost Value = { Page };
+
+    ghost view = { λ w. record {
+      more = w.more;
+      token = w.token;
+      url = w.url;
+      entries = w.entries.items;
+      prefixes = w.prefixes.items;
+    } };
 }
 
-/// The page of a document, as it is written.
-pub(crate) fn written_page(alloc: Global, doc: &[u8]) -> Result<Written, DocFault>
-    ensures value { IfOk result (λ page. IsWritten doc.now (record {
-      more = page.more;
-      token = page.token;
-      url
-          = page.url;
-      entries = page.entries.items;
-      prefixes = page.prefixes.items;
-    })) }
-    ensures refused { IfRefused result ((page : Page) → ¬ (IsWritten doc.now page)) }
+/// The fields of a page.
+#[derive(Drop)]
+struct PageFields {
+    more: Option<bool>,
+    token: Option<Text>,
+    url: bool,
+    entries: Vec<Entry>,
+    prefixes: Vec<Text>,
+}
+
+impl Parts for PageFields {
+    type Whole = Written;
+
+    ghost left = { λ s content page. PageLeft s.more s.token s.url s.entries.items s.prefixes.items content page };
+
+    fn take<'a>(&mut self, reader: &mut Reader<'a>, child: &Child<'a>) -> Result<(), DocFault> {
+        if is_the(Element::Contents, child.element) {
+            return take_object(reader, child, &mut self.entries);
+        }
+        if is_the(Element::CommonPrefixes, child.element) {
+            return take_prefix(reader, child, &mut self.prefixes);
+        }
+        if is_the(Element::IsTruncated, child.element) {
+            return reader.take::<Truth>(child, Element::IsTruncated, &mut self.more);
+        }
+        if is_the(Element::NextContinuationToken, child.element) {
+            return reader.take::<FormedText>(
+                child,
+                Element::NextContinuationToken,
+                &mut self.token,
+            );
+        }
+        if is_the(Element::EncodingType, child.element) {
+            return take_encoding(reader, child, &mut self.url);
+        }
+        reader.skip(child)
+    }
+
+    fn whole(self, _: Global) -> Result<Written, DocFault> {
+        let PageFields {
+            more,
+            token,
+            url,
+            entries,
+            prefixes,
+        } = self;
+        match more {
+            Some(more) => Ok(Written {
+                more,
+                token,
+                url,
+                entries,
+                prefixes,
+            }),
+            None => Err(DocFault::Missing(Element::IsTruncated)),
+        }
+    }
+}
+
+/// The page inside the root of a document, as it is written, up to the end of the document.
+pub(crate) fn written_page<'a>(reader: &mut Reader<'a>, root: &Tag<'a>) -> Result<Written, DocFault>
+    ensures value { IfOk result (λ page. (rest : List ℕ) ×
+        HoldsAs HasPage root.now reader.old.rest.now rest page × ReadsSpace rest []) }
+    ensures refused { IfRefused result ((page : Page) (rest : List ℕ) →
+        HoldsAs HasPage root.now reader.old.rest.now rest page → ¬ (ReadsSpace rest [])) }
 {
-    let (mut reader, root) = match Reader::open(alloc, doc, "ListBucketResult") {
-        Ok(parts) => parts,
-        Err(fault) => return Err(fault),
+    let fields = PageFields {
+        more: None,
+        token: None,
+        url: false,
+        entries: Vec::new(reader.alloc),
+        prefixes: Vec::new(reader.alloc),
     };
-    let page = page(&mut reader, &root)?;
+    let page = reader.inside(root, fields)?;
     reader.close()?;
     Ok(page)
 }

@@ -1,15 +1,17 @@
 //! A page of a listing, with its keys unescaped.
 
-ghost use Rattle.std.specs.Prelude.{◌≡◌, ℕ, List, IfOk};
+ghost use Rattle.std.specs.Prelude.{◌≡◌, ℕ, List, Err, IfOk, codes};
 ghost use Rattle.std.specs.List.{AllZip};
 ghost use Rattle.s3_model.specs.declared.answers.Listed.{Listed};
 ghost use Rattle.s3_model.specs.declared.places.Entry.{Entry};
 ghost use Rattle.reply_xml.specs.Faults.{IfRefused};
-ghost use Rattle.s3_replies.specs.Listing.{IsListing, MeansEntry, MeansText};
+ghost use Rattle.reply_xml.specs.Places.{HasOtherRoot};
+ghost use Rattle.s3_replies.specs.Listing.{IsListing, MeansEntry, MeansPage, MeansText};
 
+use crate::keys::first_fault;
 use crate::listing::{Written, written_page};
 use reply_values::{UrlFault, is_key, url_decode};
-use reply_xml::{DocFault, Element};
+use reply_xml::{DocFault, Element, Reader};
 use s3_model::{Entries, Entry, Listed, Text, Texts};
 use std::alloc::Global;
 
@@ -81,11 +83,30 @@ pub(crate) fn prefixes_of(alloc: Global, url: bool, rows: Vec<Text>) -> Result<T
     Ok(prefixes)
 }
 
-/// Reads a page of a listing. Where the page names the encoding `url`, keys and prefixes are unescaped, with `+` as a
-/// space. Keys have 1 to 1,024 bytes, and entity tags 1 to 256 visible characters.
-pub fn read_list(alloc: Global, doc: &[u8]) -> Result<Listed, DocFault>
-    ensures value { IfOk result (λ listed. IsListing doc.now listed) }
-    ensures refused { IfRefused result ((listed : Listed) → ¬ (IsListing doc.now listed)) }
+/// Judges the text of a leaf of a page where it is a key or a prefix.
+pub(crate) fn judge_key(
+    alloc: Global,
+    element: Element,
+    url: bool,
+    written: &str,
+) -> Result<(), DocFault> {
+    if element != Element::Key && element != Element::Prefix {
+        return Ok(());
+    }
+    let Ok(written) = Text::of(alloc, written) else {
+        return Err(DocFault::Memory);
+    };
+    let text = decoded(alloc, url, written)?;
+    if element == Element::Key && !is_key(text.as_str()) {
+        return Err(DocFault::BadText(Element::Key));
+    }
+    Ok(())
+}
+
+/// What a page says.
+fn listed(alloc: Global, page: Written) -> Result<Listed, DocFault>
+    ensures value { IfOk result (MeansPage page) }
+    ensures refused { IfRefused result ((listed : Listed) → ¬ (MeansPage page listed)) }
 {
     let Written {
         more,
@@ -93,7 +114,7 @@ pub fn read_list(alloc: Global, doc: &[u8]) -> Result<Listed, DocFault>
         url,
         entries: rows,
         prefixes: roots,
-    } = written_page(alloc, doc)?;
+    } = page;
     let entries = entries_of(alloc, url, rows)?;
     let prefixes = prefixes_of(alloc, url, roots)?;
     Ok(Listed {
@@ -102,4 +123,26 @@ pub fn read_list(alloc: Global, doc: &[u8]) -> Result<Listed, DocFault>
         more,
         token,
     })
+}
+
+/// Reads a page of a listing. Where the page names the encoding `url`, keys and prefixes are unescaped, with `+` as a
+/// space. Keys have 1 to 1,024 bytes, and entity tags 1 to 256 visible characters.
+pub fn read_list(alloc: Global, doc: &[u8]) -> Result<Listed, DocFault>
+    ensures value { IfOk result (λ listed. IsListing doc.now listed) }
+    ensures refused { IfRefused result ((listed : Listed) → ¬ (IsListing doc.now listed)) }
+    ensures other_root { (place : ℕ) → HasOtherRoot (codes "ListBucketResult") doc.now place →
+        result ≡ Err (DocFault.NotADocument place) }
+{
+    let (mut reader, root) = match Reader::open(alloc, doc, "ListBucketResult") {
+        Ok(parts) => parts,
+        Err(fault) => return Err(fault),
+    };
+    let page = match written_page(&mut reader, &root) {
+        Ok(page) => page,
+        Err(fault) => return Err(first_fault(alloc, doc, reader.rest.len(), fault)),
+    };
+    match listed(alloc, page) {
+        Ok(listed) => Ok(listed),
+        Err(fault) => Err(first_fault(alloc, doc, 0, fault)),
+    }
 }

@@ -1,35 +1,44 @@
 //! The answers that have one value: an id of an upload or an entity tag.
 
-ghost use Rattle.std.specs.Prelude.{◌≡◌, ℕ, List, IfOk, OnOk};
-ghost use Rattle.reply_xml.specs.Children.{HasLeaf};
+ghost use Rattle.std.specs.Prelude.{◌≡◌, ℕ, List, Err, IfOk, OnOk, codes};
+ghost use Rattle.reply_xml.specs.Children.{HasLeaf, HasOnly};
 ghost use Rattle.reply_xml.specs.Documents.{IsOf};
 ghost use Rattle.reply_xml.specs.Faults.{IfRefused};
+ghost use Rattle.reply_xml.specs.Places.{HasOtherRoot};
 ghost use Rattle.s3_replies.specs.Results.{copy_root, IsCompleted, IsCopied, IsCreated};
 
-use reply_xml::{DocFault, Element, Reader};
+use reply_xml::{DocFault, Element, FormedText, Leaf, Only, PlainText, read_document};
 use s3_model::Text;
 use std::alloc::Global;
 
-/// The text of the one leaf of that name in a document with this root.
-fn only_leaf(alloc: Global, doc: &[u8], root: &str, element: Element) -> Result<Text, DocFault>
-    ensures value { IfOk result (IsOf root.now (HasLeaf element) doc.now) }
-    ensures refused { IfRefused result ((text : List ℕ) → ¬ (IsOf root.now (HasLeaf element) doc.now text)) }
+/// The value of the one leaf of that name in a document with this root.
+fn only_leaf<L: Leaf>(
+    alloc: Global,
+    doc: &[u8],
+    root: &str,
+    element: Element,
+) -> Result<L::Value, DocFault>
+    ensures value { IfOk result (IsOf root.now (HasOnly (L.spells element) element) doc.now) }
+    ensures refused { IfRefused result ((value : L.Value) →
+        ¬ (IsOf root.now (HasOnly (L.spells element) element) doc.now value)) }
+    ensures other_root { (place : ℕ) → HasOtherRoot root.now doc.now place →
+        result ≡ Err (DocFault.NotADocument place) }
 {
-    let (mut reader, tag) = match Reader::open(alloc, doc, root) {
-        Ok(parts) => parts,
-        Err(fault) => return Err(fault),
+    let only: Only<L> = Only {
+        element,
+        found: None,
     };
-    let text = reader.only(&tag, element)?;
-    reader.close()?;
-    Ok(text)
+    read_document(alloc, doc, root, only)
 }
 
 /// Reads the answer to CreateMultipartUpload, and answers the upload's id of 1 to 1,024 bytes.
 pub fn read_created(alloc: Global, doc: &[u8]) -> Result<Text, DocFault>
     ensures value { IfOk result (IsCreated doc.now) }
     ensures refused { IfRefused result ((id : List ℕ) → ¬ (IsCreated doc.now id)) }
+    ensures other_root { (place : ℕ) → HasOtherRoot (codes "InitiateMultipartUploadResult") doc.now place →
+        result ≡ Err (DocFault.NotADocument place) }
 {
-    only_leaf(
+    only_leaf::<FormedText>(
         alloc,
         doc,
         "InitiateMultipartUploadResult",
@@ -37,12 +46,14 @@ pub fn read_created(alloc: Global, doc: &[u8]) -> Result<Text, DocFault>
     )
 }
 
-/// Reads the answer to CompleteMultipartUpload, which has an entity tag.
+/// Reads the answer to CompleteMultipartUpload, which has an entity tag of any form.
 pub fn read_completed(alloc: Global, doc: &[u8]) -> Result<(), DocFault>
     ensures value { OnOk result ((etag : List ℕ) × IsCompleted doc.now etag) }
     ensures refused { IfRefused result ((etag : List ℕ) → ¬ (IsCompleted doc.now etag)) }
+    ensures other_root { (place : ℕ) → HasOtherRoot (codes "CompleteMultipartUploadResult") doc.now place →
+        result ≡ Err (DocFault.NotADocument place) }
 {
-    let _etag = only_leaf(alloc, doc, "CompleteMultipartUploadResult", Element::ETag)?;
+    let _etag = only_leaf::<PlainText>(alloc, doc, "CompleteMultipartUploadResult", Element::ETag)?;
     Ok(())
 }
 
@@ -50,9 +61,11 @@ pub fn read_completed(alloc: Global, doc: &[u8]) -> Result<(), DocFault>
 pub fn read_copied(alloc: Global, doc: &[u8], part: bool) -> Result<Text, DocFault>
     ensures value { IfOk result (IsCopied part doc.now) }
     ensures refused { IfRefused result ((etag : List ℕ) → ¬ (IsCopied part doc.now etag)) }
+    ensures other_root { (place : ℕ) → HasOtherRoot (copy_root part) doc.now place →
+        result ≡ Err (DocFault.NotADocument place) }
 {
     if part {
-        return only_leaf(alloc, doc, "CopyPartResult", Element::ETag);
+        return only_leaf::<FormedText>(alloc, doc, "CopyPartResult", Element::ETag);
     }
-    only_leaf(alloc, doc, "CopyObjectResult", Element::ETag)
+    only_leaf::<FormedText>(alloc, doc, "CopyObjectResult", Element::ETag)
 }

@@ -67,13 +67,23 @@ const DOCUMENTS: [(&str, &str, &str); 7] = [
     ),
 ];
 
-const REFUSED: [(&str, &str, &str); 13] = [
+const REFUSED: [(&str, &str, &str); 19] = [
     ("error", "", "NotADocument(0)"),
     (
         "error",
         "<!DOCTYPE a><Error><Code>a</Code></Error>",
         "NotADocument(1)",
     ),
+    ("error", "<?xmk?><Error>", "NotADocument(4)"),
+    ("error", "<Errors a><Code>", "NotADocument(7)"),
+    ("error", "<Error><Message>&am", "NotADocument(19)"),
+    ("error", "<Error></Errors>", "Missing(Code)"),
+    (
+        "error",
+        "<Error><Code/><Code a='><Code/></Error>",
+        "Twice(Code)",
+    ),
+    ("part", "<CopyPartResult><ETag>a b<c/>", "BadText(ETag)"),
     ("error", "<Error><![CDATA[a]]></Error>", "NotADocument(8)"),
     (
         "error",
@@ -135,6 +145,8 @@ fn refuses_other_bytes(rt: HostRuntime) -> Result<(), Fail> {
     let complete =
         b"<CompleteMultipartUploadResult xmlns=\"http://s3.amazonaws.com/doc/2006-03-01/\"><Location>http://h/b/k</Location><Bucket>b</Bucket><Key>k</Key><ETag>\"3858f62230ac3c915f300c664312c11f-9\"</ETag></CompleteMultipartUploadResult>";
     assert!(rt; read_completed(alloc, complete).is_ok());
+    let empty_tag = b"<CompleteMultipartUploadResult><ETag/></CompleteMultipartUploadResult>";
+    assert!(rt; read_completed(alloc, empty_tag).is_ok());
     let other_root =
         b"<CompleteMultipartUploadResponse><ETag>a</ETag></CompleteMultipartUploadResponse>";
     assert!(rt; read_completed(alloc, other_root).is_err());
@@ -199,7 +211,7 @@ fn listed(alloc: Global, doc: &[u8]) -> Result<String, AllocError> {
 }
 
 /// Listings as Amazon's reference prints them, as MinIO and Ceph write them, and others.
-const LISTINGS: [(&str, &str); 14] = [
+const LISTINGS: [(&str, &str); 16] = [
     (
         "<?xml version=\"1.0\" encoding=\"UTF-8\"?>\n<ListBucketResult xmlns=\"http://s3.amazonaws.com/doc/2006-03-01/\"><Name>b</Name><Prefix></Prefix><KeyCount>1</KeyCount><MaxKeys>1000</MaxKeys><Delimiter></Delimiter><IsTruncated>false</IsTruncated><Contents><Key>a+b</Key><LastModified>2026-01-02T03:04:05.678Z</LastModified><ETag>&#34;5d41&#34;</ETag><Size>5</Size><StorageClass>STANDARD</StorageClass></Contents><EncodingType>url</EncodingType></ListBucketResult>",
         "false; a b 5 \"5d41\" 1767323045678000",
@@ -221,6 +233,14 @@ const LISTINGS: [(&str, &str); 14] = [
         "false",
     ),
     ("<ListBucketResult/>", "Missing(IsTruncated)"),
+    (
+        "<ListBucketResult><Contents><Key></Key><Size>x</Size>",
+        "BadText(Key)",
+    ),
+    (
+        "<ListBucketResult><CommonPrefixes><Prefix>%</Prefix><Prefix/></CommonPrefixes><EncodingType>url</EncodingType>",
+        "BadEscape",
+    ),
     (
         "<ListBucketResult><IsTruncated>True</IsTruncated></ListBucketResult>",
         "BadNumber",

@@ -1,23 +1,25 @@
-use Rattle.std.proofs.Common.{ℕ, Bool, List, codes}
-use Rattle.s3_replies.specs.Errors.{HasError}
-use Rattle.reply_xml.specs.Documents.{IsOf, BeginsDocument}
-use Rattle.reply_xml.proofs.FaultLemmas.{Tells-map, refused_past}
-use Rattle.reply_xml.proofs.WholeLemmas.{no_root, no_inside, no_whole}
+use Rattle.std.proofs.Common.{◌∙◌, [], ap, sym, unwrap_or}
+use Rattle.reply_xml.proofs.FaultLemmas.{err_past, err_same, not_err, refused_past}
+use Rattle.s3_replies.proofs.ErrorLemmas.{error_found, error_told}
 use Rattle.s3_replies.proofs.errors.read_error.Goals as goal
 
-pub returns-in-Err-clause-refused : goal.returns-in-Err-clause-refused
-returns-in-Err-clause-refused c =
-    let none : ((closed : Bool) (rest : List ℕ) → ¬ (BeginsDocument (codes "Error") c.args.doc.now closed rest)) → (error : List ℕ × List ℕ) → ¬ (IsOf (codes "Error") HasError c.args.doc.now error) =
-    λ h error. no_root HasError (codes "Error") c.args.doc.now error h in
-    Tells-map c.in-Err.fault none c.in-Err.ensures.refused
+pub returns-in_err-code-clause-refused : goal.returns-in_err-code-clause-refused
+returns-in_err-code-clause-refused c =
+    refused_past c.from_residual.result c.in_err-code.field-0.0 c.from_residual.ensures.1
+    (λ none error r. let found = error_found c.args.doc.now error r in none (error.0, found.0) found.1) c.in_err-code.ensures.refused
 
-pub returns-in_err-error-clause-refused : goal.returns-in_err-error-clause-refused
-returns-in_err-error-clause-refused c =
-    refused_past c.from_residual.result c.in_err-error.field-0.0 c.from_residual.ensures.1
-    (no_inside HasError (codes "Error") c.args.doc.now _ c.in-Ok.parts.1 c.in-Ok.ensures.begins c.in-Ok.ensures.room c.in-Ok.ensures.named) c.in_err-error.ensures.refused
+pub returns-in-Some-clause-value : goal.returns-in-Some-clause-value
+returns-in-Some-clause-value c = error_told c.args.doc.now c.in_ok-code.code c.in-Some.message c.in_ok-code.message (sym (ap (λ m. unwrap_or m []) c.in-Some.is)) c.in_ok-code.ensures.value
 
-pub returns-in_err-close-clause-refused : goal.returns-in_err-close-clause-refused
-returns-in_err-close-clause-refused c =
-    refused_past c.from_residual-in_err-close.result c.in_err-close.field-0.0 c.from_residual-in_err-close.ensures.1
-    (no_whole HasError (codes "Error") c.args.doc.now _ _ c.in-Ok.parts.1 _ c.in-Ok.ensures.begins c.in-Ok.ensures.room c.in-Ok.ensures.named c.in_ok-error.ensures.value)
-    c.in_err-close.ensures.refused
+pub returns-in-None-clause-value : goal.returns-in-None-clause-value
+returns-in-None-clause-value c = error_told c.args.doc.now c.in_ok-code.code _ c.in_ok-code.message (c.from.ensures ∙ c.new.ensures.bytes ∙ sym (ap (λ m. unwrap_or m []) c.in-None.is)) c.in_ok-code.ensures.value
+
+pub returns-in_err-code-clause-other_root : goal.returns-in_err-code-clause-other_root
+returns-in_err-code-clause-other_root c place o =
+    err_past c.from_residual.result c.in_err-code.field-0.0 _ c.from_residual.ensures.1 (err_same _ _ (c.in_err-code.ensures.other_root place o))
+
+pub returns-in-Some-clause-other_root : goal.returns-in-Some-clause-other_root
+returns-in-Some-clause-other_root c place o = absurd (not_err _ _ (c.in_ok-code.ensures.other_root place o))
+
+pub returns-in-None-clause-other_root : goal.returns-in-None-clause-other_root
+returns-in-None-clause-other_root c place o = absurd (not_err _ _ (c.in_ok-code.ensures.other_root place o))

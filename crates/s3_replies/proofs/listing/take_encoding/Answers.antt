@@ -1,22 +1,18 @@
-use Rattle.std.proofs.Common.{◌∙◌, sym}
+use Rattle.std.proofs.Common.{codes, refl}
 use Rattle.reply_xml.proofs.FaultLemmas.{refused_past}
-use Rattle.s3_replies.proofs.PageLemmas.{encoding_advanced, encoding_none, encoding_other, encoding_twice}
+use Rattle.s3_replies.proofs.PageLemmas.{encoding_advanced, encoding_none, encoding_twice}
 use Rattle.s3_replies.proofs.listing.take_encoding.Goals as goal
 
 pub returns-then-url-clause-refused : goal.returns-then-url-clause-refused
-returns-then-url-clause-refused c = encoding_twice c.args.url.now c.args.tag.now c.args.reader.now.rest.now c.if-url.true c.requires
+returns-then-url-clause-refused c = encoding_twice c.args.url.now c.args.child.now c.args.reader.now.rest.now c.if-url.true c.requires
 
-pub returns-in_err-text-clause-refused : goal.returns-in_err-text-clause-refused
-returns-in_err-text-clause-refused c =
-    refused_past c.from_residual.result c.in_err-text.field-0.0 c.from_residual.ensures.1
-    (encoding_none c.args.url.now c.args.tag.now c.args.reader.now.rest.now c.if-url.false c.requires) c.in_err-text.ensures.refused
-
-pub returns-then-not-is_same-clause-refused : goal.returns-then-not-is_same-clause-refused
-returns-then-not-is_same-clause-refused c =
-    encoding_other c.args.url.now c.args.tag.now c.args.reader.now.rest.now c.text_leaf.new.self.rest.now c.in_ok-text.text c.if-url.false c.requires
-    (λ e. c.if-not-is_same.ensures (c.as_bytes.ensures.value ∙ c.as_str.ensures ∙ e)) c.in_ok-text.ensures.value
+pub returns-in_err-leaf-clause-refused : goal.returns-in_err-leaf-clause-refused
+returns-in_err-leaf-clause-refused c =
+    refused_past c.from_residual.result c.in_err-leaf.field-0.0 c.from_residual.ensures.1
+    (λ none. encoding_none c.args.url.now c.args.child.now c.args.reader.now.rest.now c.if-url.false c.requires (λ rest r. none rest tt (r.0, r.1, (codes "url", r.2, refl))))
+    c.in_err-leaf.ensures.refused
 
 pub returns-clause-value : goal.returns-clause-value
 returns-clause-value c =
-    encoding_advanced c.args.url.now c.args.tag.now c.args.reader.now.rest.now c.text_leaf.new.self.rest.now c.in_ok-text.text c.if-url.false c.requires
-    (sym c.as_str.ensures ∙ sym c.as_bytes.ensures.value ∙ c.if-not-is_same.ensures) c.in_ok-text.ensures.value
+    let found = c.in_ok-leaf.ensures.value in
+    encoding_advanced c.args.url.now c.args.child.now c.args.reader.now.rest.now c.leaf.new.self.rest.now found.2.0 c.if-url.false c.requires found.2.2 (found.0, found.1, found.2.1)

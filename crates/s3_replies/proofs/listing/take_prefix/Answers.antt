@@ -8,9 +8,9 @@ use Rattle.s3_replies.proofs.listing.take_prefix.Goals as goal
 pub returns-in_err-row-clause-refused : goal.returns-in_err-row-clause-refused
 returns-in_err-row-clause-refused c =
     refused_past c.from_residual.result c.in_err-row.field-0.0 c.from_residual.ensures.1
-    (each_stopped (HasLeaf element.Prefix) element.CommonPrefixes c.args.rows.now.items c.args.tag.now c.args.reader.now.rest.now c.requires) c.in_err-row.ensures.refused
+    (each_stopped (HasLeaf element.Prefix) element.CommonPrefixes c.args.rows.now.items c.args.child.now c.args.reader.now.rest.now c.requires) c.in_err-row.ensures.refused
 
 pub returns-clause-value : goal.returns-clause-value
 returns-clause-value c =
-    each_advanced (HasLeaf element.Prefix) element.CommonPrefixes c.args.rows.now.items c.push.new.self.items c.args.tag.now c.args.reader.now.rest.now c.only.new.self.rest.now c.in_ok-row.row
+    each_advanced (HasLeaf element.Prefix) element.CommonPrefixes c.args.rows.now.items c.push.new.self.items c.args.child.now c.args.reader.now.rest.now c.element.new.self.rest.now c.in_ok-row.row
     c.requires c.in-Ok.ensures.items (HasLeaf-same element.Prefix) c.in_ok-row.ensures.value

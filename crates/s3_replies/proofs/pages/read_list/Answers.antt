@@ -1,23 +1,47 @@
-use Rattle.std.proofs.Common.{refl}
-use Rattle.s3_replies.specs.Listing.{Page}
-use Rattle.reply_xml.proofs.FaultLemmas.{refused_past}
-use Rattle.s3_replies.proofs.ListingLemmas.{no_entries, no_prefixes}
+use Rattle.std.proofs.Common.{Err, ap, codes}
+use Rattle.s3_replies.specs.Listing.{HasPage}
+use Rattle.reply_xml.proofs.FaultLemmas.{Tells-map, err_same, not_err, told_instead}
+use Rattle.reply_xml.proofs.WholeLemmas.{no_root, inside_root, whole}
+use Rattle.s3_replies.proofs.ListingLemmas.{no_listing}
 use Rattle.s3_replies.proofs.pages.read_list.Goals as goal
 
-pub returns-in_err-more-clause-refused : goal.returns-in_err-more-clause-refused
-returns-in_err-more-clause-refused c =
-    refused_past c.from_residual.result c.in_err-more.field-0.0 c.from_residual.ensures.1 (λ none listed l. none l.0 l.1) c.in_err-more.ensures.refused
+pub returns-in-Err-clause-refused : goal.returns-in-Err-clause-refused
+returns-in-Err-clause-refused c = Tells-map c.in-Err.fault (λ none listed l. no_root HasPage (codes "ListBucketResult") c.args.doc.now l.0 none l.1) c.in-Err.ensures.refused
 
-pub returns-in_err-entries-clause-refused : goal.returns-in_err-entries-clause-refused
-returns-in_err-entries-clause-refused c =
-    let found = c.in_ok-more.field-0 in
-    let page : Page = record { more = found.more; token = found.token; url = found.url; entries = found.entries.items; prefixes = found.prefixes.items } in
-    refused_past c.from_residual-in_err-entries.result c.in_err-entries.field-0.0 c.from_residual-in_err-entries.ensures.1
-    (no_entries c.args.doc.now page found.entries.items c.in_ok-more.ensures.value refl) c.in_err-entries.ensures.refused
+pub returns-in-Err-written_page-clause-refused : goal.returns-in-Err-written_page-clause-refused
+returns-in-Err-written_page-clause-refused c =
+    told_instead _ c.in-Err-written_page.fault c.first_fault.result c.first_fault.ensures
+    (
+    Tells-map c.in-Err-written_page.fault
+    (
+    λ none listed l.
+    let inside = inside_root HasPage (codes "ListBucketResult") c.args.doc.now _ c.in-Ok.parts.1 l.0 c.in-Ok.ensures.begins c.in-Ok.ensures.room c.in-Ok.ensures.named l.1 in
+    none l.0 inside.0 inside.1 inside.2
+    )
+    c.in-Err-written_page.ensures.refused
+    )
 
-pub returns-in_err-prefixes-clause-refused : goal.returns-in_err-prefixes-clause-refused
-returns-in_err-prefixes-clause-refused c =
-    let found = c.in_ok-more.field-0 in
-    let page : Page = record { more = found.more; token = found.token; url = found.url; entries = found.entries.items; prefixes = found.prefixes.items } in
-    refused_past c.from_residual-in_err-prefixes.result c.in_err-prefixes.field-0.0 c.from_residual-in_err-prefixes.ensures.1
-    (no_prefixes c.args.doc.now page found.prefixes.items c.in_ok-more.ensures.value refl) c.in_err-prefixes.ensures.refused
+pub returns-in-Err-listed-clause-refused : goal.returns-in-Err-listed-clause-refused
+returns-in-Err-listed-clause-refused c =
+    let found = c.in-Ok-written_page.ensures.value in
+    let written = whole HasPage (codes "ListBucketResult") c.args.doc.now _ found.0 c.in-Ok.parts.1 c.in-Ok-written_page.page c.in-Ok.ensures.begins c.in-Ok.ensures.room c.in-Ok.ensures.named found.1 found.2 in
+    told_instead _ c.in-Err-listed.fault c.first_fault-in-Err-listed.result c.first_fault-in-Err-listed.ensures
+    (Tells-map c.in-Err-listed.fault (no_listing c.args.doc.now c.in-Ok-written_page.page written) c.in-Err-listed.ensures.refused)
+
+pub returns-in-Ok-listed-clause-value : goal.returns-in-Ok-listed-clause-value
+returns-in-Ok-listed-clause-value c =
+    let found = c.in-Ok-written_page.ensures.value in
+    let written = whole HasPage (codes "ListBucketResult") c.args.doc.now _ found.0 c.in-Ok.parts.1 c.in-Ok-written_page.page c.in-Ok.ensures.begins c.in-Ok.ensures.room c.in-Ok.ensures.named found.1 found.2 in
+    (c.in-Ok-written_page.page, written, c.in-Ok-listed.ensures.value)
+
+pub returns-in-Err-clause-other_root : goal.returns-in-Err-clause-other_root
+returns-in-Err-clause-other_root c place o = ap Err (err_same _ _ (c.in-Err.ensures.other place o))
+
+pub returns-in-Err-written_page-clause-other_root : goal.returns-in-Err-written_page-clause-other_root
+returns-in-Err-written_page-clause-other_root c place o = absurd (not_err _ _ (c.in-Ok.ensures.other place o))
+
+pub returns-in-Err-listed-clause-other_root : goal.returns-in-Err-listed-clause-other_root
+returns-in-Err-listed-clause-other_root c place o = absurd (not_err _ _ (c.in-Ok.ensures.other place o))
+
+pub returns-in-Ok-listed-clause-other_root : goal.returns-in-Ok-listed-clause-other_root
+returns-in-Ok-listed-clause-other_root c place o = absurd (not_err _ _ (c.in-Ok.ensures.other place o))

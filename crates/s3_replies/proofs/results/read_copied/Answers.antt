@@ -1,6 +1,7 @@
 use Rattle.std.proofs.Common.{Bool, List, ℕ, IfOk, sym, subst}
 use Rattle.reply_xml.specs.Faults.{IfRefused}
-use Rattle.s3_replies.specs.Results.{IsCopied}
+use Rattle.reply_xml.specs.Places.{HasOtherRoot}
+use Rattle.s3_replies.specs.Results.{IsCopied, copy_root}
 use Rattle.s3_replies.proofs.results.read_copied.Goals as goal
 
 pub returns-then-part-clause-value : goal.returns-then-part-clause-value
@@ -16,3 +17,11 @@ returns-clause-value c = subst (λ (part : Bool). IfOk c.only_leaf-2.result (IsC
 pub returns-clause-refused : goal.returns-clause-refused
 returns-clause-refused c =
     subst (λ (part : Bool). IfRefused c.only_leaf-2.result ((etag : List ℕ) → ¬ (IsCopied part c.args.doc.now etag))) (sym c.if-part.false) c.only_leaf-2.ensures.refused
+
+pub returns-then-part-clause-other_root : goal.returns-then-part-clause-other_root
+returns-then-part-clause-other_root c place o =
+    c.only_leaf.ensures.other_root place (subst (λ (part : Bool). HasOtherRoot (copy_root part) c.args.doc.now place) c.if-part.true o)
+
+pub returns-clause-other_root : goal.returns-clause-other_root
+returns-clause-other_root c place o =
+    c.only_leaf-2.ensures.other_root place (subst (λ (part : Bool). HasOtherRoot (copy_root part) c.args.doc.now place) c.if-part.false o)

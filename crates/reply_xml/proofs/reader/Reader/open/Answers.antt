@@ -1,17 +1,21 @@
-use Rattle.std.proofs.Common.{sym, ◌∙◌}
-use Rattle.reply_xml.proofs.TagLemmas.{ReadsTag-same}
-use Rattle.reply_xml.proofs.DocumentLemmas.{declared_at, root_at}
+use Rattle.std.proofs.Common.{sym, ap, length, ◌-◌, Err, ◌∙◌}
+use Rattle.reply_xml.specs.declared.faults.DocFault.TheVariants as fault
+use Rattle.reply_xml.proofs.FaultLemmas.{err_same, not_err}
+use Rattle.reply_xml.proofs.DocumentLemmas.{root_begins, root_end}
 use Rattle.reply_xml.proofs.reader.Reader.open.Goals as goal
 
-pub returns-in-Err-clause-refused : goal.returns-in-Err-clause-refused
-returns-in-Err-clause-refused c closed rest b = c.in-Err.ensures.refused b.at_space (declared_at _ _ _ _ rest closed c.split_run.ensures.value b)
+pub returns-in-Err-after_tag_end-clause-refused : goal.returns-in-Err-after_tag_end-clause-refused
+returns-in-Err-after_tag_end-clause-refused c closed rest b = c.in-Err-after_tag_end.ensures.refused closed rest (root_end c.args.root.now _ _ rest closed c.in-Ok.ensures.value b)
 
-pub returns-in-Err-split_tag-clause-refused : goal.returns-in-Err-split_tag-clause-refused
-returns-in-Err-split_tag-clause-refused c closed rest b =
-    c.in-Err-split_tag.ensures.refused closed c.args.root.now rest
-    (root_at c.args.root.now _ _ _ _ _ _ rest closed c.split_run.ensures.value c.in-Ok.ensures.value c.split_run-2.ensures.value b)
+pub returns-clause-begins : goal.returns-clause-begins
+returns-clause-begins c = root_begins c.args.root.now _ _ _ _ c.in-Ok.ensures.value c.in-Ok-after_tag_end.ensures.value
 
-pub returns-then-not-is_same-clause-refused : goal.returns-then-not-is_same-clause-refused
-returns-then-not-is_same-clause-refused c closed rest b =
-    let tag = root_at c.args.root.now _ _ _ _ _ _ rest closed c.split_run.ensures.value c.in-Ok.ensures.value c.split_run-2.ensures.value b in
-    c.if-not-is_same.ensures (sym (ReadsTag-same _ closed _ c.args.root.now _ _ rest c.in-Ok-split_tag.ensures.value tag).1 ∙ sym c.as_bytes.ensures.value)
+pub returns-in-Err-clause-other : goal.returns-in-Err-clause-other
+returns-in-Err-clause-other c place o =
+    ap (λ n. Err (fault.NotADocument n)) (ap (λ n. length c.args.doc.now - n) (err_same _ _ (c.in-Err.ensures.other place o)) ∙ sym o.at)
+
+pub returns-in-Err-after_tag_end-clause-other : goal.returns-in-Err-after_tag_end-clause-other
+returns-in-Err-after_tag_end-clause-other c place o = absurd (not_err _ _ (c.in-Ok.ensures.other place o))
+
+pub returns-clause-other : goal.returns-clause-other
+returns-clause-other c place o = absurd (not_err _ _ (c.in-Ok.ensures.other place o))

@@ -1,32 +1,15 @@
-use Rattle.std.proofs.Common.{◌-◌, take, ap, arith, ◌∙◌}
-use Rattle.std.proofs.lemmas.List.{append-nil}
-use Rattle.reply_xml.proofs.FaultLemmas.{refused_past}
-use Rattle.reply_xml.proofs.OpenLemmas.{left_in, left_out, left_end, left_none, iff_past}
+use Rattle.reply_xml.proofs.FaultLemmas.{OnOk-map, refused_past, refused_so}
+use Rattle.reply_xml.proofs.OpenLemmas.{element_of, inner_of}
 use Rattle.reply_xml.proofs.reader.Reader.skip.Goals as goal
 
-pub returns-in_err-child-clause-refused : goal.returns-in_err-child-clause-refused
-returns-in_err-child-clause-refused c =
-    refused_past c.from_residual.result c.in_err-child.field-0.0 c.from_residual.ensures.1
-    (λ none rest s. left_none c.elements.outer.items c.elements.inner _ rest none ((c.elements.invariant.same rest).1 s)) c.in_err-child.ensures.refused
+pub returns-in_err-tag-clause-refused : goal.returns-in_err-tag-clause-refused
+returns-in_err-tag-clause-refused c =
+    refused_past c.from_residual.result c.in_err-tag.field-0.0 c.from_residual.ensures.1 (λ none rest s. none s.1.0 s.1.1 s.1.2) c.in_err-tag.ensures.refused
 
-pub elements-preserved-in-Ok : goal.elements-preserved-in-Ok
-elements-preserved-in-Ok c =
-    let now = rw c.in-Some.is at c.in_ok-child.ensures in
-    record {
-      no_longer = omega (arith, c.in_ok-child.ensures.no_longer);
-      same = λ rest. iff_past (left_in c.elements.outer.items c.push.new.self.items c.elements.inner c.in-Some.child _ _ rest now.apart now.child c.in-Ok.ensures.items) (c.elements.invariant.same rest);
-    }
+pub returns-clause-value : goal.returns-clause-value
+returns-clause-value c =
+    OnOk-map c.skip_content.result (λ s. (s.0, element_of c.args.child.now c.in_ok-tag.tag s.0 _ _ _ c.in_ok-tag.ensures.value s.1)) c.skip_content.ensures.value
 
-pub elements-preserved : goal.elements-preserved
-elements-preserved c =
-    let now = rw c.in-None.is at c.in_ok-child.ensures in
-    record {
-      no_longer = omega (arith, c.in_ok-child.ensures.no_longer);
-      same = λ rest. iff_past (left_out c.pop.new.self.items c.elements.outer.items c.elements.inner c.in-Some-pop.parent _ _ rest now.end c.in-Some-pop.ensures.items) (c.elements.invariant.same rest);
-    }
-
-pub returns-in-None-pop-clause-value : goal.returns-in-None-pop-clause-value
-returns-in-None-pop-clause-value c =
-    let now = rw c.in-None.is at c.in_ok-child.ensures in
-    let none = c.in-None-pop.ensures.items ∙ append-nil _ ∙ c.in-None-pop.ensures.rest ∙ ap (λ n. take (n - 1) c.elements.outer.items) c.in-None-pop.ensures.cases.0 in
-    (c.elements.invariant.same c.next_child.new.self.rest.now).0 (left_end c.elements.outer.items c.elements.inner _ _ now.end none)
+pub returns-clause-refused : goal.returns-clause-refused
+returns-clause-refused c =
+    refused_so c.skip_content.result (λ none rest s. none rest (s.0, inner_of c.args.child.now c.in_ok-tag.tag s.0 _ _ rest c.in_ok-tag.ensures.value s.1)) c.skip_content.ensures.refused

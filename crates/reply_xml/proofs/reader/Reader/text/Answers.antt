@@ -1,21 +1,15 @@
-use Rattle.std.proofs.Common.{ℕ, List, subst, sym, ◌∙◌}
-use Rattle.std.specs.Str.{IsUtf8}
-use Rattle.reply_xml.specs.declared.runs.Sort.TheVariants as sort
-use Rattle.reply_values.specs.References.{IsUnescaped}
-use Rattle.reply_xml.proofs.FaultLemmas.{refused_past}
-use Rattle.reply_xml.proofs.RunLemmas.{ReadsRun-same}
+use Rattle.std.proofs.Common.{sym, ◌∙◌}
+use Rattle.reply_xml.proofs.FaultLemmas.{Tells-any, bad_told, ends_told}
+use Rattle.reply_xml.proofs.ContentLemmas.{no_meaning, no_text_at_end}
+use Rattle.reply_xml.proofs.TagLemmas.{none_from_test}
 use Rattle.reply_xml.proofs.reader.Reader.text.Goals as goal
 
-pub returns-in_default-clause-refused : goal.returns-in_default-clause-refused
-returns-in_default-clause-refused c text rest r =
-    let same = ReadsRun-same sort.Text _ text _ _ rest c.split_run.ensures.value r.run in
-    c.in_default.ensures.cases.0 (subst IsUtf8 same.0 r.characters)
+pub returns-then-is_empty-clause-refused : goal.returns-then-is_empty-clause-refused
+returns-then-is_empty-clause-refused c =
+    Tells-any c.last_text_fault.result (λ text rest r. no_text_at_end _ _ _ text rest c.split_run.ensures.value (none_from_test _ (sym c.is_empty.ensures ∙ c.if-is_empty.true)) r)
 
-pub returns-in_err-found-clause-refused : goal.returns-in_err-found-clause-refused
-returns-in_err-found-clause-refused c =
-    refused_past c.from_residual.result c.in_err-found.field-0.0 c.from_residual.ensures.1
-    (
-    λ none text rest r. let same = ReadsRun-same sort.Text _ text _ _ rest c.split_run.ensures.value r.run in
-    none r.meaning (subst (λ (raw : List ℕ). IsUnescaped raw r.meaning) (same.0 ∙ sym c.in-Ok.ensures.cases.0) r.unescaped)
-    )
-    c.in_err-found.ensures.refused
+pub returns-in-Err-Ends-clause-refused : goal.returns-in-Err-Ends-clause-refused
+returns-in-Err-Ends-clause-refused c text rest r = no_meaning _ _ _ text _ c.split_run.ensures.value (ends_told c.in-Err-Ends.field-0 _ c.in-Err-Ends.field-0-is c.in-Err-Ends.ensures.refused) r
+
+pub returns-in-Err-BadReference-clause-refused : goal.returns-in-Err-BadReference-clause-refused
+returns-in-Err-BadReference-clause-refused c text rest r = no_meaning _ _ _ text _ c.split_run.ensures.value (bad_told c.in-Err-BadReference.field-0 c.in-Err-BadReference.field-0-is c.in-Err-BadReference.ensures.refused) r

@@ -1,0 +1,36 @@
+use Rattle.std.proofs.Common.{◌≡◌, ◌++◌, ℕ, [], length, Some, None, refl, lit<, rules}
+use Rattle.std.specs.Prelude.{encode_utf8}
+use Rattle.std.proofs.lemmas.Str.Pattern.{split_parts}
+use Rattle.reply_values.specs.References.{StandsForText}
+use Rattle.reply_values.proofs.SpellingLemmas.{spells_nothing}
+use Rattle.reply_values.proofs.ReferenceLemmas.{lacks_from}
+use Rattle.reply_values.proofs.UnescapeLemmas.{bad_at, unescaped_more, reference_more}
+use Rattle.reply_values.proofs.references.bad_reference.Goals as goal
+
+pub loop-plain-init : goal.loop-plain-init
+loop-plain-init c = (search rules, ([], [], refl, spells_nothing StandsForText))
+
+pub returns-in_default-reference-clause-bad : goal.returns-in_default-reference-clause-bad
+returns-in_default-reference-clause-bad c =
+    let inv = c.loop-plain.invariant.1 in
+    let plain = c.in-Some._plain in
+    let behind = c.in-Some.behind in
+    let parts = split_parts 38 c.loop-plain.rest.now (Some (plain, behind)) c.in-Some.ensures.cases (lit< tt) in
+    bad_at c.args.raw.now inv.0 c.loop-plain.rest.now plain.now behind.now inv.1 _ inv.2 parts.0 (lacks_from 38 plain.now parts.1) inv.3 c.in_default-reference.ensures.refused refl
+
+pub loop-plain-preserved : goal.loop-plain-preserved
+loop-plain-preserved c =
+    let inv = c.loop-plain.invariant.1 in
+    let plain = c.in-Some._plain in
+    let behind = c.in-Some.behind in
+    let next = c.in-Some-reference.next.now in
+    let parts = split_parts 38 c.loop-plain.rest.now (Some (plain, behind)) c.in-Some.ensures.cases (lit< tt) in
+    let step = reference_more c.args.raw.now inv.0 c.loop-plain.rest.now plain.now behind.now inv.1 (encode_utf8 c.in-Some-reference._char) next inv.2 parts.0 (lacks_from 38 plain.now parts.1) inv.3 c.in-Some-reference.ensures.value in
+    (search rules, (step.0, inv.1 ++ plain.now ++ encode_utf8 c.in-Some-reference._char, step.1, step.2))
+
+pub returns-clause-good : goal.returns-clause-good
+returns-clause-good c =
+    let inv = c.loop-plain.invariant.1 in
+    let rest = c.loop-plain.rest.now in
+    let lacks = lacks_from 38 rest (split_parts 38 rest None c.in_default.ensures.cases (lit< tt)) in
+    (inv.1 ++ rest, rw inv.2 (unescaped_more inv.0 rest inv.1 inv.3 lacks))

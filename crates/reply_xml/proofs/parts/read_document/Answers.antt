@@ -1,0 +1,35 @@
+use Rattle.std.proofs.Common.{Err, ap}
+use Rattle.reply_xml.proofs.FaultLemmas.{Tells-map, err_same, not_err, refused_past}
+use Rattle.reply_xml.proofs.WholeLemmas.{no_root, no_inside, no_whole, whole}
+use Rattle.reply_xml.proofs.parts.read_document.Goals as goal
+
+pub returns-in-Err-clause-refused : goal.returns-in-Err-clause-refused
+returns-in-Err-clause-refused g c =
+    Tells-map c.in-Err.fault (λ h value. no_root (g.P.Parts.left c.args.parts) c.args.root.now c.args.doc.now value h) c.in-Err.ensures.refused
+
+pub returns-in_err-whole-clause-refused : goal.returns-in_err-whole-clause-refused
+returns-in_err-whole-clause-refused g c =
+    refused_past c.from_residual.result c.in_err-whole.field-0.0 c.from_residual.ensures.1
+    (no_inside (g.P.Parts.left c.args.parts) c.args.root.now c.args.doc.now _ c.in-Ok.parts.1 c.in-Ok.ensures.begins c.in-Ok.ensures.room c.in-Ok.ensures.named) c.in_err-whole.ensures.refused
+
+pub returns-in_err-close-clause-refused : goal.returns-in_err-close-clause-refused
+returns-in_err-close-clause-refused g c =
+    refused_past c.from_residual-in_err-close.result c.in_err-close.field-0.0 c.from_residual-in_err-close.ensures.1
+    (no_whole (g.P.Parts.left c.args.parts) c.args.root.now c.args.doc.now _ _ c.in-Ok.parts.1 _ c.in-Ok.ensures.begins c.in-Ok.ensures.room c.in-Ok.ensures.named c.in_ok-whole.ensures.value)
+    c.in_err-close.ensures.refused
+
+pub returns-clause-value : goal.returns-clause-value
+returns-clause-value g c =
+    whole (g.P.Parts.left c.args.parts) c.args.root.now c.args.doc.now _ _ c.in-Ok.parts.1 _ c.in-Ok.ensures.begins c.in-Ok.ensures.room c.in-Ok.ensures.named c.in_ok-whole.ensures.value c.in_ok-close.ensures.value
+
+pub returns-in-Err-clause-other_root : goal.returns-in-Err-clause-other_root
+returns-in-Err-clause-other_root g c place o = ap Err (err_same _ _ (c.in-Err.ensures.other place o))
+
+pub returns-in_err-whole-clause-other_root : goal.returns-in_err-whole-clause-other_root
+returns-in_err-whole-clause-other_root g c place o = absurd (not_err _ _ (c.in-Ok.ensures.other place o))
+
+pub returns-in_err-close-clause-other_root : goal.returns-in_err-close-clause-other_root
+returns-in_err-close-clause-other_root g c place o = absurd (not_err _ _ (c.in-Ok.ensures.other place o))
+
+pub returns-clause-other_root : goal.returns-clause-other_root
+returns-clause-other_root g c place o = absurd (not_err _ _ (c.in-Ok.ensures.other place o))

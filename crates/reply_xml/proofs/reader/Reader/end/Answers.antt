@@ -1,0 +1,11 @@
+use Rattle.reply_xml.proofs.ContentLemmas.{closed_end, no_open_end, open_end}
+use Rattle.reply_xml.proofs.reader.Reader.end.Goals as goal
+
+pub returns-then-parent-clause-value : goal.returns-then-parent-clause-value
+returns-then-parent-clause-value c before at = closed_end c.args.parent.now before _ c.if-parent.true at
+
+pub returns-in-Ok-clause-value : goal.returns-in-Ok-clause-value
+returns-in-Ok-clause-value c before at = open_end c.args.parent.now before _ _ c.if-parent.false at c.in-Ok.ensures.value
+
+pub returns-in-Err-clause-refused : goal.returns-in-Err-clause-refused
+returns-in-Err-clause-refused c before at inner rest r = no_open_end c.args.parent.now before _ rest inner c.if-parent.false at c.in-Err.ensures.refused r

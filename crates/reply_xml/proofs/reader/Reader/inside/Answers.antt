@@ -1,0 +1,53 @@
+use Rattle.std.proofs.Common.{refl, arith}
+use Rattle.reply_xml.proofs.FaultLemmas.{refused_past}
+use Rattle.reply_xml.proofs.OpenLemmas.{iff_past}
+use Rattle.reply_xml.proofs.TakeLemmas.{advanced, stopped, ended, at_end_left}
+use Rattle.reply_xml.proofs.reader.Reader.inside.Goals as goal
+
+pub returns-in_err-child-clause-refused : goal.returns-in_err-child-clause-refused
+returns-in_err-child-clause-refused g c =
+    refused_past c.from_residual.result c.in_err-child.field-0.0 c.from_residual.ensures.1
+    (λ none rest whole r. let left = (c.children.invariant.same rest whole).0 r in none left.0 rest left.1) c.in_err-child.ensures.refused
+
+pub children-preserved : goal.children-preserved
+children-preserved g c =
+    let now = rw c.in-Some.is at c.in_ok-child.ensures in
+    record {
+      no_longer = omega (arith, c.in_ok-child.ensures.no_longer, c.in_ok-take.ensures.no_longer);
+      same = λ rest whole. iff_past (c.children.invariant.same rest whole)
+          (advanced (g.P.Parts.left c.children.parts) (g.P.Parts.left c.take.new.self) c.args.parent.now c.in-Some.child _ _ _ rest whole now.apart now.child c.in_ok-take.ensures.value);
+    }
+
+pub returns-in_err-take-clause-refused : goal.returns-in_err-take-clause-refused
+returns-in_err-take-clause-refused g c =
+    let now = rw c.in-Some.is at c.in_ok-child.ensures in
+    refused_past c.from_residual-in_err-take.result c.in_err-take.field-0.0 c.from_residual-in_err-take.ensures.1
+    (
+    λ stops rest whole r.
+    stopped (g.P.Parts.left c.children.parts) c.args.parent.now c.in-Some.child _ _ rest whole now.apart now.child stops ((c.children.invariant.same rest whole).0 r)
+    )
+    c.in_err-take.ensures.refused
+
+pub returns-in_err-whole-clause-refused : goal.returns-in_err-whole-clause-refused
+returns-in_err-whole-clause-refused g c =
+    let now = rw c.in_default.is at c.in_ok-child.ensures in
+    refused_past c.from_residual-in_err-whole.result c.in_err-whole.field-0.0 c.from_residual-in_err-whole.ensures.1
+    (
+    λ none rest whole r. let left = at_end_left (g.P.Parts.left c.children.parts) c.args.parent.now _ _ rest whole now.end ((c.children.invariant.same rest whole).0 r) in
+    none left.0 whole left.1
+    )
+    c.in_err-whole.ensures.refused
+
+pub returns-in_err-end-clause-refused : goal.returns-in_err-end-clause-refused
+returns-in_err-end-clause-refused g c =
+    let now = rw c.in_default.is at c.in_ok-child.ensures in
+    refused_past c.from_residual-in_err-end.result c.in_err-end.field-0.0 c.from_residual-in_err-end.ensures.1
+    (λ none rest whole r. let left = (c.children.invariant.same rest whole).0 r in none _ now.end left.0 rest left.1)
+    c.in_err-end.ensures.refused
+
+pub returns-clause-value : goal.returns-clause-value
+returns-clause-value g c =
+    let now = rw c.in_default.is at c.in_ok-child.ensures in
+    let ends = c.in_ok-end.ensures.value _ now.end in
+    (c.children.invariant.same _ c.in_ok-whole.whole).1
+    ((ended (g.P.Parts.left c.children.parts) c.args.parent.now _ _ _ c.in_ok-whole.whole ends).1 (refl, c.in_ok-whole.ensures.value ends.0))

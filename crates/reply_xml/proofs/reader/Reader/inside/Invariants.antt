@@ -1,0 +1,12 @@
+use Rattle.std.proofs.Common.{◌≤◌, ◌↔◌, ℕ, List, length}
+use Rattle.reply_xml.specs.Reading.{HoldsAs}
+use Rattle.reply_xml.proofs.reader.Reader.inside.Given as goal
+
+abbrev pub invariant-children : goal.invariant-children
+invariant-children g l = record {
+  no_longer : length l.self.rest.now ≤ length l.fn.self.rest.now;
+  same : (rest : List ℕ) (whole : _) → HoldsAs (g.P.Parts.left l.fn.parts) l.fn.parent l.fn.self.rest.now rest whole ↔ HoldsAs (g.P.Parts.left l.parts) l.fn.parent l.self.rest.now rest whole;
+}
+
+abbrev pub decreases-children : goal.decreases-children
+decreases-children g l = length l.self.rest.now

@@ -1,0 +1,19 @@
+use Rattle.std.proofs.Common.{◌∙◌, sym}
+use Rattle.reply_xml.proofs.FaultLemmas.{refused_past}
+use Rattle.reply_xml.proofs.TakeLemmas.{leaf_taken_at, leaf_bad_at, leaf_twice_at}
+use Rattle.reply_xml.proofs.reader.Reader.take.Goals as goal
+
+pub returns-then-is_some-clause-refused : goal.returns-then-is_some-clause-refused
+returns-then-is_some-clause-refused g c =
+    leaf_twice_at (g.L.Leaf.spells c.args.element) c.args.element c.args.found.now c.args.child.now c.args.self.now.rest.now (sym c.is_some.ensures ∙ c.if-is_some.true) c.requires
+
+pub returns-in_err-leaf-clause-refused : goal.returns-in_err-leaf-clause-refused
+returns-in_err-leaf-clause-refused g c =
+    refused_past c.from_residual.result c.in_err-leaf.field-0.0 c.from_residual.ensures.1
+    (leaf_bad_at (g.L.Leaf.spells c.args.element) c.args.element c.args.found.now c.args.child.now c.args.self.now.rest.now (sym c.is_some.ensures ∙ c.if-is_some.false) c.requires)
+    c.in_err-leaf.ensures.refused
+
+pub returns-clause-value : goal.returns-clause-value
+returns-clause-value g c =
+    leaf_taken_at (g.L.Leaf.spells c.args.element) c.args.element c.args.found.now c.args.child.now c.args.self.now.rest.now c.leaf.new.self.rest.now c.in_ok-leaf.field-0
+    (g.met.L.Leaf.alone c.args.element) (sym c.is_some.ensures ∙ c.if-is_some.false) c.requires c.in_ok-leaf.ensures.value

@@ -1,0 +1,33 @@
+use Rattle.std.proofs.Common.{Bool, List, ℕ, sym, subst, ◌∙◌}
+use Rattle.reply_xml.proofs.TagLemmas.{first_none, first_of, tag_end_of, no_tag_end-first, no_tag_end-none, NamesTag-of, no_name_end-first, no_name_end-none}
+use Rattle.reply_xml.specs.Tags.{NameEnds, NamesTag, ReadsName}
+use Rattle.reply_xml.proofs.TagLemmas.{OnErr-any}
+use Rattle.reply_xml.proofs.RunLemmas.{parts_same}
+use Rattle.reply_xml.proofs.tags.split_start.Goals as goal
+
+pub returns-in_default-first-clause-refused : goal.returns-in_default-first-clause-refused
+returns-in_default-first-clause-refused c closed name rest r =
+    no_tag_end-none _ (first_none _ c.in_default-first.ensures.value) closed rest (tag_end_of closed name _ _ _ _ rest c.in-Some.ensures.value c.in_ok-name.ensures.value r).1
+
+pub returns-then-not-ends_name-clause-refused : goal.returns-then-not-ends_name-clause-refused
+returns-then-not-ends_name-clause-refused c closed name rest r =
+    let first = first_of _ _ c.in-Some-first.ensures.value in
+    no_tag_end-first _ _ _ first.1 (sym c.ends_name.ensures ∙ c.if-not-ends_name.true) closed rest (tag_end_of closed name _ _ _ _ rest c.in-Some.ensures.value c.in_ok-name.ensures.value r).1
+
+pub returns-in_err-name-clause-unnamed : goal.returns-in_err-name-clause-unnamed
+returns-in_err-name-clause-unnamed c =
+    let none : (name rest : List ℕ) → NamesTag name c.args.bytes.now rest → ¬ (NameEnds rest) =
+    λ name rest n ends. c.in_err-name.ensures.refused name rest
+    (subst (λ (b : List ℕ). ReadsName name b rest) (parts_same 60 60 n.at_name _ (sym n.opens ∙ c.in-Some.ensures.value)).1 n.named) in
+    OnErr-any c.from_residual.result none
+
+pub returns-in_default-first-clause-unnamed : goal.returns-in_default-first-clause-unnamed
+returns-in_default-first-clause-unnamed c name rest n ends =
+    let same = NamesTag-of name _ _ _ rest _ c.in-Some.ensures.value c.in_ok-name.ensures.value n in
+    no_name_end-none _ (first_none _ c.in_default-first.ensures.value) (subst NameEnds same.1 ends)
+
+pub returns-then-not-ends_name-clause-unnamed : goal.returns-then-not-ends_name-clause-unnamed
+returns-then-not-ends_name-clause-unnamed c name rest n ends =
+    let same = NamesTag-of name _ _ _ rest _ c.in-Some.ensures.value c.in_ok-name.ensures.value n in
+    let first = first_of _ _ c.in-Some-first.ensures.value in
+    no_name_end-first _ _ _ first.1 (sym c.ends_name.ensures ∙ c.if-not-ends_name.true) (subst NameEnds same.1 ends)

@@ -1,0 +1,37 @@
+use Rattle.std.proofs.Common.{◌∙◌, Some, sym}
+use Rattle.s3_model.specs.Lists.{Reserved}
+use Rattle.s3_model.specs.declared.places.Entry.{Entry}
+use Rattle.s3_replies.specs.Buckets.{HasBucket, ListLeft}
+use Rattle.reply_xml.specs.declared.elements.Element.TheVariants as element
+use Rattle.reply_xml.proofs.FaultLemmas.{refused_past, refused_so}
+use Rattle.reply_xml.proofs.TakeLemmas.{part_advanced, part_stopped, stops_there}
+use Rattle.s3_replies.proofs.EachLemmas.{each_started}
+use Rattle.s3_replies.proofs.BucketLemmas.{list_advanced, list_stopped}
+use Rattle.s3_replies.proofs.buckets.BucketListParts.take.Goals as goal
+
+pub returns-then-not-is_the-clause-refused : goal.returns-then-not-is_the-clause-refused
+returns-then-not-is_the-clause-refused c =
+    refused_so c.skip.result (stops_there (λ content (rows : Reserved Entry). ListLeft c.args.self.now.found content rows.items) c.args.child.now c.args.reader.now.rest.now) c.skip.ensures.refused
+
+pub returns-in_err-element-clause-refused : goal.returns-in_err-element-clause-refused
+returns-in_err-element-clause-refused c =
+    refused_past c.from_residual.result c.in_err-element.field-0.0 c.from_residual.ensures.1
+    (
+    λ none. part_stopped (λ (rows : Reserved Entry). rows.items) (ListLeft c.args.self.now.found) c.args.child.now c.args.reader.now.rest.now
+    (list_stopped c.args.self.now.found c.args.child.now c.args.reader.now.rest.now (sym c.is_some.ensures ∙ c.if-is_some.false) (sym c.is_the.ensures ∙ c.if-not-is_the.false)
+    (
+    λ rest entries r. let rows : Reserved Entry = record { items = entries; spare = 0 } in
+    none rest rows ((each_started HasBucket element.Bucket c.make.result.items c.args.child.now c.args.reader.now.rest.now rest entries c.make.ensures).0 r)
+    ))
+    )
+    c.in_err-element.ensures.refused
+
+pub returns-clause-value : goal.returns-clause-value
+returns-clause-value c =
+    part_advanced (λ (rows : Reserved Entry). rows.items) (ListLeft c.args.self.now.found) (ListLeft (Some c.in_ok-element.field-0)) c.args.child.now c.args.reader.now.rest.now c.element.new.self.rest.now
+    (list_advanced c.args.self.now.found c.in_ok-element.field-0 c.args.child.now c.args.reader.now.rest.now c.element.new.self.rest.now (sym c.is_some.ensures ∙ c.if-is_some.false)
+    (sym c.is_the.ensures ∙ c.if-not-is_the.false)
+    (
+    (each_started HasBucket element.Bucket c.make.result.items c.args.child.now c.args.reader.now.rest.now c.element.new.self.rest.now c.in_ok-element.field-0.items c.make.ensures).1
+    c.in_ok-element.ensures.value
+    ))

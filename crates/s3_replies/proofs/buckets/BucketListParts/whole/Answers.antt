@@ -1,0 +1,8 @@
+use Rattle.s3_replies.proofs.BucketLemmas.{list_left, no_list}
+use Rattle.s3_replies.proofs.buckets.BucketListParts.whole.Goals as goal
+
+pub returns-in-Some-clause-value : goal.returns-in-Some-clause-value
+returns-in-Some-clause-value c text = list_left c.args.self.found c.in-Some.rows text c.in-Some.is
+
+pub returns-in-None-clause-refused : goal.returns-in-None-clause-refused
+returns-in-None-clause-refused c text rows left = no_list c.args.self.found text rows.items c.in-None.is left

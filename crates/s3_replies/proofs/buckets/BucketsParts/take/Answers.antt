@@ -1,0 +1,32 @@
+use Rattle.std.proofs.Common.{◌++◌, ◌∷◌, [], ◌∙◌, ap, refl, sym}
+use Rattle.s3_model.specs.Lists.{Reserved}
+use Rattle.s3_model.specs.declared.places.Entry.{Entry}
+use Rattle.reply_xml.specs.declared.elements.Element.TheVariants as element
+use Rattle.s3_replies.specs.Buckets.{BucketsLeft, HasBucket}
+use Rattle.reply_xml.proofs.FaultLemmas.{refused_past, refused_so}
+use Rattle.reply_xml.proofs.TakeLemmas.{part_advanced, part_stopped, stops_there}
+use Rattle.s3_replies.proofs.EachLemmas.{each_advanced, each_stopped}
+use Rattle.s3_replies.proofs.BucketLemmas.{HasBucket-same, bucket_closed, bucket_opened}
+use Rattle.s3_replies.proofs.buckets.BucketsParts.take.Goals as goal
+
+pub returns-then-not-is_the-clause-refused : goal.returns-then-not-is_the-clause-refused
+returns-then-not-is_the-clause-refused c =
+    refused_so c.skip.result (stops_there (λ content (rows : Reserved Entry). BucketsLeft c.args.self.now.rows.items content rows.items) c.args.child.now c.args.reader.now.rest.now) c.skip.ensures.refused
+
+pub returns-in_err-key-clause-refused : goal.returns-in_err-key-clause-refused
+returns-in_err-key-clause-refused c =
+    refused_past c.from_residual.result c.in_err-key.field-0.0 c.from_residual.ensures.1
+    (
+    λ none. part_stopped (λ (rows : Reserved Entry). rows.items) (BucketsLeft c.args.self.now.rows.items) c.args.child.now c.args.reader.now.rest.now
+    (each_stopped HasBucket element.Bucket c.args.self.now.rows.items c.args.child.now c.args.reader.now.rest.now (sym c.is_the.ensures ∙ c.if-not-is_the.false)
+    (λ rest entry r. none rest (entry.key, entry.micros) (bucket_opened c.args.child.now c.args.reader.now.rest.now rest entry r)))
+    )
+    c.in_err-key.ensures.refused
+
+pub returns-clause-value : goal.returns-clause-value
+returns-clause-value c =
+    let row : Entry = record { key = c.in_ok-key.key; size = 0; etag = c.from.result; micros = c.in_ok-key.micros } in
+    part_advanced (λ (rows : Reserved Entry). rows.items) (BucketsLeft c.args.self.now.rows.items) (BucketsLeft c.push.new.self.items) c.args.child.now c.args.reader.now.rest.now c.element.new.self.rest.now
+    (each_advanced HasBucket element.Bucket c.args.self.now.rows.items c.push.new.self.items c.args.child.now c.args.reader.now.rest.now c.element.new.self.rest.now row
+    (sym c.is_the.ensures ∙ c.if-not-is_the.false) (c.push.ensures.items ∙ ap (λ rows. rows ++ row ∷ []) c.reserve.ensures.items) HasBucket-same
+    (bucket_closed c.args.child.now c.args.reader.now.rest.now c.element.new.self.rest.now row refl (c.from.ensures ∙ c.new.ensures.bytes) c.in_ok-key.ensures.value))

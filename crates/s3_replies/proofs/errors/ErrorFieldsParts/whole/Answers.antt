@@ -1,0 +1,9 @@
+use Rattle.s3_replies.proofs.ErrorLemmas.{error_left, no_code}
+use Rattle.std.proofs.Common.{refl}
+use Rattle.s3_replies.proofs.errors.ErrorFieldsParts.whole.Goals as goal
+
+pub returns-in-Some-clause-value : goal.returns-in-Some-clause-value
+returns-in-Some-clause-value c text = error_left c.in-Some.code c.args.self.message c.args.self.code c.args.self.message text c.in-Some.is refl
+
+pub returns-in-None-clause-refused : goal.returns-in-None-clause-refused
+returns-in-None-clause-refused c text value left = no_code c.args.self.code c.args.self.message text value c.in-None.is left

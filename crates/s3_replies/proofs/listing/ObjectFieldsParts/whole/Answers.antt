@@ -1,0 +1,21 @@
+use Rattle.reply_xml.specs.declared.elements.Element.TheVariants as element
+use Rattle.reply_xml.specs.Children.{IsFormed}
+use Rattle.reply_values.specs.Numbers.{SpellsNumber}
+use Rattle.reply_values.specs.Times.{SpellsTime}
+use Rattle.s3_replies.proofs.ObjectLemmas.{object_left, part_missing}
+use Rattle.s3_replies.proofs.listing.ObjectFieldsParts.whole.Goals as goal
+
+pub returns-in_default-clause-refused : goal.returns-in_default-clause-refused
+returns-in_default-clause-refused c text entry left = part_missing (IsFormed element.Key) c.args.self.key entry.key c.in_default.is left.0.0
+
+pub returns-in_default-modified-clause-refused : goal.returns-in_default-modified-clause-refused
+returns-in_default-modified-clause-refused c text entry left = part_missing SpellsTime c.args.self.modified entry.micros c.in_default-modified.is left.0.1
+
+pub returns-in_default-etag-clause-refused : goal.returns-in_default-etag-clause-refused
+returns-in_default-etag-clause-refused c text entry left = part_missing (IsFormed element.ETag) c.args.self.etag entry.etag c.in_default-etag.is left.1.0
+
+pub returns-in_default-size-clause-refused : goal.returns-in_default-size-clause-refused
+returns-in_default-size-clause-refused c text entry left = part_missing SpellsNumber c.args.self.size entry.size c.in_default-size.is left.1.1
+
+pub returns-clause-value : goal.returns-clause-value
+returns-clause-value c text = object_left _ text c.args.self.key c.args.self.modified c.args.self.etag c.args.self.size c.in-Some.is c.in-Some-modified.is c.in-Some-etag.is c.in-Some-size.is
