@@ -1,0 +1,7 @@
+pub mod GainLemmas
+pub mod JobLemmas
+pub mod LawLemmas
+pub mod OutcomeLemmas
+pub mod PromiseLemmas
+pub mod SourceLemmas
+pub mod WireLemmas

@@ -1,0 +1,5 @@
+pub mod Gains
+pub mod Puts
+pub mod Sources
+pub mod Uploads
+pub mod Shown

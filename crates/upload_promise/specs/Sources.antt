@@ -1,0 +1,34 @@
+-- The local file that is copied up: the calls on it, and its bytes.
+use Rattle.std.specs.Prelude.{◌≡◌, ◌≤◌, ◌<◌, ◌++◌, ℕ, List, [], ◌∷◌, Option, Some, None, length, take}
+use Rattle.std.specs.FinMap.{get}
+use Rattle.s3_model.specs.Files.{FileStore, HeldFile}
+use Rattle.s3_outside.specs.Files.{SeenFiles}
+use Rattle.s3_outside.specs.declared.files.FileNote.{FileNote}
+use Rattle.s3_outside.specs.declared.files.FileNote.TheVariants as note
+
+-- the calls ask for this path alone
+abbrev pub AskFor : List ℕ → List FileNote → Type 0
+AskFor path [] = Unit {0}
+AskFor path (note.Kind asked answer ∷ calls) = (asked ≡ path) × AskFor path calls
+AskFor path (note.ReadAt asked at room answer ∷ calls) = (asked ≡ path) × AskFor path calls
+
+-- the files are the same after the call, as far as they are still seen
+abbrev pub Keeps : Option SeenFiles → Option SeenFiles → Type 0
+Keeps before None = Unit {0}
+Keeps None (Some after) = ⊥
+Keeps (Some before) (Some after) = after.store ≡ before.store
+
+-- The files are the same after the calls, which asked for this path alone, as far as they are still seen.
+abbrev pub LooksAt : List ℕ → Option SeenFiles → Option SeenFiles → Type 0
+LooksAt path before None = Unit {0}
+LooksAt path None (Some after) = ⊥
+LooksAt path (Some before) (Some after) =
+    (after.store ≡ before.store) × (calls : List FileNote) × (after.calls ≡ before.calls ++ calls) × AskFor path calls
+
+-- the first bytes of the file, if there is one
+abbrev pub AreFirstBytes : FileStore → List ℕ → List ℕ → Type 0
+AreFirstBytes store path bytes = (file : HeldFile) → get store.held path ≡ Some file → (bytes ≡ take (length bytes) file.bytes) × (length bytes ≤ length file.bytes)
+
+-- the file, if there is one, has fewer bytes
+abbrev pub HasFewer : FileStore → List ℕ → ℕ → Type 0
+HasFewer store path size = (file : HeldFile) → get store.held path ≡ Some file → length file.bytes < size
