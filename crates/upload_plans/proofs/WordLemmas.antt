@@ -1,0 +1,69 @@
+-- A command that is done by now copies a local file to an object.
+use Rattle.std.proofs.Common.{◌≡◌, ◌∙◌, ◌||◌, ℕ, Bool, true, false, not, List, [], ◌∷◌, Option, Some, None, refl, sym, ap, subst, length, if◌then◌else◌, arith}
+use Rattle.std.specs.Option.{option_or}
+use Rattle.s3_model.specs.declared.faults.WordFault.{WordFault}
+use Rattle.s3_model.specs.declared.places.Place.{Place}
+use Rattle.s3_model.specs.declared.places.Place.TheVariants as place
+use Rattle.s3_words.specs.declared.commands.Command.{Command}
+use Rattle.s3_words.specs.declared.commands.Verb.{Verb}
+use Rattle.s3_words.specs.declared.commands.Verb.TheVariants as verb
+use Rattle.s3_words.specs.declared.options.OptionName.TheVariants.{Recursive}
+use Rattle.s3_words.specs.declared.roles.Expected.TheVariants.{Anything}
+use Rattle.s3_words.specs.Commands.{IsCommand, first_of, second_of}
+use Rattle.s3_words.specs.Faults.{command_fault, count_fault, endpoint_missing, first_fault, pair_fault, whole_fault, word_fault}
+use Rattle.s3_words.specs.Given.{is_given}
+use Rattle.s3_words.specs.Places.{is_pair, is_right_count, places_in}
+use Rattle.s3_words.specs.Roles.{roles}
+use Rattle.upload_plans.specs.Commands.{CopiesUp, IsFile, IsObject, is_copy, is_unbuilt, reads_object}
+
+some_is_none : {X : Type 0} (x : X) → Some x ≡ None → ⊥
+some_is_none x e = cc
+
+true_is_false : true ≡ false → ⊥
+true_is_false e = cc
+
+false_is_true : false ≡ true → ⊥
+false_is_true e = cc
+
+-- neither of the two is a fault
+neither : {X : Type 0} (a b : Option X) → option_or a b ≡ None → (a ≡ None) × (b ≡ None)
+neither None b e = (refl, e)
+neither (Some x) b e = absurd (some_is_none x e)
+
+holds : {X : Type 0} (b : Bool) (x : X) → (if b then None else Some x) ≡ None → b ≡ true
+holds true x e = refl
+holds false x e = absurd (some_is_none x e)
+
+none_of : (a b c d : Bool) → (not a || b || c || d) ≡ false → (a ≡ true) × (b ≡ false)
+none_of true false c d e = (refl, refl)
+none_of true true c d e = absurd (true_is_false e)
+none_of false b c d e = absurd (true_is_false e)
+
+two : (recursive : Bool) (a b : Place) → reads_object (Some a) ≡ false → is_pair verb.Cp recursive (a ∷ b ∷ []) ≡ true → IsFile (Some a) × IsObject (Some b)
+two recursive (place.Object bucket key) b reads pair = absurd (true_is_false reads)
+two recursive (place.File path) (place.Object bucket key) reads pair = (tt, tt)
+two recursive (place.File path) (place.File other) reads pair = absurd (false_is_true pair)
+
+places_fit : (of_verb : Verb) (recursive : Bool) (places : List Place) → is_copy of_verb ≡ true → reads_object (first_of places) ≡ false → is_right_count of_verb (length places) ≡ true
+    → is_pair of_verb recursive places ≡ true → IsFile (first_of places) × IsObject (second_of places)
+places_fit verb.Cp recursive [] copy reads count pair = absurd (false_is_true count)
+places_fit verb.Cp recursive (a ∷ []) copy reads count pair = absurd (false_is_true count)
+places_fit verb.Cp recursive (a ∷ b ∷ []) copy reads count pair = two recursive a b reads pair
+places_fit verb.Cp recursive (a ∷ b ∷ c ∷ rest) copy reads count pair = absurd (grind (arith, count))
+places_fit of_verb recursive places copy reads count pair = absurd (false_is_true copy)
+
+pub copies_up : (words : List (List ℕ)) (command : Command) → word_fault words ≡ None → IsCommand words command → is_unbuilt command ≡ false → CopiesUp command
+copies_up [] command right is_command built = absurd (some_is_none _ right)
+copies_up (word ∷ words) command right is_command built =
+    let places : List Place = places_in (roles Anything words) in
+    let recursive : Bool = is_given Recursive (roles Anything words) in
+    let whole : option_or (first_fault command.verb 1 [] (roles Anything words)) (whole_fault command.verb (roles Anything words)) ≡ None =
+    subst (λ (v : Option Verb). command_fault v words ≡ None) is_command.verb right in
+    let paths = neither (count_fault command.verb places) (option_or (pair_fault command.verb recursive places) (endpoint_missing (roles Anything words))) (neither _ _ whole).1 in
+    let pair = (neither (pair_fault command.verb recursive places) (endpoint_missing (roles Anything words)) paths.1).0 in
+    let done = none_of (is_copy command.verb) (reads_object command.from) command.recursive command.mode.dryrun built in
+    let fit = places_fit command.verb recursive places done.0 (ap reads_object (sym is_command.asks.from) ∙ done.1) (holds _ _ paths.0) (holds _ _ pair) in
+    record {
+      from = subst (λ (at : Option Place). IsFile at) (sym is_command.asks.from) fit.0;
+      to = subst (λ (at : Option Place). IsObject at) (sym is_command.asks.to) fit.1;
+    }

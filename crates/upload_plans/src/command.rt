@@ -1,0 +1,57 @@
+//! Which commands are done by now, and the places that such a command names.
+
+ghost use Rattle.std.specs.Prelude.{◌≡◌};
+ghost use Rattle.upload_plans.specs.Commands.{CopiesUp, bucket_of, is_copy, is_unbuilt, key_of, reads_object, source_path};
+
+use s3_model::Place;
+use s3_words::{Command, Verb};
+
+/// The local file of an upload, and the bucket and the key that its words name, as they are written.
+#[derive(Clone, Copy, Debug)]
+pub struct Places<'a> {
+    pub path: &'a str,
+    pub bucket: &'a str,
+    pub key: &'a str,
+}
+
+fn is_copy(verb: Verb) -> bool
+    ensures { result ≡ is_copy verb }
+{
+    matches!(verb, Verb::Cp)
+}
+
+fn reads_object(from: &Option<Place>) -> bool
+    ensures { result ≡ reads_object from.now }
+{
+    matches!(from, Some(Place::Object { .. }))
+}
+
+/// Whether the program does not do the command yet: it does `cp` of one local file, which is no dry run.
+pub fn is_unbuilt(command: &Command) -> bool
+    ensures { result ≡ is_unbuilt command.now }
+{
+    !is_copy(command.verb)
+        || reads_object(&command.from)
+        || command.recursive
+        || command.mode.dryrun
+}
+
+/// The places of an upload.
+pub fn places_of(command: &Command) -> Places<'_>
+    requires { CopiesUp command.now }
+    ensures path { result.path.now ≡ source_path command.now }
+    ensures bucket { result.bucket.now ≡ bucket_of command.now }
+    ensures key { result.key.now ≡ key_of command.now }
+{
+    let (Some(Place::File { path }), Some(Place::Object { bucket, key })) = (
+        &command.from,
+        &command.to,
+    ) else {
+        unreachable!()
+    };
+    Places {
+        path: path.as_str(),
+        bucket: bucket.as_str(),
+        key: key.as_str(),
+    }
+}

@@ -1,0 +1,8 @@
+//! Which commands are done by now, and what copying one local file up comes to before anything is read or sent.
+#![tactic(auto)]
+
+mod command;
+mod plan;
+
+pub use command::{Places, is_unbuilt, places_of};
+pub use plan::{Fate, plan_upload};
