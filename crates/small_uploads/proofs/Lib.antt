@@ -1,0 +1,4 @@
+pub mod CarryLemmas
+pub mod JudgeLemmas
+pub mod TalkLemmas
+pub mod UploadLemmas

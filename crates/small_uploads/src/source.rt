@@ -1,0 +1,70 @@
+//! The bytes of the local file.
+
+ghost use Rattle.std.specs.Prelude.{◌≡◌, ◌≢◌, ◌≤◌, ◌<◌, length, take, Err, IfOk, IfSome, IsErrOf, vec_len};
+ghost use Rattle.s3_model.specs.Counts.{Rose};
+ghost use Rattle.upload_promise.specs.Sources.{AreFirstBytes, HasFewer, Keeps, LooksAt};
+
+use s3_outside::Files;
+use std::alloc::Global;
+
+/// Why the bytes of a file did not come.
+#[derive(Clone, Copy, Debug, PartialEq, Eq)]
+pub(crate) enum ReadFault {
+    Failed,
+    Short,
+    Memory,
+}
+
+/// Reads on from a place of the file, to that place of the bytes, and answers how far it came.
+fn read_more<F: Files>(
+    files: &mut F,
+    path: &str,
+    bytes: &mut [u8],
+    at: usize,
+) -> Result<usize, ReadFault>
+    requires { at < length bytes.old }
+    ensures further { IfOk result (λ next. (at < next) × (next ≤ length bytes.old)) }
+    ensures bytes { IfSome (F.seen files.new) (λ seen. IfOk result (λ next. AreFirstBytes seen.store path.now
+        (take at bytes.old) → AreFirstBytes seen.store path.now (take next bytes.new))) }
+    ensures short { IfSome (F.seen files.new)
+        (λ seen. IsErrOf result ReadFault.Short → HasFewer seen.store path.now (length bytes.old)) }
+    ensures failed { IsErrOf result ReadFault.Failed → Rose (F.faults files.old) (F.faults files.new) }
+    ensures memory { result ≢ Err ReadFault.Memory }
+    ensures files { Keeps (F.seen files.old) (F.seen files.new) }
+    ensures looks { LooksAt path.now (F.seen files.old) (F.seen files.new) }
+    ensures later { F.faults files.old ≤ F.faults files.new }
+{
+    match files.read_at(path, at as u64, &mut bytes[at..]) {
+        Ok(0) => Err(ReadFault::Short),
+        Ok(count) => Ok(at + count),
+        Err(_) => Err(ReadFault::Failed),
+    }
+}
+
+/// The bytes of a file, of which there must be `size`.
+#[tactic(auto, using(upload_promise::proofs::SourceLemmas::looks_both))]
+pub(crate) fn read_whole<F: Files>(
+    alloc: Global,
+    files: &mut F,
+    path: &str,
+    size: u64,
+) -> Result<Vec<u8>, ReadFault>
+    ensures length { IfOk result (λ bytes. vec_len bytes ≡ size) }
+    ensures bytes { IfSome (F.seen files.new)
+        (λ seen. IfOk result (λ bytes. AreFirstBytes seen.store path.now bytes.items)) }
+    ensures short { IfSome (F.seen files.new)
+        (λ seen. IsErrOf result ReadFault.Short → HasFewer seen.store path.now size) }
+    ensures failed { IsErrOf result ReadFault.Failed → Rose (F.faults files.old) (F.faults files.new) }
+    ensures files { Keeps (F.seen files.old) (F.seen files.new) }
+    ensures looks { LooksAt path.now (F.seen files.old) (F.seen files.new) }
+    ensures later { F.faults files.old ≤ F.faults files.new }
+{
+    let Ok(mut bytes) = vec![in alloc; 0u8; size as usize] else {
+        return Err(ReadFault::Memory);
+    };
+    let mut at: usize = 0;
+    'pieces: while at < bytes.len() {
+        at = read_more(files, path, &mut bytes, at)?;
+    }
+    Ok(bytes)
+}
