@@ -1,465 +1,167 @@
--- A run of today's command is truthful: it was planned and carried, or it ended before its task.
-use Rattle.std.proofs.Common.{◌≡◌, ◌∙◌, ◌==◌, ◌<◌, ◌≤◌, ◌^◌, ℕ, Bool, true, false, List, [], ◌∷◌, Option, Some, None, refl, sym, ap, subst, inl, inr, Contains, length, slice_get, filter_map, if◌then◌else◌, arith}
-use Rattle.std.specs.FinMap.{get}
-use Rattle.std.proofs.lemmas.List.{take_all}
-use Rattle.s3_model.specs.declared.requests.Ask.{Ask}
-use Rattle.s3_model.specs.declared.answers.Why.{Why}
-use Rattle.s3_model.specs.declared.answers.Why.TheVariants as why
-use Rattle.s3_model.specs.declared.answers.Class.{Class}
-use Rattle.s3_model.specs.declared.outcomes.Cause.{Cause}
-use Rattle.s3_model.specs.declared.outcomes.Cause.TheVariants as cause
+-- A run keeps its promise: it planned an upload and carried it out, or it has no task.
+use Rattle.std.proofs.Common.{◌≡◌, ◌≢◌, ◌∙◌, ◌<◌, ◌≤◌, ◌^◌, ℕ, List, [], ◌∷◌, Option, Some, None, refl, sym, ap, subst, inl, inr, arith, filter_map}
+use Rattle.result_lines.specs.declared.tasks.Line.{Line}
+use Rattle.run_promise.specs.Settled.{left_by, untimed_by}
 use Rattle.s3_model.specs.declared.outcomes.Event.{Event}
-use Rattle.s3_model.specs.declared.outcomes.FileCall.TheVariants as call
 use Rattle.s3_model.specs.declared.outcomes.Outcome.{Outcome}
-use Rattle.s3_model.specs.declared.outcomes.Outcome.TheVariants as outcome
-use Rattle.s3_model.specs.declared.outcomes.Reason.{Reason}
 use Rattle.s3_model.specs.declared.places.Endpoint.{Endpoint}
+use Rattle.s3_model.specs.declared.settings.Config.{Config}
 use Rattle.s3_model.specs.declared.settings.Keys.{Keys}
 use Rattle.s3_model.specs.declared.settings.Limits.{Limits}
-use Rattle.s3_model.specs.declared.tasks.Kind.TheVariants as kind
+use Rattle.s3_model.specs.declared.settings.Settings.{Settings}
 use Rattle.s3_model.specs.declared.tasks.Task.{Task}
 use Rattle.s3_model.specs.declared.tasks.Warning.{Warning}
-use Rattle.s3_model.specs.declared.tries.Mark.{Mark}
-use Rattle.s3_model.specs.Files.{FileStore, HeldFile, is_folder, is_listed}
-use Rattle.s3_model.specs.Talks.{Talk, Note, Moment, Began}
+use Rattle.s3_model.specs.Talks.{Talk, Note}
 use Rattle.s3_model.specs.Validity.{IsValidConfig, IsValidLimits, IsWithin}
-use Rattle.run_promise.specs.Buffers.{KeepsBuffers}
-use Rattle.run_promise.specs.Carried.{IsCarried, SaysAll, IsPrefixOf}
-use Rattle.run_promise.specs.Dispatches.{Attempt, Dispatched}
-use Rattle.run_promise.specs.Outcomes.{HasOutcome, ReadsSource}
-use Rattle.run_promise.specs.Schedule.{IsSchedule, bytes_of, is_small, most_body, source_bytes}
-use Rattle.run_promise.specs.Settled.{HasFileFailed, IsSettingOf, NoneSaysChanged, cause_of, is_memory, is_dry, left_by, untimed_by}
-use Rattle.run_promise.specs.Truthful.{Shown, IsTruthful, IsDoneWhereWilling}
-use Rattle.world_laws.specs.Promises.{IsByRequests}
-use Rattle.world_laws.specs.Tasks.{HasSource, HasSourceFile}
-use Rattle.shared_lemmas.proofs.Clashes.{none_is_some}
 use Rattle.s3_outside.specs.Env.{SeenEnv}
-use Rattle.s3_outside.specs.Files.{SeenFiles, shape_of}
+use Rattle.s3_outside.specs.Files.{SeenFiles, shape_at}
+use Rattle.s3_outside.specs.declared.files.Shape.{Shape}
 use Rattle.s3_outside.specs.declared.files.Shape.TheVariants as shape
-use Rattle.s3_main.specs.declared.carry.Ending.{Ending}
-use Rattle.s3_main.specs.declared.carry.Ending.TheVariants as ending
+use Rattle.s3_words.specs.declared.commands.Command.{Command}
+use Rattle.small_uploads.specs.Carrying.{HasStatus, Shows, request_text}
+use Rattle.small_uploads.specs.Uploading.{Uploads}
+use Rattle.upload_plans.specs.Commands.{bucket_of, key_of, path_at, source_path}
+use Rattle.upload_plans.specs.Plans.{content_for, planned_key, planned_task}
+use Rattle.upload_plans.specs.declared.plan.Fate.{Fate}
+use Rattle.upload_plans.specs.declared.plan.Fate.TheVariants as fate
+use Rattle.upload_plans.proofs.FateLemmas.{task_of}
+use Rattle.upload_promise.specs.Shown.{KeepsPromise, shown_by}
+use Rattle.upload_promise.specs.Sources.{LooksAt}
+use Rattle.upload_promise.proofs.PromiseLemmas as promise
 use Rattle.s3_main.specs.declared.run.Run.{Run}
-use Rattle.s3_main.specs.Carrying.{CarriesAs, HasStatus, IsOneTalk, Shows, lost_cause, mark_of_ending, outcome_of, request_text}
-use Rattle.s3_main.specs.Puts.{AreIdle, IsJudged, stored, refused, open_ended, unread}
-use Rattle.s3_main.specs.Sources.{AreFirstBytes, LooksAt, first_large}
-use Rattle.s3_main.specs.Executed.{GoesAs}
-use Rattle.s3_main.specs.Uploading.{IsReadCause, Uploads, put_events, put_journal, upload_ask, upload_task}
-use Rattle.s3_main.specs.Runs.{CallFailed, IfSeen, IsPlanned, IsTrue, IsUnplanned, PlansNothing, bucket_word, default_config, endpoint_of, in_first, key_word, shown_by, tells_file_failed}
-use Rattle.s3_main.specs.Words.{path_word}
-use Rattle.s3_main.proofs.JobLemmas.{Planned, each, first_only, in_none, no_buffers, no_jobs, no_schedule, put_alone, put_buffers, put_schedule, put_with, setting_of}
-use Rattle.s3_main.proofs.LawLemmas.{AreAlone, IsOrdered, done_where_willing, truthful}
-use Rattle.s3_main.proofs.OutcomeLemmas.{judged_for, silent_for, tells, unread_for}
-use Rattle.s3_main.proofs.WireLemmas.{none_carried, none_idle, silent_carried, talked_carried}
+use Rattle.s3_main.specs.Begun.{IsBegun, path_in}
+use Rattle.s3_main.specs.Plans.{HasPlan, HasUploaded, IsFate, IsIdle, Works, path_of, put_ask, warnings_of}
+use Rattle.s3_main.specs.Runs.{GoesAs, IfSeen, IsTrue, IsUnplanned}
+use Rattle.s3_main.proofs.BeginLemmas.{source_is}
 
--- ---- the file
-
-no_file : (a b : Bool) (size micros : ℕ) → (if a then shape.Folder else if b then shape.Other else shape.Absent) ≡ shape.File size micros → ⊥
-no_file true b size micros e = cc
-no_file false true size micros e = cc
-no_file false false size micros e = cc
-
-file_size : (size micros n m : ℕ) → shape.File size micros ≡ shape.File n m → size ≡ n
-file_size size micros n m e = cc
-
-shape_file : (store : FileStore) (path : List ℕ) (found : Option HeldFile) (size micros : ℕ) → shape_of store path found ≡ shape.File size micros
-    → (file : HeldFile) × (found ≡ Some file) × (length file.bytes ≡ size)
-shape_file store path None size micros e = absurd (no_file (is_folder store path) (is_listed store.others path) size micros e)
-shape_file store path (Some file) size micros e = (file, refl, file_size (length file.bytes) file.micros size micros e)
-
--- all first bytes of a file are its bytes
-whole_file : (store : FileStore) (path bytes : List ℕ) (file : HeldFile) → get store.held path ≡ Some file → AreFirstBytes store path bytes → length bytes ≡ length file.bytes → bytes ≡ file.bytes
-whole_file store path bytes file held first same = (first file held).0 ∙ take_all (length bytes) file.bytes (omega arith)
-
--- ---- outcomes of an upload that is carried out
-
-false_is_true : false ≡ true → ⊥
-false_is_true e = cc
-
--- no run of today is cancelled or dry
-abbrev IsOrdinary : Outcome → Type 0
-IsOrdinary how = ((why : Reason) → cause_of (Some how) ≡ Some (cause.Cancelled why) → ⊥) × (is_dry how ≡ false)
-
-no_cause : (why : Reason) → ◌≡◌ {A = Option Cause} None (Some (cause.Cancelled why)) → ⊥
-no_cause why e = cc
-
-other_cause : (a : Cause) (why : Reason) → (a ≡ cause.Cancelled why → ⊥) → Some a ≡ Some (cause.Cancelled why) → ⊥
-other_cause a why other e = other (some_cause a (cause.Cancelled why) e)
-  where
-    some_cause : (x y : Cause) → Some x ≡ Some y → x ≡ y
-    some_cause x y is = cc
-
-read_ordinary : (told : Option SeenFiles) (path : List ℕ) (size before after : ℕ) (why : Cause) → IsReadCause told path size before after why → IsOrdinary (outcome.Failed why)
-read_ordinary told path size before after cause.Memory h = ((λ reason. other_cause cause.Memory reason (λ e. cc)), refl)
-read_ordinary told path size before after (cause.Files call.Read) h = ((λ reason. other_cause (cause.Files call.Read) reason (λ e. cc)), refl)
-read_ordinary told path size before after cause.Changed h = ((λ reason. other_cause cause.Changed reason (λ e. cc)), refl)
-read_ordinary told path size before after (cause.Files call.Create) h = absurd h
-read_ordinary told path size before after (cause.Files call.Write) h = absurd h
-read_ordinary told path size before after (cause.Files call.Rename) h = absurd h
-read_ordinary told path size before after (cause.Files call.Remove) h = absurd h
-read_ordinary told path size before after (cause.Service of_op code message) h = absurd h
-read_ordinary told path size before after (cause.Lost of_op reason) h = absurd h
-read_ordinary told path size before after (cause.BadReply of_op) h = absurd h
-read_ordinary told path size before after (cause.Blocked length) h = absurd h
-read_ordinary told path size before after (cause.Cancelled reason) h = absurd h
-
-lost_ordinary : (reason : Why) → IsOrdinary (outcome.Unknown (lost_cause reason))
-lost_ordinary why.Memory = ((λ of_cancel. other_cause cause.Memory of_cancel (λ e. cc)), refl)
-lost_ordinary why.WireFailed = ((λ of_cancel. other_cause _ of_cancel (λ e. cc)), refl)
-lost_ordinary why.EndedEarly = ((λ of_cancel. other_cause _ of_cancel (λ e. cc)), refl)
-lost_ordinary why.NotHttp = ((λ of_cancel. other_cause _ of_cancel (λ e. cc)), refl)
-lost_ordinary why.HeadTooLong = ((λ of_cancel. other_cause _ of_cancel (λ e. cc)), refl)
-lost_ordinary (why.BodyTooLong most) = ((λ of_cancel. other_cause _ of_cancel (λ e. cc)), refl)
-lost_ordinary why.BadLength = ((λ of_cancel. other_cause _ of_cancel (λ e. cc)), refl)
-lost_ordinary why.BadChunk = ((λ of_cancel. other_cause _ of_cancel (λ e. cc)), refl)
-lost_ordinary (why.Status status) = ((λ of_cancel. other_cause _ of_cancel (λ e. cc)), refl)
-lost_ordinary why.Internal = ((λ of_cancel. other_cause _ of_cancel (λ e. cc)), refl)
-lost_ordinary why.Document = ((λ of_cancel. other_cause _ of_cancel (λ e. cc)), refl)
-
-ending_ordinary : (of_ending : Ending) → IsOrdinary (outcome_of of_ending)
-ending_ordinary ending.Stored = ((λ reason e. no_cause reason e), refl)
-ending_ordinary (ending.Refused code message) = ((λ reason. other_cause _ reason (λ e. cc)), refl)
-ending_ordinary (ending.Uncertain reason) = lost_ordinary reason
-ending_ordinary ending.Memory = ((λ reason. other_cause cause.Memory reason (λ e. cc)), refl)
-
-upload_ordinary : (endpoint : Endpoint) (keys : Keys) (asked : Ask) (told : Option SeenFiles) (path : List ℕ) (size before after : ℕ) (journal : List Event) (how : Outcome) (talks : List Talk) (notes : List Note)
-    → Uploads endpoint keys asked told path size before after journal how talks notes → IsOrdinary how
-upload_ordinary endpoint keys asked told path size before after journal how talks notes (inl u) =
-    subst (λ (any : Outcome). IsOrdinary any) (sym u.failed) (read_ordinary told path size before after u.why u.reason)
-upload_ordinary endpoint keys asked told path size before after journal how talks notes (inr g) = subst (λ (any : Outcome). IsOrdinary any) (sym g.judged) (ending_ordinary g.of_ending)
-
--- ---- the setting
-
--- what a talk shows does not depend on how it is said that memory ran out
-judged_as : (asked : Ask) (talk : Talk) (A B : Type 0) → (A → B) → (of_mark : Mark) (how : Outcome) → IsJudged Shows asked talk A of_mark how → IsJudged Shows asked talk B of_mark how
-judged_as asked talk A B so of_mark how (stored said body h) = stored said body h
-judged_as asked talk A B so of_mark how (refused code message body h) = refused code message body h
-judged_as asked talk A B so of_mark how (open_ended reason body no_memory h) = open_ended reason body no_memory h
-judged_as asked talk A B so of_mark how (unread wanting) = unread (so wanting)
-
-status_is : (n : ℕ) → (n == 70) ≡ true → n ≡ 70
-status_is n e = grind arith
-
--- the outcomes alone say whose file calls failed, since no job reads an object
-told : (dispatched : List Dispatched) (n : ℕ) → NoneSaysChanged Shows HasStatus PlansNothing dispatched n → (how : Option Outcome)
-    → (tells_file_failed how ≡ true → HasFileFailed Shows HasStatus PlansNothing dispatched n how) × (HasFileFailed Shows HasStatus PlansNothing dispatched n how → tells_file_failed how ≡ true)
-told dispatched n none (Some (outcome.Failed (cause.Files of_call))) = ((λ e. tt), (λ h. refl))
-told dispatched n none (Some (outcome.Failed (cause.Blocked length))) = ((λ e. tt), (λ h. refl))
-told dispatched n none (Some (outcome.Failed cause.Memory)) = ((λ e. tt), (λ h. refl))
-told dispatched n none (Some (outcome.Failed cause.Changed)) = ((λ e. none), (λ h. refl))
-told dispatched n none how = ((λ e. absurd (false_is_true e)), (λ h. absurd h))
-
-upload_is_no_copy : kind.Upload ≡ kind.Copy → ⊥
-upload_is_no_copy e = cc
+abbrev no_keys : Keys
+no_keys = record { id = []; secret = []; token = None; region = [] }
 
 within : (low value high : ℕ) → low ≤ value → value ≤ high → IsWithin low value high
 within low value high least most = record { least = least; most = most }
 
-default_valid : IsValidConfig default_config
-default_valid = record {
-  threshold = within 1 first_large (2 ^ 30) (omega arith) (omega arith);
-  chunk = within 1 first_large (2 ^ 30) (omega arith) (omega arith);
-  lanes = within 1 10 1000 (omega arith) (omega arith);
-  queue = within 1 1000 100000 (omega arith) (omega arith);
-  buffers = within 1 10 64 (omega arith) (omega arith);
+abbrev some_config : Config
+some_config = record { threshold = 1; chunk = 1; lanes = 1; queue = 1; buffers = 1; attempts = 1 }
+
+some_valid : IsValidConfig some_config
+some_valid = record {
+  threshold = within 1 1 (2 ^ 30) (omega arith) (omega arith);
+  chunk = within 1 1 (2 ^ 30) (omega arith) (omega arith);
+  lanes = within 1 1 1000 (omega arith) (omega arith);
+  queue = within 1 1 100000 (omega arith) (omega arith);
+  buffers = within 1 1 64 (omega arith) (omega arith);
   attempts = within 1 1 10 (omega arith) (omega arith);
 }
 
-module _ (words : List (List ℕ)) (keys : Keys) (before after : ℕ) (limits : Limits) (valid : IsValidLimits limits) (status : ℕ) (was now : SeenFiles) (same : now.store ≡ was.store)
-    (warnings : List Warning) (no_warnings : warnings ≡ []) where
-  abbrev host : List ℕ
-  host = (endpoint_of words).host
+-- a run that began nothing may say what it likes of its settings
+abbrev some_settings : Settings
+some_settings = record { keys = no_keys; config = some_config }
 
-  abbrev port : ℕ
-  port = (endpoint_of words).port
+abbrev nowhere : Endpoint
+nowhere = record { host = []; port = 0; written = [] }
 
+no_left : (comes : Fate) → filter_map left_by (warnings_of comes) ≡ []
+no_left fate.NotYet = refl
+no_left (fate.Refused fault) = refl
+no_left (fate.NotAFile path) = refl
+no_left (fate.Skipped place why) = refl
+no_left fate.LeftOut = refl
+no_left (fate.Upload task) = refl
+
+no_untimed : (comes : Fate) → filter_map untimed_by (warnings_of comes) ≡ []
+no_untimed fate.NotYet = refl
+no_untimed (fate.Refused fault) = refl
+no_untimed (fate.NotAFile path) = refl
+no_untimed (fate.Skipped place why) = refl
+no_untimed fate.LeftOut = refl
+no_untimed (fate.Upload task) = refl
+
+module _ (words : List (List ℕ)) (env : Option SeenEnv) (limits : Limits) (valid : IsValidLimits limits) (before after : ℕ) (run : Run) (talks : List Talk) (notes : List Note)
+    (was now : SeenFiles) (same : now.store ≡ was.store) where
   abbrev path : List ℕ
-  path = path_word words
+  path = path_in words
 
-  abbrev asked : Ask
-  asked = upload_ask path (bucket_word words) (key_word words)
+  -- what is to be shown, of these lists
+  abbrev Keeps : Endpoint → Settings → List Task → List Outcome → List Event → List Warning → List Talk → List Note → Type 0
+  Keeps endpoint settings tasks outcomes journal warnings of_talks of_notes =
+      KeepsPromise Shows HasStatus (request_text endpoint settings.keys) endpoint.host endpoint.port path before after tasks warnings now
+      (shown_by settings.config limits run.status tasks outcomes journal of_talks of_notes was now)
 
-  abbrev Fails : List Task → ℕ → Cause → Type 0
-  Fails tasks = CallFailed path now before after tasks
+  nothing : (endpoint : Endpoint) (settings : Settings) → IsValidConfig settings.config → (warnings : List Warning) → filter_map left_by warnings ≡ [] → filter_map untimed_by warnings ≡ []
+      → Keeps endpoint settings [] [] [] warnings [] []
+  nothing endpoint settings configured warnings left untimed =
+      promise.unplanned Shows HasStatus (request_text endpoint settings.keys) endpoint.host endpoint.port settings.config configured limits valid run.status before after path was now same warnings left untimed
 
-  -- what is to be shown of a run
-  abbrev Keeps : List Task → List Outcome → List Event → List Talk → List Note → Type 0
-  Keeps tasks outcomes journal talks notes =
-      IsTruthful Shows HasStatus (request_text (endpoint_of words) keys) host port PlansNothing (Fails tasks) (shown_by limits status tasks outcomes journal talks notes was now)
-      × IsDoneWhereWilling Shows HasStatus (request_text (endpoint_of words) keys) host port PlansNothing (Fails tasks) (shown_by limits status tasks outcomes journal talks notes was now)
-      × IsSettingOf Shows HasStatus PlansNothing (shown_by limits status tasks outcomes journal talks notes was now) warnings ⊥ ⊥
-
-  module _ (tasks : List Task) (outcomes : List Outcome) (journal : List Event) (talks : List Talk) (notes : List Note) (jobs : List Dispatched) where
-    abbrev shown : Shown
-    shown = shown_by limits status tasks outcomes journal talks notes was now
-
-    abbrev Alone : Type 0
-    Alone = AreAlone Shows HasStatus (request_text (endpoint_of words) keys) host port PlansNothing (Fails tasks) shown jobs
-
-    abbrev Ordered : Type 0
-    Ordered = IsOrdered Shows HasStatus (request_text (endpoint_of words) keys) host port PlansNothing (Fails tasks) shown jobs
-
-    abbrev ReadNothing : Type 0
-    ReadNothing = (c : Dispatched) → Contains jobs c → ReadsSource c.dispatch.job.op → ⊥
-
-    settles : Alone → ReadNothing → ((n : ℕ) (how : Outcome) → slice_get outcomes n ≡ Some how → IsOrdinary how) → IsSettingOf Shows HasStatus PlansNothing shown warnings ⊥ ⊥
-    settles alone reads ordinary = record {
-      memory = λ n. refl;
-      lanes = omega arith;
-      planning_memory = λ e. status_is status e;
-      warning_memory = λ e. status_is status e;
-      left = sym (ap (λ (all : List Warning). filter_map left_by all) no_warnings);
-      untimed = sym (ap (λ (all : List Warning). filter_map untimed_by all) no_warnings);
-      files = λ dispatched coming scheduled are n.
-          told dispatched n (λ c place attempt known of_task slot says. reads c (subst (λ (all : List Dispatched). Contains all c) (alone dispatched coming scheduled are).0 known) says.0) (slice_get outcomes n);
-      cancelled = λ e. absurd (false_is_true e);
-      cancels = λ n reason e. absurd (none_cancelled (slice_get outcomes n) (ordinary n) reason e);
-      dry = λ n how at_n. (ordinary n how at_n).1;
-    }
-      where
-        none_cancelled : (found : Option Outcome) → ((how : Outcome) → found ≡ Some how → IsOrdinary how) → (reason : Reason) → cause_of found ≡ Some (cause.Cancelled reason) → ⊥
-        none_cancelled None is reason e = none_is_some (cause.Cancelled reason) e
-        none_cancelled (Some how) is reason e = (is how refl).0 reason e
-
-    keeps : Ordered → ReadNothing → ((n : ℕ) (how : Outcome) → slice_get outcomes n ≡ Some how → IsOrdinary how) → Keeps tasks outcomes journal talks notes
-    keeps o reads ordinary = (
-      truthful Shows HasStatus (request_text (endpoint_of words) keys) host port PlansNothing (Fails tasks) shown jobs o,
-      done_where_willing Shows HasStatus (request_text (endpoint_of words) keys) host port PlansNothing (Fails tasks) shown jobs o,
-      settles o.alone reads ordinary,
-    )
-
-    -- a failed call is told by the outcome
-    counted : (n : ℕ) (of_cause : Cause) → slice_get outcomes n ≡ Some (outcome.Failed of_cause) → Fails tasks n of_cause → tells_file_failed (slice_get outcomes n) ≡ true
-    counted n of_cause at_n fails = ap tells_file_failed at_n ∙ tells now path fails.0.size before after of_cause fails.2
-
-  stay : (any : List ℕ) → get now.store.held any ≡ get was.store.held any
-  stay any = ap (λ (s : FileStore). get s.held any) same
-
-  -- ---- a run that ended before its task
-
-  unplanned : Keeps [] [] [] [] []
-  unplanned =
-      keeps [] [] [] [] [] []
-      (record {
-        schedule = no_schedule Shows PlansNothing (shown [] [] [] [] [] []).setting refl;
-        carried = none_carried Shows (request_text (endpoint_of words) keys) host port (shown [] [] [] [] [] []).setting [] none_idle (omega arith);
-        alone = no_jobs Shows PlansNothing (shown [] [] [] [] [] []).setting;
-        buffers = no_buffers 10;
-        as_many = refl;
-        causes = λ n task how at_task at_how. absurd (none_is_some task at_task);
-        questions = λ c known of_none. absurd (in_none c known);
-        tasks = λ n task at_task. absurd (none_is_some task at_task);
-        apart = record { destinations = λ m n a b bucket key at_m at_n of_a of_b. absurd (none_is_some a at_m); sources = λ m n a b bucket key at_m at_n moves of_a of_b. none_is_some a at_m };
-        sources = λ moments n task at_task. absurd (none_is_some task at_task);
-        there = λ start. record {
-          files = λ n task at_task uploads. absurd (none_is_some task at_task);
-          there = λ n task bucket key at_task copies from. absurd (none_is_some task at_task);
-          no_dest = λ m n a b bucket key at_a at_b copies from to. none_is_some a at_a;
-          moved_once = λ m n a b bucket key at_a at_b copies from moves of_b. absurd (none_is_some a at_a);
-        };
-        left = λ n task how at at_task at_how moves from. absurd (none_is_some task at_task);
-        stay = stay;
-        replaces = λ n task at_task is_fresh. none_is_some task at_task;
-        counted = counted [] [] [] [] [] [];
-        config = default_valid;
-        limits = valid;
-      })
-      (λ c known reads. in_none c known) (λ n how at_n. absurd (none_is_some how at_n))
-
-  -- ---- a run that was planned
-
-  module _ (size micros : ℕ) (is_below : size < first_large) (file : HeldFile) (held : get was.store.held path ≡ Some file) (long : length file.bytes ≡ size) where
-    abbrev upload : Outcome → Planned
-    upload how = record {
-      limits = limits;
-      status = status;
-      bucket = bucket_word words;
-      key = key_word words;
-      path = path;
-      size = size;
-      micros = micros;
-      is_below = is_below;
-      how = how;
-      was = was;
-    }
-
-    abbrev task : Task
-    task = upload_task path (bucket_word words) (key_word words) size micros
-
-    the_task : (n : ℕ) (t : Task) → slice_get (task ∷ []) n ≡ Some t → task ≡ t
-    the_task n t at_n = (first_only task n t at_n).1
-
-    at_first : (n : ℕ) (t : Task) → slice_get (task ∷ []) n ≡ Some t → n ≡ 0
-    at_first n t at_n = (first_only task n t at_n).0
-
-    -- what is so of the task is so of each
-    of_each : (P : Task → Type 0) → P task → (n : ℕ) (t : Task) → slice_get (task ∷ []) n ≡ Some t → P t
-    of_each P p n t at_n = subst P (the_task n t at_n) p
-
-    keeps_source : (n : ℕ) (t : Task) → slice_get (task ∷ []) n ≡ Some t → t.moves ≡ true → ⊥
-    keeps_source = of_each (λ (t : Task). t.moves ≡ true → ⊥) false_is_true
-
-    no_copy : (n : ℕ) (t : Task) → slice_get (task ∷ []) n ≡ Some t → t.kind ≡ kind.Copy → ⊥
-    no_copy = of_each (λ (t : Task). t.kind ≡ kind.Copy → ⊥) upload_is_no_copy
-
-    has_file : HasSourceFile was.store.held task
-    has_file = (path, file, refl, held, long)
-
-    module _ (how : Outcome) (journal : List Event) (talks : List Talk) (notes : List Note) (jobs : List Dispatched) where
-      abbrev shows : Shown
-      shows = shown (task ∷ []) (how ∷ []) journal talks notes jobs
-
-      planned : IsSchedule Shows shows.setting PlansNothing jobs jobs → IsCarried Shows (request_text (endpoint_of words) keys) host port shows.setting journal (in_first talks) (in_first notes) jobs jobs
-          → Alone (task ∷ []) (how ∷ []) journal talks notes jobs → KeepsBuffers 10 journal → HasOutcome Shows HasStatus (Fails (task ∷ [])) shows.setting jobs jobs 0 task how
-          → ((c : Dispatched) → Contains jobs c → c.dispatch.job.task ≡ None → ⊥) → ReadNothing (task ∷ []) (how ∷ []) journal talks notes jobs → IsOrdinary how
-          → Keeps (task ∷ []) (how ∷ []) journal talks notes
-      planned schedule carried alone buffers has of_task reads ordinary =
-          keeps (task ∷ []) (how ∷ []) journal talks notes jobs
-          (record {
-            schedule = schedule;
-            carried = carried;
-            alone = alone;
-            buffers = buffers;
-            as_many = refl;
-            causes = λ n t of_how at_task at_how.
-                subst (λ (k : ℕ). HasOutcome Shows HasStatus (Fails (task ∷ [])) shows.setting jobs jobs k t of_how) (sym (at_first n t at_task))
-                (subst (λ (any : Task). HasOutcome Shows HasStatus (Fails (task ∷ [])) shows.setting jobs jobs 0 any of_how) (the_task n t at_task)
-                (subst (λ (any : Outcome). HasOutcome Shows HasStatus (Fails (task ∷ [])) shows.setting jobs jobs 0 task any) (first_only how n of_how at_how).1 has));
-            questions = λ c known of_none. absurd (of_task c known of_none);
-            tasks = of_each IsByRequests (record { bucket = bucket_word words; key = key_word words; is_dest = refl; decided = tt; keeps = λ removes. refl });
-            apart = record {
-              destinations = λ m n a b bucket key at_m at_n of_a of_b. at_first m a at_m ∙ sym (at_first n b at_n);
-              sources = λ m n a b bucket key at_m at_n moves of_a of_b. keeps_source m a at_m moves;
-            };
-            sources = λ moments. of_each (λ (t : Task). HasSource was.store.held moments t t.kind (is_small shows.setting t)) has_file;
-            there = λ start. record {
-              files = λ n t at_task uploads. of_each (HasSourceFile was.store.held) has_file n t at_task;
-              there = λ n t bucket key at_task copies from. absurd (no_copy n t at_task copies);
-              no_dest = λ m n a b bucket key at_a at_b copies from to. no_copy m a at_a copies;
-              moved_once = λ m n a b bucket key at_a at_b copies from moves of_b. absurd (no_copy m a at_a copies);
-            };
-            left = λ n t of_how at at_task at_how moves from. absurd (keeps_source n t at_task moves);
-            stay = stay;
-            replaces = of_each (λ (t : Task). t.fresh ≡ true → ⊥) false_is_true;
-            counted = counted (task ∷ []) (how ∷ []) journal talks notes jobs;
-            config = default_valid;
-            limits = valid;
-          })
-          reads (λ n of_how at_n. subst IsOrdinary (first_only how n of_how at_n).1 ordinary)
-
-    -- the bytes of the file did not come
-    unread_run : (of_cause : Cause) → IsReadCause (Some now) path size before after of_cause → Keeps (task ∷ []) (outcome.Failed of_cause ∷ []) [] [] []
-    unread_run of_cause h =
-        let how = outcome.Failed of_cause in
-        planned how [] [] [] [] (no_schedule Shows PlansNothing (shows how [] [] [] []).setting refl)
-        (none_carried Shows (request_text (endpoint_of words) keys) host port (shows how [] [] [] []).setting [] none_idle (omega arith)) (no_jobs Shows PlansNothing (shows how [] [] [] []).setting) (no_buffers 10)
-        (unread_for Shows HasStatus (Fails (task ∷ [])) (upload how) now before after of_cause (λ reason. (task, refl, reason)) refl h) (λ c known of_none. in_none c known) (λ c known reads. in_none c known)
-        (read_ordinary (Some now) path size before after of_cause h)
-
-    -- the job was given: with these attempts, marks, talks and notes
-    given_run : (how : Outcome) (tries : List Mark) (attempts : List Attempt) (talks : List Talk) (notes : List Note)
-        → IsCarried Shows (request_text (endpoint_of words) keys) host port (setting_of (upload how)) (put_events tries) (in_first talks) (in_first notes) (put_with (upload how) attempts ∷ []) (put_with (upload how) attempts ∷ [])
-        → HasOutcome Shows HasStatus (Fails (task ∷ [])) (setting_of (upload how)) (put_with (upload how) attempts ∷ []) (put_with (upload how) attempts ∷ []) 0 task how → IsOrdinary how
-        → Keeps (task ∷ []) (how ∷ []) (put_events tries) talks notes
-    given_run how tries attempts talks notes carried has ordinary =
-        let put : Dispatched = put_with (upload how) attempts in
-        planned how (put_events tries) talks notes (put ∷ []) (put_schedule Shows PlansNothing (upload how) refl attempts) carried
-        (λ dispatched coming scheduled are. put_alone Shows PlansNothing (upload how) dispatched coming attempts scheduled (are ∙ sym carried.shown)) (put_buffers 10 tries (omega arith)) has
-        (each (λ (c : Dispatched). c.dispatch.job.task ≡ None → ⊥) put (λ e. none_is_some 0 (sym e))) (each (λ (c : Dispatched). ReadsSource c.dispatch.job.op → ⊥) put (λ reads. reads)) ordinary
-
-    -- one talk for the bytes of the file
-    talked_run : (of_ending : Ending) (one_talk : Talk) (seconds : ℕ) → one_talk.host ≡ host → one_talk.port ≡ port
-        → ((of_class : Class) (bytes : List ℕ) → Shows asked most_body one_talk of_class bytes → SaysAll Shows (request_text (endpoint_of words) keys) host port of_class one_talk.sent (request_text (endpoint_of words) keys asked file.bytes seconds))
-        → IsPrefixOf one_talk.sent (request_text (endpoint_of words) keys asked file.bytes seconds)
-        → IsJudged Shows asked one_talk (of_ending ≡ ending.Uncertain why.Memory) (mark_of_ending of_ending) (outcome_of of_ending)
-        → Keeps (task ∷ []) (outcome_of of_ending ∷ []) (put_events (mark_of_ending of_ending ∷ [])) (one_talk ∷ []) (Moment seconds ∷ Began ∷ [])
-    talked_run of_ending one_talk seconds to_host to_port text beginning judged =
-        let how = outcome_of of_ending in
-        let attempt : Attempt = record { mark = mark_of_ending of_ending; talk = one_talk } in
-        let bytes_are : source_bytes was.store.held task.source ≡ file.bytes = ap bytes_of held in
-        let of_mark = judged_as asked one_talk (of_ending ≡ ending.Uncertain why.Memory) ((setting_of (upload how)).wanted_memory (Some 0) ≡ true)
-        (λ e. ap (λ (any : Ending). is_memory (cause_of (Some (outcome_of any)))) e) (mark_of_ending of_ending) how judged in
-        given_run how (mark_of_ending of_ending ∷ []) (attempt ∷ []) (one_talk ∷ []) (Moment seconds ∷ Began ∷ [])
-        (talked_carried Shows (request_text (endpoint_of words) keys) host port (upload how) attempt seconds
-        (record {
-          to_host = to_host;
-          to_port = to_port;
-          text = λ of_class bytes shows_it. subst (λ (body : List ℕ). SaysAll Shows (request_text (endpoint_of words) keys) host port of_class one_talk.sent (request_text (endpoint_of words) keys asked body seconds))
-              (sym bytes_are) (text of_class bytes shows_it);
-          beginning = subst (λ (body : List ℕ). IsPrefixOf one_talk.sent (request_text (endpoint_of words) keys asked body seconds)) (sym bytes_are) beginning;
-        })
-        of_mark)
-        (judged_for Shows HasStatus (Fails (task ∷ [])) (upload how) attempt how of_mark) (ending_ordinary of_ending)
-
-    silent_run : (notes : List Note) → AreIdle notes → Keeps (task ∷ []) (outcome_of ending.Memory ∷ []) (put_events []) [] notes
-    silent_run notes idle =
-        given_run (outcome.Failed cause.Memory) [] [] [] notes (silent_carried Shows (request_text (endpoint_of words) keys) host port (upload (outcome.Failed cause.Memory)) notes idle refl)
-        (silent_for Shows HasStatus (Fails (task ∷ [])) (upload (outcome.Failed cause.Memory)) refl) (ending_ordinary ending.Memory)
-
-    -- ---- what the run shows
-
-    one_keeps : (of_ending : Ending) (talks : List Talk) (notes : List Note) → IsOneTalk (endpoint_of words) keys asked file.bytes of_ending talks notes
-        → Keeps (task ∷ []) (outcome_of of_ending ∷ []) (put_events (mark_of_ending of_ending ∷ [])) talks notes
-    one_keeps of_ending talks notes one =
-        subst (λ (all : List Talk). Keeps (task ∷ []) (outcome_of of_ending ∷ []) (put_events (mark_of_ending of_ending ∷ [])) all notes) (sym one.one_talk)
-        (subst (λ (all : List Note). Keeps (task ∷ []) (outcome_of of_ending ∷ []) (put_events (mark_of_ending of_ending ∷ [])) (one.talk ∷ []) all) (sym one.noted)
-        (talked_run of_ending one.talk one.seconds one.to_host one.to_port one.text one.beginning one.judged))
-
-    given_keeps : (of_ending : Ending) (talks : List Talk) (notes : List Note) → CarriesAs (endpoint_of words) keys asked file.bytes of_ending talks notes
-        → Keeps (task ∷ []) (outcome_of of_ending ∷ []) (put_journal of_ending) talks notes
-    given_keeps ending.Memory talks notes silent =
-        subst (λ (all : List Talk). Keeps (task ∷ []) (outcome_of ending.Memory ∷ []) (put_events []) all notes) (sym silent.no_talk) (silent_run notes silent.idle)
-    given_keeps ending.Stored talks notes one = one_keeps ending.Stored talks notes one
-    given_keeps (ending.Refused code message) talks notes one = one_keeps (ending.Refused code message) talks notes one
-    given_keeps (ending.Uncertain reason) talks notes one = one_keeps (ending.Uncertain reason) talks notes one
-
-    pub upload_keeps : (journal : List Event) (how : Outcome) (talks : List Talk) (notes : List Note)
-        → Uploads (endpoint_of words) keys asked (Some now) path size before after journal how talks notes → Keeps (task ∷ []) (how ∷ []) journal talks notes
-    upload_keeps journal how talks notes (inl u) =
-        subst (λ (any : Outcome). Keeps (task ∷ []) (any ∷ []) journal talks notes) (sym u.failed)
-        (subst (λ (all : List Event). Keeps (task ∷ []) (outcome.Failed u.why ∷ []) all talks notes) (sym u.no_job)
-        (subst (λ (all : List Talk). Keeps (task ∷ []) (outcome.Failed u.why ∷ []) [] all notes) (sym u.no_talk)
-        (subst (λ (all : List Note). Keeps (task ∷ []) (outcome.Failed u.why ∷ []) [] [] all) (sym u.no_note) (unread_run u.why u.reason))))
-    upload_keeps journal how talks notes (inr g) =
-        let read : AreFirstBytes was.store path g.bytes = subst (λ (s : FileStore). AreFirstBytes s path g.bytes) same g.read in
-        let whole : g.bytes ≡ file.bytes = whole_file was.store path g.bytes file held read (g.size_is ∙ sym long) in
-        subst (λ (any : Outcome). Keeps (task ∷ []) (any ∷ []) journal talks notes) (sym g.judged)
-        (subst (λ (all : List Event). Keeps (task ∷ []) (outcome_of g.of_ending ∷ []) all talks notes) (sym g.journals)
-        (given_keeps g.of_ending talks notes (subst (λ (bytes : List ℕ). CarriesAs (endpoint_of words) keys asked bytes g.of_ending talks notes) whole g.carries)))
-
-no_keys : Keys
-no_keys = record { id = []; secret = []; token = None; region = [] }
-
-module _ (words : List (List ℕ)) (before after : ℕ) (limits : Limits) (valid : IsValidLimits limits) (run : Run) (was now : SeenFiles) (same : now.store ≡ was.store)
-    (no_warnings : run.warnings.items ≡ []) (env : Option SeenEnv) (talks : List Talk) (notes : List Note) where
-  abbrev AllKept : Keys → List Task → List Outcome → List Event → List Talk → List Note → Type 0
-  AllKept keys = Keeps words keys before after limits valid run.status was now same run.warnings.items no_warnings
-
-  planned_true : IsPlanned words env (Some was) (Some now) before after run talks notes → IsTrue words env limits before after run talks notes was now
-  planned_true p =
-      let found = shape_file was.store (path_word words) (get was.store.held (path_word words)) p.size p.micros p.stands in
-      let all : AllKept p.keys run.plan.tasks.items run.outcomes.items run.journal.items talks notes =
-      subst (λ (tasks : List Task). AllKept p.keys tasks run.outcomes.items run.journal.items talks notes) (sym p.one_task)
-      (subst (λ (outcomes : List Outcome). AllKept p.keys (upload_task (path_word words) (bucket_word words) (key_word words) p.size p.micros ∷ []) outcomes run.journal.items talks notes) (sym p.one_outcome)
-      (upload_keeps words p.keys before after limits valid run.status was now same run.warnings.items no_warnings p.size p.micros p.small found.0 found.1 found.2 run.journal.items p.how talks notes p.uploads)) in
-      record { keys = p.keys; settled = λ any. p.settled; truthful = all.0; willing = all.1; settles = all.2 }
+  -- the lists of the run are these
+  of_run : (endpoint : Endpoint) (settings : Settings) (tasks : List Task) (outcomes : List Outcome) (journal : List Event) (warnings : List Warning) (of_talks : List Talk) (of_notes : List Note)
+      → run.plan.tasks.items ≡ tasks → run.outcomes.items ≡ outcomes → run.journal.items ≡ journal → run.warnings.items ≡ warnings → talks ≡ of_talks → notes ≡ of_notes
+      → Keeps endpoint settings tasks outcomes journal warnings of_talks of_notes
+      → Keeps endpoint settings run.plan.tasks.items run.outcomes.items run.journal.items run.warnings.items talks notes
+  of_run endpoint settings tasks outcomes journal warnings of_talks of_notes t o j w ts ns keeps =
+      subst (λ (all : List Task). Keeps endpoint settings all run.outcomes.items run.journal.items run.warnings.items talks notes) (sym t)
+      (subst (λ (all : List Outcome). Keeps endpoint settings tasks all run.journal.items run.warnings.items talks notes) (sym o)
+      (subst (λ (all : List Event). Keeps endpoint settings tasks outcomes all run.warnings.items talks notes) (sym j)
+      (subst (λ (all : List Warning). Keeps endpoint settings tasks outcomes journal all talks notes) (sym w)
+      (subst (λ (all : List Talk). Keeps endpoint settings tasks outcomes journal warnings all notes) (sym ts)
+      (subst (λ (all : List Note). Keeps endpoint settings tasks outcomes journal warnings of_talks all) (sym ns) keeps)))))
 
   unplanned_true : IsUnplanned run talks notes → IsTrue words env limits before after run talks notes was now
-  unplanned_true u =
-      let all : AllKept no_keys run.plan.tasks.items run.outcomes.items run.journal.items talks notes =
-      subst (λ (tasks : List Task). AllKept no_keys tasks run.outcomes.items run.journal.items talks notes) (sym u.no_task)
-      (subst (λ (outcomes : List Outcome). AllKept no_keys [] outcomes run.journal.items talks notes) (sym u.no_outcome)
-      (subst (λ (journal : List Event). AllKept no_keys [] [] journal talks notes) (sym u.no_job)
-      (subst (λ (any : List Talk). AllKept no_keys [] [] [] any notes) (sym u.no_talk)
-      (subst (λ (any : List Note). AllKept no_keys [] [] [] [] any) (sym u.no_note)
-      (unplanned words no_keys before after limits valid run.status was now same run.warnings.items no_warnings))))) in
-      record { keys = no_keys; settled = λ some. absurd (some u.no_job); truthful = all.0; willing = all.1; settles = all.2 }
+  unplanned_true u = record {
+    endpoint = nowhere;
+    settings = some_settings;
+    begun = λ some. absurd (some u.nothing.no_job);
+    keeps = of_run nowhere some_settings [] [] [] [] [] [] u.nothing.no_task u.nothing.no_outcome u.nothing.no_job u.nothing.no_warning u.no_talk u.no_note
+        (nothing nowhere some_settings some_valid [] refl refl);
+  }
+
+  module _ (command : Command) (settings : Settings) (begun : IsBegun words env command settings) where
+    abbrev endpoint : Endpoint
+    endpoint = command.endpoint
+
+    abbrev KeepsBoth : List Task → List Outcome → List Event → List Warning → List Talk → List Note → Type 0
+    KeepsBoth = Keeps endpoint settings
+
+    true_by : KeepsBoth run.plan.tasks.items run.outcomes.items run.journal.items run.warnings.items talks notes → IsTrue words env limits before after run talks notes was now
+    true_by keeps = record { endpoint = endpoint; settings = settings; begun = λ some. (command, begun, refl); keeps = keeps }
+
+    -- a plan without a task
+    idle_true : (comes : Fate) → run.plan.tasks.items ≡ [] → run.warnings.items ≡ warnings_of comes → IsIdle run talks notes → IsTrue words env limits before after run talks notes was now
+    idle_true comes tasks warnings idle =
+        true_by (of_run endpoint settings [] [] [] (warnings_of comes) [] [] tasks idle.no_outcome idle.no_job warnings idle.no_talk idle.no_note
+        (nothing endpoint settings begun.valid (warnings_of comes) (no_left comes) (no_untimed comes)))
+
+    -- a plan with its upload
+    upload_true : (task : Task) → IsFate command settings limits (Some was) (fate.Upload task) → run.plan.tasks.items ≡ task ∷ [] → run.warnings.items ≡ []
+        → HasUploaded endpoint settings.keys task (Some now) before after run talks notes → IsTrue words env limits before after run talks notes was now
+    upload_true task fated tasks warnings (how, one, uploads) =
+        let of_file = task_of command settings.config.threshold limits.max_object task fated.stands (sym fated.is) in
+        let key = planned_key (source_path command) (key_of command) in
+        let of_task = planned_task command (source_path command) (bucket_of command) key of_file.size of_file.micros in
+        let sent = subst (λ (t : Task). Uploads endpoint settings.keys (put_ask t) (Some now) (path_of t) t.size before after run.journal.items how talks notes) of_file.is uploads in
+        let stands : shape_at was.store (source_path command) ≡ shape.File of_file.size of_file.micros = fated.seen ∙ of_file.is_file in
+        let keeps =
+        promise.uploaded Shows HasStatus (request_text endpoint settings.keys) endpoint.host endpoint.port settings.config begun.valid limits valid run.status before after (source_path command) was now same [] refl refl
+        (bucket_of command) key (content_for command (source_path command)) of_file.size of_file.micros of_file.small stands run.journal.items how talks notes sent in
+        let here : KeepsBoth (of_task ∷ []) (how ∷ []) run.journal.items [] talks notes =
+        subst (λ (at : List ℕ). KeepsPromise Shows HasStatus (request_text endpoint settings.keys) endpoint.host endpoint.port at before after (of_task ∷ []) [] now
+        (shown_by settings.config limits run.status (of_task ∷ []) (how ∷ []) run.journal.items talks notes was now)) (source_is words command begun.reads.is_command) keeps in
+        true_by (of_run endpoint settings (of_task ∷ []) (how ∷ []) run.journal.items [] talks notes
+        (tasks ∙ ap (λ (t : Task). t ∷ []) of_file.is) one refl warnings refl refl here)
+
+    planned_true : (comes : Fate) → IsFate command settings limits (Some was) comes → HasPlan comes run → Works comes endpoint settings.keys (Some now) before after run talks notes
+        → IsTrue words env limits before after run talks notes was now
+    planned_true fate.NotYet fated plan works = absurd plan.plan
+    planned_true (fate.Refused fault) fated plan works = absurd plan.plan
+    planned_true (fate.NotAFile at) fated plan works = idle_true (fate.NotAFile at) plan.tasks plan.warnings works
+    planned_true (fate.Skipped place why) fated plan works = idle_true (fate.Skipped place why) plan.tasks plan.warnings works
+    planned_true fate.LeftOut fated plan works = idle_true fate.LeftOut plan.tasks plan.warnings works
+    planned_true (fate.Upload task) fated plan works = upload_true task fated plan.tasks plan.warnings works
 
 -- in either case, where the files are seen
 pub all_true : (limits : Limits) → IsValidLimits limits → (run : Run) (talks : List Talk) (notes : List Note) (words : List (List ℕ)) (env : Option SeenEnv) (was now : Option SeenFiles) (before after : ℕ)
-    → run.warnings.items ≡ [] → LooksAt (path_word words) was now → GoesAs words env was now before after run talks notes → IfSeen was now (IsTrue words env limits before after run talks notes)
-all_true limits valid run talks notes words env was None before after no_warnings looks goes = tt
-all_true limits valid run talks notes words env None (Some now) before after no_warnings looks goes = tt
-all_true limits valid run talks notes words env (Some was) (Some now) before after no_warnings looks (inl u) =
-    unplanned_true words before after limits valid run was now looks.0 no_warnings env talks notes u
-all_true limits valid run talks notes words env (Some was) (Some now) before after no_warnings looks (inr p) =
-    planned_true words before after limits valid run was now looks.0 no_warnings env talks notes p
+    → LooksAt (path_in words) was now → GoesAs words env limits was now before after run talks notes → IfSeen was now (IsTrue words env limits before after run talks notes)
+all_true limits valid run talks notes words env was None before after looks goes = tt
+all_true limits valid run talks notes words env None (Some now) before after looks goes = tt
+all_true limits valid run talks notes words env (Some was) (Some now) before after looks (inl u) = unplanned_true words env limits valid before after run talks notes was now looks.0 u
+all_true limits valid run talks notes words env (Some was) (Some now) before after looks (inr p) =
+    planned_true words env limits valid before after run talks notes was now looks.0 p.command p.settings p.begun p.comes p.fated p.plan p.works

@@ -1,62 +1,162 @@
 -- The first wire of a run, and a run that was reported.
-use Rattle.std.proofs.Common.{◌≡◌, ◌≤◌, ◌∙◌, ◌⊎◌, ℕ, List, [], ◌∷◌, Option, Some, refl, sym, ap, subst, inl, inr, arith, length, get_or, slice_set, is_some}
+use Rattle.std.proofs.Common.{true, ◌≡◌, ◌≢◌, ◌≤◌, ◌∙◌, ◌⊎◌, ℕ, List, [], ◌∷◌, Option, Some, None, Result, Ok, Err, IfSome, OnErr, refl, sym, ap, subst, inl, inr, arith, length, get_or, slice_set, is_some}
+use Rattle.result_lines.specs.declared.tasks.Line.{Line}
+use Rattle.s3_model.specs.declared.list.OutOfMemory.{OutOfMemory}
 use Rattle.s3_model.specs.declared.outcomes.Event.{Event}
-use Rattle.s3_model.specs.Talks.{Talk, Note}
+use Rattle.s3_model.specs.declared.places.Endpoint.{Endpoint}
+use Rattle.s3_model.specs.declared.settings.Keys.{Keys}
+use Rattle.s3_model.specs.declared.settings.Limits.{Limits}
+use Rattle.s3_model.specs.Talks.{Talk, Note, WireLog}
 use Rattle.s3_outside.specs.Env.{SeenEnv}
 use Rattle.s3_outside.specs.Files.{SeenFiles}
+use Rattle.upload_plans.specs.declared.plan.Fate.{Fate}
+use Rattle.upload_plans.specs.declared.plan.Fate.TheVariants as fate
+use Rattle.upload_promise.specs.Uploads.{WantsJournal}
+use Rattle.small_uploads.specs.Uploading.{Uploads}
+use Rattle.s3_main.specs.declared.run.Fatal.{Fatal}
 use Rattle.s3_main.specs.declared.run.Fatal.TheVariants as fatal
 use Rattle.s3_main.specs.declared.run.Run.{Run}
-use Rattle.s3_main.specs.Runs.{OnFirst, Undertakes, bucket_word, endpoint_of, key_word}
-use Rattle.s3_main.specs.Uploading.{Uploads, WantsJournal, upload_ask}
-use Rattle.s3_main.specs.Words.{path_word}
-use Rattle.s3_main.specs.Executed.{GoesAs}
+use Rattle.s3_main.specs.Begun.{mode_in}
+use Rattle.s3_main.specs.Plans.{HasPlan, IsIdle, Wants, Works, path_of, put_ask}
+use Rattle.s3_main.specs.Runs.{GoesAs, IsNothingPlanned, IsPrinted, IsPrintedAs, OnFirst, StopsFor, Undertakes}
+use Rattle.s3_main.specs.Texts.{IsLineOf, err_by, err_of, err_text, fatal_after, out_by, out_of, out_text}
 
 -- what holds of the first of a list before and after it was written
 pub on_first : {W : Type 0} (xs : List W) (before after : W) (P : W → W → Type 0) → 1 ≤ length xs → before ≡ get_or xs 0 before → P before after → OnFirst xs (slice_set xs 0 after) P
 on_first [] before after P some is holds = absurd (omega (arith, some))
 on_first (x ∷ xs) before after P some is holds = (subst (λ w. P w after) is holds, refl)
 
--- a run that was reported has the plan, the outcomes and the journal of the run that worked
-pub reported : (words : List (List ℕ)) (env : Option SeenEnv) (was now : Option SeenFiles) (before after : ℕ) (work run : Run) → run.plan ≡ work.plan → run.outcomes ≡ work.outcomes → run.journal ≡ work.journal
-    → (run.fatal ≡ work.fatal) ⊎ (run.fatal ≡ Some fatal.Memory) → (talks : List Talk) (notes : List Note) → GoesAs words env was now before after work talks notes → GoesAs words env was now before after run talks notes
-reported words env was now before after work run plan outcomes journal ended talks notes (inl u) = inl (record {
-  stopped = elim ended [ inl same ↦ ap is_some same ∙ u.stopped | inr memory ↦ ap is_some memory ];
-  no_task = ap (λ p. p.tasks.items) plan ∙ u.no_task;
-  no_outcome = ap (λ o. o.items) outcomes ∙ u.no_outcome;
-  no_job = ap (λ j. j.items) journal ∙ u.no_job;
-  no_talk = u.no_talk;
-  no_note = u.no_note;
-})
-reported words env was now before after work run plan outcomes journal ended talks notes (inr p) = inr (record {
-  keys = p.keys;
-  size = p.size;
-  micros = p.micros;
-  how = p.how;
-  form = p.form;
-  settled = p.settled;
-  stands = p.stands;
-  small = p.small;
-  one_task = ap (λ q. q.tasks.items) plan ∙ p.one_task;
-  one_outcome = ap (λ o. o.items) outcomes ∙ p.one_outcome;
-  uploads = subst (λ (events : List Event). Uploads (endpoint_of words) p.keys (upload_ask (path_word words) (bucket_word words) (key_word words)) now (path_word words) p.size before after events p.how talks notes)
-      (sym (ap (λ j. j.items) journal)) p.uploads;
-})
+-- ---- a run that was reported
 
-pub undertakes : (words : List (List ℕ)) (before after : ℕ) (work run : Run) → run.plan ≡ work.plan → run.outcomes ≡ work.outcomes → run.journal ≡ work.journal
-    → (run.fatal ≡ work.fatal) ⊎ (run.fatal ≡ Some fatal.Memory) → Undertakes words before after work → Undertakes words before after run
-undertakes words before after work run plan outcomes journal ended (inl n) = inl (record {
-  stopped = elim ended [ inl same ↦ ap is_some same ∙ n.stopped | inr memory ↦ ap is_some memory ];
-  no_task = ap (λ p. p.tasks.items) plan ∙ n.no_task;
-  no_outcome = ap (λ o. o.items) outcomes ∙ n.no_outcome;
-  no_job = ap (λ j. j.items) journal ∙ n.no_job;
-})
-undertakes words before after work run plan outcomes journal ended (inr u) = inr (record {
-  size = u.size;
-  micros = u.micros;
-  how = u.how;
-  form = u.form;
-  small = u.small;
-  one_task = ap (λ p. p.tasks.items) plan ∙ u.one_task;
-  one_outcome = ap (λ o. o.items) outcomes ∙ u.one_outcome;
-  wants = subst (λ (events : List Event). WantsJournal before after u.how events) (sym (ap (λ j. j.items) journal)) u.wants;
-})
+stays_stopped : (line : Result (Option Line) OutOfMemory) (why : Option Fatal) → is_some why ≡ true → is_some (fatal_after line why) ≡ true
+stays_stopped (Ok line) why is = is
+stays_stopped (Err memory) why is = refl
+
+-- it has the plan, the outcomes, the journal and the warnings of the run that worked
+pub record IsReported (work run : Run) (line : Result (Option Line) OutOfMemory) : Type 0 where
+  pub plan : run.plan ≡ work.plan
+  pub outcomes : run.outcomes ≡ work.outcomes
+  pub journal : run.journal ≡ work.journal
+  pub warnings : run.warnings ≡ work.warnings
+  pub fatal : run.fatal ≡ fatal_after line work.fatal
+
+module _ (work run : Run) (line : Result (Option Line) OutOfMemory) (r : IsReported work run line) where
+  nothing : IsNothingPlanned work → IsNothingPlanned run
+  nothing n = record {
+    stopped = ap is_some r.fatal ∙ stays_stopped line work.fatal n.stopped;
+    no_task = ap (λ p. p.tasks.items) r.plan ∙ n.no_task;
+    no_skip = ap (λ p. p.warnings.items) r.plan ∙ n.no_skip;
+    no_warning = ap (λ w. w.items) r.warnings ∙ n.no_warning;
+    no_outcome = ap (λ o. o.items) r.outcomes ∙ n.no_outcome;
+    no_job = ap (λ j. j.items) r.journal ∙ n.no_job;
+  }
+
+  has_plan : (comes : Fate) → HasPlan comes work → HasPlan comes run
+  has_plan comes h = record {
+    plan = h.plan;
+    tasks = ap (λ p. p.tasks.items) r.plan ∙ h.tasks;
+    skips = ap (λ p. p.warnings.items) r.plan ∙ h.skips;
+    warnings = ap (λ w. w.items) r.warnings ∙ h.warnings;
+  }
+
+  module _ (endpoint : Endpoint) (keys : Keys) (now : Option SeenFiles) (before after : ℕ) (talks : List Talk) (notes : List Note) where
+    idle : IsIdle work talks notes → IsIdle run talks notes
+    idle h = record {
+      no_outcome = ap (λ o. o.items) r.outcomes ∙ h.no_outcome;
+      no_job = ap (λ j. j.items) r.journal ∙ h.no_job;
+      no_talk = h.no_talk;
+      no_note = h.no_note;
+    }
+
+    works : (comes : Fate) → Works comes endpoint keys now before after work talks notes → Works comes endpoint keys now before after run talks notes
+    works (fate.Upload task) (how, one, uploads) = (
+      how,
+      ap (λ o. o.items) r.outcomes ∙ one,
+      subst (λ (events : List Event). Uploads endpoint keys (put_ask task) now (path_of task) task.size before after events how talks notes) (sym (ap (λ j. j.items) r.journal)) uploads,
+    )
+    works fate.NotYet h = idle h
+    works (fate.Refused fault) h = idle h
+    works (fate.NotAFile path) h = idle h
+    works (fate.Skipped place why) h = idle h
+    works fate.LeftOut h = idle h
+
+  wants : (before after : ℕ) (comes : Fate) → Wants comes before after work → Wants comes before after run
+  wants before after (fate.Upload task) (how, one, jobs) = (
+    how,
+    ap (λ o. o.items) r.outcomes ∙ one,
+    subst (λ (events : List Event). WantsJournal before after how events) (sym (ap (λ j. j.items) r.journal)) jobs,
+  )
+  wants before after fate.NotYet h = (ap (λ o. o.items) r.outcomes ∙ h.0, ap (λ j. j.items) r.journal ∙ h.1)
+  wants before after (fate.Refused fault) h = (ap (λ o. o.items) r.outcomes ∙ h.0, ap (λ j. j.items) r.journal ∙ h.1)
+  wants before after (fate.NotAFile path) h = (ap (λ o. o.items) r.outcomes ∙ h.0, ap (λ j. j.items) r.journal ∙ h.1)
+  wants before after (fate.Skipped place why) h = (ap (λ o. o.items) r.outcomes ∙ h.0, ap (λ j. j.items) r.journal ∙ h.1)
+  wants before after fate.LeftOut h = (ap (λ o. o.items) r.outcomes ∙ h.0, ap (λ j. j.items) r.journal ∙ h.1)
+
+  module _ (words : List (List ℕ)) (env : Option SeenEnv) (env_before env_after : ℕ) (limits : Limits) (was now : Option SeenFiles) (before after : ℕ) where
+    pub goes : (talks : List Talk) (notes : List Note) → GoesAs words env limits was now before after work talks notes → GoesAs words env limits was now before after run talks notes
+    goes talks notes (inl u) = inl (record { nothing = nothing u.nothing; no_talk = u.no_talk; no_note = u.no_note })
+    goes talks notes (inr p) = inr (record {
+      command = p.command;
+      settings = p.settings;
+      comes = p.comes;
+      begun = p.begun;
+      fated = p.fated;
+      plan = has_plan p.comes p.plan;
+      works = works p.command.endpoint p.settings.keys now before after talks notes p.comes p.works;
+    })
+
+    pub does : Undertakes words limits before after work → Undertakes words limits before after run
+    does (inl n) = inl (nothing n)
+    does (inr d) = inr (record {
+      command = d.command;
+      settings = d.settings;
+      comes = d.comes;
+      reads = d.reads;
+      fated = d.fated;
+      plan = has_plan d.comes d.plan;
+      wants = wants before after d.comes d.wants;
+    })
+
+    abbrev Stops : Fatal → Type 0
+    Stops = StopsFor words env env_before env_after limits was before after
+
+    stops_after : (of_line : Result (Option Line) OutOfMemory) (why : Option Fatal) → IfSome why Stops → IfSome (fatal_after of_line why) Stops
+    stops_after (Ok of_line) why h = h
+    stops_after (Err memory) why h = inl tt
+
+    pub stops : IfSome work.fatal Stops → IfSome run.fatal Stops
+    stops h = subst (λ (f : Option Fatal). IfSome f Stops) (sym r.fatal) (stops_after line work.fatal h)
+
+  -- ---- what was printed
+
+  module _ (words : List (List ℕ)) (out_before out_after err_before err_after : Option (List ℕ)) where
+    out_is : out_text words work ≡ out_by (mode_in words) work.fatal run.plan.tasks.items run.outcomes.items
+    out_is = subst (λ p. out_by (mode_in words) work.fatal work.plan.tasks.items work.outcomes.items ≡ out_by (mode_in words) work.fatal p.tasks.items run.outcomes.items) (sym r.plan)
+        (subst (λ o. out_by (mode_in words) work.fatal work.plan.tasks.items work.outcomes.items ≡ out_by (mode_in words) work.fatal work.plan.tasks.items o.items) (sym r.outcomes) refl)
+
+    err_is : err_text words work ≡ err_by words (mode_in words) work.fatal run.plan.tasks.items run.outcomes.items run.warnings.items
+    err_is = subst (λ p. err_text words work ≡ err_by words (mode_in words) work.fatal p.tasks.items run.outcomes.items run.warnings.items) (sym r.plan)
+        (subst (λ o. err_text words work ≡ err_by words (mode_in words) work.fatal work.plan.tasks.items o.items run.warnings.items) (sym r.outcomes)
+        (subst (λ w. err_text words work ≡ err_by words (mode_in words) work.fatal work.plan.tasks.items work.outcomes.items w.items) (sym r.warnings) refl))
+
+    abbrev Shows : List ℕ → List ℕ → Type 0
+    Shows out err = IsPrintedAs run.status out err out_before out_after err_before err_after
+
+    -- where memory ran out for the line, the status says so, and nothing else is said
+    forgotten : (out err of_out of_err : List ℕ) → run.status ≡ 70 → Shows of_out of_err → Shows out err
+    forgotten out err of_out of_err is h = record {
+      whole = λ other. absurd (other is);
+      front = λ other. absurd (other is);
+      memory = h.memory;
+    }
+
+    printed_as : (of_line : Result (Option Line) OutOfMemory) → IsLineOf words work of_line → run.fatal ≡ fatal_after of_line work.fatal → OnErr of_line (run.status ≡ 70)
+        → Shows (out_of of_line) (err_of of_line) → Shows (out_text words run) (err_text words run)
+    printed_as (Err memory) h same ends shown = forgotten (out_text words run) (err_text words run) [] [] ends shown
+    printed_as (Ok of_line) h same ends shown =
+        let out = h.texts.0 ∙ (out_is ∙ ap (λ (f : Option Fatal). out_by (mode_in words) f run.plan.tasks.items run.outcomes.items) (sym same)) in
+        let err = h.texts.1 ∙ (err_is ∙ ap (λ (f : Option Fatal). err_by words (mode_in words) f run.plan.tasks.items run.outcomes.items run.warnings.items) (sym same)) in
+        subst (λ (text : List ℕ). Shows text (err_text words run)) out (subst (λ (text : List ℕ). Shows (out_of (Ok of_line)) text) err shown)
+
+    pub printed : IsLineOf words work line → OnErr line (run.status ≡ 70) → Shows (out_of line) (err_of line) → IsPrinted words run out_before out_after err_before err_after
+    printed h ends shown = printed_as line h r.fatal ends shown

@@ -1,24 +1,81 @@
--- What a task that was started came to.
-use Rattle.std.specs.Prelude.{◌≡◌, ◌⊎◌, ℕ, List, [], ◌∷◌, Option}
-use Rattle.s3_model.specs.declared.outcomes.Outcome.{Outcome}
+-- What the parts of a run come to, before it is printed.
+use Rattle.std.specs.Prelude.{◌≡◌, ◌≢◌, ◌⊎◌, ℕ, true, List, [], ◌∷◌, Option, Some, None, Result, Ok, Err}
+use Rattle.s3_model.specs.declared.faults.WalkFault.TheVariants as walk
+use Rattle.s3_model.specs.declared.list.OutOfMemory.{OutOfMemory}
+use Rattle.s3_model.specs.declared.places.Endpoint.{Endpoint}
+use Rattle.s3_model.specs.declared.settings.Keys.{Keys}
+use Rattle.s3_model.specs.declared.settings.Limits.{Limits}
+use Rattle.s3_model.specs.declared.settings.Settings.{Settings}
+use Rattle.s3_model.specs.declared.tasks.Task.{Task}
+use Rattle.s3_model.specs.Counts.{Rose}
 use Rattle.s3_model.specs.Talks.{Talk, Note}
-use Rattle.s3_outside.specs.Env.{SeenEnv}
 use Rattle.s3_outside.specs.Files.{SeenFiles}
-use Rattle.s3_main.specs.declared.start.Start.{Start}
+use Rattle.s3_words.specs.declared.commands.Command.{Command}
+use Rattle.upload_plans.specs.declared.plan.Fate.{Fate}
+use Rattle.upload_plans.specs.declared.plan.Fate.TheVariants as fate
+use Rattle.s3_main.specs.declared.execution.Executed.{Executed}
+use Rattle.s3_main.specs.declared.run.Fatal.{Fatal}
+use Rattle.s3_main.specs.declared.run.Fatal.TheVariants as fatal
 use Rattle.s3_main.specs.declared.run.Run.{Run}
-use Rattle.s3_main.specs.Runs.{IsPlanned, IsUnplanned}
-use Rattle.s3_main.specs.Uploading.{Uploads, WantsJournal}
+use Rattle.s3_main.specs.Plans.{HasNoTask, HasOneOutcome, HasPlan, HasUploaded, IsFate, Wants, Works, skips_of, warnings_of}
+use Rattle.s3_main.specs.Runs.{IsNothingPlanned, IsUnplanned}
 
--- the task's outcome, and what the wire gained for it
-abbrev pub HasUploaded : Start → Option SeenFiles → (faults_before faults_after : ℕ) → Run → List Talk → List Note → Type 0
-HasUploaded start now before after run talks notes =
-    (how : Outcome) × (run.outcomes.items ≡ how ∷ [])
-    × Uploads start.upload.endpoint start.keys start.prepared.ask now start.upload.path start.source.size before after run.journal.items how talks notes
+abbrev pub HasNoUpload : Fate → Type 0
+HasNoUpload (fate.Upload task) = ⊥
+HasNoUpload comes = Unit {0}
 
--- and whatever can be seen: one outcome, with the jobs that it wants
-abbrev pub HasOneOutcome : (faults_before faults_after : ℕ) → Run → Type 0
-HasOneOutcome before after run = (how : Outcome) × (run.outcomes.items ≡ how ∷ []) × WantsJournal before after how run.journal.items
+-- the file was not seen: a call failed, or memory ran out
+abbrev pub IsUnseen : (faults_before faults_after : ℕ) → Fatal → Type 0
+IsUnseen before after fatal.Memory = Unit {0}
+IsUnseen before after (fatal.Walk walk.Files) = Rose before after
+IsUnseen before after why = ⊥
 
--- no task was planned, or one was
-abbrev pub GoesAs : (words : List (List ℕ)) → Option SeenEnv → (was now : Option SeenFiles) → (faults_before faults_after : ℕ) → Run → List Talk → List Note → Type 0
-GoesAs words env was now before after run talks notes = IsUnplanned run talks notes ⊎ IsPlanned words env was now before after run talks notes
+abbrev pub EndsForMemory : Run → Type 0
+EndsForMemory run = HasNoTask (Some fatal.Memory) [] [] run
+
+abbrev pub OrMemory : Result Executed OutOfMemory → Executed → Type 0
+OrMemory (Ok done) result = result ≡ done
+OrMemory (Err memory) result = EndsForMemory result.run
+
+-- why a run with that fate ends early, if it does
+abbrev pub fatal_of : Fate → Option Fatal
+fatal_of fate.NotYet = Some fatal.NotYet
+fatal_of (fate.Refused fault) = Some (fatal.Plan fault)
+fatal_of comes = None
+
+-- without a task: as the fate says, or for memory
+abbrev pub EndsAs : Fate → Run → Type 0
+EndsAs comes run = EndsForMemory run ⊎ HasNoTask (fatal_of comes) (skips_of comes) (warnings_of comes) run
+
+-- ---- a task
+
+-- memory ran out before the task, and nothing was sent
+pub record IsStopped (run : Run) (talks : List Talk) (notes : List Note) : Type 0 where
+  pub stopped : EndsForMemory run
+  pub no_talk : talks ≡ []
+  pub no_note : notes ≡ []
+
+-- the one task was done
+pub record HasTask (task : Task) (run : Run) : Type 0 where
+  pub fatal : run.fatal ≡ None
+  pub one_task : run.plan.tasks.items ≡ task ∷ []
+  pub no_skip : run.plan.warnings.items ≡ []
+  pub no_warning : run.warnings.items ≡ []
+
+abbrev pub MayUpload : Endpoint → Keys → Task → Option SeenFiles → (faults_before faults_after : ℕ) → Run → List Talk → List Note → Type 0
+MayUpload endpoint keys task now before after run talks notes =
+    IsStopped run talks notes ⊎ (HasTask task run × HasUploaded endpoint keys task now before after run talks notes)
+
+abbrev pub MayWant : Task → (faults_before faults_after : ℕ) → Run → Type 0
+MayWant task before after run = EndsForMemory run ⊎ (HasTask task run × HasOneOutcome before after run)
+
+-- ---- a command
+
+abbrev pub GoesOn : Command → Settings → Limits → (was now : Option SeenFiles) → (faults_before faults_after : ℕ) → Run → List Talk → List Note → Type 0
+GoesOn command settings limits was now before after run talks notes =
+    IsUnplanned run talks notes
+    ⊎ ((comes : Fate) × IsFate command settings limits was comes × HasPlan comes run × Works comes command.endpoint settings.keys now before after run talks notes)
+
+abbrev pub DoesOn : Command → Settings → Limits → (faults_before faults_after : ℕ) → Run → Type 0
+DoesOn command settings limits before after run =
+    IsNothingPlanned run ⊎ ((comes : Fate) × IsFate command settings limits None comes × HasPlan comes run × Wants comes before after run)

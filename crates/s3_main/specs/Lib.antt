@@ -1,13 +1,8 @@
-pub mod Carrying
-pub mod Lines
+pub mod Begun
+pub mod Executed
+pub mod Plans
 pub mod Printed
-pub mod Puts
 pub mod Rooms
 pub mod Runs
 pub mod Settings
-pub mod Sources
-pub mod Starts
 pub mod Texts
-pub mod Uploading
-pub mod Words
-pub mod Executed

@@ -1,6 +1,6 @@
 -- Room for what a run keeps.
 use Rattle.std.specs.Prelude.{◌≡◌, ◌≤◌, []}
-use Rattle.s3_main.specs.declared.upload.prepare.Lists.{Lists}
+use Rattle.s3_main.specs.declared.task.Lists.{Lists}
 
 -- the lists of a run are empty, with room for one task, its outcome, and the two events of its job
 pub record HasRoom (lists : Lists) : Type 0 where

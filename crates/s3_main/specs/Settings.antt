@@ -1,11 +1,15 @@
--- The keys of a run, from the variables of the environment (AWS CLI, "Environment variables").
+-- The settings of a run, from the variables of the environment (AWS CLI, "Environment variables").
 use Rattle.std.specs.Prelude.{◌≡◌, ◌⊎◌, ◌&&◌, ◌==◌, ℕ, Bool, not, List, Option, Some, None, Result, Ok, Err, length, codes, nat_le, if◌then◌else◌}
 use Rattle.std.specs.List.{list_all}
 use Rattle.std.specs.FinMap.{get}
 use Rattle.s3_model.specs.Maps.{MapOf}
+use Rattle.s3_model.specs.declared.settings.Config.{Config}
 use Rattle.s3_model.specs.declared.settings.Keys.{Keys}
+use Rattle.s3_model.specs.declared.settings.Settings.{Settings}
 use Rattle.s3_model.specs.declared.faults.ProfileFault.{ProfileFault}
 use Rattle.s3_model.specs.declared.faults.ProfileFault.TheVariants.{NoKeys, NoRegion}
+use Rattle.s3_outside.specs.Env.{SeenEnv}
+use Rattle.s3_words.specs.declared.commands.Command.{Command}
 use Rattle.s3_main.specs.declared.run.Fatal.{Fatal}
 use Rattle.s3_main.specs.declared.run.Fatal.TheVariants as fatal
 
@@ -47,3 +51,12 @@ abbrev pub IsSettingsFault : Fatal → Type 0
 IsSettingsFault fatal.Memory = Unit {0}
 IsSettingsFault (fatal.Profile fault) = Unit {0}
 IsSettingsFault other = ⊥
+
+abbrev pub default_config : Config
+default_config = record { threshold = 8388608; chunk = 8388608; lanes = 10; queue = 1000; buffers = 10; attempts = 3 }
+
+abbrev pub AreSettings : Command → SeenEnv → Settings → Type 0
+AreSettings command seen settings = (settings_of seen.variables ≡ Ok settings.keys) × (settings.config ≡ default_config)
+
+abbrev pub RefusesSettings : Command → SeenEnv → ProfileFault → Type 0
+RefusesSettings command seen fault = settings_of seen.variables ≡ Err fault

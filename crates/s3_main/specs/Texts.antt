@@ -1,133 +1,107 @@
--- The lines that are printed, as the AWS CLI prints them where it has them.
-use Rattle.std.specs.Prelude.{◌++◌, ℕ, Bool, true, false, List, [], Option, Some, None, codes, decimal, take, if◌then◌else◌}
-use Rattle.s3_model.specs.declared.requests.Op.{Op}
-use Rattle.s3_model.specs.declared.requests.Op.TheVariants as op
-use Rattle.s3_model.specs.declared.answers.Why.{Why}
-use Rattle.s3_model.specs.declared.answers.Why.TheVariants as why
-use Rattle.s3_model.specs.declared.outcomes.Cause.{Cause}
-use Rattle.s3_model.specs.declared.outcomes.Cause.TheVariants as cause
-use Rattle.s3_model.specs.declared.outcomes.FileCall.{FileCall}
-use Rattle.s3_model.specs.declared.outcomes.FileCall.TheVariants as call
-use Rattle.s3_model.specs.declared.outcomes.Reason.{Reason}
-use Rattle.s3_model.specs.declared.outcomes.Reason.TheVariants as reason
+-- What a run prints.
+use Rattle.std.specs.Prelude.{◌≡◌, ◌≢◌, ◌++◌, ℕ, List, [], ◌∷◌, Option, Some, None, Result, Ok, Err, codes, flat_map, if◌then◌else◌}
+use Rattle.s3_model.specs.declared.list.OutOfMemory.{OutOfMemory}
 use Rattle.s3_model.specs.declared.outcomes.Outcome.{Outcome}
-use Rattle.s3_model.specs.declared.outcomes.Outcome.TheVariants as outcome
-use Rattle.s3_model.specs.declared.places.Place.{Place}
-use Rattle.s3_model.specs.declared.places.Place.TheVariants as place
-use Rattle.s3_model.specs.declared.tasks.Kind.{Kind}
-use Rattle.s3_model.specs.declared.tasks.Kind.TheVariants as kind
+use Rattle.s3_model.specs.declared.tasks.Mode.{Mode}
 use Rattle.s3_model.specs.declared.tasks.Task.{Task}
-use Rattle.s3_paths.specs.Uris.{uri_text}
+use Rattle.s3_model.specs.declared.tasks.Warning.{Warning}
+use Rattle.result_lines.specs.declared.tasks.Line.{Line}
+use Rattle.result_lines.specs.Causes as causes
+use Rattle.result_lines.specs.Causes.{cause_text}
+use Rattle.result_lines.specs.Faults.{IsListingFault, IsPlanFault, IsWalkFault, fatal_line, listing_text, memory_line, plan_text, profile_text, program_line, unread_line, walk_text, word_text}
+use Rattle.result_lines.specs.Tasks.{line_of}
+use Rattle.result_lines.specs.Warnings.{warning_line}
+use Rattle.s3_main.specs.declared.run.Fatal.{Fatal}
+use Rattle.s3_main.specs.declared.run.Fatal.TheVariants as fatal
+use Rattle.s3_main.specs.declared.run.Run.{Run}
+use Rattle.s3_main.specs.Begun.{mode_in}
 
--- the name of an operation in Amazon's reference
-abbrev pub op_name : Op → List ℕ
-op_name op.Head = codes "HeadObject"
-op_name op.Get = codes "GetObject"
-op_name op.Put = codes "PutObject"
-op_name op.Copy = codes "CopyObject"
-op_name op.Delete = codes "DeleteObject"
-op_name op.Create = codes "CreateMultipartUpload"
-op_name op.Part = codes "UploadPart"
-op_name op.PartCopy = codes "UploadPartCopy"
-op_name op.Complete = codes "CompleteMultipartUpload"
-op_name op.Abort = codes "AbortMultipartUpload"
-op_name op.List = codes "ListObjectsV2"
-op_name op.Buckets = codes "ListBuckets"
+-- what a line is to standard output, and to standard error
+abbrev pub out_part : Option Line → List ℕ
+out_part None = []
+out_part (Some line) = if line.to_err then [] else line.text
 
-abbrev pub why_text : Why → List ℕ
-why_text why.WireFailed = codes "connection failed"
-why_text why.EndedEarly = codes "connection ended early"
-why_text why.NotHttp = codes "not HTTP"
-why_text why.HeadTooLong = codes "head too long"
-why_text (why.BodyTooLong limit) = codes "body too long"
-why_text why.BadLength = codes "bad length"
-why_text why.BadChunk = codes "bad chunk"
-why_text why.Memory = codes "out of memory"
-why_text (why.Status status) = codes "status " ++ decimal status
-why_text why.Internal = codes "internal error"
-why_text why.Document = codes "unreadable answer"
+abbrev pub err_part : Option Line → List ℕ
+err_part None = []
+err_part (Some line) = if line.to_err then line.text else []
 
-abbrev pub call_name : FileCall → List ℕ
-call_name call.Read = codes "read"
-call_name call.Create = codes "create"
-call_name call.Write = codes "write"
-call_name call.Rename = codes "rename"
-call_name call.Remove = codes "remove"
+-- the lines of tasks with their outcomes, in order
+abbrev pub out_lines : Mode → List Task → List Outcome → List ℕ
+out_lines mode (task ∷ tasks) (how ∷ outcomes) = out_part (line_of task how mode) ++ out_lines mode tasks outcomes
+out_lines mode tasks outcomes = []
 
-abbrev pub reason_text : Reason → List ℕ
-reason_text reason.TaskFailed = codes "task failed"
-reason_text reason.OutputFailed = codes "output failed"
-reason_text reason.ListingEnded = codes "listing ended"
-reason_text reason.OutOfMemory = codes "out of memory"
+abbrev pub err_lines : Mode → List Task → List Outcome → List ℕ
+err_lines mode (task ∷ tasks) (how ∷ outcomes) = err_part (line_of task how mode) ++ err_lines mode tasks outcomes
+err_lines mode tasks outcomes = []
 
--- what stands behind a line of a task that did not end as planned; the list is the path of its destination
-abbrev pub cause_text : List ℕ → Cause → List ℕ
-cause_text dest (cause.Service of_op code message) =
-    codes "An error occurred (" ++ code ++ codes ") when calling the " ++ op_name of_op ++ codes " operation: " ++ message
-cause_text dest (cause.Lost of_op lost) = codes "The answer to the " ++ op_name of_op ++ codes " operation was lost (" ++ why_text lost ++ codes ")"
-cause_text dest cause.Changed = codes "The source has changed"
-cause_text dest (cause.BadReply of_op) = codes "The answer to the " ++ op_name of_op ++ codes " operation does not fit the request"
-cause_text dest (cause.Files of_call) = codes "The file call " ++ call_name of_call ++ codes " failed"
-cause_text dest (cause.Blocked length) = codes "A file or folder stands in the way: " ++ take length dest
-cause_text dest (cause.Cancelled of_reason) = codes "Cancelled (" ++ reason_text of_reason ++ codes ")"
-cause_text dest cause.Memory = codes "Out of memory"
+-- `--quiet` leaves warnings out
+abbrev pub warning_lines : Mode → List Warning → List ℕ
+warning_lines mode warnings = if mode.quiet then [] else flat_map warning_line warnings
 
-abbrev pub place_text : Place → List ℕ
-place_text (place.Object bucket key) = uri_text bucket key
-place_text (place.File path) = path
+-- the line of a run that ended early
+abbrev pub ending_line : (words : List (List ℕ)) → Fatal → List ℕ
+ending_line words (fatal.Words fault) = program_line (word_text words fault)
+ending_line words (fatal.Profile fault) = program_line (profile_text fault)
+ending_line words fatal.EnvRead = unread_line
+ending_line words (fatal.Plan fault) = fatal_line (plan_text fault)
+ending_line words (fatal.Walk fault) = fatal_line (walk_text fault)
+ending_line words (fatal.Listing fault) = fatal_line (listing_text fault)
+ending_line words (fatal.Answer cause) = fatal_line (cause_text [] cause)
+ending_line words fatal.Memory = memory_line
+ending_line words fatal.NotYet = program_line (codes "not built yet")
 
-abbrev pub source_text : Option Place → List ℕ
-source_text None = []
-source_text (Some of_place) = place_text of_place
+-- no fault but the one of memory says that memory ran out
+abbrev pub HasLine : Fatal → Type 0
+HasLine (fatal.Plan fault) = IsPlanFault fault
+HasLine (fatal.Walk fault) = IsWalkFault fault
+HasLine (fatal.Listing fault) = IsListingFault fault
+HasLine (fatal.Answer cause) = causes.IsShown cause
+HasLine why = Unit {0}
 
-abbrev pub kind_verb : Kind → List ℕ
-kind_verb kind.Upload = codes "upload"
-kind_verb kind.Download = codes "download"
-kind_verb kind.Copy = codes "copy"
-kind_verb kind.RemoveObject = codes "delete"
-kind_verb kind.RemoveFile = codes "delete"
+abbrev pub out_by : Mode → Option Fatal → List Task → List Outcome → List ℕ
+out_by mode (Some why) tasks outcomes = []
+out_by mode None tasks outcomes = out_lines mode tasks outcomes
 
-abbrev pub verb : Task → List ℕ
-verb task = if task.moves then codes "move" else kind_verb task.kind
+-- Warnings stand before the lines of tasks. The line of a run that ended early is printed under `--quiet`, too.
+abbrev pub err_by : (words : List (List ℕ)) → Mode → Option Fatal → List Task → List Outcome → List Warning → List ℕ
+err_by words mode (Some why) tasks outcomes warnings = ending_line words why
+err_by words mode None tasks outcomes warnings = warning_lines mode warnings ++ err_lines mode tasks outcomes
 
--- a removal names what it removes, each other task both of its places
-abbrev pub names_by : Kind → Task → List ℕ
-names_by kind.RemoveObject task = place_text task.dest
-names_by kind.RemoveFile task = place_text task.dest
-names_by of_kind task = source_text task.source ++ codes " to " ++ place_text task.dest
+-- what goes to standard output, and to standard error
+abbrev pub out_text : (words : List (List ℕ)) → Run → List ℕ
+out_text words run = out_by (mode_in words) run.fatal run.plan.tasks.items run.outcomes.items
 
-abbrev pub names : Task → List ℕ
-names task = names_by task.kind task
+abbrev pub err_text : (words : List (List ℕ)) → Run → List ℕ
+err_text words run =
+    err_by words (mode_in words) run.fatal run.plan.tasks.items run.outcomes.items run.warnings.items
 
--- the line of a task, with its line feed
-abbrev pub task_line : Task → Outcome → List ℕ
-task_line task outcome.Done = verb task ++ codes ": " ++ names task ++ codes "\n"
-task_line task outcome.Dry = codes "(dryrun) " ++ verb task ++ codes ": " ++ names task ++ codes "\n"
-task_line task (outcome.Failed of_cause) = verb task ++ codes " failed: " ++ names task ++ codes " " ++ cause_text (place_text task.dest) of_cause ++ codes "\n"
-task_line task (outcome.Unknown of_cause) = verb task ++ codes " unknown: " ++ names task ++ codes " " ++ cause_text (place_text task.dest) of_cause ++ codes "\n"
-task_line task (outcome.Copied of_cause) = codes "move" ++ codes " copied: " ++ names task ++ codes " " ++ cause_text (place_text task.dest) of_cause ++ codes "\n"
-task_line task outcome.Skipped = verb task ++ codes " skipped: " ++ names task ++ codes "\n"
+-- ---- the line that a run is about to print
 
--- the lines of tasks that went as planned go to standard output, the others to standard error
-abbrev pub is_fine : Outcome → Bool
-is_fine outcome.Done = true
-is_fine outcome.Dry = true
-is_fine of_outcome = false
+-- it has these texts, unless memory ran out for it
+abbrev pub HasTexts : (out err : List ℕ) → Result (Option Line) OutOfMemory → Type 0
+HasTexts out err (Ok line) = (out_part line ≡ out) × (err_part line ≡ err)
+HasTexts out err (Err memory) = Unit {0}
 
--- the outcomes by which a run ends with status 1; a skipped task is none of them
-abbrev pub is_unfinished : Outcome → Bool
-is_unfinished (outcome.Failed of_cause) = true
-is_unfinished (outcome.Unknown of_cause) = true
-is_unfinished (outcome.Copied of_cause) = true
-is_unfinished of_outcome = false
+-- memory ran out for the line of a run that memory ran out for
+abbrev pub MatchesFatal : Option Fatal → Result (Option Line) OutOfMemory → Type 0
+MatchesFatal why (Ok line) = why ≢ Some fatal.Memory
+MatchesFatal why (Err memory) = Unit {0}
 
--- the causes of an upload, whose text needs no path
-abbrev pub IsPlain : Cause → Type 0
-IsPlain (cause.Blocked length) = ⊥
-IsPlain of_cause = Unit {0}
+pub record IsLineOf (words : List (List ℕ)) (run : Run) (line : Result (Option Line) OutOfMemory) : Type 0 where
+  pub texts : HasTexts (out_text words run) (err_text words run) line
+  pub no_memory : MatchesFatal run.fatal line
 
-abbrev pub HasPlainCause : Outcome → Type 0
-HasPlainCause (outcome.Failed of_cause) = IsPlain of_cause
-HasPlainCause (outcome.Unknown of_cause) = IsPlain of_cause
-HasPlainCause (outcome.Copied of_cause) = IsPlain of_cause
-HasPlainCause of_outcome = Unit {0}
+-- ---- what is printed of it
+
+abbrev pub out_of : Result (Option Line) OutOfMemory → List ℕ
+out_of (Ok line) = out_part line
+out_of (Err memory) = []
+
+abbrev pub err_of : Result (Option Line) OutOfMemory → List ℕ
+err_of (Ok line) = err_part line
+err_of (Err memory) = []
+
+-- memory that ran out for the line ends the run
+abbrev pub fatal_after : Result (Option Line) OutOfMemory → Option Fatal → Option Fatal
+fatal_after (Ok line) why = why
+fatal_after (Err memory) why = Some fatal.Memory

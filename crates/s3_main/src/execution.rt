@@ -1,24 +1,170 @@
 //! What the words say is planned and done; nothing is printed here.
 
-use crate::run::Run;
-use s3_model::{OutOfMemory, Text};
+ghost use Rattle.std.specs.Prelude.{◌≡◌, ◌≤◌, IfErr, IfOk, IfSome, map, string_bytes};
+ghost use Rattle.result_lines.specs.Tasks.{HasSource};
+ghost use Rattle.s3_model.specs.Validity.{IsValidLimits};
+ghost use Rattle.upload_plans.specs.Commands.{CopiesUp, source_path};
+ghost use Rattle.upload_plans.specs.Plans.{HasNoMemory};
+ghost use Rattle.upload_promise.specs.Gains.{Gains};
+ghost use Rattle.upload_promise.specs.Sources.{LooksAt};
+ghost use Rattle.s3_main.specs.Begun.{mode_in, path_in};
+ghost use Rattle.s3_main.specs.Executed.{DoesOn, EndsAs, GoesOn, HasNoUpload, IsUnseen, MayUpload, MayWant, OrMemory};
+ghost use Rattle.s3_main.specs.Plans.{IsFate, IsUpload, path_of};
+ghost use Rattle.s3_main.specs.Runs.{GoesAs, StopsFor, StopsPlanning, Undertakes};
+ghost use Rattle.s3_main.specs.Texts.{IsLineOf};
 
-mod command;
-mod early_end;
-mod task;
+use crate::endings::{end_early, end_idle, end_not_a_file, end_skipped};
+use crate::run::{Fatal, Run};
+use crate::start::{Start, read_start};
+use crate::task::{do_task, make_lists, put_of};
+use result_lines::Line;
+use s3_model::{Limits, Mode, OutOfMemory, Task, WalkFault};
+use s3_outside::{Env, Files, Wire};
+use std::alloc::Global;
+use upload_plans::{Fate, places_of, plan_upload};
 
-pub(crate) use command::execute;
-
-/// A line with its line feed, and where it goes.
-#[derive(Drop)]
-pub(crate) struct Line {
-    pub to_err: bool,
-    pub text: Text,
-}
-
-/// A run before anything is printed, and the line that is to be.
+/// A run before anything is printed, and the line that is to be, if there is one.
 #[derive(Drop)]
 pub(crate) struct Executed {
     pub run: Run,
-    pub line: Result<Line, OutOfMemory>,
+    pub line: Result<Option<Line>, OutOfMemory>,
+}
+
+/// Looks at the file of a command, and says what copying it comes to.
+fn find_fate<F: Files>(
+    alloc: Global,
+    start: &Start,
+    limits: &Limits,
+    files: &mut F,
+) -> Result<Fate, Fatal>
+    requires { CopiesUp start.now.command }
+    ensures fate { IfOk result (IsFate start.now.command start.now.settings limits.now (F.seen files.old)) }
+    ensures memory { IfOk result HasNoMemory }
+    ensures fault { IfErr result (IsUnseen (F.faults files.old) (F.faults files.new)) }
+    ensures files { LooksAt (source_path start.now.command) (F.seen files.old) (F.seen files.new) }
+    ensures later { F.faults files.old ≤ F.faults files.new }
+{
+    let command = &start.command;
+    let Ok(shape) = files.kind(places_of(command).path) else {
+        return Err(Fatal::Walk(WalkFault::Files));
+    };
+    let threshold = start.settings.config.threshold;
+    match plan_upload(alloc, command, shape, threshold, limits.max_object) {
+        Ok(fate) => Ok(fate),
+        Err(_) => Err(Fatal::Memory),
+    }
+}
+
+fn or_memory(alloc: Global, words: &[String], ended: Result<Executed, OutOfMemory>) -> Executed
+    ensures ended { OrMemory ended result }
+    ensures line { IfErr ended (λ _. IsLineOf (map string_bytes words.now) result.run result.line) }
+{
+    match ended {
+        Ok(ended) => ended,
+        Err(_) => end_early(alloc, words, Fatal::Memory),
+    }
+}
+
+/// Ends a run whose file is not copied.
+fn end_with(alloc: Global, words: &[String], mode: Mode, fate: Fate) -> Executed
+    requires no_task { HasNoUpload fate }
+    requires memory { HasNoMemory fate }
+    requires mode { mode ≡ mode_in (map string_bytes words.now) }
+    ensures no_task { HasNoUpload fate }
+    ensures ended { EndsAs fate result.run }
+    ensures line { IsLineOf (map string_bytes words.now) result.run result.line }
+{
+    match fate {
+        Fate::NotYet => end_early(alloc, words, Fatal::NotYet),
+        Fate::Refused(fault) => end_early(alloc, words, Fatal::Plan(fault)),
+        Fate::LeftOut => end_idle(alloc),
+        Fate::NotAFile(path) => or_memory(alloc, words, end_not_a_file(alloc, path, mode)),
+        Fate::Skipped { place, why } => {
+            or_memory(alloc, words, end_skipped(alloc, place, why, mode))
+        }
+        Fate::Upload(_) => unreachable!(),
+    }
+}
+
+/// Uploads the file of a command.
+fn execute_upload<W: Wire, F: Files>(
+    alloc: Global,
+    words: &[String],
+    start: &Start,
+    task: Task,
+    files: &mut F,
+    wire: &mut W,
+) -> Executed
+    requires upload { IsUpload task }
+    requires source { HasSource task }
+    requires mode { start.now.command.mode ≡ mode_in (map string_bytes words.now) }
+    ensures went { Gains (W.seen wire.old) (W.seen wire.new) (MayUpload start.now.command.endpoint
+        start.now.settings.keys task (F.seen files.new) (F.faults files.old) (F.faults files.new) result.run) }
+    ensures line { IsLineOf (map string_bytes words.now) result.run result.line }
+    ensures does { MayWant task (F.faults files.old) (F.faults files.new) result.run }
+    ensures files { LooksAt (path_of task) (F.seen files.old) (F.seen files.new) }
+    ensures files_later { F.faults files.old ≤ F.faults files.new }
+    ensures wire_later { W.faults wire.old ≤ W.faults wire.new }
+{
+    let (Ok(lists), Ok(asked)) = (make_lists(alloc), put_of(&task)) else {
+        return end_early(alloc, words, Fatal::Memory);
+    };
+    do_task(alloc, start, task, asked, lists, files, wire)
+}
+
+/// Does what a command asks for.
+fn execute_command<W: Wire, F: Files>(
+    alloc: Global,
+    words: &[String],
+    start: &Start,
+    limits: &Limits,
+    files: &mut F,
+    wire: &mut W,
+) -> Executed
+    requires copies { CopiesUp start.now.command }
+    requires mode { start.now.command.mode ≡ mode_in (map string_bytes words.now) }
+    ensures went { Gains (W.seen wire.old) (W.seen wire.new) (GoesOn start.now.command start.now.settings limits.now
+        (F.seen files.old) (F.seen files.new) (F.faults files.old) (F.faults files.new) result.run) }
+    ensures line { IsLineOf (map string_bytes words.now) result.run result.line }
+    ensures stops { IfSome result.run.fatal (StopsPlanning start.now.command start.now.settings limits.now (F.seen files.old)
+        (F.faults files.old) (F.faults files.new)) }
+    ensures does { DoesOn start.now.command start.now.settings limits.now (F.faults files.old) (F.faults files.new)
+        result.run }
+    ensures files { LooksAt (source_path start.now.command) (F.seen files.old) (F.seen files.new) }
+    ensures files_later { F.faults files.old ≤ F.faults files.new }
+    ensures wire_later { W.faults wire.old ≤ W.faults wire.new }
+{
+    match find_fate(alloc, start, limits, files) {
+        Ok(Fate::Upload(task)) => execute_upload(alloc, words, start, task, files, wire),
+        Ok(fate) => end_with(alloc, words, start.command.mode, fate),
+        Err(fatal) => end_early(alloc, words, fatal),
+    }
+}
+
+/// Plans and does what the words say; nothing is printed.
+pub(crate) fn execute<W: Wire, F: Files, E: Env>(
+    alloc: Global,
+    words: &[String],
+    env: &mut E,
+    files: &mut F,
+    wire: &mut W,
+) -> Executed
+    ensures went { Gains (W.seen wire.old) (W.seen wire.new) (GoesAs (map string_bytes words.now) (E.seen env.new)
+        (E.allows env.old) (F.seen files.old) (F.seen files.new) (F.faults files.old) (F.faults files.new) result.run) }
+    ensures line { IsLineOf (map string_bytes words.now) result.run result.line }
+    ensures stops { IfSome result.run.fatal (StopsFor (map string_bytes words.now) (E.seen env.new) (E.faults env.old)
+        (E.faults env.new) (E.allows env.old) (F.seen files.old) (F.faults files.old) (F.faults files.new)) }
+    ensures does { Undertakes (map string_bytes words.now) (E.allows env.old) (F.faults files.old) (F.faults files.new)
+        result.run }
+    ensures valid { IsValidLimits (E.allows env.old) }
+    ensures files { LooksAt (path_in (map string_bytes words.now)) (F.seen files.old) (F.seen files.new) }
+    ensures files_later { F.faults files.old ≤ F.faults files.new }
+    ensures wire_later { W.faults wire.old ≤ W.faults wire.new }
+    ensures env_later { E.faults env.old ≤ E.faults env.new }
+{
+    let limits = env.limits();
+    match read_start(alloc, words, env) {
+        Ok(start) => execute_command(alloc, words, &start, &limits, files, wire),
+        Err(fatal) => end_early(alloc, words, fatal),
+    }
 }

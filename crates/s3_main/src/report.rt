@@ -1,25 +1,23 @@
 //! The line of a run is printed, and its status follows.
 
-ghost use Rattle.std.specs.Prelude.{◌≡◌, ◌≤◌, ◌⊎◌, Some, OnErr, OnOk};
-ghost use Rattle.std.specs.List.{list_any};
+ghost use Rattle.std.specs.Prelude.{◌≡◌, ◌≤◌, ◌⊎◌, OnErr, OnOk};
 ghost use Rattle.s3_model.specs.Counts.{Rose};
-ghost use Rattle.s3_main.specs.Lines.{IsLineOf, err_part, out_part};
 ghost use Rattle.s3_main.specs.Printed.{Prints, PrintsFront};
-ghost use Rattle.s3_main.specs.Runs.{EndsWith, IsPrinted, outcomes_status, status_by, status_of};
-ghost use Rattle.s3_main.specs.Texts.{is_unfinished};
+ghost use Rattle.s3_main.specs.Runs.{EndsWith, IsPrintedAs, status_by};
+ghost use Rattle.s3_main.specs.Texts.{MatchesFatal, err_of, err_part, fatal_after, out_of, out_part};
 
-use crate::execution::{Executed, Line};
-use crate::lines::is_unfinished;
+use crate::execution::Executed;
 use crate::output::write_text;
 use crate::run::{Fatal, Run};
-use s3_model::{Outcome, Outcomes};
+use result_lines::{Line, memory_line, status_of};
+use s3_model::{Outcomes, Warnings};
 use s3_outside::{Failed, Sink};
 
-fn status_of(fatal: &Option<Fatal>, outcomes: &Outcomes) -> u8
-    ensures { result ≡ status_by fatal.now outcomes.now.items }
+fn status_by(fatal: &Option<Fatal>, outcomes: &Outcomes, warnings: &Warnings) -> u8
+    ensures { result ≡ status_by fatal.now outcomes.now.items warnings.now.items }
 {
     match fatal {
-        None => outcomes_status(outcomes),
+        None => status_of(outcomes, warnings.len() as u64),
         Some(Fatal::Words(_) | Fatal::NotYet) => 252,
         Some(Fatal::Profile(_) | Fatal::EnvRead) => 253,
         Some(Fatal::Memory) => 70,
@@ -27,24 +25,8 @@ fn status_of(fatal: &Option<Fatal>, outcomes: &Outcomes) -> u8
     }
 }
 
-fn outcomes_status(outcomes: &Outcomes) -> u8
-    ensures { result ≡ outcomes_status outcomes.now.items }
-{
-    if any_unfinished(outcomes.as_slice()) {
-        1
-    } else {
-        0
-    }
-}
-
-fn any_unfinished(outcomes: &[Outcome]) -> bool
-    ensures { result ≡ list_any is_unfinished outcomes.now }
-{
-    outcomes.iter().any(is_unfinished)
-}
-
 /// Prints a line where it belongs.
-fn print_line<O: Sink, X: Sink>(line: &Line, out: &mut O, err: &mut X) -> Result<(), Failed>
+fn print_line<O: Sink, X: Sink>(line: &Option<Line>, out: &mut O, err: &mut X) -> Result<(), Failed>
     ensures out { OnOk result (Prints (O.seen out.old) (O.seen out.new) (out_part line.now)) }
     ensures err { OnOk result (Prints (X.seen err.old) (X.seen err.new) (err_part line.now)) }
     ensures out_front { OnErr result (PrintsFront (O.seen out.old) (O.seen out.new) (out_part line.now)) }
@@ -54,30 +36,32 @@ fn print_line<O: Sink, X: Sink>(line: &Line, out: &mut O, err: &mut X) -> Result
     ensures out_later { O.faults out.old ≤ O.faults out.new }
     ensures err_later { X.faults err.old ≤ X.faults err.new }
 {
-    if line.to_err {
-        write_text(err, line.text.as_str())
-    } else {
-        write_text(out, line.text.as_str())
+    match line {
+        Some(line) if line.to_err => write_text(err, line.text.as_str()),
+        Some(line) => write_text(out, line.text.as_str()),
+        None => Ok(()),
     }
 }
 
 /// Prints the line of a run, and gives it its status.
 pub(crate) fn report<O: Sink, X: Sink>(executed: Executed, out: &mut O, err: &mut X) -> Run
-    requires { IsLineOf executed.run executed.line }
+    requires { MatchesFatal executed.run.fatal executed.line }
     ensures plan { result.plan ≡ executed.run.plan }
     ensures outcomes { result.outcomes ≡ executed.run.outcomes }
     ensures journal { result.journal ≡ executed.run.journal }
     ensures warnings { result.warnings ≡ executed.run.warnings }
-    ensures fatal { (result.fatal ≡ executed.run.fatal) ⊎ (result.fatal ≡ Some Fatal.Memory) }
+    ensures fatal { result.fatal ≡ fatal_after executed.line executed.run.fatal }
     ensures status { EndsWith result (Rose (O.faults out.old) (O.faults out.new) ⊎
         Rose (X.faults err.old) (X.faults err.new)) }
     ensures out_later { O.faults out.old ≤ O.faults out.new }
     ensures err_later { X.faults err.old ≤ X.faults err.new }
-    ensures printed { IsPrinted result (O.seen out.old) (O.seen out.new) (X.seen err.old) (X.seen err.new) }
+    ensures memory { OnErr executed.line (result.status ≡ 70) }
+    ensures printed { IsPrintedAs result.status (out_of executed.line) (err_of executed.line) (O.seen out.old)
+        (O.seen out.new) (X.seen err.old) (X.seen err.new) }
 {
     let Executed { mut run, line } = executed;
     let Ok(line) = line else {
-        let _ = write_text(err, "s3: out of memory\n");
+        let _ = write_text(err, memory_line());
         run.fatal = Some(Fatal::Memory);
         run.status = 70;
         return run;
@@ -86,6 +70,6 @@ pub(crate) fn report<O: Sink, X: Sink>(executed: Executed, out: &mut O, err: &mu
         run.status = 74;
         return run;
     }
-    run.status = status_of(&run.fatal, &run.outcomes);
+    run.status = status_by(&run.fatal, &run.outcomes, &run.warnings);
     run
 }

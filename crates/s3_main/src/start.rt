@@ -1,64 +1,79 @@
-//! What comes before the task: the words, the keys, and the file that is to be copied.
+//! What comes before the files are looked at: the words, and then the settings.
 
-ghost use Rattle.std.specs.Prelude.{◌≡◌, ◌≤◌, IfOk, IfErr, map, string_bytes};
-ghost use Rattle.s3_main.specs.Runs.{StopsFor};
-ghost use Rattle.s3_main.specs.Sources.{LooksAt};
-ghost use Rattle.s3_main.specs.Starts.{Starts};
-ghost use Rattle.s3_main.specs.Words.{path_word};
+ghost use Rattle.std.specs.Prelude.{◌≡◌, ◌≤◌, ◌⊎◌, IfOk, IfErr, IfSome, map, string_bytes};
+ghost use Rattle.upload_plans.specs.Commands.{CopiesUp};
+ghost use Rattle.s3_main.specs.Begun.{IsBegun, IsRead, RefusedFor, StopsInSettings, StopsInWords};
+ghost use Rattle.s3_main.specs.Settings.{AreSettings};
+ghost use Rattle.s3_model.specs.Validity.{IsValidConfig};
 
 use crate::keys::read_keys;
 use crate::run::Fatal;
-use crate::source::{Source, find_source};
-use crate::upload::{Prepared, prepare};
-use crate::words::{Upload, read_upload};
-use s3_model::Keys;
-use s3_outside::{Env, Files};
+use s3_model::{Config, Settings, WordFault};
+use s3_outside::Env;
+use s3_words::{Command, read_words};
 use std::alloc::Global;
+use upload_plans::is_unbuilt;
 
-/// All that an upload needs.
+/// A command that the program does, and its settings.
 #[derive(Drop)]
 pub(crate) struct Start {
-    pub upload: Upload,
-    pub keys: Keys,
-    pub source: Source,
-    pub prepared: Prepared,
+    pub command: Command,
+    pub settings: Settings,
 }
 
-/// Reads the words, then the keys, then what stands at the path; the first fault ends the run.
-pub(crate) fn read_start<F: Files, E: Env>(
+/// The command of the words; a fault of them ends the run, and so does a command that is not built yet.
+fn read_command(alloc: Global, words: &[String]) -> Result<Command, Fatal>
+    ensures read { IfOk result (IsRead (map string_bytes words.now)) }
+    ensures stops { IfErr result (StopsInWords (map string_bytes words.now)) }
+{
+    match read_words(alloc, words) {
+        Ok(command) if is_unbuilt(&command) => Err(Fatal::NotYet),
+        Ok(command) => Ok(command),
+        Err(WordFault::Memory) => Err(Fatal::Memory),
+        Err(fault) => Err(Fatal::Words(fault)),
+    }
+}
+
+const DEFAULTS: Config = Config {
+    threshold: 8_388_608,
+    chunk: 8_388_608,
+    lanes: 10,
+    queue: 1000,
+    buffers: 10,
+    attempts: 3,
+};
+
+/// The settings of a command.
+fn settings_for<E: Env>(alloc: Global, env: &mut E, command: &Command) -> Result<Settings, Fatal>
+    ensures settled { IfSome (E.seen env.new) (λ seen. IfOk result (AreSettings command.now seen)) }
+    ensures valid { IfOk result (λ settings. IsValidConfig settings.config) }
+    ensures stops { IfErr result (RefusedFor command.now (E.seen env.new) (E.faults env.old) (E.faults env.new)) }
+    ensures limits { E.allows env.new ≡ E.allows env.old }
+    ensures later { E.faults env.old ≤ E.faults env.new }
+{
+    let _ = command;
+    let keys = read_keys(alloc, env)?;
+    Ok(Settings {
+        keys,
+        config: DEFAULTS,
+    })
+}
+
+/// Reads the words, then the settings; the first fault ends the run.
+pub(crate) fn read_start<E: Env>(
     alloc: Global,
     words: &[String],
     env: &mut E,
-    files: &mut F,
 ) -> Result<Start, Fatal>
-    ensures starts { IfOk result (Starts (map string_bytes words.now) (E.seen env.old) (F.seen files.old)) }
-    ensures stops { IfErr result (StopsFor (map string_bytes words.now) (E.seen env.old) (F.seen files.old)
-        (F.faults files.old) (F.faults files.new)) }
-    ensures files { LooksAt (path_word (map string_bytes words.now)) (F.seen files.old) (F.seen files.new) }
-    ensures later { F.faults files.old ≤ F.faults files.new }
-    ensures env { E.seen env.new ≡ E.seen env.old }
+    ensures begun { IfOk result (λ start. IsBegun (map string_bytes words.now) (E.seen env.new) start.command
+        start.settings) }
+    ensures copies { IfOk result (λ start. CopiesUp start.command) }
+    ensures stops { IfErr result (λ why. StopsInWords (map string_bytes words.now) why ⊎
+        StopsInSettings (map string_bytes words.now) (E.seen env.new) (E.faults env.old) (E.faults env.new) why) }
     ensures limits { E.allows env.new ≡ E.allows env.old }
-    ensures env_later { E.faults env.old ≤ E.faults env.new }
+    ensures later { E.faults env.old ≤ E.faults env.new }
 {
-    let upload = match read_upload(alloc, words) {
-        Ok(upload) => upload,
-        Err(fatal) => return Err(fatal),
-    };
-    let keys = match read_keys(alloc, env) {
-        Ok(keys) => keys,
-        Err(fatal) => return Err(fatal),
-    };
-    let source = match find_source(alloc, files, upload.path.as_str()) {
-        Ok(source) => source,
-        Err(fatal) => return Err(fatal),
-    };
-    match prepare(alloc, &upload, source) {
-        Ok(prepared) => Ok(Start {
-            upload,
-            keys,
-            source,
-            prepared,
-        }),
-        Err(_) => Err(Fatal::Memory),
-    }
+    let command = read_command(alloc, words)?;
+    let settings = settings_for(alloc, env, &command)?;
+    Ok(Start { command, settings })
 }

@@ -1,12 +1,11 @@
 //! The top call.
 
-ghost use Rattle.std.specs.Prelude.{◌≡◌, ◌≤◌, ◌⊎◌, [], map, string_bytes, vec_len, IfSome};
+ghost use Rattle.std.specs.Prelude.{◌≤◌, ◌⊎◌, map, string_bytes, vec_len, IfSome};
 ghost use Rattle.s3_model.specs.Counts.{Rose};
-ghost use Rattle.s3_main.specs.Carrying.{Gains};
-ghost use Rattle.s3_main.specs.Runs.{EndsWith, IfSeen, IsPrinted, IsTrue, OnFirst, StopsFor, Undertakes};
-ghost use Rattle.s3_main.specs.Sources.{LooksAt};
-ghost use Rattle.s3_main.specs.Words.{path_word};
-ghost use Rattle.s3_main.specs.Executed.{GoesAs};
+ghost use Rattle.upload_promise.specs.Gains.{Gains};
+ghost use Rattle.upload_promise.specs.Sources.{LooksAt};
+ghost use Rattle.s3_main.specs.Begun.{path_in};
+ghost use Rattle.s3_main.specs.Runs.{EndsWith, GoesAs, IfSeen, IsPrinted, IsTrue, OnFirst, StopsFor, Undertakes};
 
 use crate::execution::execute;
 use crate::report::report;
@@ -18,11 +17,12 @@ use std::thread::Threads;
 
 /// Does what the words of a command line say, which follow the program's name, and prints what it came to.
 ///
-/// The words are `cp FILE s3://BUCKET/KEY --endpoint-url URL`; with other words, where FILE is a folder or no file, or
-/// has 8,388,608 bytes or more, nothing is done and the status is 252. Keys and region come from the environment; where
-/// they are missing the status is 253. The file goes up in one Put (Amazon S3 API Reference, "PutObject"), which is
-/// tried once, over the first wire. The status is then 0 where it is done, and 1 where it failed, where nobody can know,
-/// or where FILE is not there. Where memory ran out the status is 70, and after a fault of an output 74.
+/// By now it does `cp` of one local file to an object, which goes up in one Put (Amazon S3 API Reference, "PutObject")
+/// that is tried once, over the first wire. The other commands, a file of the settings' threshold or more, trees and dry
+/// runs are refused with 252, and so are faulty words (AWS CLI Command Reference, `s3`). The status is 253 where keys
+/// or region are missing; 0 where the file is copied or left out by a filter; 1 where it failed, where nobody can know,
+/// where it is not there, is a folder or could not be looked at; 2 where it was skipped with a warning. Where memory ran
+/// out the status is 70, and after a fault of an output 74.
 pub fn run_s3<R, W, F, O, X, E>(
     rt: &R,
     alloc: Global,
@@ -43,30 +43,31 @@ where
     requires some { 1 ≤ vec_len wires.old }
     requires most { vec_len wires.old ≤ 65535 }
 
-    // What the first wire gained, with the exact text of the request, and that the others stay.
+    // What was planned, what became of it and what the first wire gained for it, and that the other wires stay.
     ensures went { OnFirst wires.old.items wires.new.items (λ before after. Gains (W.seen before) (W.seen after)
-        (GoesAs (map string_bytes words.now) (E.seen env.old) (F.seen files.old) (F.seen files.new)
+        (GoesAs (map string_bytes words.now) (E.seen env.new) (E.allows env.old) (F.seen files.old) (F.seen files.new)
         (F.faults files.old) (F.faults files.new) result)) }
 
     // Over every honest service, and whatever is lost, refused or late, the outcomes are true.
     ensures truthful { OnFirst wires.old.items wires.new.items (λ before after.
         Gains (W.seen before) (W.seen after) (λ talks notes. IfSeen (F.seen files.old) (F.seen files.new)
-        (IsTrue (map string_bytes words.now) (E.seen env.old) (E.allows env.old)
+        (IsTrue (map string_bytes words.now) (E.seen env.new) (E.allows env.old)
         (F.faults files.old) (F.faults files.new) result talks notes))) }
 
-    ensures stops { IfSome result.fatal (StopsFor (map string_bytes words.now)
-        (E.seen env.old) (F.seen files.old) (F.faults files.old) (F.faults files.new)) }
+    ensures stops { IfSome result.fatal (StopsFor (map string_bytes words.now) (E.seen env.new) (E.faults env.old)
+        (E.faults env.new) (E.allows env.old) (F.seen files.old) (F.faults files.old) (F.faults files.new)) }
     ensures status { EndsWith result
         (Rose (O.faults out.old) (O.faults out.new) ⊎ Rose (X.faults err.old) (X.faults err.new)) }
-    ensures printed { IsPrinted result (O.seen out.old) (O.seen out.new) (X.seen err.old) (X.seen err.new) }
-    ensures warnings { result.warnings.items ≡ [] }
-    ensures plan_warnings { result.plan.warnings.items ≡ [] }
+    ensures printed { IsPrinted (map string_bytes words.now) result (O.seen out.old) (O.seen out.new) (X.seen err.old)
+        (X.seen err.new) }
 
-    // What needs no look at wires, files and variables: the plan as the words say, its outcome and the jobs that it wants.
-    ensures does { Undertakes (map string_bytes words.now) (F.faults files.old) (F.faults files.new) result }
+    // What needs no look at wires, files and variables: the plan and its warnings as the words say, the outcome and the
+    // jobs that it wants.
+    ensures does { Undertakes (map string_bytes words.now) (E.allows env.old) (F.faults files.old) (F.faults files.new)
+        result }
 
     // The files stay, and only the path of the words is asked for.
-    ensures files { LooksAt (path_word (map string_bytes words.now)) (F.seen files.old) (F.seen files.new) }
+    ensures files { LooksAt (path_in (map string_bytes words.now)) (F.seen files.old) (F.seen files.new) }
 
     // No count of faults falls.
     ensures env_later { E.faults env.old ≤ E.faults env.new }
@@ -76,8 +77,6 @@ where
     ensures err_later { X.faults err.old ≤ X.faults err.new }
 {
     let _ = rt;
-    // The promise speaks of services with these limits, which are valid.
-    let _limits = env.limits();
     let executed = execute(alloc, words, env, files, &mut wires[0]);
     report(executed, out, err)
 }

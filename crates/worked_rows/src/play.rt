@@ -30,9 +30,9 @@ impl Seen {
     }
 }
 
-fn words(alloc: Global, given: &[&str]) -> Result<Vec<String>, Fail> {
+fn words(alloc: Global, line: &str) -> Result<Vec<String>, Fail> {
     let mut words = Vec::new(alloc);
-    for word in given {
+    for word in line.split(' ') {
         words.push(word.to_string(alloc)?)?;
     }
     Ok(words)
@@ -47,11 +47,13 @@ fn environment(alloc: Global, count: usize) -> Result<MemEnv, Fail> {
     Ok(env)
 }
 
-/// The file `a.txt` of five bytes.
+/// The files of all rows.
 fn files(alloc: Global) -> Result<MemFiles, Fail> {
     let mut table = FileTable::make(alloc);
     let file = MemFile::new(b"hello".to_vec(alloc)?, 7);
     table.put_file(alloc, "a.txt", file)?;
+    table.put_file(alloc, "d/b.txt", MemFile::new(Vec::new(alloc), 7))?;
+    table.add_other(alloc, "dev")?;
     Ok(MemFiles::make(alloc, table, Vec::new(alloc), Vec::new(alloc)))
 }
 

@@ -1,22 +1,25 @@
 //! The rows: what a run is given, and what it has to show.
 
-/// One row. Its file is always `a.txt`, of the five bytes `hello`.
+/// One row. The files are `a.txt`, of the five bytes `hello`, `d/b.txt`, and `dev`, which is no file.
 #[derive(Drop)]
 pub(crate) struct Row {
-    pub(crate) words: &'static [&'static str],
+    /// The words with one space between them.
+    pub(crate) words: &'static str,
     /// How many of the three variables are set: the id, the secret, the region.
     pub(crate) variables: usize,
     pub(crate) answer: &'static str,
     /// How many bytes each output takes.
     pub(crate) room: usize,
     pub(crate) status: u8,
-    /// Whether the run ends before its task, and so sends nothing.
+    /// Whether the run ends before its plan.
     pub(crate) stops: bool,
+    /// Whether it sends its request.
+    pub(crate) sends: bool,
     pub(crate) out: &'static str,
     pub(crate) err: &'static str,
 }
 
-pub(crate) const ROWS: u8 = 10;
+pub(crate) const ROWS: u8 = 24;
 
 pub(crate) fn nth_row(n: u8) -> Row {
     Row {
@@ -25,36 +28,35 @@ pub(crate) fn nth_row(n: u8) -> Row {
         answer: answer(n),
         room: room(n),
         status: status(n),
-        stops: n >= 5,
+        stops: stops(n),
+        sends: sends(n),
         out: out(n),
         err: err(n),
     }
 }
 
-fn words(n: u8) -> &'static [&'static str] {
+fn words(n: u8) -> &'static str {
     match n {
-        7 => &["ls"],
-        8 => &[
-            "cp",
-            "a.txt",
-            "s3://b/a.txt",
-            "--endpoint-url",
-            "https://localhost",
-        ],
-        9 => &[
-            "cp",
-            "gone",
-            "s3://b/a.txt",
-            "--endpoint-url",
-            "http://localhost:9000",
-        ],
-        _ => &[
-            "cp",
-            "a.txt",
-            "s3://b/a.txt",
-            "--endpoint-url",
-            "http://localhost:9000",
-        ],
+        7 => "ls",
+        8 => "cp a.txt s3://b/a.txt --endpoint-url https://localhost",
+        9 => "cp gone s3://b/a.txt --endpoint-url http://localhost:9000",
+        10 => "cp a.txt s3://b/ --endpoint-url http://localhost:9000",
+        11 => "cp --quiet a.txt s3://b/a.txt --endpoint-url=http://localhost:9000",
+        12 => "cp a.txt s3://b/a.txt --endpoint-url http://localhost:9000 --exclude *",
+        13 => {
+            "cp a.txt s3://b/ --endpoint-url http://localhost:9000 --exclude * --include *.txt --exclude a/*"
+        }
+        14 => "cp d s3://b/ --endpoint-url http://localhost:9000",
+        15 => "cp dev s3://b/ --endpoint-url http://localhost:9000",
+        16 => "cp dev s3://b/ --endpoint-url http://localhost:9000 --quiet",
+        17 => "ls --endpoint-url https://h",
+        18 => "presign s3://b/k --expires-in 604801 --endpoint-url http://localhost:9000",
+        19 => "cp a --endpoint-url http://localhost:9000",
+        20 => "sync x y --endpoint-url http://localhost:9000",
+        21 => "mv a.txt s3://b/a.txt --endpoint-url http://localhost:9000",
+        22 => "mvv a.txt s3://b/a.txt --endpoint-url http://localhost:9000",
+        23 => "cp a.txt s3://b/a.txt --endpoint-url http://localhost:9000 --only-show-errors",
+        _ => "cp a.txt s3://b/a.txt --endpoint-url http://localhost:9000",
     }
 }
 
@@ -81,17 +83,26 @@ fn room(n: u8) -> usize {
 
 fn status(n: u8) -> u8 {
     match n {
-        0 => 0,
+        0 | 10..=13 | 23 => 0,
+        15 | 16 => 2,
         4 => 74,
         5 | 6 => 253,
-        7 | 8 => 252,
+        7 | 8 | 17..=22 => 252,
         _ => 1,
     }
 }
 
+fn stops(n: u8) -> bool {
+    matches!(n, 5..=9 | 14 | 17..=22)
+}
+
+fn sends(n: u8) -> bool {
+    matches!(n, 0..=4 | 10 | 11 | 13 | 23)
+}
+
 fn out(n: u8) -> &'static str {
     match n {
-        0 => "upload: a.txt to s3://b/a.txt\n",
+        0 | 10 | 13 => "upload: a.txt to s3://b/a.txt\n",
         4 => "upload: a.",
         _ => "",
     }
@@ -110,8 +121,17 @@ fn err(n: u8) -> &'static str {
         }
         5 => "s3: no credentials found\n",
         6 => "s3: no region found\n",
-        7 | 8 => "s3: not built yet\n",
+        7 => "s3: no endpoint\n",
+        8 => "s3: bad endpoint https://localhost\n",
         9 => "fatal error: The path gone does not exist\n",
+        14 => "fatal error: The path d is a folder\n",
+        15 => "warning: Skipping dev: not a file\n",
+        17 => "s3: bad endpoint https://h\n",
+        18 => "s3: bad value 604801\n",
+        19 => "s3: 1 paths given, 2 wanted\n",
+        20 => "s3: the paths do not fit the command\n",
+        21 => "s3: not built yet\n",
+        22 => "s3: unknown command mvv\n",
         _ => "",
     }
 }

@@ -13,7 +13,7 @@ fn check(rt: &impl Abort, row: &Row, seen: &Seen) {
 }
 
 fn check_sent(rt: &impl Abort, row: &Row, seen: &Seen) {
-    let want = if row.stops { "" } else { request() };
+    let want = if row.sends { request() } else { "" };
     assert_eq!(rt; seen.sent(), want.as_bytes(), "{}", row.err);
 }
 

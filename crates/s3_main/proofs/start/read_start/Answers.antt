@@ -1,8 +1,8 @@
 use Rattle.std.proofs.Common.{Global, map, string_bytes}
-use Rattle.s3_main.proofs.StartLemmas.{words_stop}
+use Rattle.upload_plans.proofs.WordLemmas.{copies_up}
 use Rattle.s3_main.proofs.start.read_start.Goals as goal
 
-pub returns-in-Err-clause-stops : goal.returns-in-Err-clause-stops
-returns-in-Err-clause-stops g c =
-    words_stop (map (string_bytes {Z = Global}) c.args.words.now) (g.E.Env.seen c.args.env.now) (g.F.Files.seen c.args.files.now) (g.F.Files.faults c.args.files.now) (g.F.Files.faults c.args.files.now)
-    c.in-Err.fatal c.in-Err.ensures.fault
+pub returns-clause-copies : goal.returns-clause-copies
+returns-clause-copies g c =
+    let read = c.in_ok-command.ensures.read in
+    copies_up (map (string_bytes {Z = Global}) c.args.words.now) c.in_ok-command.command read.no_fault read.is_command read.built

@@ -1,0 +1,45 @@
+use Rattle.std.proofs.Common.{List, ℕ, subst, rules}
+use Rattle.upload_plans.specs.declared.plan.Fate.{Fate}
+use Rattle.upload_promise.specs.Sources.{LooksAt}
+use Rattle.upload_promise.proofs.SourceLemmas.{looks_both}
+use Rattle.s3_main.specs.Plans.{IsFate}
+use Rattle.s3_main.proofs.ExecutionLemmas as lemma
+use Rattle.s3_main.proofs.execution.execute_command.Goals as goal
+
+pub returns-in-Ok-Upload-clause-went : goal.returns-in-Ok-Upload-clause-went
+returns-in-Ok-Upload-clause-went g c =
+    let fated = subst (λ (f : Fate). IsFate c.args.start.now.command c.args.start.now.settings c.args.limits.now (g.F.Files.seen c.args.files.now) f) c.in-Ok-Upload.field-0-is c.in-Ok-Upload.ensures.fate in
+    lemma.uploaded_goes c.args.start.now.command c.args.start.now.settings c.args.limits.now (g.F.Files.seen c.args.files.now) (g.F.Files.seen c.execute_upload.new.files)
+    (g.F.Files.faults c.args.files.now) (g.F.Files.faults c.find_fate.new.files) (g.F.Files.faults c.execute_upload.new.files) c.execute_upload.result.run c.in-Ok-Upload.task
+    c.in-Ok-Upload.ensures.later _ _ fated c.execute_upload.ensures.went
+
+pub returns-in-Ok-Upload-clause-files : goal.returns-in-Ok-Upload-clause-files
+returns-in-Ok-Upload-clause-files g c =
+    let fated = subst (λ (f : Fate). IsFate c.args.start.now.command c.args.start.now.settings c.args.limits.now (g.F.Files.seen c.args.files.now) f) c.in-Ok-Upload.field-0-is c.in-Ok-Upload.ensures.fate in
+    let is = lemma.is_upload c.args.start.now.command c.args.start.now.settings c.args.limits.now (g.F.Files.seen c.args.files.now) c.in-Ok-Upload.task fated in
+    looks_both _ _ _ _ c.in-Ok-Upload.ensures.files
+    (subst (λ (path : List ℕ). LooksAt path (g.F.Files.seen c.find_fate.new.files) (g.F.Files.seen c.execute_upload.new.files)) is.2 c.execute_upload.ensures.files)
+
+pub returns-in-Ok : goal.returns-in-Ok
+returns-in-Ok g c =
+    let was = g.F.Files.seen c.args.files.now in
+    let now = g.F.Files.seen c.find_fate.new.files in
+    let before = g.F.Files.faults c.args.files.now in
+    let after = g.F.Files.faults c.find_fate.new.files in
+    let fated = c.in-Ok.ensures.fate in
+    let none = c.end_with.ensures.no_task in
+    let ended = c.end_with.ensures.ended in
+    record {
+      went = lemma.ended_goes c.args.start.now.command c.args.start.now.settings c.args.limits.now was now before after after c.end_with.result.run (g.W.Wire.seen c.args.wire.now) c.in-Ok.fate none fated ended;
+      line = c.end_with.ensures.line;
+      stops = lemma.ended_stops c.args.start.now.command c.args.start.now.settings c.args.limits.now was now before after after c.end_with.result.run c.in-Ok.fate none fated ended;
+      does = lemma.ended_does c.args.start.now.command c.args.start.now.settings c.args.limits.now was now before after after c.end_with.result.run c.in-Ok.fate none fated ended;
+      files = c.in-Ok.ensures.files;
+      files_later = c.in-Ok.ensures.later;
+      wire_later = search rules;
+    }
+
+pub returns-in-Err-clause-went : goal.returns-in-Err-clause-went
+returns-in-Err-clause-went g c =
+    lemma.unseen_goes c.args.start.now.command c.args.start.now.settings c.args.limits.now (g.F.Files.seen c.args.files.now) (g.F.Files.seen c.find_fate.new.files)
+    (g.F.Files.faults c.args.files.now) (g.F.Files.faults c.args.files.now) (g.F.Files.faults c.find_fate.new.files) c.end_early.result.run (g.W.Wire.seen c.args.wire.now) c.in-Err.fatal c.end_early.ensures.run
