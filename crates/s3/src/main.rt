@@ -1,11 +1,16 @@
 //! The program `s3`: the top call over sockets, the disk, the two outputs and the environment of the system.
 #![tactic(auto)]
 
+mod help;
+mod words;
+
+use help::{HELP, VERSION};
 use s3_main::run_s3;
 use s3_outside::{DiskFiles, RealEnv, SocketWire, StdSink};
 use std::alloc::AllocError;
+use std::fs::File;
 use std::process::ExitCode;
-use std::{env, io};
+use words::{Unread, read_words};
 
 /// How many connections there are at most.
 const WIRES: usize = 64;
@@ -13,30 +18,11 @@ const WIRES: usize = 64;
 /// The status where memory ran out before the run.
 const OUT_OF_MEMORY: u8 = 70;
 
-/// The status where standard output failed.
+/// The status where an output failed.
 const OUTPUT_FAILED: u8 = 74;
 
-const HELP: &str = "\
-usage: s3 cp FILE s3://BUCKET/KEY --endpoint-url URL
-
-Copies one file of less than 8 MiB to an S3 service that is reached by plain HTTP.
-Keys and region come from AWS_ACCESS_KEY_ID, AWS_SECRET_ACCESS_KEY, AWS_SESSION_TOKEN
-and AWS_REGION.
-
-status: 0 done, 1 failed or unknown, 70 out of memory, 74 an output failed,
-        252 the words are not understood, 253 keys or region are missing
-";
-
-const VERSION: &str = "s3 0.1.0\n";
-
-/// The words behind the program's name.
-fn words(rt: &HostRuntime) -> io::Result<Vec<String>> {
-    let mut words = Vec::new(rt.alloc());
-    for word in env::args(rt)?.skip(1) {
-        words.push(word)?;
-    }
-    Ok(words)
-}
+/// The status of words that are no text.
+const BAD_WORDS: u8 = 252;
 
 fn wires(rt: &HostRuntime) -> Result<Vec<SocketWire<HostRuntime>>, AllocError> {
     let mut wires = Vec::new(rt.alloc());
@@ -44,13 +30,6 @@ fn wires(rt: &HostRuntime) -> Result<Vec<SocketWire<HostRuntime>>, AllocError> {
         wires.push(SocketWire::new(rt.clone()?))?;
     }
     Ok(wires)
-}
-
-fn show(rt: &HostRuntime, text: &str) -> u8 {
-    match print!(rt; "{text}") {
-        Ok(()) => 0,
-        Err(_) => OUTPUT_FAILED,
-    }
 }
 
 fn environment(rt: &HostRuntime) -> Result<RealEnv<HostRuntime>, AllocError> {
@@ -61,25 +40,72 @@ fn disk(rt: &HostRuntime) -> Result<DiskFiles<HostRuntime>, AllocError> {
     Ok(DiskFiles::new(rt.clone()?))
 }
 
-/// The words behind the program's name; none where they are no text.
-fn words_or_none(rt: &HostRuntime) -> Vec<String> {
-    match words(rt) {
-        Ok(words) => words,
-        Err(_) => Vec::new(rt.alloc()),
+/// Files that take the numbers of standard descriptors that are closed, so that no connection and no file of the run
+/// gets the number of an output.
+fn placeholders(rt: &HostRuntime) -> [Option<File>; 3] {
+    [placeholder(rt), placeholder(rt), placeholder(rt)]
+}
+
+fn placeholder(rt: &HostRuntime) -> Option<File> {
+    File::open(rt, "/dev/null").ok()
+}
+
+fn show(rt: &HostRuntime, text: &str) -> u8 {
+    match print!(rt; "{text}") {
+        Ok(()) => 0,
+        Err(_) => OUTPUT_FAILED,
     }
+}
+
+fn show_error(rt: &HostRuntime, text: &str, status: u8) -> u8 {
+    match eprint!(rt; "{text}") {
+        Ok(()) => status,
+        Err(_) => OUTPUT_FAILED,
+    }
+}
+
+fn is_command(word: &str) -> bool {
+    matches!(word, "cp" | "mv" | "sync" | "rm" | "ls" | "presign")
 }
 
 /// Answers the words that ask about the program alone.
 fn answered(rt: &HostRuntime, words: &[String]) -> Option<u8> {
     match words {
-        [only] if only.as_str() == "--help" => Some(show(rt, HELP)),
+        [only] if matches!(only.as_str(), "--help" | "-h" | "help") => Some(show(rt, HELP)),
         [only] if only.as_str() == "--version" => Some(show(rt, VERSION)),
+        [command, help]
+            if is_command(command.as_str()) && matches!(help.as_str(), "--help" | "help") => {
+            Some(show(rt, HELP))
+        }
         _ => None,
     }
 }
 
+/// Without any words the help follows the line that says so.
+fn end(rt: &HostRuntime, words: &[String], status: u8) -> u8 {
+    if words.is_empty() && status == BAD_WORDS {
+        show_error(rt, HELP, status)
+    } else {
+        status
+    }
+}
+
+fn refuse(rt: &HostRuntime, unread: &Unread) -> u8 {
+    match unread {
+        Unread::Escaped(word) => match eprintln!(rt; "s3: this word is not UTF-8: {word}") {
+            Ok(()) => BAD_WORDS,
+            Err(_) => OUTPUT_FAILED,
+        },
+        Unread::Memory => OUT_OF_MEMORY,
+    }
+}
+
 fn main(rt: HostRuntime) -> ExitCode {
-    let words = words_or_none(&rt);
+    let _placeholders = placeholders(&rt);
+    let words = match read_words(&rt) {
+        Ok(words) => words,
+        Err(unread) => return ExitCode::from(refuse(&rt, &unread)),
+    };
     if let Some(status) = answered(&rt, words.as_slice()) {
         return ExitCode::from(status);
     }
@@ -102,5 +128,5 @@ fn main(rt: HostRuntime) -> ExitCode {
         &mut out,
         &mut err,
     );
-    ExitCode::from(run.status)
+    ExitCode::from(end(&rt, words.as_slice(), run.status))
 }
