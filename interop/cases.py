@@ -144,16 +144,16 @@ def unsent(checks, runs, service, client):
     closed = f"http://127.0.0.1:{port}"
     uri = f"s3://{BUCKET}/a.txt"
     no_region = {name: value for name, value in service.keys.items() if name != "AWS_REGION"}
-    unbuilt = (252, "", "s3: not built yet\n")
+    long_uri = f"s3://{BUCKET}/" + "k" * 1_025
     absent = (1, "", "fatal error: The path absent does not exist\n")
     rows = [
         ("a closed port", "a.txt", uri, closed, service.keys, lost("connection failed").shown("a.txt", uri)),
         ("no credentials", "a.txt", uri, service.url, {}, (253, "", "s3: no credentials found\n")),
         ("no region", "a.txt", uri, service.url, no_region, (253, "", "s3: no region found\n")),
-        ("an https endpoint", "a.txt", uri, "https://127.0.0.1", service.keys, unbuilt),
-        ("a folder", "folder", uri, service.url, service.keys, unbuilt),
+        ("an https endpoint", "a.txt", uri, "https://127.0.0.1", service.keys, (252, "", "s3: bad endpoint https://127.0.0.1\n")),
+        ("a folder", "folder", uri, service.url, service.keys, (1, "", "fatal error: The path folder is a folder\n")),
         ("an absent file", "absent", uri, service.url, service.keys, absent),
-        ("a key of 1,025 bytes", "a.txt", f"s3://{BUCKET}/" + "k" * 1_025, service.url, service.keys, unbuilt),
+        ("a key of 1,025 bytes", "a.txt", long_uri, service.url, service.keys, (252, "", f"s3: bad value {long_uri}\n")),
     ]
     before = state(client)
     for name, file, to, url, env, expected in rows:
