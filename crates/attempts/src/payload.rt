@@ -1,7 +1,7 @@
 //! What requests send behind their heads.
 
 ghost use Rattle.std.specs.Prelude.{◌≡◌, [], IfOk};
-ghost use Rattle.s3_requests.specs.Signing.{hex_sha256};
+ghost use Rattle.s3_signing.specs.Signing.{hex_sha256};
 ghost use Rattle.attempts.specs.Payloads.{body_of, content_of};
 
 use s3_model::{Ask, Bytes, OutOfMemory, Text};
@@ -25,7 +25,7 @@ pub struct Payload<'a> {
 
 impl<'a> Model for Payload<'a> {
     ghost use Rattle.std.specs.Prelude.{◌≡◌, List, ℕ};
-    ghost use Rattle.s3_requests.specs.Signing.{hex_sha256};
+    ghost use Rattle.s3_signing.specs.Signing.{hex_sha256};
     ghost use Rattle.attempts.specs.Payloads.{content_of};
 
     ghost Value = { List ℕ };

@@ -1,8 +1,13 @@
 -- From the words and the settings to what the run shows.
-use Rattle.std.proofs.Common.{◌≡◌, ◌∙◌, ◌⊎◌, ℕ, List, [], ◌∷◌, Option, Some, None, IfSome, sym, ap, subst, inl, inr}
+use Rattle.std.proofs.Common.{Err, Result, refl, ◌≡◌, ◌∙◌, ◌⊎◌, ℕ, List, [], ◌∷◌, Option, Some, None, IfSome, sym, ap, subst, inl, inr}
 use Rattle.s3_model.specs.declared.places.Place.{Place}
 use Rattle.s3_model.specs.declared.settings.Limits.{Limits}
 use Rattle.s3_model.specs.declared.settings.Settings.{Settings}
+use Rattle.env_settings.specs.Calls.{AnswersAs}
+use Rattle.env_settings.specs.declared.fault.SettingsFault.{SettingsFault}
+use Rattle.env_settings.specs.declared.fault.SettingsFault.TheVariants as unread
+use Rattle.s3_model.specs.Counts.{Rose}
+use Rattle.s3_main.specs.Settings.{settings_fatal, settings_for}
 use Rattle.s3_model.specs.Talks.{Talk, Note, WireLog}
 use Rattle.s3_outside.specs.Env.{SeenEnv}
 use Rattle.s3_outside.specs.Files.{SeenFiles}
@@ -31,6 +36,13 @@ pub looks_words : (words : List (List ℕ)) (command : Command) → IsCommand wo
 looks_words words command is before after looks = subst (λ (path : List ℕ). LooksAt path before after) (source_is words command is) looks
 
 -- ---- a run that ended in its words or in its settings
+
+-- settings that were not read are refused for what reading them answers
+pub refused_for : (command : Command) (env : Option SeenEnv) (before after : ℕ) (fault : SettingsFault) → IfSome env (λ seen. AnswersAs (settings_for command seen) (Err fault))
+    → (◌≡◌ {A = Result Settings SettingsFault} (Err fault) (Err unread.EnvRead) → Rose before after) → RefusedFor command env before after (settings_fatal fault)
+refused_for command env before after (unread.Profile fault) answers rose = answers
+refused_for command env before after unread.EnvRead answers rose = rose refl
+refused_for command env before after unread.Memory answers rose = tt
 
 words_line : (words : List (List ℕ)) (why : Fatal) → StopsInWords words why → HasLine why
 words_line words fatal.Memory h = tt

@@ -18,7 +18,8 @@ use Rattle.s3_outside.specs.Files.{SeenFiles, shape_at}
 use Rattle.s3_outside.specs.declared.files.Shape.{Shape}
 use Rattle.s3_outside.specs.declared.files.Shape.TheVariants as shape
 use Rattle.s3_words.specs.declared.commands.Command.{Command}
-use Rattle.small_uploads.specs.Carrying.{HasStatus, Shows, request_text}
+use Rattle.answer_classes.specs.Showing.{HasStatus, Shows}
+use Rattle.attempts.specs.Attempts.{text_of}
 use Rattle.small_uploads.specs.Uploading.{Uploads}
 use Rattle.upload_plans.specs.Commands.{bucket_of, key_of, path_at, source_path}
 use Rattle.upload_plans.specs.Plans.{content_for, planned_key, planned_task}
@@ -84,13 +85,13 @@ module _ (words : List (List ℕ)) (env : Option SeenEnv) (limits : Limits) (val
   -- what is to be shown, of these lists
   abbrev Keeps : Endpoint → Settings → List Task → List Outcome → List Event → List Warning → List Talk → List Note → Type 0
   Keeps endpoint settings tasks outcomes journal warnings of_talks of_notes =
-      KeepsPromise Shows HasStatus (request_text endpoint settings.keys) endpoint.host endpoint.port path before after tasks warnings now
+      KeepsPromise Shows HasStatus (text_of endpoint settings.keys) endpoint.host endpoint.port path before after tasks warnings now
       (shown_by settings.config limits run.status tasks outcomes journal of_talks of_notes was now)
 
   nothing : (endpoint : Endpoint) (settings : Settings) → IsValidConfig settings.config → (warnings : List Warning) → filter_map left_by warnings ≡ [] → filter_map untimed_by warnings ≡ []
       → Keeps endpoint settings [] [] [] warnings [] []
   nothing endpoint settings configured warnings left untimed =
-      promise.unplanned Shows HasStatus (request_text endpoint settings.keys) endpoint.host endpoint.port settings.config configured limits valid run.status before after path was now same warnings left untimed
+      promise.unplanned Shows HasStatus (text_of endpoint settings.keys) endpoint.host endpoint.port settings.config configured limits valid run.status before after path was now same warnings left untimed
 
   -- the lists of the run are these
   of_run : (endpoint : Endpoint) (settings : Settings) (tasks : List Task) (outcomes : List Outcome) (journal : List Event) (warnings : List Warning) (of_talks : List Talk) (of_notes : List Note)
@@ -140,10 +141,10 @@ module _ (words : List (List ℕ)) (env : Option SeenEnv) (limits : Limits) (val
         let sent = subst (λ (t : Task). Uploads endpoint settings.keys (put_ask t) (Some now) (path_of t) t.size before after run.journal.items how talks notes) of_file.is uploads in
         let stands : shape_at was.store (source_path command) ≡ shape.File of_file.size of_file.micros = fated.seen ∙ of_file.is_file in
         let keeps =
-        promise.uploaded Shows HasStatus (request_text endpoint settings.keys) endpoint.host endpoint.port settings.config begun.valid limits valid run.status before after (source_path command) was now same [] refl refl
+        promise.uploaded Shows HasStatus (text_of endpoint settings.keys) endpoint.host endpoint.port settings.config begun.valid limits valid run.status before after (source_path command) was now same [] refl refl
         (bucket_of command) key (content_for command (source_path command)) of_file.size of_file.micros of_file.small stands run.journal.items how talks notes sent in
         let here : KeepsBoth (of_task ∷ []) (how ∷ []) run.journal.items [] talks notes =
-        subst (λ (at : List ℕ). KeepsPromise Shows HasStatus (request_text endpoint settings.keys) endpoint.host endpoint.port at before after (of_task ∷ []) [] now
+        subst (λ (at : List ℕ). KeepsPromise Shows HasStatus (text_of endpoint settings.keys) endpoint.host endpoint.port at before after (of_task ∷ []) [] now
         (shown_by settings.config limits run.status (of_task ∷ []) (how ∷ []) run.journal.items talks notes was now)) (source_is words command begun.reads.is_command) keeps in
         true_by (of_run endpoint settings (of_task ∷ []) (how ∷ []) run.journal.items [] talks notes
         (tasks ∙ ap (λ (t : Task). t ∷ []) of_file.is) one refl warnings refl refl here)

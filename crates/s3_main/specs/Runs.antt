@@ -14,7 +14,8 @@ use Rattle.s3_outside.specs.Env.{SeenEnv}
 use Rattle.s3_outside.specs.Files.{SeenFiles, shape_at}
 use Rattle.s3_outside.specs.declared.files.Shape.{Shape}
 use Rattle.s3_words.specs.declared.commands.Command.{Command}
-use Rattle.small_uploads.specs.Carrying.{HasStatus, Shows, request_text}
+use Rattle.answer_classes.specs.Showing.{HasStatus, Shows}
+use Rattle.attempts.specs.Attempts.{text_of}
 use Rattle.upload_plans.specs.Commands.{source_path}
 use Rattle.upload_plans.specs.Plans.{is_large}
 use Rattle.upload_plans.specs.declared.plan.Fate.{Fate}
@@ -138,7 +139,7 @@ pub record IsTrue (words : List (List ℕ)) (env : Option SeenEnv) (limits : Lim
   pub endpoint : Endpoint
   pub settings : Settings
   pub begun : run.journal.items ≢ [] → (command : Command) × IsBegun words env command settings × (command.endpoint ≡ endpoint)
-  pub keeps : KeepsPromise Shows HasStatus (request_text endpoint settings.keys) endpoint.host endpoint.port (path_in words) faults_before faults_after
+  pub keeps : KeepsPromise Shows HasStatus (text_of endpoint settings.keys) endpoint.host endpoint.port (path_in words) faults_before faults_after
       run.plan.tasks.items run.warnings.items now
       (shown_by settings.config limits run.status run.plan.tasks.items run.outcomes.items run.journal.items talks notes was now)
 

@@ -11,12 +11,13 @@ ghost use Rattle.s3_main.specs.Begun.{mode_in, path_in};
 ghost use Rattle.s3_main.specs.Executed.{DoesOn, EndsAs, GoesOn, HasNoUpload, IsUnseen, MayUpload, MayWant, OrMemory};
 ghost use Rattle.s3_main.specs.Plans.{IsFate, IsUpload, path_of};
 ghost use Rattle.s3_main.specs.Runs.{GoesAs, StopsFor, StopsPlanning, Undertakes};
+ghost use Rattle.s3_main.specs.Settings.{AsksOnly};
 ghost use Rattle.s3_main.specs.Texts.{IsLineOf};
 
 use crate::endings::{end_early, end_idle, end_not_a_file, end_skipped};
 use crate::run::{Fatal, Run};
-use crate::start::{Start, read_start};
-use crate::task::{do_task, make_lists, put_of};
+use crate::start::{Service, Start, read_start, service_of};
+use crate::task::{do_task, prepare};
 use result_lines::Line;
 use s3_model::{Limits, Mode, OutOfMemory, Task, WalkFault};
 use s3_outside::{Env, Files, Wire};
@@ -90,53 +91,57 @@ fn end_with(alloc: Global, words: &[String], mode: Mode, fate: Fate) -> Executed
 fn execute_upload<W: Wire, F: Files>(
     alloc: Global,
     words: &[String],
-    start: &Start,
+    mode: Mode,
+    service: Service,
     task: Task,
     files: &mut F,
     wire: &mut W,
 ) -> Executed
     requires upload { IsUpload task }
     requires source { HasSource task }
-    requires mode { start.now.command.mode ≡ mode_in (map string_bytes words.now) }
-    ensures went { Gains (W.seen wire.old) (W.seen wire.new) (MayUpload start.now.command.endpoint
-        start.now.settings.keys task (F.seen files.new) (F.faults files.old) (F.faults files.new) result.run) }
+    requires mode { mode ≡ mode_in (map string_bytes words.now) }
+    ensures went { Gains (W.seen wire.old) (W.seen wire.new) (MayUpload service.endpoint service.keys task
+        (F.seen files.new) (F.faults files.old) (F.faults files.new) result.run) }
     ensures line { IsLineOf (map string_bytes words.now) result.run result.line }
     ensures does { MayWant task (F.faults files.old) (F.faults files.new) result.run }
     ensures files { LooksAt (path_of task) (F.seen files.old) (F.seen files.new) }
     ensures files_later { F.faults files.old ≤ F.faults files.new }
     ensures wire_later { W.faults wire.old ≤ W.faults wire.new }
 {
-    let (Ok(lists), Ok(asked)) = (make_lists(alloc), put_of(&task)) else {
-        return end_early(alloc, words, Fatal::Memory);
-    };
-    do_task(alloc, start, task, asked, lists, files, wire)
+    match prepare(alloc, service, &task) {
+        Ok(prepared) => do_task(alloc, mode, prepared, task, files, wire),
+        Err(_) => end_early(alloc, words, Fatal::Memory),
+    }
 }
 
 /// Does what a command asks for.
 fn execute_command<W: Wire, F: Files>(
     alloc: Global,
     words: &[String],
-    start: &Start,
+    start: Start,
     limits: &Limits,
     files: &mut F,
     wire: &mut W,
 ) -> Executed
-    requires copies { CopiesUp start.now.command }
-    requires mode { start.now.command.mode ≡ mode_in (map string_bytes words.now) }
-    ensures went { Gains (W.seen wire.old) (W.seen wire.new) (GoesOn start.now.command start.now.settings limits.now
+    requires copies { CopiesUp start.command }
+    requires mode { start.command.mode ≡ mode_in (map string_bytes words.now) }
+    ensures went { Gains (W.seen wire.old) (W.seen wire.new) (GoesOn start.command start.settings limits.now
         (F.seen files.old) (F.seen files.new) (F.faults files.old) (F.faults files.new) result.run) }
     ensures line { IsLineOf (map string_bytes words.now) result.run result.line }
-    ensures stops { IfSome result.run.fatal (StopsPlanning start.now.command start.now.settings limits.now (F.seen files.old)
+    ensures stops { IfSome result.run.fatal (StopsPlanning start.command start.settings limits.now (F.seen files.old)
         (F.faults files.old) (F.faults files.new)) }
-    ensures does { DoesOn start.now.command start.now.settings limits.now (F.faults files.old) (F.faults files.new)
+    ensures does { DoesOn start.command start.settings limits.now (F.faults files.old) (F.faults files.new)
         result.run }
-    ensures files { LooksAt (source_path start.now.command) (F.seen files.old) (F.seen files.new) }
+    ensures files { LooksAt (source_path start.command) (F.seen files.old) (F.seen files.new) }
     ensures files_later { F.faults files.old ≤ F.faults files.new }
     ensures wire_later { W.faults wire.old ≤ W.faults wire.new }
 {
-    match find_fate(alloc, start, limits, files) {
-        Ok(Fate::Upload(task)) => execute_upload(alloc, words, start, task, files, wire),
-        Ok(fate) => end_with(alloc, words, start.command.mode, fate),
+    let mode = start.command.mode;
+    match find_fate(alloc, &start, limits, files) {
+        Ok(Fate::Upload(task)) => {
+            execute_upload(alloc, words, mode, service_of(start), task, files, wire)
+        }
+        Ok(fate) => end_with(alloc, words, mode, fate),
         Err(fatal) => end_early(alloc, words, fatal),
     }
 }
@@ -160,11 +165,12 @@ pub(crate) fn execute<W: Wire, F: Files, E: Env>(
     ensures files { LooksAt (path_in (map string_bytes words.now)) (F.seen files.old) (F.seen files.new) }
     ensures files_later { F.faults files.old ≤ F.faults files.new }
     ensures wire_later { W.faults wire.old ≤ W.faults wire.new }
+    ensures asked { AsksOnly (E.seen env.old) (E.seen env.new) (E.faults env.old) (E.faults env.new) }
     ensures env_later { E.faults env.old ≤ E.faults env.new }
 {
     let limits = env.limits();
     match read_start(alloc, words, env) {
-        Ok(start) => execute_command(alloc, words, &start, &limits, files, wire),
+        Ok(start) => execute_command(alloc, words, start, &limits, files, wire),
         Err(fatal) => end_early(alloc, words, fatal),
     }
 }

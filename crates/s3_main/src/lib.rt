@@ -3,7 +3,6 @@
 
 mod endings;
 mod execution;
-mod keys;
 mod output;
 mod report;
 mod run;

@@ -3,12 +3,12 @@
 ghost use Rattle.std.specs.Prelude.{◌≡◌, ◌≤◌, ◌⊎◌, IfOk, IfErr, IfSome, map, string_bytes};
 ghost use Rattle.upload_plans.specs.Commands.{CopiesUp};
 ghost use Rattle.s3_main.specs.Begun.{IsBegun, IsRead, RefusedFor, StopsInSettings, StopsInWords};
-ghost use Rattle.s3_main.specs.Settings.{AreSettings};
+ghost use Rattle.s3_main.specs.Settings.{AreSettings, AsksOnly, settings_fatal};
 ghost use Rattle.s3_model.specs.Validity.{IsValidConfig};
 
-use crate::keys::read_keys;
 use crate::run::Fatal;
-use s3_model::{Config, Settings, WordFault};
+use env_settings::{SettingsFault, read_settings};
+use s3_model::{Endpoint, Keys, Settings, WordFault};
 use s3_outside::Env;
 use s3_words::{Command, read_words};
 use std::alloc::Global;
@@ -19,6 +19,24 @@ use upload_plans::is_unbuilt;
 pub(crate) struct Start {
     pub command: Command,
     pub settings: Settings,
+}
+
+/// Where the requests of a command go, and what signs them.
+#[derive(Drop)]
+pub(crate) struct Service {
+    pub endpoint: Endpoint,
+    pub keys: Keys,
+}
+
+/// The service of a command, whose other parts are let go.
+pub(crate) fn service_of(start: Start) -> Service
+    ensures endpoint { result.endpoint ≡ start.command.endpoint }
+    ensures keys { result.keys ≡ start.settings.keys }
+{
+    let Start { command, settings } = start;
+    let Command { endpoint, .. } = command;
+    let Settings { keys, .. } = settings;
+    Service { endpoint, keys }
 }
 
 /// The command of the words; a fault of them ends the run, and so does a command that is not built yet.
@@ -34,29 +52,31 @@ fn read_command(alloc: Global, words: &[String]) -> Result<Command, Fatal>
     }
 }
 
-const DEFAULTS: Config = Config {
-    threshold: 8_388_608,
-    chunk: 8_388_608,
-    lanes: 10,
-    queue: 1000,
-    buffers: 10,
-    attempts: 3,
-};
+fn settings_fatal(fault: SettingsFault) -> Fatal
+    ensures { result ≡ settings_fatal fault }
+{
+    match fault {
+        SettingsFault::Profile(fault) => Fatal::Profile(fault),
+        SettingsFault::EnvRead => Fatal::EnvRead,
+        SettingsFault::Memory => Fatal::Memory,
+    }
+}
 
 /// The settings of a command.
 fn settings_for<E: Env>(alloc: Global, env: &mut E, command: &Command) -> Result<Settings, Fatal>
     ensures settled { IfSome (E.seen env.new) (λ seen. IfOk result (AreSettings command.now seen)) }
     ensures valid { IfOk result (λ settings. IsValidConfig settings.config) }
     ensures stops { IfErr result (RefusedFor command.now (E.seen env.new) (E.faults env.old) (E.faults env.new)) }
+    ensures asked { AsksOnly (E.seen env.old) (E.seen env.new) (E.faults env.old) (E.faults env.new) }
     ensures limits { E.allows env.new ≡ E.allows env.old }
     ensures later { E.faults env.old ≤ E.faults env.new }
 {
-    let _ = command;
-    let keys = read_keys(alloc, env)?;
-    Ok(Settings {
-        keys,
-        config: DEFAULTS,
-    })
+    let region = command.region.as_ref();
+    let profile = command.profile.as_ref();
+    match read_settings(alloc, env, region, profile) {
+        Ok(settings) => Ok(settings),
+        Err(fault) => Err(settings_fatal(fault)),
+    }
 }
 
 /// Reads the words, then the settings; the first fault ends the run.
@@ -70,6 +90,7 @@ pub(crate) fn read_start<E: Env>(
     ensures copies { IfOk result (λ start. CopiesUp start.command) }
     ensures stops { IfErr result (λ why. StopsInWords (map string_bytes words.now) why ⊎
         StopsInSettings (map string_bytes words.now) (E.seen env.new) (E.faults env.old) (E.faults env.new) why) }
+    ensures asked { AsksOnly (E.seen env.old) (E.seen env.new) (E.faults env.old) (E.faults env.new) }
     ensures limits { E.allows env.new ≡ E.allows env.old }
     ensures later { E.faults env.old ≤ E.faults env.new }
 {

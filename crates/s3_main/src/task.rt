@@ -2,7 +2,7 @@
 
 ghost use Rattle.std.specs.Prelude.{◌≡◌, ◌≤◌, [], ◌∷◌, None, IfOk};
 ghost use Rattle.result_lines.specs.Tasks.{HasShownCause, HasSource};
-ghost use Rattle.small_uploads.specs.Carrying.{IsPut};
+ghost use Rattle.small_uploads.specs.Uploading.{IsPut};
 ghost use Rattle.upload_plans.specs.Commands.{bucket_at, key_at};
 ghost use Rattle.upload_promise.specs.Gains.{Gains};
 ghost use Rattle.upload_promise.specs.Sources.{LooksAt};
@@ -12,10 +12,11 @@ ghost use Rattle.s3_main.specs.Texts.{HasTexts, err_lines, out_lines};
 
 use crate::execution::Executed;
 use crate::run::Run;
-use crate::start::Start;
+use crate::start::Service;
+use attempts::Client;
 use result_lines::line_of;
 use s3_model::{
-    Ask, Journal, List, OutOfMemory, Outcomes, Place, Plan, Task, Tasks, Text, Warnings,
+    Ask, Journal, List, Mode, OutOfMemory, Outcomes, Place, Plan, Task, Tasks, Text, Warnings,
 };
 use s3_outside::{Files, Wire};
 use small_uploads::upload;
@@ -40,7 +41,7 @@ pub(crate) fn list_of<T: Drop>(alloc: Global, n: usize) -> Result<List<T>, OutOf
 }
 
 /// Room for a task, for its outcome and for the two events of its job.
-pub(crate) fn make_lists(alloc: Global) -> Result<Lists, OutOfMemory>
+fn make_lists(alloc: Global) -> Result<Lists, OutOfMemory>
     ensures { IfOk result HasRoom }
 {
     let tasks = list_of(alloc, 1)?;
@@ -63,7 +64,7 @@ fn copy_of(text: &Option<Text>) -> Result<Option<Text>, OutOfMemory>
 }
 
 /// The request of an upload.
-pub(crate) fn put_of(task: &Task) -> Result<Ask, OutOfMemory>
+fn put_of(task: &Task) -> Result<Ask, OutOfMemory>
     requires { IsUpload task.now }
     ensures { IfOk result (λ asked. asked ≡ put_ask task.now) }
 {
@@ -91,26 +92,51 @@ fn source_of(task: &Task) -> &str
     path.as_str()
 }
 
-/// Does the task of a run, whose request and lists were made before it began.
+/// All that a task wants of memory before it begins.
+#[derive(Drop)]
+pub(crate) struct Prepared {
+    pub lists: Lists,
+    pub client: Client,
+    pub asked: Ask,
+}
+
+/// Makes all that a task wants of memory before it begins.
+pub(crate) fn prepare(alloc: Global, service: Service, task: &Task) -> Result<Prepared, OutOfMemory>
+    requires { IsUpload task.now }
+    ensures endpoint { IfOk result (λ made. made.client.endpoint ≡ service.endpoint) }
+    ensures keys { IfOk result (λ made. made.client.signer ≡ service.keys) }
+    ensures asked { IfOk result (λ made. made.asked ≡ put_ask task.now) }
+    ensures room { IfOk result (λ made. HasRoom made.lists) }
+{
+    let lists = make_lists(alloc)?;
+    let client = Client::make(alloc, service.endpoint, service.keys)?;
+    let asked = put_of(task)?;
+    Ok(Prepared {
+        lists,
+        client,
+        asked,
+    })
+}
+
+/// Does the task of a run.
 pub(crate) fn do_task<F: Files, W: Wire>(
     alloc: Global,
-    start: &Start,
+    mode: Mode,
+    prepared: Prepared,
     task: Task,
-    asked: Ask,
-    lists: Lists,
     files: &mut F,
     wire: &mut W,
 ) -> Executed
-    requires room { HasRoom lists }
+    requires room { HasRoom prepared.lists }
     requires upload { IsUpload task }
-    requires asked { asked ≡ put_ask task }
+    requires asked { prepared.asked ≡ put_ask task }
     requires source { HasSource task }
-    ensures line { HasTexts (out_lines start.now.command.mode result.run.plan.tasks.items result.run.outcomes.items)
-        (err_lines start.now.command.mode result.run.plan.tasks.items result.run.outcomes.items) result.line }
+    ensures line { HasTexts (out_lines mode result.run.plan.tasks.items result.run.outcomes.items)
+        (err_lines mode result.run.plan.tasks.items result.run.outcomes.items) result.line }
     ensures fatal { result.run.fatal ≡ None }
     ensures tasks { result.run.plan.tasks.items ≡ task ∷ [] }
-    ensures went { Gains (W.seen wire.old) (W.seen wire.new) (HasUploaded start.now.command.endpoint
-        start.now.settings.keys task (F.seen files.new) (F.faults files.old) (F.faults files.new) result.run) }
+    ensures went { Gains (W.seen wire.old) (W.seen wire.new) (HasUploaded prepared.client.endpoint
+        prepared.client.signer task (F.seen files.new) (F.faults files.old) (F.faults files.new) result.run) }
     ensures outcome { HasOneOutcome (F.faults files.old) (F.faults files.new) result.run }
     ensures warnings { result.run.warnings.items ≡ [] }
     ensures skips { result.run.plan.warnings.items ≡ [] }
@@ -118,6 +144,11 @@ pub(crate) fn do_task<F: Files, W: Wire>(
     ensures files_later { F.faults files.old ≤ F.faults files.new }
     ensures wire_later { W.faults wire.old ≤ W.faults wire.new }
 {
+    let Prepared {
+        lists,
+        mut client,
+        asked,
+    } = prepared;
     let Lists {
         mut tasks,
         mut outcomes,
@@ -127,14 +158,13 @@ pub(crate) fn do_task<F: Files, W: Wire>(
         alloc,
         files,
         wire,
-        &start.command.endpoint,
-        &start.settings.keys,
+        &mut client,
         &asked,
         source_of(&task),
         task.size,
         &mut journal,
     );
-    let line = line_of(alloc, &task, &outcome, start.command.mode);
+    let line = line_of(alloc, &task, &outcome, mode);
     tasks.push(task);
     outcomes.push(outcome);
     let warnings = Warnings::make(alloc);

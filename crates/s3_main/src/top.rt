@@ -5,6 +5,7 @@ ghost use Rattle.s3_model.specs.Counts.{Rose};
 ghost use Rattle.upload_promise.specs.Gains.{Gains};
 ghost use Rattle.upload_promise.specs.Sources.{LooksAt};
 ghost use Rattle.s3_main.specs.Begun.{path_in};
+ghost use Rattle.s3_main.specs.Settings.{AsksOnly};
 ghost use Rattle.s3_main.specs.Runs.{EndsWith, GoesAs, IfSeen, IsPrinted, IsTrue, OnFirst, StopsFor, Undertakes};
 
 use crate::execution::execute;
@@ -19,8 +20,8 @@ use std::thread::Threads;
 ///
 /// By now it does `cp` of one local file to an object, which goes up in one Put (Amazon S3 API Reference, "PutObject")
 /// that is tried once, over the first wire. The other commands, a file of the settings' threshold or more, trees and dry
-/// runs are refused with 252, and so are faulty words (AWS CLI Command Reference, `s3`). The status is 253 where keys
-/// or region are missing; 0 where the file is copied or left out by a filter; 1 where it failed, where nobody can know,
+/// runs are refused with 252, and so are faulty words (AWS CLI Command Reference, `s3`). The status is 253 where the
+/// settings are refused or a file of them was not read; 0 where the file is copied or left out by a filter; 1 where it failed, where nobody can know,
 /// where it is not there, is a folder or could not be looked at; 2 where it was skipped with a warning. Where memory ran
 /// out the status is 70, and after a fault of an output 74.
 pub fn run_s3<R, W, F, O, X, E>(
@@ -65,6 +66,9 @@ where
     // jobs that it wants.
     ensures does { Undertakes (map string_bytes words.now) (E.allows env.old) (F.faults files.old) (F.faults files.new)
         result }
+
+    // Of the environment only the settings files are asked for, each at most once.
+    ensures asked { AsksOnly (E.seen env.old) (E.seen env.new) (E.faults env.old) (E.faults env.new) }
 
     // The files stay, and only the path of the words is asked for.
     ensures files { LooksAt (path_in (map string_bytes words.now)) (F.seen files.old) (F.seen files.new) }

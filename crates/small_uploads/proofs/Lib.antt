@@ -1,4 +1,2 @@
-pub mod CarryLemmas
-pub mod JudgeLemmas
-pub mod TalkLemmas
+pub mod AttemptLemmas
 pub mod UploadLemmas

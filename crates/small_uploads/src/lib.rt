@@ -1,7 +1,6 @@
 //! One small upload: the file is read whole and its Put is carried to the service.
 #![tactic(auto)]
 
-mod carry;
 mod source;
 mod transfer;
 

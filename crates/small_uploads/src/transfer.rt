@@ -1,16 +1,16 @@
 //! The work of one upload.
 
-ghost use Rattle.std.specs.Prelude.{◌≡◌, ◌≤◌, [], IfOk};
+ghost use Rattle.std.specs.Prelude.{◌≡◌, ◌≤◌, []};
+ghost use Rattle.run_promise.specs.Carried.{mark_of};
 ghost use Rattle.upload_promise.specs.Gains.{Gains};
 ghost use Rattle.upload_promise.specs.Sources.{LooksAt};
 ghost use Rattle.upload_promise.specs.Uploads.{WantsJournal};
-ghost use Rattle.small_uploads.specs.Carrying.{IsPut, lost_cause, outcome_of};
-ghost use Rattle.small_uploads.specs.Uploading.{Uploads, marks_of, read_cause};
+ghost use Rattle.small_uploads.specs.Uploading.{Carried, IsPut, Uploads, lost_cause, marks_of, outcome_of, read_cause};
 
-use crate::carry::{Ending, carry, mark};
 use crate::source::{ReadFault, read_whole};
+use attempts::{Attempted, Client, Payload, attempt};
 use s3_model::{
-    Ask, Cause, Endpoint, Event, FileCall, JobId, Journal, Keys, Op, Outcome, Tries, Why,
+    Ask, Bytes, Cause, Class, Event, FileCall, JobId, Journal, Mark, Op, Outcome, Tries, Why,
 };
 use s3_outside::{Files, Wire};
 use std::alloc::Global;
@@ -34,13 +34,22 @@ fn read_cause(fault: ReadFault) -> Cause
     }
 }
 
-fn tries(ending: &Ending) -> Tries
-    ensures { result ≡ marks_of ending.now }
+fn mark_of(class: &Class) -> Mark
+    ensures { result ≡ mark_of class.now }
+{
+    match class {
+        Class::Success(_) => Mark::Success,
+        Class::Refusal { .. } => Mark::Refusal,
+        Class::Uncertain(_) => Mark::Uncertain,
+    }
+}
+
+fn tries(attempted: &Attempted) -> Tries
+    ensures { result ≡ marks_of attempted.now }
 {
     let mut tries = Tries::none();
-    match ending {
-        Ending::Memory => {}
-        _ => tries.add(mark(ending)),
+    if let Attempted::Made(class) = attempted {
+        tries.add(mark_of(class));
     }
     tries
 }
@@ -54,18 +63,40 @@ fn lost_cause(why: Why) -> Cause
     }
 }
 
-fn outcome(ending: Ending) -> Outcome
-    ensures { result ≡ outcome_of ending }
+fn outcome_of(attempted: Attempted) -> Outcome
+    ensures { result ≡ outcome_of attempted }
 {
-    match ending {
-        Ending::Stored => Outcome::Done,
-        Ending::Refused { code, message } => Outcome::Failed(Cause::Service {
+    match attempted {
+        Attempted::Made(Class::Success(_)) => Outcome::Done,
+        Attempted::Made(Class::Refusal { code, message }) => Outcome::Failed(Cause::Service {
             op: Op::Put,
             code,
             message,
         }),
-        Ending::Uncertain(why) => Outcome::Unknown(lost_cause(why)),
-        Ending::Memory => Outcome::Failed(Cause::Memory),
+        Attempted::Made(Class::Uncertain(why)) => Outcome::Unknown(lost_cause(why)),
+        Attempted::Memory => Outcome::Failed(Cause::Memory),
+    }
+}
+
+/// Carries the Put of these bytes, in one attempt.
+fn carry<W: Wire>(
+    alloc: Global,
+    wire: &mut W,
+    client: &mut Client,
+    ask: &Ask,
+    bytes: &[u8],
+) -> Attempted
+    requires { IsPut ask.now }
+    ensures carried { Gains (W.seen wire.old) (W.seen wire.new)
+        (Carried client.old.endpoint client.old.signer ask.now bytes.now result) }
+    ensures later { W.faults wire.old ≤ W.faults wire.new }
+{
+    let Ok(mut place) = Bytes::make(alloc, 0) else {
+        return Attempted::Memory;
+    };
+    match Payload::of(alloc, ask, bytes) {
+        Ok(payload) => attempt(alloc, wire, client, ask, &payload, None, &mut place, false),
+        Err(_) => Attempted::Memory,
     }
 }
 
@@ -74,8 +105,7 @@ pub fn upload<F: Files, W: Wire>(
     alloc: Global,
     files: &mut F,
     wire: &mut W,
-    endpoint: &Endpoint,
-    keys: &Keys,
+    client: &mut Client,
     ask: &Ask,
     path: &str,
     size: u64,
@@ -84,8 +114,8 @@ pub fn upload<F: Files, W: Wire>(
     requires put { IsPut ask.now }
     requires empty { journal.old.items ≡ [] }
     requires room { 2 ≤ journal.old.spare }
-    ensures went { Gains (W.seen wire.old) (W.seen wire.new) (Uploads endpoint.now keys.now ask.now (F.seen files.new)
-        path.now size (F.faults files.old) (F.faults files.new) journal.new.items result) }
+    ensures went { Gains (W.seen wire.old) (W.seen wire.new) (Uploads client.old.endpoint client.old.signer ask.now
+        (F.seen files.new) path.now size (F.faults files.old) (F.faults files.new) journal.new.items result) }
     ensures wants { WantsJournal (F.faults files.old) (F.faults files.new) result journal.new.items }
     ensures files { LooksAt path.now (F.seen files.old) (F.seen files.new) }
     ensures files_later { F.faults files.old ≤ F.faults files.new }
@@ -96,11 +126,11 @@ pub fn upload<F: Files, W: Wire>(
         Err(fault) => return Outcome::Failed(read_cause(fault)),
     };
     journal.push(Event::Given { job: PUT, lane: 0 });
-    let ending = carry(alloc, wire, endpoint, keys, ask, &bytes);
+    let attempted = carry(alloc, wire, client, ask, &bytes);
     journal.push(Event::Came {
         job: PUT,
         lane: 0,
-        tries: tries(&ending),
+        tries: tries(&attempted),
     });
-    outcome(ending)
+    outcome_of(attempted)
 }

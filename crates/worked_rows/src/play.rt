@@ -38,13 +38,28 @@ fn words(alloc: Global, line: &str) -> Result<Vec<String>, Fail> {
     Ok(words)
 }
 
-fn environment(alloc: Global, count: usize) -> Result<MemEnv, Fail> {
-    let mut env = MemEnv::make(alloc, S3_LIMITS);
-    for n in 0..count {
+/// The variables and the settings files of a row, which stand below `/h`.
+fn environment(alloc: Global, row: &Row) -> Result<MemEnv, Fail> {
+    let mut failing = Vec::new(alloc);
+    if row.unreadable {
+        failing.push(0)?;
+    }
+    let mut env = MemEnv::make_failing(alloc, S3_LIMITS, failing);
+    env.set(alloc, "HOME", "/h")?;
+    for n in 0..row.variables {
         let (name, value) = variable(n);
         env.set(alloc, name, value)?;
     }
+    put(alloc, &mut env, "/h/.aws/config", row.config)?;
+    put(alloc, &mut env, "/h/.aws/credentials", row.credentials)?;
     Ok(env)
+}
+
+fn put(alloc: Global, env: &mut MemEnv, path: &str, text: &str) -> Result<(), Fail> {
+    if !text.is_empty() {
+        env.put_file(alloc, path, text.as_bytes().to_vec(alloc)?)?;
+    }
+    Ok(())
 }
 
 /// The files of all rows.
@@ -68,7 +83,7 @@ where
     R: Threads + Wait + Clone + Send + Sync + Drop + 'static,
 {
     let words = words(alloc, row.words)?;
-    let mut env = environment(alloc, row.variables)?;
+    let mut env = environment(alloc, row)?;
     let mut files = files(alloc)?;
     let mut wires = vec![in alloc; wire(alloc, row.answer)?]?;
     let mut out = MemSink::make_failing(alloc, Vec::new(alloc), row.room);

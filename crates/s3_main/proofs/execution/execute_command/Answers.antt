@@ -1,5 +1,9 @@
 use Rattle.std.proofs.Common.{List, ℕ, subst, rules}
 use Rattle.upload_plans.specs.declared.plan.Fate.{Fate}
+use Rattle.s3_model.specs.declared.places.Endpoint.{Endpoint}
+use Rattle.s3_model.specs.declared.settings.Keys.{Keys}
+use Rattle.upload_promise.specs.Gains.{Gains}
+use Rattle.s3_main.specs.Executed.{MayUpload}
 use Rattle.upload_promise.specs.Sources.{LooksAt}
 use Rattle.upload_promise.proofs.SourceLemmas.{looks_both}
 use Rattle.s3_main.specs.Plans.{IsFate}
@@ -8,15 +12,19 @@ use Rattle.s3_main.proofs.execution.execute_command.Goals as goal
 
 pub returns-in-Ok-Upload-clause-went : goal.returns-in-Ok-Upload-clause-went
 returns-in-Ok-Upload-clause-went g c =
-    let fated = subst (λ (f : Fate). IsFate c.args.start.now.command c.args.start.now.settings c.args.limits.now (g.F.Files.seen c.args.files.now) f) c.in-Ok-Upload.field-0-is c.in-Ok-Upload.ensures.fate in
-    lemma.uploaded_goes c.args.start.now.command c.args.start.now.settings c.args.limits.now (g.F.Files.seen c.args.files.now) (g.F.Files.seen c.execute_upload.new.files)
+    let fated = subst (λ (f : Fate). IsFate c.args.start.command c.args.start.settings c.args.limits.now (g.F.Files.seen c.args.files.now) f) c.in-Ok-Upload.field-0-is c.in-Ok-Upload.ensures.fate in
+    lemma.uploaded_goes c.args.start.command c.args.start.settings c.args.limits.now (g.F.Files.seen c.args.files.now) (g.F.Files.seen c.execute_upload.new.files)
     (g.F.Files.faults c.args.files.now) (g.F.Files.faults c.find_fate.new.files) (g.F.Files.faults c.execute_upload.new.files) c.execute_upload.result.run c.in-Ok-Upload.task
-    c.in-Ok-Upload.ensures.later _ _ fated c.execute_upload.ensures.went
+    c.in-Ok-Upload.ensures.later _ _ fated
+    (subst (λ (endpoint : Endpoint). Gains (g.W.Wire.seen c.args.wire.now) (g.W.Wire.seen c.execute_upload.new.wire) (MayUpload endpoint c.args.start.settings.keys c.in-Ok-Upload.task
+    (g.F.Files.seen c.execute_upload.new.files) (g.F.Files.faults c.find_fate.new.files) (g.F.Files.faults c.execute_upload.new.files) c.execute_upload.result.run)) c.service_of.ensures.endpoint
+    (subst (λ (keys : Keys). Gains (g.W.Wire.seen c.args.wire.now) (g.W.Wire.seen c.execute_upload.new.wire) (MayUpload c.service_of.result.endpoint keys c.in-Ok-Upload.task
+    (g.F.Files.seen c.execute_upload.new.files) (g.F.Files.faults c.find_fate.new.files) (g.F.Files.faults c.execute_upload.new.files) c.execute_upload.result.run)) c.service_of.ensures.keys c.execute_upload.ensures.went))
 
 pub returns-in-Ok-Upload-clause-files : goal.returns-in-Ok-Upload-clause-files
 returns-in-Ok-Upload-clause-files g c =
-    let fated = subst (λ (f : Fate). IsFate c.args.start.now.command c.args.start.now.settings c.args.limits.now (g.F.Files.seen c.args.files.now) f) c.in-Ok-Upload.field-0-is c.in-Ok-Upload.ensures.fate in
-    let is = lemma.is_upload c.args.start.now.command c.args.start.now.settings c.args.limits.now (g.F.Files.seen c.args.files.now) c.in-Ok-Upload.task fated in
+    let fated = subst (λ (f : Fate). IsFate c.args.start.command c.args.start.settings c.args.limits.now (g.F.Files.seen c.args.files.now) f) c.in-Ok-Upload.field-0-is c.in-Ok-Upload.ensures.fate in
+    let is = lemma.is_upload c.args.start.command c.args.start.settings c.args.limits.now (g.F.Files.seen c.args.files.now) c.in-Ok-Upload.task fated in
     looks_both _ _ _ _ c.in-Ok-Upload.ensures.files
     (subst (λ (path : List ℕ). LooksAt path (g.F.Files.seen c.find_fate.new.files) (g.F.Files.seen c.execute_upload.new.files)) is.2 c.execute_upload.ensures.files)
 
@@ -30,10 +38,10 @@ returns-in-Ok g c =
     let none = c.end_with.ensures.no_task in
     let ended = c.end_with.ensures.ended in
     record {
-      went = lemma.ended_goes c.args.start.now.command c.args.start.now.settings c.args.limits.now was now before after after c.end_with.result.run (g.W.Wire.seen c.args.wire.now) c.in-Ok.fate none fated ended;
+      went = lemma.ended_goes c.args.start.command c.args.start.settings c.args.limits.now was now before after after c.end_with.result.run (g.W.Wire.seen c.args.wire.now) c.in-Ok.fate none fated ended;
       line = c.end_with.ensures.line;
-      stops = lemma.ended_stops c.args.start.now.command c.args.start.now.settings c.args.limits.now was now before after after c.end_with.result.run c.in-Ok.fate none fated ended;
-      does = lemma.ended_does c.args.start.now.command c.args.start.now.settings c.args.limits.now was now before after after c.end_with.result.run c.in-Ok.fate none fated ended;
+      stops = lemma.ended_stops c.args.start.command c.args.start.settings c.args.limits.now was now before after after c.end_with.result.run c.in-Ok.fate none fated ended;
+      does = lemma.ended_does c.args.start.command c.args.start.settings c.args.limits.now was now before after after c.end_with.result.run c.in-Ok.fate none fated ended;
       files = c.in-Ok.ensures.files;
       files_later = c.in-Ok.ensures.later;
       wire_later = search rules;
@@ -41,5 +49,5 @@ returns-in-Ok g c =
 
 pub returns-in-Err-clause-went : goal.returns-in-Err-clause-went
 returns-in-Err-clause-went g c =
-    lemma.unseen_goes c.args.start.now.command c.args.start.now.settings c.args.limits.now (g.F.Files.seen c.args.files.now) (g.F.Files.seen c.find_fate.new.files)
+    lemma.unseen_goes c.args.start.command c.args.start.settings c.args.limits.now (g.F.Files.seen c.args.files.now) (g.F.Files.seen c.find_fate.new.files)
     (g.F.Files.faults c.args.files.now) (g.F.Files.faults c.args.files.now) (g.F.Files.faults c.find_fate.new.files) c.end_early.result.run (g.W.Wire.seen c.args.wire.now) c.in-Err.fatal c.end_early.ensures.run
