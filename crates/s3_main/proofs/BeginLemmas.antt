@@ -1,5 +1,5 @@
 -- From the words and the settings to what the run shows.
-use Rattle.std.proofs.Common.{Err, Result, refl, ◌≡◌, ◌∙◌, ◌⊎◌, ℕ, List, [], ◌∷◌, Option, Some, None, IfSome, sym, ap, subst, inl, inr}
+use Rattle.std.proofs.Common.{Err, Result, refl, ◌≡◌, ◌∙◌, ◌⊎◌, ℕ, false, List, [], ◌∷◌, Option, Some, None, IfSome, sym, ap, subst, inl, inr}
 use Rattle.s3_model.specs.declared.places.Place.{Place}
 use Rattle.s3_model.specs.declared.settings.Limits.{Limits}
 use Rattle.s3_model.specs.declared.settings.Settings.{Settings}
@@ -14,7 +14,7 @@ use Rattle.s3_outside.specs.Files.{SeenFiles}
 use Rattle.s3_words.specs.declared.commands.Command.{Command}
 use Rattle.s3_words.specs.declared.commands.Verb.TheVariants as verb
 use Rattle.s3_words.specs.Commands.{IsCommand}
-use Rattle.upload_plans.specs.Commands.{path_at, source_path}
+use Rattle.upload_plans.specs.Commands.{is_presign, path_at, source_path}
 use Rattle.upload_promise.specs.Gains.{Gains}
 use Rattle.upload_promise.specs.Sources.{LooksAt}
 use Rattle.upload_promise.proofs.GainLemmas.{gains_as, gains_nothing}
@@ -92,18 +92,18 @@ module _ (words : List (List ℕ)) (env : Option SeenEnv) (env_before env_after 
 
   -- ---- a run that began
 
-  module _ (command : Command) (settings : Settings) (begun : IsBegun words env command settings) where
+  module _ (command : Command) (settings : Settings) (begun : IsBegun words env command settings) (copies : is_presign command.verb ≡ false) where
     goes : (talks : List Talk) (notes : List Note) → GoesOn command settings limits was now before after run talks notes → Goes talks notes
     goes talks notes (inl none) = inl none
     goes talks notes (inr (comes, fated, plan, works)) =
-        inr (record { command = command; settings = settings; comes = comes; begun = begun; fated = fated; plan = plan; works = works })
+        inr (inl (record { command = command; settings = settings; comes = comes; begun = begun; copies = copies; fated = fated; plan = plan; works = works }))
 
     pub begun_goes : (seen last : Option WireLog) → Gains seen last (GoesOn command settings limits was now before after run) → Gains seen last Goes
     begun_goes seen last gains = gains_as (GoesOn command settings limits was now before after run) Goes goes seen last gains
 
     stops : (why : Option Fatal) → IfSome why (StopsPlanning command settings limits was before after) → IfSome why Stops
     stops None h = tt
-    stops (Some why) h = inr (inr (command, settings, begun, h))
+    stops (Some why) h = inr (inr (command, settings, begun, copies, h))
 
     pub begun_stops : IfSome run.fatal (StopsPlanning command settings limits was before after) → IfSome run.fatal Stops
     begun_stops h = stops run.fatal h
@@ -111,4 +111,4 @@ module _ (words : List (List ℕ)) (env : Option SeenEnv) (env_before env_after 
     pub begun_does : DoesOn command settings limits before after run → Undertakes words limits before after run
     begun_does (inl none) = inl none
     begun_does (inr (comes, fated, plan, wants)) =
-        inr (record { command = command; settings = settings; comes = comes; reads = begun.reads; fated = fated; plan = plan; wants = wants })
+        inr (inl (record { command = command; settings = settings; comes = comes; reads = begun.reads; copies = copies; fated = fated; plan = plan; wants = wants }))

@@ -3,3 +3,4 @@ pub mod ExecutionLemmas
 pub mod OutputLemmas
 pub mod PromiseLemmas
 pub mod TopLemmas
+pub mod UrlLemmas

@@ -11,7 +11,11 @@ use Rattle.s3_model.specs.declared.settings.Limits.{Limits}
 use Rattle.s3_model.specs.declared.settings.Settings.{Settings}
 use Rattle.s3_model.specs.declared.tasks.Task.{Task}
 use Rattle.s3_model.specs.declared.tasks.Warning.{Warning}
-use Rattle.s3_model.specs.Talks.{Talk, Note}
+use Rattle.s3_model.specs.Talks.{Talk, Note, Moment, Began}
+use Rattle.upload_promise.specs.Puts.{AreIdle}
+use Rattle.upload_promise.proofs.JobLemmas.{only}
+use Rattle.upload_promise.proofs.WireLemmas.{none_idle}
+use Rattle.s3_main.specs.Urls.{IsPresigned}
 use Rattle.s3_model.specs.Validity.{IsValidConfig, IsValidLimits, IsWithin}
 use Rattle.s3_outside.specs.Env.{SeenEnv}
 use Rattle.s3_outside.specs.Files.{SeenFiles, shape_at}
@@ -77,6 +81,12 @@ no_untimed (fate.Skipped place why) = refl
 no_untimed fate.LeftOut = refl
 no_untimed (fate.Upload task) = refl
 
+moment_is_no_talk : (moment : ℕ) → Moment moment ≡ Began → ⊥
+moment_is_no_talk moment e = cc
+
+moment_idle : (moment : ℕ) → AreIdle (Moment moment ∷ [])
+moment_idle moment = record { no_talk = λ h. moment_is_no_talk moment (only (Moment moment) Began h); no_pause = refl }
+
 module _ (words : List (List ℕ)) (env : Option SeenEnv) (limits : Limits) (valid : IsValidLimits limits) (before after : ℕ) (run : Run) (talks : List Talk) (notes : List Note)
     (was now : SeenFiles) (same : now.store ≡ was.store) where
   abbrev path : List ℕ
@@ -89,9 +99,9 @@ module _ (words : List (List ℕ)) (env : Option SeenEnv) (limits : Limits) (val
       (shown_by settings.config limits run.status tasks outcomes journal of_talks of_notes was now)
 
   nothing : (endpoint : Endpoint) (settings : Settings) → IsValidConfig settings.config → (warnings : List Warning) → filter_map left_by warnings ≡ [] → filter_map untimed_by warnings ≡ []
-      → Keeps endpoint settings [] [] [] warnings [] []
-  nothing endpoint settings configured warnings left untimed =
-      promise.unplanned Shows HasStatus (text_of endpoint settings.keys) endpoint.host endpoint.port settings.config configured limits valid run.status before after path was now same warnings left untimed
+      → (of_notes : List Note) → AreIdle of_notes → Keeps endpoint settings [] [] [] warnings [] of_notes
+  nothing endpoint settings configured warnings left untimed of_notes idle =
+      promise.unplanned Shows HasStatus (text_of endpoint settings.keys) endpoint.host endpoint.port settings.config configured limits valid run.status before after path was now same warnings left untimed of_notes idle
 
   -- the lists of the run are these
   of_run : (endpoint : Endpoint) (settings : Settings) (tasks : List Task) (outcomes : List Outcome) (journal : List Event) (warnings : List Warning) (of_talks : List Talk) (of_notes : List Note)
@@ -112,7 +122,16 @@ module _ (words : List (List ℕ)) (env : Option SeenEnv) (limits : Limits) (val
     settings = some_settings;
     begun = λ some. absurd (some u.nothing.no_job);
     keeps = of_run nowhere some_settings [] [] [] [] [] [] u.nothing.no_task u.nothing.no_outcome u.nothing.no_job u.nothing.no_warning u.no_talk u.no_note
-        (nothing nowhere some_settings some_valid [] refl refl);
+        (nothing nowhere some_settings some_valid [] refl refl [] none_idle);
+  }
+
+  url_true : IsPresigned words env run talks notes → IsTrue words env limits before after run talks notes was now
+  url_true u = record {
+    endpoint = nowhere;
+    settings = some_settings;
+    begun = λ some. absurd (some u.taskless.no_job);
+    keeps = of_run nowhere some_settings [] [] [] [] [] (Moment u.moment ∷ []) u.taskless.no_task u.taskless.no_outcome u.taskless.no_job u.taskless.no_warning u.no_talk u.noted
+        (nothing nowhere some_settings some_valid [] refl refl (Moment u.moment ∷ []) (moment_idle u.moment));
   }
 
   module _ (command : Command) (settings : Settings) (begun : IsBegun words env command settings) where
@@ -129,7 +148,7 @@ module _ (words : List (List ℕ)) (env : Option SeenEnv) (limits : Limits) (val
     idle_true : (comes : Fate) → run.plan.tasks.items ≡ [] → run.warnings.items ≡ warnings_of comes → IsIdle run talks notes → IsTrue words env limits before after run talks notes was now
     idle_true comes tasks warnings idle =
         true_by (of_run endpoint settings [] [] [] (warnings_of comes) [] [] tasks idle.no_outcome idle.no_job warnings idle.no_talk idle.no_note
-        (nothing endpoint settings begun.valid (warnings_of comes) (no_left comes) (no_untimed comes)))
+        (nothing endpoint settings begun.valid (warnings_of comes) (no_left comes) (no_untimed comes) [] none_idle))
 
     -- a plan with its upload
     upload_true : (task : Task) → IsFate command settings limits (Some was) (fate.Upload task) → run.plan.tasks.items ≡ task ∷ [] → run.warnings.items ≡ []
@@ -164,5 +183,6 @@ pub all_true : (limits : Limits) → IsValidLimits limits → (run : Run) (talks
 all_true limits valid run talks notes words env was None before after looks goes = tt
 all_true limits valid run talks notes words env None (Some now) before after looks goes = tt
 all_true limits valid run talks notes words env (Some was) (Some now) before after looks (inl u) = unplanned_true words env limits valid before after run talks notes was now looks.0 u
-all_true limits valid run talks notes words env (Some was) (Some now) before after looks (inr p) =
+all_true limits valid run talks notes words env (Some was) (Some now) before after looks (inr (inr u)) = url_true words env limits valid before after run talks notes was now looks.0 u
+all_true limits valid run talks notes words env (Some was) (Some now) before after looks (inr (inl p)) =
     planned_true words env limits valid before after run talks notes was now looks.0 p.command p.settings p.begun p.comes p.fated p.plan p.works

@@ -17,6 +17,8 @@ use Rattle.s3_main.specs.declared.run.Fatal.{Fatal}
 use Rattle.s3_main.specs.declared.run.Fatal.TheVariants as fatal
 use Rattle.s3_main.specs.declared.run.Run.{Run}
 use Rattle.s3_main.specs.Begun.{mode_in}
+use Rattle.s3_main.specs.Executed.{HasLineOf}
+use Rattle.s3_main.specs.Urls.{IsOwn, IsTaskless}
 use Rattle.s3_main.specs.Plans.{HasPlan, IsIdle, Wants, Works, path_of, put_ask}
 use Rattle.s3_main.specs.Runs.{GoesAs, IsNothingPlanned, IsPrinted, IsPrintedAs, OnFirst, StopsFor, Undertakes}
 use Rattle.s3_main.specs.Texts.{IsLineOf, err_by, err_of, err_text, fatal_after, out_by, out_of, out_text}
@@ -44,6 +46,15 @@ module _ (work run : Run) (line : Result (Option Line) OutOfMemory) (r : IsRepor
   nothing : IsNothingPlanned work → IsNothingPlanned run
   nothing n = record {
     stopped = ap is_some r.fatal ∙ stays_stopped line work.fatal n.stopped;
+    no_task = ap (λ p. p.tasks.items) r.plan ∙ n.no_task;
+    no_skip = ap (λ p. p.warnings.items) r.plan ∙ n.no_skip;
+    no_warning = ap (λ w. w.items) r.warnings ∙ n.no_warning;
+    no_outcome = ap (λ o. o.items) r.outcomes ∙ n.no_outcome;
+    no_job = ap (λ j. j.items) r.journal ∙ n.no_job;
+  }
+
+  taskless : IsTaskless work → IsTaskless run
+  taskless n = record {
     no_task = ap (λ p. p.tasks.items) r.plan ∙ n.no_task;
     no_skip = ap (λ p. p.warnings.items) r.plan ∙ n.no_skip;
     no_warning = ap (λ w. w.items) r.warnings ∙ n.no_warning;
@@ -95,27 +106,40 @@ module _ (work run : Run) (line : Result (Option Line) OutOfMemory) (r : IsRepor
   module _ (words : List (List ℕ)) (env : Option SeenEnv) (env_before env_after : ℕ) (limits : Limits) (was now : Option SeenFiles) (before after : ℕ) where
     pub goes : (talks : List Talk) (notes : List Note) → GoesAs words env limits was now before after work talks notes → GoesAs words env limits was now before after run talks notes
     goes talks notes (inl u) = inl (record { nothing = nothing u.nothing; no_talk = u.no_talk; no_note = u.no_note })
-    goes talks notes (inr p) = inr (record {
+    goes talks notes (inr (inr u)) = inr (inr (record {
+      command = u.command;
+      settings = u.settings;
+      begun = u.begun;
+      presign = u.presign;
+      taskless = taskless u.taskless;
+      moment = u.moment;
+      no_talk = u.no_talk;
+      noted = u.noted;
+    }))
+    goes talks notes (inr (inl p)) = inr (inl (record {
       command = p.command;
       settings = p.settings;
       comes = p.comes;
       begun = p.begun;
+      copies = p.copies;
       fated = p.fated;
       plan = has_plan p.comes p.plan;
       works = works p.command.endpoint p.settings.keys now before after talks notes p.comes p.works;
-    })
+    }))
 
     pub does : Undertakes words limits before after work → Undertakes words limits before after run
     does (inl n) = inl (nothing n)
-    does (inr d) = inr (record {
+    does (inr (inr u)) = inr (inr (record { command = u.command; reads = u.reads; presign = u.presign; taskless = taskless u.taskless }))
+    does (inr (inl d)) = inr (inl (record {
       command = d.command;
       settings = d.settings;
       comes = d.comes;
       reads = d.reads;
+      copies = d.copies;
       fated = d.fated;
       plan = has_plan d.comes d.plan;
       wants = wants before after d.comes d.wants;
-    })
+    }))
 
     abbrev Stops : Fatal → Type 0
     Stops = StopsFor words env env_before env_after limits was before after
@@ -129,10 +153,10 @@ module _ (work run : Run) (line : Result (Option Line) OutOfMemory) (r : IsRepor
 
   -- ---- what was printed
 
-  module _ (words : List (List ℕ)) (out_before out_after err_before err_after : Option (List ℕ)) where
-    out_is : out_text words work ≡ out_by (mode_in words) work.fatal run.plan.tasks.items run.outcomes.items
-    out_is = subst (λ p. out_by (mode_in words) work.fatal work.plan.tasks.items work.outcomes.items ≡ out_by (mode_in words) work.fatal p.tasks.items run.outcomes.items) (sym r.plan)
-        (subst (λ o. out_by (mode_in words) work.fatal work.plan.tasks.items work.outcomes.items ≡ out_by (mode_in words) work.fatal work.plan.tasks.items o.items) (sym r.outcomes) refl)
+  module _ (words : List (List ℕ)) (env : Option SeenEnv) (before after : Option WireLog) (out_before out_after err_before err_after : Option (List ℕ)) where
+    out_is : (own : List ℕ) → out_text words own work ≡ out_by (mode_in words) own work.fatal run.plan.tasks.items run.outcomes.items
+    out_is own = subst (λ p. out_by (mode_in words) own work.fatal work.plan.tasks.items work.outcomes.items ≡ out_by (mode_in words) own work.fatal p.tasks.items run.outcomes.items) (sym r.plan)
+        (subst (λ o. out_by (mode_in words) own work.fatal work.plan.tasks.items work.outcomes.items ≡ out_by (mode_in words) own work.fatal work.plan.tasks.items o.items) (sym r.outcomes) refl)
 
     err_is : err_text words work ≡ err_by words (mode_in words) work.fatal run.plan.tasks.items run.outcomes.items run.warnings.items
     err_is = subst (λ p. err_text words work ≡ err_by words (mode_in words) work.fatal p.tasks.items run.outcomes.items run.warnings.items) (sym r.plan)
@@ -150,13 +174,18 @@ module _ (work run : Run) (line : Result (Option Line) OutOfMemory) (r : IsRepor
       memory = h.memory;
     }
 
-    printed_as : (of_line : Result (Option Line) OutOfMemory) → IsLineOf words work of_line → run.fatal ≡ fatal_after of_line work.fatal → OnErr of_line (run.status ≡ 70)
-        → Shows (out_of of_line) (err_of of_line) → Shows (out_text words run) (err_text words run)
-    printed_as (Err memory) h same ends shown = forgotten (out_text words run) (err_text words run) [] [] ends shown
-    printed_as (Ok of_line) h same ends shown =
-        let out = h.texts.0 ∙ (out_is ∙ ap (λ (f : Option Fatal). out_by (mode_in words) f run.plan.tasks.items run.outcomes.items) (sym same)) in
-        let err = h.texts.1 ∙ (err_is ∙ ap (λ (f : Option Fatal). err_by words (mode_in words) f run.plan.tasks.items run.outcomes.items run.warnings.items) (sym same)) in
-        subst (λ (text : List ℕ). Shows text (err_text words run)) out (subst (λ (text : List ℕ). Shows (out_of (Ok of_line)) text) err shown)
+    owns : (own : List ℕ) → run.fatal ≡ work.fatal → IsOwn words env before after work own → IsOwn words env before after run own
+    owns own same (inl nothing_own) = inl nothing_own
+    owns own same (inr (inl url)) = inr (inl url)
+    owns own same (inr (inr stopped)) = inr (inr (ap is_some same ∙ stopped))
 
-    pub printed : IsLineOf words work line → OnErr line (run.status ≡ 70) → Shows (out_of line) (err_of line) → IsPrinted words run out_before out_after err_before err_after
+    printed_as : (of_line : Result (Option Line) OutOfMemory) → HasLineOf words env before after work of_line → run.fatal ≡ fatal_after of_line work.fatal → OnErr of_line (run.status ≡ 70)
+        → Shows (out_of of_line) (err_of of_line) → IsPrinted words env before after run out_before out_after err_before err_after
+    printed_as (Err memory) (own, of_own, h) same ends shown = ([], inr (inr (ap is_some same)), forgotten (out_text words [] run) (err_text words run) [] [] ends shown)
+    printed_as (Ok of_line) (own, of_own, h) same ends shown =
+        let out = h.texts.0 ∙ (out_is own ∙ ap (λ (f : Option Fatal). out_by (mode_in words) own f run.plan.tasks.items run.outcomes.items) (sym same)) in
+        let err = h.texts.1 ∙ (err_is ∙ ap (λ (f : Option Fatal). err_by words (mode_in words) f run.plan.tasks.items run.outcomes.items run.warnings.items) (sym same)) in
+        (own, owns own same of_own, subst (λ (text : List ℕ). Shows text (err_text words run)) out (subst (λ (text : List ℕ). Shows (out_of (Ok of_line)) text) err shown))
+
+    pub printed : HasLineOf words env before after work line → OnErr line (run.status ≡ 70) → Shows (out_of line) (err_of line) → IsPrinted words env before after run out_before out_after err_before err_after
     printed h ends shown = printed_as line h r.fatal ends shown

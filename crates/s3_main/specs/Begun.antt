@@ -1,5 +1,5 @@
 -- How a run begins: its words are read, and then its settings.
-use Rattle.std.specs.Prelude.{◌≡◌, ℕ, true, false, List, Option, Some, None, IfSome}
+use Rattle.std.specs.Prelude.{◌≡◌, ◌⊎◌, ℕ, Bool, true, false, List, Option, Some, None, IfSome}
 use Rattle.s3_model.specs.declared.faults.WordFault.TheVariants as word_fault_of
 use Rattle.s3_model.specs.declared.settings.Settings.{Settings}
 use Rattle.s3_model.specs.declared.tasks.Mode.{Mode}
@@ -7,10 +7,11 @@ use Rattle.s3_model.specs.Counts.{Rose}
 use Rattle.s3_model.specs.Validity.{IsValidConfig}
 use Rattle.s3_outside.specs.Env.{SeenEnv}
 use Rattle.s3_words.specs.declared.commands.Command.{Command}
-use Rattle.s3_words.specs.Commands.{IsCommand, arguments_of, first_of, mode_of}
+use Rattle.s3_words.specs.declared.commands.Verb.{Verb}
+use Rattle.s3_words.specs.Commands.{IsCommand, arguments_of, first_of, mode_of, verb_of}
 use Rattle.s3_words.specs.Faults.{word_fault}
 use Rattle.s3_words.specs.Places.{places_in}
-use Rattle.upload_plans.specs.Commands.{is_unbuilt, path_at}
+use Rattle.upload_plans.specs.Commands.{is_presign, is_unbuilt, path_at}
 use Rattle.s3_main.specs.declared.run.Fatal.{Fatal}
 use Rattle.s3_main.specs.declared.run.Fatal.TheVariants as fatal
 use Rattle.s3_main.specs.Settings.{AreSettings, RefusesSettings}
@@ -22,6 +23,14 @@ mode_in words = mode_of (arguments_of words)
 -- the first path of the words, where it is a local one
 abbrev pub path_in : (words : List (List ℕ)) → List ℕ
 path_in words = path_at (first_of (places_in (arguments_of words)))
+
+abbrev pub presigns : Option Verb → Bool
+presigns None = false
+presigns (Some of_verb) = is_presign of_verb
+
+-- the words ask for a URL
+abbrev pub shows_url : (words : List (List ℕ)) → Bool
+shows_url words = presigns (verb_of words)
 
 -- the words have no fault, and ask for this command, which the program does
 pub record IsRead (words : List (List ℕ)) (command : Command) : Type 0 where

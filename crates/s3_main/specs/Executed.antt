@@ -8,9 +8,12 @@ use Rattle.s3_model.specs.declared.settings.Limits.{Limits}
 use Rattle.s3_model.specs.declared.settings.Settings.{Settings}
 use Rattle.s3_model.specs.declared.tasks.Task.{Task}
 use Rattle.s3_model.specs.Counts.{Rose}
-use Rattle.s3_model.specs.Talks.{Talk, Note}
+use Rattle.result_lines.specs.declared.tasks.Line.{Line}
+use Rattle.s3_model.specs.Talks.{Talk, Note, Moment, WireLog}
+use Rattle.s3_outside.specs.Env.{SeenEnv}
 use Rattle.s3_outside.specs.Files.{SeenFiles}
 use Rattle.s3_words.specs.declared.commands.Command.{Command}
+use Rattle.upload_promise.specs.Gains.{Gains}
 use Rattle.upload_plans.specs.declared.plan.Fate.{Fate}
 use Rattle.upload_plans.specs.declared.plan.Fate.TheVariants as fate
 use Rattle.s3_main.specs.declared.execution.Executed.{Executed}
@@ -19,6 +22,8 @@ use Rattle.s3_main.specs.declared.run.Fatal.TheVariants as fatal
 use Rattle.s3_main.specs.declared.run.Run.{Run}
 use Rattle.s3_main.specs.Plans.{HasNoTask, HasOneOutcome, HasPlan, HasUploaded, IsFate, Wants, Works, skips_of, warnings_of}
 use Rattle.s3_main.specs.Runs.{IsNothingPlanned, IsUnplanned}
+use Rattle.s3_main.specs.Texts.{HasTexts, IsLineOf}
+use Rattle.s3_main.specs.Urls.{IsOwn, url_line}
 
 abbrev pub HasNoUpload : Fate → Type 0
 HasNoUpload (fate.Upload task) = ⊥
@@ -79,3 +84,20 @@ GoesOn command settings limits was now before after run talks notes =
 abbrev pub DoesOn : Command → Settings → Limits → (faults_before faults_after : ℕ) → Run → Type 0
 DoesOn command settings limits before after run =
     IsNothingPlanned run ⊎ ((comes : Fate) × IsFate command settings limits None comes × HasPlan comes run × Wants comes before after run)
+
+-- ---- a URL
+
+abbrev pub IsMoment : (moment : ℕ) → List Talk → List Note → Type 0
+IsMoment moment talks notes = (talks ≡ []) × (notes ≡ Moment moment ∷ [])
+
+-- the wire was asked for its moment, and the line is that of the URL, unless memory ran out
+pub record MakesLine (words : List (List ℕ)) (command : Command) (settings : Settings) (before after : Option WireLog)
+    (run : Run) (line : Result (Option Line) OutOfMemory) : Type 0 where
+  pub moment : ℕ
+  pub noted : Gains before after (IsMoment moment)
+  pub made : (EndsForMemory run × IsLineOf words [] run line)
+      ⊎ (HasNoTask None [] [] run × HasTexts (url_line command settings moment) [] line)
+
+-- the line that is due, with what the command is there to show
+abbrev pub HasLineOf : (words : List (List ℕ)) → Option SeenEnv → (before after : Option WireLog) → Run → Result (Option Line) OutOfMemory → Type 0
+HasLineOf words env before after run line = (own : List ℕ) × IsOwn words env before after run own × IsLineOf words own run line

@@ -6,3 +6,4 @@ pub mod Rooms
 pub mod Runs
 pub mod Settings
 pub mod Texts
+pub mod Urls

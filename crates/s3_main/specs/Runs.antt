@@ -1,5 +1,5 @@
 -- What a run comes to: its status, what it prints, and what it promises.
-use Rattle.std.specs.Prelude.{◌≡◌, ◌≢◌, ◌⊎◌, ℕ, true, List, [], ◌∷◌, Option, Some, None, IfSome, is_some, length}
+use Rattle.std.specs.Prelude.{◌≡◌, ◌≢◌, ◌⊎◌, ℕ, true, false, List, [], ◌∷◌, Option, Some, None, IfSome, is_some, length}
 use Rattle.result_lines.specs.Faults.{memory_line}
 use Rattle.result_lines.specs.Tasks.{status_of}
 use Rattle.s3_model.specs.declared.faults.WalkFault.TheVariants as walk
@@ -9,14 +9,14 @@ use Rattle.s3_model.specs.declared.settings.Limits.{Limits}
 use Rattle.s3_model.specs.declared.settings.Settings.{Settings}
 use Rattle.s3_model.specs.declared.tasks.Warning.{Warning}
 use Rattle.s3_model.specs.Counts.{Rose}
-use Rattle.s3_model.specs.Talks.{Talk, Note}
+use Rattle.s3_model.specs.Talks.{Talk, Note, WireLog}
 use Rattle.s3_outside.specs.Env.{SeenEnv}
 use Rattle.s3_outside.specs.Files.{SeenFiles, shape_at}
 use Rattle.s3_outside.specs.declared.files.Shape.{Shape}
 use Rattle.s3_words.specs.declared.commands.Command.{Command}
 use Rattle.answer_classes.specs.Showing.{HasStatus, Shows}
 use Rattle.attempts.specs.Attempts.{text_of}
-use Rattle.upload_plans.specs.Commands.{source_path}
+use Rattle.upload_plans.specs.Commands.{is_presign, source_path}
 use Rattle.upload_plans.specs.Plans.{is_large}
 use Rattle.upload_plans.specs.declared.plan.Fate.{Fate}
 use Rattle.upload_plans.specs.declared.plan.Fate.TheVariants as fate
@@ -28,6 +28,7 @@ use Rattle.s3_main.specs.Begun.{IsBegun, IsRead, StopsInSettings, StopsInWords, 
 use Rattle.s3_main.specs.Plans.{HasPlan, IsFate, Wants, Works}
 use Rattle.s3_main.specs.Printed.{Prints, PrintsFront}
 use Rattle.s3_main.specs.Texts.{err_text, out_text}
+use Rattle.s3_main.specs.Urls.{IsOwn, IsPresigned, IsTaskless}
 
 -- ---- the status
 
@@ -61,8 +62,12 @@ pub record IsPrintedAs (status : ℕ) (out err : List ℕ) (out_before out_after
   pub front : status ≢ 70 → PrintsFront out_before out_after out × PrintsFront err_before err_after err
   pub memory : status ≡ 70 → Prints out_before out_after [] × PrintsFront err_before err_after memory_line
 
-abbrev pub IsPrinted : (words : List (List ℕ)) → Run → (out_before out_after err_before err_after : Option (List ℕ)) → Type 0
-IsPrinted words run = IsPrintedAs run.status (out_text words run) (err_text words run)
+-- with what the command is there to show
+abbrev pub IsPrinted : (words : List (List ℕ)) → Option SeenEnv → (before after : Option WireLog) → Run
+    → (out_before out_after err_before err_after : Option (List ℕ)) → Type 0
+IsPrinted words env before after run out_before out_after err_before err_after =
+    (own : List ℕ) × IsOwn words env before after run own
+    × IsPrintedAs run.status (out_text words own run) (err_text words run) out_before out_after err_before err_after
 
 -- ---- why a run ended before its task
 
@@ -77,7 +82,7 @@ StopsPlanning command settings limits files before after other = ⊥
 
 abbrev pub StopsInPlan : (words : List (List ℕ)) → Option SeenEnv → Limits → Option SeenFiles → (faults_before faults_after : ℕ) → Fatal → Type 0
 StopsInPlan words env limits files before after why =
-    (command : Command) × (settings : Settings) × IsBegun words env command settings × StopsPlanning command settings limits files before after why
+    (command : Command) × (settings : Settings) × IsBegun words env command settings × (is_presign command.verb ≡ false) × StopsPlanning command settings limits files before after why
 
 -- in its words, in its settings, or in its plan
 abbrev pub StopsFor : (words : List (List ℕ)) → Option SeenEnv → (env_before env_after : ℕ) → Limits → Option SeenFiles → (faults_before faults_after : ℕ) → Fatal → Type 0
@@ -108,14 +113,16 @@ pub record IsPlanned (words : List (List ℕ)) (env : Option SeenEnv) (limits : 
   pub settings : Settings
   pub comes : Fate
   pub begun : IsBegun words env command settings
+  pub copies : is_presign command.verb ≡ false
   pub fated : IsFate command settings limits was comes
   pub plan : HasPlan comes run
   pub works : Works comes command.endpoint settings.keys now faults_before faults_after run talks notes
 
--- no plan was made, or one was
+-- no plan was made, or one was, or a URL
 abbrev pub GoesAs : (words : List (List ℕ)) → Option SeenEnv → Limits → (was now : Option SeenFiles) → (faults_before faults_after : ℕ) → Run → List Talk → List Note → Type 0
 GoesAs words env limits was now before after run talks notes =
     IsUnplanned run talks notes ⊎ IsPlanned words env limits was now before after run talks notes
+    ⊎ IsPresigned words env run talks notes
 
 -- ---- what needs no look at wires, files and variables
 
@@ -124,12 +131,21 @@ pub record IsSomePlanned (words : List (List ℕ)) (limits : Limits) (faults_bef
   pub settings : Settings
   pub comes : Fate
   pub reads : IsRead words command
+  pub copies : is_presign command.verb ≡ false
   pub fated : IsFate command settings limits None comes
   pub plan : HasPlan comes run
   pub wants : Wants comes faults_before faults_after run
 
+-- a URL is made, and there is no task
+pub record MakesUrl (words : List (List ℕ)) (run : Run) : Type 0 where
+  pub command : Command
+  pub reads : IsRead words command
+  pub presign : is_presign command.verb ≡ true
+  pub taskless : IsTaskless run
+
 abbrev pub Undertakes : (words : List (List ℕ)) → Limits → (faults_before faults_after : ℕ) → Run → Type 0
-Undertakes words limits before after run = IsNothingPlanned run ⊎ IsSomePlanned words limits before after run
+Undertakes words limits before after run =
+    IsNothingPlanned run ⊎ IsSomePlanned words limits before after run ⊎ MakesUrl words run
 
 -- ---- the promise
 

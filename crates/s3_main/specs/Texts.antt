@@ -58,9 +58,10 @@ HasLine (fatal.Listing fault) = IsListingFault fault
 HasLine (fatal.Answer cause) = causes.IsShown cause
 HasLine why = Unit {0}
 
-abbrev pub out_by : Mode → Option Fatal → List Task → List Outcome → List ℕ
-out_by mode (Some why) tasks outcomes = []
-out_by mode None tasks outcomes = out_lines mode tasks outcomes
+-- `own` is what the command is there to show, before the lines of its tasks
+abbrev pub out_by : Mode → (own : List ℕ) → Option Fatal → List Task → List Outcome → List ℕ
+out_by mode own (Some why) tasks outcomes = []
+out_by mode own None tasks outcomes = own ++ out_lines mode tasks outcomes
 
 -- Warnings stand before the lines of tasks. The line of a run that ended early is printed under `--quiet`, too.
 abbrev pub err_by : (words : List (List ℕ)) → Mode → Option Fatal → List Task → List Outcome → List Warning → List ℕ
@@ -68,8 +69,8 @@ err_by words mode (Some why) tasks outcomes warnings = ending_line words why
 err_by words mode None tasks outcomes warnings = warning_lines mode warnings ++ err_lines mode tasks outcomes
 
 -- what goes to standard output, and to standard error
-abbrev pub out_text : (words : List (List ℕ)) → Run → List ℕ
-out_text words run = out_by (mode_in words) run.fatal run.plan.tasks.items run.outcomes.items
+abbrev pub out_text : (words : List (List ℕ)) → (own : List ℕ) → Run → List ℕ
+out_text words own run = out_by (mode_in words) own run.fatal run.plan.tasks.items run.outcomes.items
 
 abbrev pub err_text : (words : List (List ℕ)) → Run → List ℕ
 err_text words run =
@@ -87,8 +88,8 @@ abbrev pub MatchesFatal : Option Fatal → Result (Option Line) OutOfMemory → 
 MatchesFatal why (Ok line) = why ≢ Some fatal.Memory
 MatchesFatal why (Err memory) = Unit {0}
 
-pub record IsLineOf (words : List (List ℕ)) (run : Run) (line : Result (Option Line) OutOfMemory) : Type 0 where
-  pub texts : HasTexts (out_text words run) (err_text words run) line
+pub record IsLineOf (words : List (List ℕ)) (own : List ℕ) (run : Run) (line : Result (Option Line) OutOfMemory) : Type 0 where
+  pub texts : HasTexts (out_text words own run) (err_text words run) line
   pub no_memory : MatchesFatal run.fatal line
 
 -- ---- what is printed of it

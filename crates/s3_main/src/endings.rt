@@ -3,7 +3,7 @@
 ghost use Rattle.std.specs.Prelude.{◌≡◌, [], ◌∷◌, None, Some, IfOk, map, string_bytes};
 ghost use Rattle.result_lines.specs.Warnings.{IsShown};
 ghost use Rattle.s3_main.specs.Plans.{HasNoTask};
-ghost use Rattle.s3_main.specs.Texts.{HasLine, HasTexts, IsLineOf, warning_lines};
+ghost use Rattle.s3_main.specs.Texts.{HasLine, HasTexts, IsLineOf, err_part, out_part, warning_lines};
 
 use crate::execution::Executed;
 use crate::run::{Fatal, Run};
@@ -35,7 +35,7 @@ fn idle_run(alloc: Global, fatal: Option<Fatal>, skips: Warnings, warnings: Warn
 /// Ends a run before its plan.
 pub(crate) fn end_early(alloc: Global, words: &[String], fatal: Fatal) -> Executed
     requires { HasLine fatal }
-    ensures line { IsLineOf (map string_bytes words.now) result.run result.line }
+    ensures line { IsLineOf (map string_bytes words.now) [] result.run result.line }
     ensures run { HasNoTask (Some fatal) [] [] result.run }
 {
     let line = match ending_line(alloc, words, &fatal) {
@@ -58,6 +58,18 @@ pub(crate) fn end_idle(alloc: Global) -> Executed
     Executed {
         run: idle_run(alloc, None, skips, Warnings::make(alloc)),
         line: Ok(None),
+    }
+}
+
+/// A run that shows one line.
+pub(crate) fn end_with_line(alloc: Global, line: Line) -> Executed
+    ensures line { HasTexts (out_part (Some line)) (err_part (Some line)) result.line }
+    ensures run { HasNoTask None [] [] result.run }
+{
+    let skips = Warnings::make(alloc);
+    Executed {
+        run: idle_run(alloc, None, skips, Warnings::make(alloc)),
+        line: Ok(Some(line)),
     }
 }
 

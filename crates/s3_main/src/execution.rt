@@ -1,6 +1,6 @@
 //! What the words say is planned and done; nothing is printed here.
 
-ghost use Rattle.std.specs.Prelude.{◌≡◌, ◌≤◌, IfErr, IfOk, IfSome, map, string_bytes};
+ghost use Rattle.std.specs.Prelude.{◌≡◌, ◌≤◌, [], true, false, IfErr, IfOk, IfSome, map, string_bytes};
 ghost use Rattle.result_lines.specs.Tasks.{HasSource};
 ghost use Rattle.s3_model.specs.Validity.{IsValidLimits};
 ghost use Rattle.upload_plans.specs.Commands.{CopiesUp, source_path};
@@ -8,7 +8,7 @@ ghost use Rattle.upload_plans.specs.Plans.{HasNoMemory};
 ghost use Rattle.upload_promise.specs.Gains.{Gains};
 ghost use Rattle.upload_promise.specs.Sources.{LooksAt};
 ghost use Rattle.s3_main.specs.Begun.{mode_in, path_in};
-ghost use Rattle.s3_main.specs.Executed.{DoesOn, EndsAs, GoesOn, HasNoUpload, IsUnseen, MayUpload, MayWant, OrMemory};
+ghost use Rattle.s3_main.specs.Executed.{DoesOn, EndsAs, GoesOn, HasLineOf, HasNoUpload, IsUnseen, MayUpload, MayWant, OrMemory};
 ghost use Rattle.s3_main.specs.Plans.{IsFate, IsUpload, path_of};
 ghost use Rattle.s3_main.specs.Runs.{GoesAs, StopsFor, StopsPlanning, Undertakes};
 ghost use Rattle.s3_main.specs.Settings.{AsksOnly};
@@ -18,11 +18,12 @@ use crate::endings::{end_early, end_idle, end_not_a_file, end_skipped};
 use crate::run::{Fatal, Run};
 use crate::start::{Service, Start, read_start, service_of};
 use crate::task::{do_task, prepare};
+use crate::url::execute_presign;
 use result_lines::Line;
 use s3_model::{Limits, Mode, OutOfMemory, Task, WalkFault};
 use s3_outside::{Env, Files, Wire};
 use std::alloc::Global;
-use upload_plans::{Fate, places_of, plan_upload};
+use upload_plans::{Fate, is_presign, places_of, plan_upload};
 
 /// A run before anything is printed, and the line that is to be, if there is one.
 #[derive(Drop)]
@@ -58,7 +59,7 @@ fn find_fate<F: Files>(
 
 fn or_memory(alloc: Global, words: &[String], ended: Result<Executed, OutOfMemory>) -> Executed
     ensures ended { OrMemory ended result }
-    ensures line { IfErr ended (λ _. IsLineOf (map string_bytes words.now) result.run result.line) }
+    ensures line { IfErr ended (λ _. IsLineOf (map string_bytes words.now) [] result.run result.line) }
 {
     match ended {
         Ok(ended) => ended,
@@ -73,7 +74,7 @@ fn end_with(alloc: Global, words: &[String], mode: Mode, fate: Fate) -> Executed
     requires mode { mode ≡ mode_in (map string_bytes words.now) }
     ensures no_task { HasNoUpload fate }
     ensures ended { EndsAs fate result.run }
-    ensures line { IsLineOf (map string_bytes words.now) result.run result.line }
+    ensures line { IsLineOf (map string_bytes words.now) [] result.run result.line }
 {
     match fate {
         Fate::NotYet => end_early(alloc, words, Fatal::NotYet),
@@ -102,7 +103,7 @@ fn execute_upload<W: Wire, F: Files>(
     requires mode { mode ≡ mode_in (map string_bytes words.now) }
     ensures went { Gains (W.seen wire.old) (W.seen wire.new) (MayUpload service.endpoint service.keys task
         (F.seen files.new) (F.faults files.old) (F.faults files.new) result.run) }
-    ensures line { IsLineOf (map string_bytes words.now) result.run result.line }
+    ensures line { IsLineOf (map string_bytes words.now) [] result.run result.line }
     ensures does { MayWant task (F.faults files.old) (F.faults files.new) result.run }
     ensures files { LooksAt (path_of task) (F.seen files.old) (F.seen files.new) }
     ensures files_later { F.faults files.old ≤ F.faults files.new }
@@ -127,7 +128,7 @@ fn execute_command<W: Wire, F: Files>(
     requires mode { start.command.mode ≡ mode_in (map string_bytes words.now) }
     ensures went { Gains (W.seen wire.old) (W.seen wire.new) (GoesOn start.command start.settings limits.now
         (F.seen files.old) (F.seen files.new) (F.faults files.old) (F.faults files.new) result.run) }
-    ensures line { IsLineOf (map string_bytes words.now) result.run result.line }
+    ensures line { IsLineOf (map string_bytes words.now) [] result.run result.line }
     ensures stops { IfSome result.run.fatal (StopsPlanning start.command start.settings limits.now (F.seen files.old)
         (F.faults files.old) (F.faults files.new)) }
     ensures does { DoesOn start.command start.settings limits.now (F.faults files.old) (F.faults files.new)
@@ -156,7 +157,8 @@ pub(crate) fn execute<W: Wire, F: Files, E: Env>(
 ) -> Executed
     ensures went { Gains (W.seen wire.old) (W.seen wire.new) (GoesAs (map string_bytes words.now) (E.seen env.new)
         (E.allows env.old) (F.seen files.old) (F.seen files.new) (F.faults files.old) (F.faults files.new) result.run) }
-    ensures line { IsLineOf (map string_bytes words.now) result.run result.line }
+    ensures line { HasLineOf (map string_bytes words.now) (E.seen env.new) (W.seen wire.old) (W.seen wire.new) result.run
+        result.line }
     ensures stops { IfSome result.run.fatal (StopsFor (map string_bytes words.now) (E.seen env.new) (E.faults env.old)
         (E.faults env.new) (E.allows env.old) (F.seen files.old) (F.faults files.old) (F.faults files.new)) }
     ensures does { Undertakes (map string_bytes words.now) (E.allows env.old) (F.faults files.old) (F.faults files.new)
@@ -170,6 +172,7 @@ pub(crate) fn execute<W: Wire, F: Files, E: Env>(
 {
     let limits = env.limits();
     match read_start(alloc, words, env) {
+        Ok(start) if is_presign(start.command.verb) => execute_presign(alloc, words, &start, wire),
         Ok(start) => execute_command(alloc, words, start, &limits, files, wire),
         Err(fatal) => end_early(alloc, words, fatal),
     }

@@ -10,6 +10,7 @@ mod start;
 mod task;
 mod texts;
 mod top;
+mod url;
 
 pub use run::{Fatal, Run};
 pub use top::run_s3;

@@ -18,7 +18,8 @@ use std::thread::Threads;
 
 /// Does what the words of a command line say, which follow the program's name, and prints what it came to.
 ///
-/// By now it does `cp` of one local file to an object, which goes up in one Put (Amazon S3 API Reference, "PutObject")
+/// By now it does `presign`, which prints a URL from the first wire's moment on and makes no talk, and `cp` of one local
+/// file to an object, which goes up in one Put (Amazon S3 API Reference, "PutObject")
 /// that is tried once, over the first wire. The other commands, a file of the settings' threshold or more, trees and dry
 /// runs are refused with 252, and so are faulty words (AWS CLI Command Reference, `s3`). The status is 253 where the
 /// settings are refused or a file of them was not read; 0 where the file is copied or left out by a filter; 1 where it failed, where nobody can know,
@@ -59,8 +60,9 @@ where
         (E.faults env.new) (E.allows env.old) (F.seen files.old) (F.faults files.old) (F.faults files.new)) }
     ensures status { EndsWith result
         (Rose (O.faults out.old) (O.faults out.new) ⊎ Rose (X.faults err.old) (X.faults err.new)) }
-    ensures printed { IsPrinted (map string_bytes words.now) result (O.seen out.old) (O.seen out.new) (X.seen err.old)
-        (X.seen err.new) }
+    ensures printed { OnFirst wires.old.items wires.new.items (λ before after.
+        IsPrinted (map string_bytes words.now) (E.seen env.new) (W.seen before) (W.seen after) result
+        (O.seen out.old) (O.seen out.new) (X.seen err.old) (X.seen err.new)) }
 
     // What needs no look at wires, files and variables: the plan and its warnings as the words say, the outcome and the
     // jobs that it wants.

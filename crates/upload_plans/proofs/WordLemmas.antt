@@ -1,5 +1,5 @@
 -- A command that is done by now copies a local file to an object.
-use Rattle.std.proofs.Common.{◌≡◌, ◌∙◌, ◌||◌, ℕ, Bool, true, false, not, List, [], ◌∷◌, Option, Some, None, refl, sym, ap, subst, length, if◌then◌else◌, arith}
+use Rattle.std.proofs.Common.{◌≡◌, ◌∙◌, ◌&&◌, ◌||◌, ℕ, Bool, true, false, not, List, [], ◌∷◌, Option, Some, None, refl, sym, ap, subst, length, if◌then◌else◌, arith}
 use Rattle.std.specs.Option.{option_or}
 use Rattle.s3_model.specs.declared.faults.WordFault.{WordFault}
 use Rattle.s3_model.specs.declared.places.Place.{Place}
@@ -14,7 +14,7 @@ use Rattle.s3_words.specs.Faults.{command_fault, count_fault, endpoint_missing, 
 use Rattle.s3_words.specs.Given.{is_given}
 use Rattle.s3_words.specs.Places.{is_pair, is_right_count, places_in}
 use Rattle.s3_words.specs.Roles.{roles}
-use Rattle.upload_plans.specs.Commands.{CopiesUp, IsFile, IsObject, is_copy, is_unbuilt, reads_object}
+use Rattle.upload_plans.specs.Commands.{CopiesUp, IsFile, IsObject, NamesObject, is_copy, is_presign, is_unbuilt, is_unbuilt_copy, reads_object}
 
 some_is_none : {X : Type 0} (x : X) → Some x ≡ None → ⊥
 some_is_none x e = cc
@@ -34,10 +34,16 @@ holds : {X : Type 0} (b : Bool) (x : X) → (if b then None else Some x) ≡ Non
 holds true x e = refl
 holds false x e = absurd (some_is_none x e)
 
-none_of : (a b c d : Bool) → (not a || b || c || d) ≡ false → (a ≡ true) × (b ≡ false)
-none_of true false c d e = (refl, refl)
-none_of true true c d e = absurd (true_is_false e)
-none_of false b c d e = absurd (true_is_false e)
+none_of : (a b c : Bool) → (a || b || c) ≡ false → a ≡ false
+none_of false b c e = refl
+none_of true b c e = absurd (true_is_false e)
+
+-- a command that is done is one of the two
+built_copy : (presign copy unbuilt : Bool) → (not presign && (not copy || unbuilt)) ≡ false → presign ≡ false → (copy ≡ true) × (unbuilt ≡ false)
+built_copy false true false e other = (refl, refl)
+built_copy false true true e other = absurd (true_is_false e)
+built_copy false false unbuilt e other = absurd (true_is_false e)
+built_copy true copy unbuilt e other = absurd (true_is_false other)
 
 two : (recursive : Bool) (a b : Place) → reads_object (Some a) ≡ false → is_pair verb.Cp recursive (a ∷ b ∷ []) ≡ true → IsFile (Some a) × IsObject (Some b)
 two recursive (place.Object bucket key) b reads pair = absurd (true_is_false reads)
@@ -52,18 +58,41 @@ places_fit verb.Cp recursive (a ∷ b ∷ []) copy reads count pair = two recurs
 places_fit verb.Cp recursive (a ∷ b ∷ c ∷ rest) copy reads count pair = absurd (grind (arith, count))
 places_fit of_verb recursive places copy reads count pair = absurd (false_is_true copy)
 
-pub copies_up : (words : List (List ℕ)) (command : Command) → word_fault words ≡ None → IsCommand words command → is_unbuilt command ≡ false → CopiesUp command
-copies_up [] command right is_command built = absurd (some_is_none _ right)
-copies_up (word ∷ words) command right is_command built =
+-- what is right of the paths of words without a fault
+right_paths : (word : List ℕ) (words : List (List ℕ)) (command : Command) → word_fault (word ∷ words) ≡ None → IsCommand (word ∷ words) command
+    → (is_right_count command.verb (length (places_in (roles Anything words))) ≡ true) × (is_pair command.verb (is_given Recursive (roles Anything words)) (places_in (roles Anything words)) ≡ true)
+right_paths word words command right is_command =
     let places : List Place = places_in (roles Anything words) in
     let recursive : Bool = is_given Recursive (roles Anything words) in
     let whole : option_or (first_fault command.verb 1 [] (roles Anything words)) (whole_fault command.verb (roles Anything words)) ≡ None =
     subst (λ (v : Option Verb). command_fault v words ≡ None) is_command.verb right in
     let paths = neither (count_fault command.verb places) (option_or (pair_fault command.verb recursive places) (endpoint_missing (roles Anything words))) (neither _ _ whole).1 in
     let pair = (neither (pair_fault command.verb recursive places) (endpoint_missing (roles Anything words)) paths.1).0 in
-    let done = none_of (is_copy command.verb) (reads_object command.from) command.recursive command.mode.dryrun built in
-    let fit = places_fit command.verb recursive places done.0 (ap reads_object (sym is_command.asks.from) ∙ done.1) (holds _ _ paths.0) (holds _ _ pair) in
+    (holds _ _ paths.0, holds _ _ pair)
+
+pub copies_up : (words : List (List ℕ)) (command : Command) → word_fault words ≡ None → IsCommand words command → is_unbuilt command ≡ false → is_presign command.verb ≡ false → CopiesUp command
+copies_up [] command right is_command built other = absurd (some_is_none _ right)
+copies_up (word ∷ words) command right is_command built other =
+    let places : List Place = places_in (roles Anything words) in
+    let paths = right_paths word words command right is_command in
+    let copy = built_copy (is_presign command.verb) (is_copy command.verb) (is_unbuilt_copy command) built other in
+    let reads = none_of (reads_object command.from) command.recursive command.mode.dryrun copy.1 in
+    let fit = places_fit command.verb (is_given Recursive (roles Anything words)) places copy.0 (ap reads_object (sym is_command.asks.from) ∙ reads) paths.0 paths.1 in
     record {
       from = subst (λ (at : Option Place). IsFile at) (sym is_command.asks.from) fit.0;
       to = subst (λ (at : Option Place). IsObject at) (sym is_command.asks.to) fit.1;
     }
+
+-- the one path of `presign`
+one_object : (of_verb : Verb) (recursive : Bool) (places : List Place) → is_presign of_verb ≡ true → is_right_count of_verb (length places) ≡ true → is_pair of_verb recursive places ≡ true → IsObject (first_of places)
+one_object verb.Presign recursive [] presign count pair = absurd (false_is_true count)
+one_object verb.Presign recursive (place.Object bucket key ∷ []) presign count pair = tt
+one_object verb.Presign recursive (place.File path ∷ []) presign count pair = absurd (false_is_true pair)
+one_object verb.Presign recursive (a ∷ b ∷ rest) presign count pair = absurd (grind (arith, count))
+one_object of_verb recursive places presign count pair = absurd (false_is_true presign)
+
+pub names_object : (words : List (List ℕ)) (command : Command) → word_fault words ≡ None → IsCommand words command → is_presign command.verb ≡ true → NamesObject command
+names_object [] command right is_command presign = absurd (some_is_none _ right)
+names_object (word ∷ words) command right is_command presign =
+    let paths = right_paths word words command right is_command in
+    subst (λ (at : Option Place). IsObject at) (sym is_command.asks.from) (one_object command.verb (is_given Recursive (roles Anything words)) (places_in (roles Anything words)) presign paths.0 paths.1)

@@ -1,5 +1,5 @@
 -- Which commands are done by now, and the places that such a command names.
-use Rattle.std.specs.Prelude.{◌≡◌, ◌||◌, ℕ, Bool, true, false, not, List, [], Option, Some, None}
+use Rattle.std.specs.Prelude.{◌≡◌, ◌&&◌, ◌||◌, ℕ, Bool, true, false, not, List, [], Option, Some, None}
 use Rattle.s3_model.specs.declared.places.Place.{Place}
 use Rattle.s3_model.specs.declared.places.Place.TheVariants as place
 use Rattle.s3_words.specs.declared.commands.Command.{Command}
@@ -14,9 +14,17 @@ abbrev pub reads_object : Option Place → Bool
 reads_object (Some (place.Object bucket key)) = true
 reads_object from = false
 
--- The program does not do the command yet: it is no `cp`, or one that reads an object, goes over a tree, or is a dry run.
+abbrev pub is_presign : Verb → Bool
+is_presign verb.Presign = true
+is_presign other = false
+
+-- a copy that reads an object, goes over a tree, or is a dry run
+abbrev pub is_unbuilt_copy : Command → Bool
+is_unbuilt_copy command = reads_object command.from || command.recursive || command.mode.dryrun
+
+-- The program does not do the command yet: it is none of `cp` and `presign`, or such a copy.
 abbrev pub is_unbuilt : Command → Bool
-is_unbuilt command = not (is_copy command.verb) || reads_object command.from || command.recursive || command.mode.dryrun
+is_unbuilt command = not (is_presign command.verb) && (not (is_copy command.verb) || is_unbuilt_copy command)
 
 abbrev pub path_at : Option Place → List ℕ
 path_at (Some (place.File path)) = path
@@ -52,3 +60,7 @@ IsObject at = ⊥
 pub record CopiesUp (command : Command) : Type 0 where
   pub from : IsFile command.from
   pub to : IsObject command.to
+
+-- an object is named
+abbrev pub NamesObject : Command → Type 0
+NamesObject command = IsObject command.from

@@ -1,7 +1,7 @@
 //! Which commands are done by now, and the places that such a command names.
 
 ghost use Rattle.std.specs.Prelude.{◌≡◌};
-ghost use Rattle.upload_plans.specs.Commands.{CopiesUp, bucket_of, is_copy, is_unbuilt, key_of, reads_object, source_path};
+ghost use Rattle.upload_plans.specs.Commands.{CopiesUp, bucket_of, is_copy, is_presign, is_unbuilt, is_unbuilt_copy, key_of, reads_object, source_path};
 
 use s3_model::Place;
 use s3_words::{Command, Verb};
@@ -26,14 +26,24 @@ fn reads_object(from: &Option<Place>) -> bool
     matches!(from, Some(Place::Object { .. }))
 }
 
-/// Whether the program does not do the command yet: it does `cp` of one local file, which is no dry run.
+/// Whether the command is `presign`.
+pub fn is_presign(verb: Verb) -> bool
+    ensures { result ≡ is_presign verb }
+{
+    matches!(verb, Verb::Presign)
+}
+
+fn is_unbuilt_copy(command: &Command) -> bool
+    ensures { result ≡ is_unbuilt_copy command.now }
+{
+    reads_object(&command.from) || command.recursive || command.mode.dryrun
+}
+
+/// Whether the program does not do the command yet: it does `presign`, and `cp` of one local file, which is no dry run.
 pub fn is_unbuilt(command: &Command) -> bool
     ensures { result ≡ is_unbuilt command.now }
 {
-    !is_copy(command.verb)
-        || reads_object(&command.from)
-        || command.recursive
-        || command.mode.dryrun
+    !is_presign(command.verb) && (!is_copy(command.verb) || is_unbuilt_copy(command))
 }
 
 /// The places of an upload.

@@ -200,13 +200,13 @@ module _ (Shows : Ask → ℕ → Talk → Class → List ℕ → Type 0) (HasSt
 
   -- ---- a run that ended before its task
 
-  pub unplanned : Keeps [] [] [] [] []
-  unplanned =
-      keeps [] [] [] [] [] []
+  pub unplanned : (notes : List Note) → AreIdle notes → Keeps [] [] [] [] notes
+  unplanned notes idle =
+      keeps [] [] [] [] notes []
       (record {
-        schedule = no_schedule Shows PlansNothing (shown [] [] [] [] [] []).setting refl;
-        carried = none_carried Shows request_text host port (shown [] [] [] [] [] []).setting [] none_idle (omega arith);
-        alone = no_jobs Shows PlansNothing (shown [] [] [] [] [] []).setting;
+        schedule = no_schedule Shows PlansNothing (shown [] [] [] [] notes []).setting refl;
+        carried = none_carried Shows request_text host port (shown [] [] [] [] notes []).setting notes idle (omega arith);
+        alone = no_jobs Shows PlansNothing (shown [] [] [] [] notes []).setting;
         buffers = no_buffers config.buffers;
         as_many = refl;
         causes = λ n task how at_task at_how. absurd (none_is_some task at_task);
@@ -223,7 +223,7 @@ module _ (Shows : Ask → ℕ → Talk → Class → List ℕ → Type 0) (HasSt
         left = λ n task how at at_task at_how moves from. absurd (none_is_some task at_task);
         stay = stay;
         replaces = λ n task at_task is_fresh. none_is_some task at_task;
-        counted = counted [] [] [] [] [] [];
+        counted = counted [] [] [] [] notes [];
         config = one_valid config configured;
         limits = valid;
       })

@@ -1,0 +1,141 @@
+-- How long a URL lasts, the moment that it begins at, and the run that makes it.
+use Rattle.std.proofs.Common.{◌≡◌, ◌≤◌, ◌<◌, ◌∙◌, ◌⊎◌, ◌&&◌, ◌++◌, flat_map, ℕ, Bool, true, false, List, [], ◌∷◌, Option, Some, None, Result, Ok, Err, refl, sym, ap, subst, inl, inr, arith, append-nil, is_some, if◌then◌else◌}
+use Rattle.std.specs.Prelude.{nat_lt, IfSome}
+use Rattle.std.specs.Option.{unwrap_or}
+use Rattle.std.specs.Str.{all_ascii_digits}
+use Rattle.std.specs.Str.Parse.{digits_value}
+use Rattle.result_lines.specs.declared.tasks.Line.{Line}
+use Rattle.s3_model.specs.declared.list.OutOfMemory.{OutOfMemory}
+use Rattle.s3_model.specs.declared.settings.Settings.{Settings}
+use Rattle.s3_model.specs.Talks.{Talk, Note, Moment, WireLog}
+use Rattle.s3_outside.specs.Env.{SeenEnv}
+use Rattle.s3_outside.specs.Seen.{IsSeenAfter}
+use Rattle.s3_outside.specs.Wire.{noted}
+use Rattle.s3_words.specs.declared.commands.Command.{Command}
+use Rattle.s3_words.specs.declared.commands.Verb.{Verb}
+use Rattle.s3_words.specs.Commands.{IsCommand, arguments_of, expires_of, verb_of}
+use Rattle.s3_words.specs.declared.options.OptionName.TheVariants.{ExpiresIn}
+use Rattle.s3_words.specs.Given.{value_of}
+use Rattle.s3_words.specs.Values.{seconds}
+use Rattle.upload_plans.specs.Commands.{is_presign}
+use Rattle.upload_promise.specs.Gains.{Gains}
+use Rattle.upload_promise.proofs.GainLemmas.{gains_as, gains_step}
+use Rattle.s3_model.specs.declared.outcomes.Outcome.{Outcome}
+use Rattle.s3_model.specs.declared.tasks.Mode.{Mode}
+use Rattle.s3_model.specs.declared.tasks.Task.{Task}
+use Rattle.s3_model.specs.declared.tasks.Warning.{Warning}
+use Rattle.result_lines.specs.Warnings.{warning_line}
+use Rattle.s3_main.specs.declared.run.Fatal.{Fatal}
+use Rattle.s3_main.specs.declared.run.Fatal.TheVariants as fatal
+use Rattle.s3_main.specs.declared.run.Run.{Run}
+use Rattle.s3_main.specs.Begun.{IsBegun, mode_in, presigns, shows_url}
+use Rattle.s3_main.specs.Executed.{HasLineOf, IsMoment, MakesLine}
+use Rattle.s3_main.specs.Runs.{MakesUrl}
+use Rattle.s3_main.specs.Plans.{HasNoTask}
+use Rattle.s3_main.specs.Texts.{HasTexts, IsLineOf, MatchesFatal, err_by, err_lines, out_by, out_lines, warning_lines}
+use Rattle.s3_main.specs.Urls.{IsOwn, IsPresigned, IsTaskless, IsUrl, url_line}
+
+-- ---- how long it lasts
+
+within_if : (digits low high : Bool) (value : ℕ) → nat_lt 0 value ≡ low → nat_lt value 604801 ≡ high
+    → (1 ≤ unwrap_or (if digits && low && high then Some value else None) 3600) × (unwrap_or (if digits && low && high then Some value else None) 3600 ≤ 604800)
+within_if true true true value is_low is_high = (grind (arith, is_low), grind (arith, is_high))
+within_if true true false value is_low is_high = (omega arith, omega arith)
+within_if true false high value is_low is_high = (omega arith, omega arith)
+within_if false low high value is_low is_high = (omega arith, omega arith)
+
+expires_are : (text : Option (List ℕ)) → (1 ≤ expires_of text) × (expires_of text ≤ 604800)
+expires_are None = (omega arith, omega arith)
+expires_are (Some text) = within_if (all_ascii_digits text) (nat_lt 0 (digits_value 10 text)) (nat_lt (digits_value 10 text) 604801) (digits_value 10 text) refl refl
+
+pub expires_within : (words : List (List ℕ)) (command : Command) → IsCommand words command → (1 ≤ command.expires) × (command.expires ≤ 604800)
+expires_within words command is =
+    subst (λ (n : ℕ). (1 ≤ n) × (n ≤ 604800)) (sym is.asks.expires) (expires_are (value_of ExpiresIn (arguments_of words)))
+
+-- ---- the moment
+
+pub is_moment : (moment : ℕ) (before after : Option WireLog) (b a : ℕ) → IsSeenAfter (noted (Moment moment)) before after b a → Gains before after (IsMoment moment)
+is_moment moment before after b a seen =
+    gains_step (IsMoment moment) (noted (Moment moment)) [] (Moment moment ∷ []) (λ log. (sym (append-nil log.talks), refl)) before after b a seen (refl, refl)
+
+-- ---- the run
+
+pub taskless : (run : Run) → HasNoTask None [] [] run → IsTaskless run
+taskless run h = record { no_task = h.no_task; no_skip = h.skips_are; no_warning = h.warnings_are; no_outcome = h.no_outcome; no_job = h.no_job }
+
+pub stopped_taskless : (run : Run) → HasNoTask (Some fatal.Memory) [] [] run → IsTaskless run
+stopped_taskless run h = record { no_task = h.no_task; no_skip = h.skips_are; no_warning = h.warnings_are; no_outcome = h.no_outcome; no_job = h.no_job }
+
+shows : (words : List (List ℕ)) (command : Command) → IsCommand words command → shows_url words ≡ is_presign command.verb
+shows words command is = ap presigns is.verb
+
+-- a command that makes no URL shows nothing of its own
+pub copy_owns : (words : List (List ℕ)) (env : Option SeenEnv) (before after : Option WireLog) (run : Run) (command : Command) → IsCommand words command → is_presign command.verb ≡ false → IsOwn words env before after run []
+copy_owns words env before after run command is copies = inl (shows words command is ∙ copies, refl)
+
+pub stopped_owns : (words : List (List ℕ)) (env : Option SeenEnv) (before after : Option WireLog) (run : Run) → is_some run.fatal ≡ true → IsOwn words env before after run []
+stopped_owns words env before after run stopped = inr (inr stopped)
+
+-- ---- the line
+
+no_memory : (why : Option Fatal) (line : Result (Option Line) OutOfMemory) → why ≡ None → MatchesFatal why line
+no_memory why (Ok line) is = λ memory. none_some fatal.Memory (sym is ∙ memory)
+  where
+    none_some : (f : Fatal) → ◌≡◌ {A = Option Fatal} None (Some f) → ⊥
+    none_some f e = cc
+no_memory why (Err memory) is = tt
+
+no_warnings : (mode : Mode) → [] ≡ warning_lines mode [] ++ []
+no_warnings mode = by_quiet mode.quiet
+  where
+    by_quiet : (quiet : Bool) → [] ≡ (if quiet then [] else flat_map warning_line []) ++ []
+    by_quiet true = refl
+    by_quiet false = refl
+
+url_texts : (mode : Mode) (words : List (List ℕ)) (own : List ℕ) (why : Option Fatal) (tasks : List Task) (outcomes : List Outcome) (warnings : List Warning) (line : Result (Option Line) OutOfMemory)
+    → why ≡ None → tasks ≡ [] → outcomes ≡ [] → warnings ≡ [] → HasTexts own [] line → HasTexts (out_by mode own why tasks outcomes) (err_by words mode why tasks outcomes warnings) line
+url_texts mode words own why tasks outcomes warnings line w t o ws h =
+    subst (λ (f : Option Fatal). HasTexts (out_by mode own f tasks outcomes) (err_by words mode f tasks outcomes warnings) line) (sym w)
+    (subst (λ (all : List Task). HasTexts (own ++ out_lines mode all outcomes) (warning_lines mode warnings ++ err_lines mode all outcomes) line) (sym t)
+    (subst (λ (all : List Warning). HasTexts (own ++ []) (warning_lines mode all ++ []) line) (sym ws)
+    (subst (λ (text : List ℕ). HasTexts text (warning_lines mode [] ++ []) line) (sym (append-nil own)) (subst (λ (text : List ℕ). HasTexts own text line) (no_warnings mode) h))))
+
+url_line_of : (words : List (List ℕ)) (own : List ℕ) (run : Run) (line : Result (Option Line) OutOfMemory) → HasNoTask None [] [] run → HasTexts own [] line → IsLineOf words own run line
+url_line_of words own run line h texts = record {
+  texts = url_texts (mode_in words) words own run.fatal run.plan.tasks.items run.outcomes.items run.warnings.items line h.fatal h.no_task h.no_outcome h.warnings_are texts;
+  no_memory = no_memory run.fatal line h.fatal;
+}
+
+-- ---- all that a run with a URL shows
+
+module _ (words : List (List ℕ)) (env : Option SeenEnv) (command : Command) (settings : Settings) (begun : IsBegun words env command settings) (presign : is_presign command.verb ≡ true)
+    (before after : Option WireLog) (run : Run) (line : Result (Option Line) OutOfMemory) (makes : MakesLine words command settings before after run line) where
+  of_run : IsTaskless run
+  of_run = elim makes.made [ inl h ↦ stopped_taskless run h.0 | inr h ↦ taskless run h.0 ]
+
+  pub url_goes : Gains before after (IsPresigned words env run)
+  url_goes = gains_as (IsMoment makes.moment) (IsPresigned words env run)
+      (λ talks notes h. record { command = command; settings = settings; begun = begun; presign = presign; taskless = of_run; moment = makes.moment; no_talk = h.0; noted = h.1 }) before after makes.noted
+
+  pub url_does : MakesUrl words run
+  url_does = record { command = command; reads = begun.reads; presign = presign; taskless = of_run }
+
+  pub url_line_is : HasLineOf words env before after run line
+  url_line_is = elim makes.made [
+    | inl h ↦ ([], stopped_owns words env before after run (ap is_some h.0.fatal), h.1)
+    | inr h ↦ (
+      url_line command settings makes.moment,
+      inr (inl (
+        shows words command begun.reads.is_command ∙ presign,
+        gains_as (IsMoment makes.moment) (IsUrl words env (url_line command settings makes.moment))
+            (λ talks notes m. record { command = command; settings = settings; begun = begun; moment = makes.moment; noted = m.1; is = refl }) before after makes.noted,
+      )),
+      url_line_of words (url_line command settings makes.moment) run line h.0 h.1,
+    )
+  ]
+
+  pub url_stops : (P : Fatal → Type 0) → P fatal.Memory → IfSome run.fatal P
+  url_stops P p = elim makes.made [
+    | inl h ↦ subst (λ (f : Option Fatal). IfSome f P) (sym h.0.fatal) p
+    | inr h ↦ subst (λ (f : Option Fatal). IfSome f P) (sym h.0.fatal) tt
+  ]

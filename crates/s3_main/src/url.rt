@@ -1,0 +1,91 @@
+//! The URL of an object, for somebody who has no keys.
+
+ghost use Rattle.std.specs.Prelude.{◌≡◌, ◌≤◌, ◌<◌, [], ◌∷◌, IfOk, map, string_bytes};
+ghost use Rattle.upload_plans.specs.Commands.{IsObject, NamesObject, bucket_at, key_at};
+ghost use Rattle.upload_promise.specs.Gains.{Gains};
+ghost use Rattle.s3_main.specs.Executed.{IsMoment, MakesLine};
+ghost use Rattle.s3_main.specs.Urls.{url_line};
+
+use crate::endings::{end_early, end_with_line};
+use crate::execution::Executed;
+use crate::run::Fatal;
+use crate::start::Start;
+use presigned_urls::{PresignFault, presign};
+use result_lines::Line;
+use s3_model::{OutOfMemory, Place, Text};
+use s3_outside::Wire;
+use s3_paths::S3Uri;
+use std::alloc::Global;
+
+fn uri_of(place: &Option<Place>) -> Result<S3Uri, OutOfMemory>
+    requires { IsObject place.now }
+    ensures { IfOk result (λ uri. uri ≡ record { bucket = bucket_at place.now; key = key_at place.now }) }
+{
+    let Some(Place::Object { bucket, key }) = place else {
+        unreachable!()
+    };
+    let bucket = bucket.copy()?;
+    let key = key.copy()?;
+    Ok(S3Uri { bucket, key })
+}
+
+/// The line of the URL of a command's object, from a moment on.
+fn url_line(alloc: Global, start: &Start, moment: u64) -> Result<Text, OutOfMemory>
+    requires object { NamesObject start.now.command }
+    requires least { 1 ≤ start.now.command.expires }
+    requires most { start.now.command.expires ≤ 604800 }
+    requires moment { moment < 253402300800 }
+    ensures { IfOk result (λ line. line ≡ url_line start.now.command start.now.settings moment) }
+{
+    let Start { command, settings } = start;
+    let uri = uri_of(&command.from)?;
+    let made = presign(
+        alloc,
+        &uri,
+        &command.endpoint,
+        &settings.keys,
+        moment,
+        command.expires,
+    );
+    match made {
+        Ok(url) => Text::joined(alloc, &[url.as_str(), "\n"]),
+        Err(PresignFault::Memory) => Err(OutOfMemory),
+        Err(_) => unreachable!(),
+    }
+}
+
+/// The wire's moment.
+fn moment_of<W: Wire>(wire: &mut W) -> u64
+    ensures bound { result < 253402300800 }
+    ensures noted { Gains (W.seen wire.old) (W.seen wire.new) (IsMoment result) }
+    ensures later { W.faults wire.old ≤ W.faults wire.new }
+{
+    wire.moment()
+}
+
+/// Makes the URL of a command's object.
+pub(crate) fn execute_presign<W: Wire>(
+    alloc: Global,
+    words: &[String],
+    start: &Start,
+    wire: &mut W,
+) -> Executed
+    requires object { NamesObject start.now.command }
+    requires least { 1 ≤ start.now.command.expires }
+    requires most { start.now.command.expires ≤ 604800 }
+    ensures made { MakesLine (map string_bytes words.now) start.now.command start.now.settings (W.seen wire.old)
+        (W.seen wire.new) result.run result.line }
+    ensures later { W.faults wire.old ≤ W.faults wire.new }
+{
+    let moment = moment_of(wire);
+    match url_line(alloc, start, moment) {
+        Ok(text) => end_with_line(
+            alloc,
+            Line {
+                to_err: false,
+                text,
+            },
+        ),
+        Err(_) => end_early(alloc, words, Fatal::Memory),
+    }
+}
