@@ -40,7 +40,7 @@ class Answer(NamedTuple):
     message: str = ""
 
     def outcome(self):
-        return STORED if self.status == 200 else refused(self.status)
+        return STORED if self.status == 200 else refused(self.status, self.code, self.message)
 
 
 TAKEN = Answer(200)

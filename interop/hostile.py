@@ -226,6 +226,7 @@ HELLO = b"5\r\nhello\r\n"
 END = b"0\r\n\r\n"
 DENIED = head(FORBIDDEN, f"content-length: {len(ERROR)}") + ERROR
 DENIED_CHUNKED = chunked(FORBIDDEN, ERROR_CHUNK, END)
+REFUSED = refused(403, "AccessDenied", "Access Denied.")
 FULL = head(FORBIDDEN, "content-length: 65536") + b"a" * 65_536
 
 
@@ -250,7 +251,7 @@ HEAD_LONG, BODY_LONG = lost("head too long"), lost("body too long")
 ROWS = [
     Row("a plain success", says(EMPTY), STORED),
     Row("a plain success, by name", says(EMPTY), STORED, host="localhost"),
-    Row("a plain refusal", says(DENIED), refused(403)),
+    Row("a plain refusal", says(DENIED), REFUSED),
     # closing and resetting
     Row("closes without an answer", says(b"", close), EARLY),
     Row("closes in the head", says(b"HTTP/1.1 2", close), EARLY),
@@ -264,21 +265,21 @@ ROWS = [
     Row("connection: close, and holds it", says(head(OK, "content-length: 0", "connection: close")), STORED),
     # speed
     Row("reads slowly", reads_slowly, STORED, BIG),
-    Row("a byte at a time", dribbles(DENIED), refused(403)),
-    Row("a byte at a time, chunked", dribbles(DENIED_CHUNKED), refused(403)),
+    Row("a byte at a time", dribbles(DENIED), REFUSED),
+    Row("a byte at a time, chunked", dribbles(DENIED_CHUNKED), REFUSED),
     # refusals before the body is read
-    Row("403 behind the head, then closes", says_early(DENIED), refused(403), BIG),
+    Row("403 behind the head, then closes", says_early(DENIED), REFUSED, BIG),
     Row("413 behind the head, then closes", says_early(head("413 Too Large", "content-length: 0")), refused(413), BIG),
     Row("307 behind the head, then closes", says_early(head("307 Elsewhere", "content-length: 0")), refused(307), BIG),
-    Row("403 in chunks behind the head, then closes", says_early(DENIED_CHUNKED), refused(403), BIG),
-    Row("403 behind the head, then reads on", says_early(DENIED, hold), refused(403), BIG),
+    Row("403 in chunks behind the head, then closes", says_early(DENIED_CHUNKED), REFUSED, BIG),
+    Row("403 behind the head, then reads on", says_early(DENIED, hold), REFUSED, BIG),
     Row("200 behind the head, then closes", says_early(EMPTY), FAILED, BIG),
     Row("503 behind the head, then closes", says_early(head("503 Busy", "content-length: 0")), FAILED, BIG),
     Row("no HTTP behind the head, then closes", says_early(b"go away\r\n"), FAILED, BIG),
     # chunks
     Row("a success in chunks", says(chunked(OK, END)), STORED),
-    Row("a refusal in chunks", says(DENIED_CHUNKED), refused(403)),
-    Row("a refusal in chunks, closed", says(DENIED_CHUNKED, close), refused(403)),
+    Row("a refusal in chunks", says(DENIED_CHUNKED), REFUSED),
+    Row("a refusal in chunks, closed", says(DENIED_CHUNKED, close), REFUSED),
     Row("chunks with extensions", says(chunked(OK, b"5;a=b\r\nhello\r\n", b"0;last\r\n\r\n")), STORED),
     Row("chunks with trailers", says(chunked(OK, HELLO, b"0\r\nx-a: b\r\nx-c: d\r\n\r\n")), STORED),
     Row("a chunk size that is no number", says(chunked(OK, b"five\r\nhello\r\n", END)), BAD_CHUNK),
@@ -331,7 +332,7 @@ SLOW_ROWS = [
     Row("is silent in the head", says(b"HTTP/1.1 200 OK\r\n"), FAILED, seconds=75),
     Row("is silent in the body", says(head(OK, "content-length: 9") + b"abc"), FAILED, seconds=75),
     Row("reads nothing", reads_nothing, FAILED, BIG, seconds=200),
-    Row("403 behind the head, then reads nothing", says_early(DENIED, reads_nothing), refused(403), BIG, seconds=200),
+    Row("403 behind the head, then reads nothing", says_early(DENIED, reads_nothing), REFUSED, BIG, seconds=200),
     Row("answers in three pieces, 27 seconds apart", dribbles(EMPTY, 27, 13), STORED, seconds=100),
     Row("reads with two pauses of 40 seconds", reads_with_pauses, STORED, BIG, seconds=100),
 ]

@@ -21,10 +21,10 @@ class Outcome(NamedTuple):
 STORED = Outcome(0, "upload")
 
 
-def refused(status):
-    """The service refused: code and message are those of the status, as the document behind it is not read."""
-    message = MESSAGES.get(status, "Refused")
-    return Outcome(1, "upload failed", f" An error occurred ({status}) when calling the PutObject operation: {message}")
+def refused(status, code="", message=""):
+    """The service refused: with the code and the message of its document, or of the status where it has none."""
+    code, message = (code, message) if code else (status, MESSAGES.get(status, "Refused"))
+    return Outcome(1, "upload failed", f" An error occurred ({code}) when calling the PutObject operation: {message}")
 
 
 def lost(why):

@@ -23,8 +23,8 @@ commands:
   presign  prints a URL by which an object can be fetched
            s3 presign s3://bucket/notes.txt --endpoint-url http://localhost:9000
 
-In this version `cp` copies one file to an object; what is not built yet ends with
-`s3: not built yet` and status 252.
+In this version `cp` copies one file to an object, and `presign` is done; what is not
+built yet ends with `s3: not built yet` and status 252.
 
 options:
   --endpoint-url URL       http://HOST or http://HOST:PORT; always wanted
@@ -46,8 +46,11 @@ options:
   --expires-in SECONDS     presign: 1 to 604800, or else 3600
 
 keys and region:
-  AWS_ACCESS_KEY_ID and AWS_SECRET_ACCESS_KEY, with AWS_SESSION_TOKEN if it is set,
-  and AWS_REGION.
+  The keys are AWS_ACCESS_KEY_ID and AWS_SECRET_ACCESS_KEY, with AWS_SESSION_TOKEN if
+  it is set, unless --profile is given; else those of the profile in ~/.aws/credentials.
+  The region is --region, AWS_REGION, AWS_DEFAULT_REGION, or that of the profile in
+  ~/.aws/config, where the other settings are, too. AWS_CONFIG_FILE and
+  AWS_SHARED_CREDENTIALS_FILE name other files, AWS_PROFILE a profile.
 
 status:
     0  done
