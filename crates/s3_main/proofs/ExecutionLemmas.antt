@@ -31,7 +31,7 @@ use Rattle.s3_main.specs.declared.run.Fatal.{Fatal}
 use Rattle.s3_main.specs.declared.run.Fatal.TheVariants as fatal
 use Rattle.s3_main.specs.declared.run.Run.{Run}
 use Rattle.s3_main.specs.Executed.{DoesOn, EndsAs, EndsForMemory, GoesOn, HasNoUpload, IsUnseen, MayUpload, MayWant, fatal_of}
-use Rattle.s3_main.specs.Plans.{HasNoTask, HasOneOutcome, HasPlan, HasUploaded, IsFate, IsUpload, path_of, put_ask}
+use Rattle.s3_main.specs.Plans.{HasNoTask, HasOneOutcome, HasPlan, HasUploaded, IsFate, IsUpload, MayEnd, path_of, put_ask}
 use Rattle.s3_main.specs.Runs.{IsNothingPlanned, IsUnplanned, StopsPlanning}
 use Rattle.s3_main.specs.Texts.{HasLine}
 
@@ -66,6 +66,9 @@ stops_for P why skips warnings run h p = subst (λ (f : Option Fatal). IfSome f 
 
 goes_on : (P : Fatal → Type 0) (skips warnings : List Warning) (run : Run) → HasNoTask None skips warnings run → IfSome run.fatal P
 goes_on P skips warnings run h = subst (λ (f : Option Fatal). IfSome f P) (sym h.fatal) tt
+
+pub may_end : (run : Run) → run.fatal ≡ None → MayEnd run.fatal
+may_end run none = subst (λ (f : Option Fatal). MayEnd f) (sym none) tt
 
 -- ---- counts of faults since an earlier moment
 
@@ -113,21 +116,21 @@ module _ (command : Command) (settings : Settings) (limits : Limits) (was now : 
       inr (
         fate.NotAFile path,
         fated,
-        record { plan = tt; tasks = h.no_task; skips = h.skips_are; warnings = h.warnings_are },
+        record { ends = may_end run h.fatal; plan = tt; tasks = h.no_task; skips = h.skips_are; warnings = h.warnings_are },
         record { no_outcome = h.no_outcome; no_job = h.no_job; no_talk = refl; no_note = refl },
       )
   idle (fate.Skipped place why) none fated (inr h) =
       inr (
         fate.Skipped place why,
         fated,
-        record { plan = tt; tasks = h.no_task; skips = h.skips_are; warnings = h.warnings_are },
+        record { ends = may_end run h.fatal; plan = tt; tasks = h.no_task; skips = h.skips_are; warnings = h.warnings_are },
         record { no_outcome = h.no_outcome; no_job = h.no_job; no_talk = refl; no_note = refl },
       )
   idle fate.LeftOut none fated (inr h) =
       inr (
         fate.LeftOut,
         fated,
-        record { plan = tt; tasks = h.no_task; skips = h.skips_are; warnings = h.warnings_are },
+        record { ends = may_end run h.fatal; plan = tt; tasks = h.no_task; skips = h.skips_are; warnings = h.warnings_are },
         record { no_outcome = h.no_outcome; no_job = h.no_job; no_talk = refl; no_note = refl },
       )
   idle (fate.Upload task) none fated (inr h) = absurd none
@@ -140,11 +143,11 @@ module _ (command : Command) (settings : Settings) (limits : Limits) (was now : 
   ended_does fate.NotYet none fated (inr h) = inl (nothing fatal.NotYet run h)
   ended_does (fate.Refused fault) none fated (inr h) = inl (nothing (fatal.Plan fault) run h)
   ended_does (fate.NotAFile path) none fated (inr h) =
-      inr (fate.NotAFile path, unseen (fate.NotAFile path) fated, record { plan = tt; tasks = h.no_task; skips = h.skips_are; warnings = h.warnings_are }, (h.no_outcome, h.no_job))
+      inr (fate.NotAFile path, unseen (fate.NotAFile path) fated, record { ends = may_end run h.fatal; plan = tt; tasks = h.no_task; skips = h.skips_are; warnings = h.warnings_are }, (h.no_outcome, h.no_job))
   ended_does (fate.Skipped place why) none fated (inr h) =
-      inr (fate.Skipped place why, unseen (fate.Skipped place why) fated, record { plan = tt; tasks = h.no_task; skips = h.skips_are; warnings = h.warnings_are }, (h.no_outcome, h.no_job))
+      inr (fate.Skipped place why, unseen (fate.Skipped place why) fated, record { ends = may_end run h.fatal; plan = tt; tasks = h.no_task; skips = h.skips_are; warnings = h.warnings_are }, (h.no_outcome, h.no_job))
   ended_does fate.LeftOut none fated (inr h) =
-      inr (fate.LeftOut, unseen fate.LeftOut fated, record { plan = tt; tasks = h.no_task; skips = h.skips_are; warnings = h.warnings_are }, (h.no_outcome, h.no_job))
+      inr (fate.LeftOut, unseen fate.LeftOut fated, record { ends = may_end run h.fatal; plan = tt; tasks = h.no_task; skips = h.skips_are; warnings = h.warnings_are }, (h.no_outcome, h.no_job))
   ended_does (fate.Upload task) none fated (inr h) = absurd none
 
   pub ended_stops : (comes : Fate) → HasNoUpload comes → IsFate command settings limits was comes → EndsAs comes run → IfSome run.fatal Stops
@@ -191,7 +194,7 @@ module _ (command : Command) (settings : Settings) (limits : Limits) (was now : 
     uploaded : (talks : List Talk) (notes : List Note) → IsFate command settings limits was (fate.Upload task) → MayUpload command.endpoint settings.keys task now before after run talks notes → Goes talks notes
     uploaded talks notes fated (inl stopped) = inl (record { nothing = nothing fatal.Memory run stopped.stopped; no_talk = stopped.no_talk; no_note = stopped.no_note })
     uploaded talks notes fated (inr (has, (how, one, uploads))) =
-        inr (fate.Upload task, fated, record { plan = tt; tasks = has.one_task; skips = has.no_skip; warnings = has.no_warning }, (how, one, since how talks notes uploads))
+        inr (fate.Upload task, fated, record { ends = may_end run has.fatal; plan = tt; tasks = has.one_task; skips = has.no_skip; warnings = has.no_warning }, (how, one, since how talks notes uploads))
 
     pub uploaded_goes : (seen last : Option WireLog) → IsFate command settings limits was (fate.Upload task) → Gains seen last (MayUpload command.endpoint settings.keys task now before after run) → Gains seen last Goes
     uploaded_goes seen last fated gains = gains_as (MayUpload command.endpoint settings.keys task now before after run) Goes (λ talks notes may. uploaded talks notes fated may) seen last gains
@@ -202,7 +205,7 @@ module _ (command : Command) (settings : Settings) (limits : Limits) (was now : 
         inr (
           fate.Upload task,
           unseen (fate.Upload task) fated,
-          record { plan = tt; tasks = has.one_task; skips = has.no_skip; warnings = has.no_warning },
+          record { ends = may_end run has.fatal; plan = tt; tasks = has.one_task; skips = has.no_skip; warnings = has.no_warning },
           (how, one, wants_since first before after how run.journal.items earlier wants),
         )
 

@@ -19,7 +19,7 @@ use Rattle.s3_main.specs.declared.run.Run.{Run}
 use Rattle.s3_main.specs.Begun.{mode_in}
 use Rattle.s3_main.specs.Executed.{HasLineOf}
 use Rattle.s3_main.specs.Urls.{IsOwn, IsTaskless}
-use Rattle.s3_main.specs.Plans.{HasPlan, IsIdle, Wants, Works, path_of, put_ask}
+use Rattle.s3_main.specs.Plans.{HasPlan, IsIdle, MayEnd, Wants, Works, path_of, put_ask}
 use Rattle.s3_main.specs.Runs.{GoesAs, IsNothingPlanned, IsPrinted, IsPrintedAs, OnFirst, StopsFor, Undertakes}
 use Rattle.s3_main.specs.Texts.{IsLineOf, err_by, err_of, err_text, fatal_after, out_by, out_of, out_text}
 
@@ -33,6 +33,10 @@ on_first (x ∷ xs) before after P some is holds = (subst (λ w. P w after) is h
 stays_stopped : (line : Result (Option Line) OutOfMemory) (why : Option Fatal) → is_some why ≡ true → is_some (fatal_after line why) ≡ true
 stays_stopped (Ok line) why is = is
 stays_stopped (Err memory) why is = refl
+
+still_ends : (line : Result (Option Line) OutOfMemory) (why : Option Fatal) → MayEnd why → MayEnd (fatal_after line why)
+still_ends (Ok line) why h = h
+still_ends (Err memory) why h = tt
 
 -- it has the plan, the outcomes, the journal and the warnings of the run that worked
 pub record IsReported (work run : Run) (line : Result (Option Line) OutOfMemory) : Type 0 where
@@ -53,8 +57,12 @@ module _ (work run : Run) (line : Result (Option Line) OutOfMemory) (r : IsRepor
     no_job = ap (λ j. j.items) r.journal ∙ n.no_job;
   }
 
+  ends : MayEnd work.fatal → MayEnd run.fatal
+  ends h = subst (λ (f : Option Fatal). MayEnd f) (sym r.fatal) (still_ends line work.fatal h)
+
   taskless : IsTaskless work → IsTaskless run
   taskless n = record {
+    ends = ends n.ends;
     no_task = ap (λ p. p.tasks.items) r.plan ∙ n.no_task;
     no_skip = ap (λ p. p.warnings.items) r.plan ∙ n.no_skip;
     no_warning = ap (λ w. w.items) r.warnings ∙ n.no_warning;
@@ -64,6 +72,7 @@ module _ (work run : Run) (line : Result (Option Line) OutOfMemory) (r : IsRepor
 
   has_plan : (comes : Fate) → HasPlan comes work → HasPlan comes run
   has_plan comes h = record {
+    ends = ends h.ends;
     plan = h.plan;
     tasks = ap (λ p. p.tasks.items) r.plan ∙ h.tasks;
     skips = ap (λ p. p.warnings.items) r.plan ∙ h.skips;

@@ -31,7 +31,7 @@ use Rattle.s3_main.specs.declared.run.Run.{Run}
 use Rattle.s3_main.specs.Begun.{IsBegun, mode_in, presigns, shows_url}
 use Rattle.s3_main.specs.Executed.{HasLineOf, IsMoment, MakesLine}
 use Rattle.s3_main.specs.Runs.{MakesUrl}
-use Rattle.s3_main.specs.Plans.{HasNoTask}
+use Rattle.s3_main.specs.Plans.{HasNoTask, MayEnd}
 use Rattle.s3_main.specs.Texts.{HasTexts, IsLineOf, MatchesFatal, err_by, err_lines, out_by, out_lines, warning_lines}
 use Rattle.s3_main.specs.Urls.{IsOwn, IsPresigned, IsTaskless, IsUrl, url_line}
 
@@ -61,10 +61,10 @@ is_moment moment before after b a seen =
 -- ---- the run
 
 pub taskless : (run : Run) → HasNoTask None [] [] run → IsTaskless run
-taskless run h = record { no_task = h.no_task; no_skip = h.skips_are; no_warning = h.warnings_are; no_outcome = h.no_outcome; no_job = h.no_job }
+taskless run h = record { ends = subst (λ (f : Option Fatal). MayEnd f) (sym h.fatal) tt; no_task = h.no_task; no_skip = h.skips_are; no_warning = h.warnings_are; no_outcome = h.no_outcome; no_job = h.no_job }
 
 pub stopped_taskless : (run : Run) → HasNoTask (Some fatal.Memory) [] [] run → IsTaskless run
-stopped_taskless run h = record { no_task = h.no_task; no_skip = h.skips_are; no_warning = h.warnings_are; no_outcome = h.no_outcome; no_job = h.no_job }
+stopped_taskless run h = record { ends = subst (λ (f : Option Fatal). MayEnd f) (sym h.fatal) tt; no_task = h.no_task; no_skip = h.skips_are; no_warning = h.warnings_are; no_outcome = h.no_outcome; no_job = h.no_job }
 
 shows : (words : List (List ℕ)) (command : Command) → IsCommand words command → shows_url words ≡ is_presign command.verb
 shows words command is = ap presigns is.verb

@@ -1,5 +1,5 @@
 -- The plan of a run, and what became of its task.
-use Rattle.std.specs.Prelude.{◌≡◌, ℕ, List, [], ◌∷◌, Option, Some, IfSome}
+use Rattle.std.specs.Prelude.{◌≡◌, ℕ, List, [], ◌∷◌, Option, Some, None, IfSome}
 use Rattle.s3_model.specs.declared.outcomes.Outcome.{Outcome}
 use Rattle.s3_model.specs.declared.places.Endpoint.{Endpoint}
 use Rattle.s3_model.specs.declared.requests.Ask.{Ask}
@@ -20,6 +20,7 @@ use Rattle.upload_plans.specs.declared.plan.Fate.{Fate}
 use Rattle.upload_plans.specs.declared.plan.Fate.TheVariants as fate
 use Rattle.upload_promise.specs.Uploads.{WantsJournal, upload_ask}
 use Rattle.s3_main.specs.declared.run.Fatal.{Fatal}
+use Rattle.s3_main.specs.declared.run.Fatal.TheVariants as fatal
 use Rattle.s3_main.specs.declared.run.Run.{Run}
 
 -- ---- the plan
@@ -50,7 +51,14 @@ IsPlan fate.NotYet = ⊥
 IsPlan (fate.Refused fault) = ⊥
 IsPlan comes = Unit {0}
 
+-- nothing but want of memory ends a run that has a plan
+abbrev pub MayEnd : Option Fatal → Type 0
+MayEnd None = Unit {0}
+MayEnd (Some fatal.Memory) = Unit {0}
+MayEnd (Some why) = ⊥
+
 pub record HasPlan (comes : Fate) (run : Run) : Type 0 where
+  pub ends : MayEnd run.fatal
   pub plan : IsPlan comes
   pub tasks : run.plan.tasks.items ≡ tasks_of comes
   pub skips : run.plan.warnings.items ≡ skips_of comes

@@ -8,6 +8,7 @@ use Rattle.s3_words.specs.declared.commands.Command.{Command}
 use Rattle.upload_plans.specs.Commands.{bucket_at, is_presign, key_at}
 use Rattle.upload_promise.specs.Gains.{Gains}
 use Rattle.s3_main.specs.Begun.{IsBegun, shows_url}
+use Rattle.s3_main.specs.Plans.{MayEnd}
 use Rattle.s3_main.specs.declared.run.Run.{Run}
 
 -- the line of the URL of the command's object, from a moment on
@@ -18,6 +19,7 @@ url_line command settings moment =
 
 -- no task, no job and no warning
 pub record IsTaskless (run : Run) : Type 0 where
+  pub ends : MayEnd run.fatal
   pub no_task : run.plan.tasks.items ≡ []
   pub no_skip : run.plan.warnings.items ≡ []
   pub no_warning : run.warnings.items ≡ []
