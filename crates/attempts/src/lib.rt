@@ -4,8 +4,6 @@
 mod client;
 mod payload;
 mod send;
-#[cfg(test)]
-mod tests;
 
 pub use client::Client;
 pub use payload::Payload;

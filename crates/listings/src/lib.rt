@@ -6,8 +6,6 @@ mod fault;
 mod law;
 mod one;
 mod pages;
-#[cfg(test)]
-mod tests;
 
 pub use buckets::list_buckets;
 pub use fault::ListingFault;
