@@ -276,7 +276,7 @@ module _ (Shows : Ask → ℕ → Talk → Class → List ℕ → Type 0) (HasSt
 
       never_decided : Decides mark.Success → ⊥
       never_decided d =
-          let told = promises.decided Shows HasStatus Plans CallFailed request_text host port shown dispatched coming o n task is_task d in
+          let told = promises.decided Shows HasStatus Plans CallFailed request_text host port shown dispatched coming (promises.carried_out Shows HasStatus Plans CallFailed request_text host port shown dispatched coming o) n task is_task (o.tasks n task is_task) d in
           let has_come = jobs.come Shows HasStatus Plans CallFailed request_text host port shown dispatched coming o certain not_cancelled start trace p willing alone buckets sources told.request told.known in
           let served = fitting.success_is_served Shows s.limits start trace dispatched shown.journal p.runs p.fits trace [] (sym (append-nil trace)) told.request told.known
           (has_come.0, has_come.1, has_come.2, ap (λ (j : List Event). slice_get j has_come.0) p.fits.moves ∙ has_come.3) told.succeeded in
@@ -306,7 +306,7 @@ module _ (Shows : Ask → ℕ → Talk → Class → List ℕ → Type 0) (HasSt
     -- ---- what is owed to it
 
     not_dry : Decides mark.Success → s.dryrun ≡ true → ⊥
-    not_dry d dried = promises.dry_gives_none Shows HasStatus Plans CallFailed request_text host port shown dispatched coming o n task is_task dried d.0 d.1 (ap (λ (j : JobId). j.task) d.2.1)
+    not_dry d dried = promises.dry_gives_none Shows HasStatus Plans CallFailed request_text host port shown dispatched coming (promises.carried_out Shows HasStatus Plans CallFailed request_text host port shown dispatched coming o) n task is_task (o.tasks n task is_task) dried d.0 d.1 (ap (λ (j : JobId). j.task) d.2.1)
 
     -- a finished task, where the run is no dry one
     carried_out : (how : Outcome) → (s.dryrun ≡ true → ⊥) → IsFinished false (WasTaken shown start n) how → IsFinished s.dryrun (WasTaken shown start n) how
@@ -328,10 +328,10 @@ module _ (Shows : Ask → ℕ → Talk → Class → List ℕ → Type 0) (HasSt
     module _ (counted : AreCallsCounted Shows HasStatus Plans CallFailed shown) where
       owed : (how : Outcome) → slice_get shown.outcomes n ≡ Some how → HasOutcome Shows HasStatus CallFailed s dispatched coming n task how → IsOwed shown start n how
       owed outcome.Done at caused =
-          let d = promises.decided_at Shows HasStatus Plans CallFailed request_text host port shown dispatched coming o n task is_task task.kind by.decided caused.1 in
+          let d = promises.decided_at Shows HasStatus Plans CallFailed request_text host port shown dispatched coming (promises.carried_out Shows HasStatus Plans CallFailed request_text host port shown dispatched coming o) n task is_task (o.tasks n task is_task) task.kind by.decided caused.1 in
           inl (carried_out outcome.Done (not_dry d) (never_taken d))
       owed (outcome.Copied why) at caused =
-          let d = promises.decided_at Shows HasStatus Plans CallFailed request_text host port shown dispatched coming o n task is_task task.kind by.decided caused.1 in
+          let d = promises.decided_at Shows HasStatus Plans CallFailed request_text host port shown dispatched coming (promises.carried_out Shows HasStatus Plans CallFailed request_text host port shown dispatched coming o) n task is_task (o.tasks n task is_task) task.kind by.decided caused.1 in
           inl (carried_out (outcome.Copied why) (not_dry d) (copied_by_call why (stays_by_call why caused.3) d))
       owed (outcome.Failed why) at caused = inr (inl (counted n why at (fails_by_call why caused.2)))
       owed (outcome.Unknown why) at caused = absurd (never_left_open caused.0.0)
@@ -352,7 +352,7 @@ module _ (Shows : Ask → ℕ → Talk → Class → List ℕ → Type 0) (HasSt
         let inside = slice_get_within shown.outcomes n how at in
         let within : n < length s.tasks = subst (λ (k : ℕ). n < k) each inside in
         elim (found_or_not (slice_get s.tasks n)) [ inr found ↦ found | inl none ↦ absurd (beyond s.tasks n within none) ]
-    | inr none ↦ absurd (promises.none_at Shows HasStatus Plans CallFailed request_text host port shown dispatched coming o n how none.1 at)
+    | inr none ↦ absurd (promises.none_at Shows HasStatus Plans CallFailed request_text host port shown dispatched coming (promises.carried_out Shows HasStatus Plans CallFailed request_text host port shown dispatched coming o) n how none.1 at)
   ]
 
   pub nothing_owed : AreCallsCounted Shows HasStatus Plans CallFailed shown → AreFreshByKind shown.setting.tasks → (n : ℕ) (how : Outcome) → slice_get shown.outcomes n ≡ Some how → IsOwed shown start n how

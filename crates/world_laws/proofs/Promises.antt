@@ -25,15 +25,15 @@ use Rattle.s3_model.specs.declared.tries.Mark.TheVariants as mark
 use Rattle.s3_model.specs.Talks.{Talk}
 use Rattle.s3_service.specs.ServiceState.{State}
 use Rattle.run_promise.specs.Dispatches.{Attempt, Dispatched, FitsAsk, last_of}
-use Rattle.run_promise.specs.Endings.{Scene, IsGoneOrThere, IsSpared}
+use Rattle.run_promise.specs.Endings.{Scene, IsEnded, IsGoneOrThere, IsSpared}
 use Rattle.run_promise.specs.Fits.{Fits}
 use Rattle.run_promise.specs.Outcomes.{HasDeciding, HasOutcome, IsDecidedAt, IsDecidedByRequest, IsObjectPlace, IsTakenLast, IsSkippedByFile, IsSkippedByRequest, deciding}
 use Rattle.run_promise.specs.Schedule.{Setting, Gained, IsDecidedBy, IsTaskAsk, gained_before, is_planning, is_small, job_of, planning_of, source_bytes}
-use Rattle.run_promise.specs.Traces.{Step, IsHonest, IsTrace, events_of, state_after}
+use Rattle.run_promise.specs.Traces.{Step, IsHonest, IsTrace, events_of, state_after, states}
 use Rattle.run_promise.specs.Truthful.{Shown, AbortsLast, AllEnded, HasJournal, IsDest, MovesAfter, NoneChanged, OthersStay}
 use Rattle.world_laws.specs.Premises.{Run}
-use Rattle.world_laws.specs.Promises.{run_of, CarriedIsGiven, IsByRequests, IsFileLeft, IsOrderly, PromiseHolds}
-use Rattle.world_laws.specs.Tasks.{AreQuestions, IsDecidedIn, IsRefusedIn, IsRunOf, IsScheduled, IsShown, IsSourceGone, IsTakenIn, IsTraceOf, IsConditional, MayBeNew}
+use Rattle.world_laws.specs.Promises.{run_of, CarriedIsGiven, IsByRequests, IsCarriedOut, IsFileLeft, IsOrderly, PromiseHolds}
+use Rattle.world_laws.specs.Tasks.{AreQuestions, HasSource, IsDecidedIn, IsRefusedIn, IsRunOf, IsScheduled, IsShown, IsSourceGone, IsTakenIn, IsTraceOf, IsConditional, MayBeNew}
 use Rattle.world_laws.proofs.Carried.{are_given, has_come, is_scheduled}
 use Rattle.world_laws.proofs.Frame.{others_stay}
 use Rattle.world_laws.proofs.InParts.{aborts_are_final}
@@ -67,7 +67,7 @@ module _ (Shows : Ask → ℕ → Talk → Class → List ℕ → Type 0) where
 
 module _ (Shows : Ask → ℕ → Talk → Class → List ℕ → Type 0) (HasStatus : Ask → ℕ → Talk → ℕ → Type 0) (Plans : List Dispatched → Type 0) (CallFailed : ℕ → Cause → Type 0)
     (request_text : Ask → List ℕ → ℕ → List ℕ) (host : List ℕ) (port : ℕ) (shown : Shown) (dispatched coming : List Dispatched)
-    (o : IsOrderly Shows HasStatus Plans CallFailed request_text host port shown dispatched coming) where
+    (o : IsCarriedOut Shows HasStatus Plans CallFailed request_text host port shown dispatched coming) where
   abbrev s : Setting
   s = shown.setting
 
@@ -81,10 +81,7 @@ module _ (Shows : Ask → ℕ → Talk → Class → List ℕ → Type 0) (HasSt
 
   -- ---- one task
 
-  module _ (n : ℕ) (task : Task) (is_task : slice_get s.tasks n ≡ Some task) where
-    by_requests : IsByRequests task
-    by_requests = o.tasks n task is_task
-
+  module _ (n : ℕ) (task : Task) (is_task : slice_get s.tasks n ≡ Some task) (by_requests : IsByRequests task) where
     abbrev Decides : Mark → Type 0
     Decides of_mark = HasDeciding Shows HasStatus CallFailed s dispatched coming n task of_mark
 
@@ -190,7 +187,11 @@ module _ (Shows : Ask → ℕ → Talk → Class → List ℕ → Type 0) (HasSt
 
     -- ---- the source
 
-    module _ (how : Outcome) (at_how : slice_get shown.outcomes n ≡ Some how) (start : State) (part : List Step) where
+    -- the file of its move is left as that outcome says
+    abbrev pub FileIsLeft : Outcome → Type 0
+    FileIsLeft how = (path : List ℕ) → task.moves ≡ true → task.source ≡ Some (place.File path) → IsFileLeft how (get shown.held_after path ≡ None) (get shown.held_after path ≡ get s.held path)
+
+    module _ (how : Outcome) (file_is_left : FileIsLeft how) (start : State) (part : List Step) where
       abbrev before : Scene
       before = record { state = start; held = s.held; others = s.others }
 
@@ -198,7 +199,7 @@ module _ (Shows : Ask → ℕ → Talk → Class → List ℕ → Type 0) (HasSt
       after = record { state = state_after start part; held = shown.held_after; others = s.others }
 
       file_left : task.moves ≡ true → (path : List ℕ) → task.source ≡ Some (place.File path) → IsFileLeft how (get shown.held_after path ≡ None) (get shown.held_after path ≡ get s.held path)
-      file_left moves path is_source = o.files n task how path is_task at_how moves is_source
+      file_left moves path is_source = file_is_left path moves is_source
 
       spared_by : (source : Option Place) → ((c : Dispatched) (number : ℕ) → Contains dispatched c → c.dispatch.job ≡ job_of n op.Delete number → ⊥)
           → ((path : List ℕ) → source ≡ Some (place.File path) → get shown.held_after path ≡ get s.held path) → IsSpared n shown.journal before after source
@@ -228,32 +229,32 @@ module _ (Shows : Ask → ℕ → Talk → Class → List ℕ → Type 0) (HasSt
         (deleted.1.0, deleted.1.1, deleted.1.2, (replied Shows deleted.1.0 deleted.0 deleted.1.3).0)
 
     -- what its outcome shows of it
-    shown_by : (how : Outcome) → slice_get shown.outcomes n ≡ Some how → Caused how → (start : State) (part : List Step)
+    shown_by : (how : Outcome) → FileIsLeft how → Caused how → (start : State) (part : List Step)
         → IsShown how (IsDecidedIn Shows s dispatched n task) (IsRefusedIn Shows s dispatched n task) (IsTakenIn Shows s dispatched n task) (OnTrue task.moves (IsSourceGone Shows dispatched shown.held_after n task.source))
         (OnTrue task.moves (IsGoneOrThere (record { state = start; held = s.held; others = s.others }) (record { state = state_after start part; held = shown.held_after; others = s.others }) task.source))
         (OnTrue task.moves (IsSpared n shown.journal (record { state = start; held = s.held; others = s.others }) (record { state = state_after start part; held = shown.held_after; others = s.others }) task.source))
-    shown_by outcome.Done at_how cause start part =
-        (decided (decided_at task.kind by_requests.decided cause.1), OnTrue_from task.moves _ (λ moves. gone_by task.source cause moves refl (file_left outcome.Done at_how start part moves)))
-    shown_by (outcome.Copied why) at_how cause start part =
-        (decided (decided_at task.kind by_requests.decided cause.1), OnTrue_from task.moves _ (λ moves. left_by (outcome.Copied why) at_how start part task.source (file_left (outcome.Copied why) at_how start part moves)))
-    shown_by (outcome.Failed why) at_how cause start part = (
+    shown_by outcome.Done left cause start part =
+        (decided (decided_at task.kind by_requests.decided cause.1), OnTrue_from task.moves _ (λ moves. gone_by task.source cause moves refl (file_left outcome.Done left start part moves)))
+    shown_by (outcome.Copied why) left cause start part =
+        (decided (decided_at task.kind by_requests.decided cause.1), OnTrue_from task.moves _ (λ moves. left_by (outcome.Copied why) left start part task.source (file_left (outcome.Copied why) left start part moves)))
+    shown_by (outcome.Failed why) left cause start part = (
       refused cause.0 (λ uncertain. cause.1 (uncertain, cause.0)),
-      spared (outcome.Failed why) at_how start part (λ c number known is_job moves. cause.0 (delete_waits c number known is_job moves)) (file_left (outcome.Failed why) at_how start part),
+      spared (outcome.Failed why) left start part (λ c number known is_job moves. cause.0 (delete_waits c number known is_job moves)) (file_left (outcome.Failed why) left start part),
     )
-    shown_by (outcome.Unknown why) at_how cause start part =
-        spared (outcome.Unknown why) at_how start part (λ c number known is_job moves. cause.0.1 (delete_waits c number known is_job moves)) (file_left (outcome.Unknown why) at_how start part)
-    shown_by outcome.Dry at_how cause start part = (
+    shown_by (outcome.Unknown why) left cause start part =
+        spared (outcome.Unknown why) left start part (λ c number known is_job moves. cause.0.1 (delete_waits c number known is_job moves)) (file_left (outcome.Unknown why) left start part)
+    shown_by outcome.Dry left cause start part = (
       refused_where_dry cause,
-      spared outcome.Dry at_how start part (λ c number known is_job moves. dry_gives_none cause c known (ap (λ (j : JobId). j.task) is_job)) (file_left outcome.Dry at_how start part),
+      spared outcome.Dry left start part (λ c number known is_job moves. dry_gives_none cause c known (ap (λ (j : JobId). j.task) is_job)) (file_left outcome.Dry left start part),
     )
-    shown_by outcome.Skipped at_how cause start part = by_meeting cause.1
+    shown_by outcome.Skipped left cause start part = by_meeting cause.1
       where
         by_meeting : Skipped → IsRefusedIn Shows s dispatched n task × IsTakenIn Shows s dispatched n task
             × OnTrue task.moves (IsSpared n shown.journal (record { state = start; held = s.held; others = s.others }) (record { state = state_after start part; held = shown.held_after; others = s.others }) task.source)
         by_meeting (inl met) = (
           refused (met_no_success (inl met)) met.2,
           taken_by met.0 met.1 met.3.0 met.3.1 met.3.2.1 met.3.4,
-          spared outcome.Skipped at_how start part (λ c number known is_job moves. met_no_success (inl met) (delete_waits c number known is_job moves)) (file_left outcome.Skipped at_how start part),
+          spared outcome.Skipped left start part (λ c number known is_job moves. met_no_success (inl met) (delete_waits c number known is_job moves)) (file_left outcome.Skipped left start part),
         )
         by_meeting (inr met) = absurd (subst (λ (k : Kind). IsDecidedByRequest k) met.1 by_requests.decided)
 
@@ -292,14 +293,15 @@ module _ (Shows : Ask → ℕ → Talk → Class → List ℕ → Type 0) (HasSt
     of_plan : IsRunOf Shows s run
     of_plan = record { coming = coming; scheduled = scheduled; traced = of_trace }
 
-    pub all_ended : AllEnded shown start trace part
-    all_ended n task how is_task at_how =
-        let by = by_requests n task is_task in
-        let cause = o.causes n task how is_task at_how in
-        task_ends Shows s shown.excused shown.held_after run part of_plan whole n task by.bucket by.key is_task by.is_dest how
-        (λ may. o.sources start trace of_trace n task how is_task at_how may) (shown_by n task is_task how at_how cause start part)
+    -- a task that requests decide, with its source as planned
+    pub task_ended : (n : ℕ) (task : Task) (how : Outcome) (is_task : slice_get s.tasks n ≡ Some task) (by : IsByRequests task) → slice_get shown.outcomes n ≡ Some how → FileIsLeft n task is_task by how
+        → (MayBeNew how → HasSource s.held (states start trace) task task.kind (is_small s task))
+        → IsEnded shown.excused shown.journal start trace (record { state = start; held = s.held; others = s.others }) (record { state = state_after start part; held = shown.held_after; others = s.others }) n task how
+    task_ended n task how is_task by at_how left source =
+        task_ends Shows s shown.excused shown.held_after run part of_plan whole n task by.bucket by.key is_task by.is_dest how source
+        (shown_by n task is_task by how left (o.causes n task how is_task at_how) start part)
 
-    none_changed : NoneChanged shown start trace part
+    pub none_changed : NoneChanged shown start trace part
     none_changed bucket key none = elim (others_stay Shows s.limits start trace dispatched shown.journal runs fits bucket key part whole.0 whole.1) [
       | inr rest ↦ rest
       | inl asked ↦ elim (found_or_not asked.0.dispatch.job.task) [
@@ -308,12 +310,15 @@ module _ (Shows : Ask → ℕ → Talk → Class → List ℕ → Type 0) (HasSt
       ]
     ]
 
-    others : OthersStay shown start trace part
+    pub others : OthersStay shown start trace part
     others bucket key = other_objects_stay Shows s run part bucket key of_plan (whole.0, whole.1)
 
-    moves_after : MovesAfter shown start trace
-    moves_after n task front later step lane sent is_task is_copy split is_event is_delete =
-        let by = by_requests n task is_task in
+    -- where its copies are by requests, with their sources as planned
+    pub moves_after : ((n : ℕ) (task : Task) → slice_get s.tasks n ≡ Some task → task.kind ≡ kind.Copy → IsByRequests task)
+        → ((n : ℕ) (task : Task) (how : Outcome) → slice_get s.tasks n ≡ Some task → task.kind ≡ kind.Copy → slice_get shown.outcomes n ≡ Some how → MayBeNew how
+        → HasSource s.held (states start trace) task task.kind (is_small s task)) → MovesAfter shown start trace
+    moves_after by_each sources n task front later step lane sent is_task is_copy split is_event is_delete =
+        let by = by_each n task is_task is_copy in
         let begun = begun_is_after Shows s.limits start trace dispatched shown.journal runs fits scheduled.given front step later lane sent split is_event in
         let is_job : begun.0.dispatch.job ≡ job_of n op.Delete 0 = begun.2 ∙ is_delete in
         let own = tasks.row_of_job Shows s shown.journal dispatched coming scheduled n task by.bucket by.key is_task by.is_dest begun.0 op.Delete 0 begun.1 is_job in
@@ -322,15 +327,47 @@ module _ (Shows : Ask → ℕ → Talk → Class → List ℕ → Type 0) (HasSt
         (subst (λ (o : Op). IsTaskAsk (gained_before Shows dispatched begun.0.dispatch.given_at) task (record { number = n; bytes = source_bytes s.held task.source; piece = own.piece; count = own.count })
         task.kind (is_small s task) o begun.0.dispatch.job.number begun.0.ask begun.0.body) (ap (λ (j : JobId). j.op) is_job) own.row) (λ removal. not_removal (sym is_copy ∙ removal)) in
         let ended = has_outcome begun.0 n begun.1 (ap (λ (j : JobId). j.task) is_job) in
-        let may = new_where_decided n task is_task ended.0 (o.causes n task ended.0 is_task ended.1) (delete_waits n task is_task begun.0 0 begun.1 is_job source.moves) in
+        let may = new_where_decided n task is_task by ended.0 (o.causes n task ended.0 is_task ended.1) (delete_waits n task is_task by begun.0 0 begun.1 is_job source.moves) in
         moved_task_is_new Shows s shown.excused shown.held_after run front later step of_plan split n task by.bucket by.key
-        (record { is_task = is_task; is_dest = by.is_dest; has_source = o.sources start trace of_trace n task ended.0 is_task ended.1 may }) is_copy lane sent is_event is_delete
+        (record { is_task = is_task; is_dest = by.is_dest; has_source = sources n task ended.0 is_task is_copy ended.1 may }) is_copy lane sent is_event is_delete
       where
         not_removal : kind.Copy ≡ kind.RemoveObject → ⊥
         not_removal e = cc
 
-    pub all_true : AllEnded shown start trace part × NoneChanged shown start trace part × OthersStay shown start trace part × MovesAfter shown start trace × AbortsLast trace
-    all_true = (all_ended, none_changed, others, moves_after, aborts_are_final s.limits start trace runs)
+module _ (Shows : Ask → ℕ → Talk → Class → List ℕ → Type 0) (HasStatus : Ask → ℕ → Talk → ℕ → Type 0) (Plans : List Dispatched → Type 0) (CallFailed : ℕ → Cause → Type 0)
+    (request_text : Ask → List ℕ → ℕ → List ℕ) (host : List ℕ) (port : ℕ) (shown : Shown) (dispatched coming : List Dispatched)
+    (o : IsOrderly Shows HasStatus Plans CallFailed request_text host port shown dispatched coming) where
+  pub carried_out : IsCarriedOut Shows HasStatus Plans CallFailed request_text host port shown dispatched coming
+  carried_out = record {
+    schedule = o.schedule;
+    carried = o.carried;
+    outcomes = o.outcomes;
+    causes = o.causes;
+    questions = o.questions;
+    apart = o.apart;
+    one_class = o.one_class;
+    config = o.config;
+    limits = o.limits;
+  }
+
+  module _ (start : State) (trace part : List Step) (runs : IsTrace shown.setting.limits [] start trace) (honest : IsHonest start trace (IsDest shown.setting.tasks)) (fits : Fits Shows (events_of trace) shown.journal dispatched)
+      (whole : HasJournal shown.journal trace part) where
+    pub all_ended : AllEnded shown start trace part
+    all_ended n task how is_task at_how =
+        task_ended Shows HasStatus Plans CallFailed request_text host port shown dispatched coming carried_out start trace part runs honest fits whole n task how is_task (o.tasks n task is_task) at_how
+        (λ path moves is_source. o.files n task how path is_task at_how moves is_source)
+        (λ may. o.sources start trace (record { runs = runs; honest = honest; fits = fits }) n task how is_task at_how may)
+
+    all_true : AllEnded shown start trace part × NoneChanged shown start trace part × OthersStay shown start trace part × MovesAfter shown start trace × AbortsLast trace
+    all_true = (
+      all_ended,
+      none_changed Shows HasStatus Plans CallFailed request_text host port shown dispatched coming carried_out start trace part runs honest fits whole,
+      others Shows HasStatus Plans CallFailed request_text host port shown dispatched coming carried_out start trace part runs honest fits whole,
+      moves_after Shows HasStatus Plans CallFailed request_text host port shown dispatched coming carried_out start trace part runs honest fits whole
+          (λ n task is_task is_copy. o.tasks n task is_task)
+          (λ n task how is_task is_copy at_how may. o.sources start trace (record { runs = runs; honest = honest; fits = fits }) n task how is_task at_how may),
+      aborts_are_final shown.setting.limits start trace runs,
+    )
 
 module _ (Shows : Ask → ℕ → Talk → Class → List ℕ → Type 0) (HasStatus : Ask → ℕ → Talk → ℕ → Type 0) (Plans : List Dispatched → Type 0) (CallFailed : ℕ → Cause → Type 0) where
   pub promise_holds : PromiseHolds Shows HasStatus Plans CallFailed

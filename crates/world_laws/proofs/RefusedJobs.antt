@@ -163,7 +163,7 @@ module _ (Shows : Ask → ℕ → Talk → Class → List ℕ → Type 0) (HasSt
   s = shown.setting
 
   pub scheduled : IsScheduled Shows s shown.journal dispatched coming
-  scheduled = promises.scheduled Shows HasStatus Plans CallFailed request_text host port shown dispatched coming o
+  scheduled = promises.scheduled Shows HasStatus Plans CallFailed request_text host port shown dispatched coming (promises.carried_out Shows HasStatus Plans CallFailed request_text host port shown dispatched coming o)
 
   pub come : (c : Dispatched) → Contains dispatched c → HasCome shown.journal c
   come c known = scheduled.come c known

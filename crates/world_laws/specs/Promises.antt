@@ -75,7 +75,26 @@ module _ (Shows : Ask → ℕ → Talk → Class → List ℕ → Type 0) where
   module _ (HasStatus : Ask → ℕ → Talk → ℕ → Type 0) (Plans : List Dispatched → Type 0)
       (CallFailed : ℕ → Cause → Type 0) where
     -- The jobs are those of the plan, the wires carried them and nothing else, and each task has its outcome with the
-    -- cause that the talks show.
+    -- cause that the talks show, whether requests or calls on files decide it.
+    pub record IsCarriedOut (request_text : Ask → List ℕ → ℕ → List ℕ) (host : List ℕ) (port : ℕ) (shown : Shown)
+        (dispatched coming : List Dispatched) : Type 0 where
+      pub schedule : IsSchedule Shows shown.setting Plans dispatched coming
+      pub carried : IsCarried Shows request_text host port shown.setting shown.journal shown.logs shown.notes
+          dispatched coming
+      pub outcomes : HasOutcomes shown dispatched
+      pub causes : (n : ℕ) (task : Task) (how : Outcome) → slice_get shown.setting.tasks n ≡ Some task
+          → slice_get shown.outcomes n ≡ Some how
+          → HasOutcome Shows HasStatus CallFailed shown.setting dispatched coming n task how
+      -- planning only asks
+      pub questions : (c : Dispatched) → Contains dispatched c → c.dispatch.job.task ≡ None → IsPlanning c.ask
+      pub apart : AreApart shown.setting.tasks
+      -- needed only where a task is not to replace
+      pub one_class : (n : ℕ) (task : Task) → slice_get shown.setting.tasks n ≡ Some task → task.fresh ≡ true
+          → ShowsOneClass
+      pub config : IsValidConfig shown.setting.config
+      pub limits : IsValidLimits shown.setting.limits
+
+    -- Such a run of a plan whose tasks requests decide, with their sources as planned.
     pub record IsOrderly (request_text : Ask → List ℕ → ℕ → List ℕ) (host : List ℕ) (port : ℕ) (shown : Shown)
         (dispatched coming : List Dispatched) : Type 0 where
       pub schedule : IsSchedule Shows shown.setting Plans dispatched coming
