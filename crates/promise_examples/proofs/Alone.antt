@@ -23,6 +23,7 @@ use Rattle.promise_examples.proofs.Concrete.{Pairs, Slots, at, each, none_is_som
 use Rattle.promise_examples.proofs.Readings.{never_memory, reads, says_whole, shown_by}
 use Rattle.promise_examples.proofs.Repeats.{all_repeats}
 use Rattle.promise_examples.proofs.SmallPut.{put_with, scheduled}
+use Rattle.promise_examples.proofs.WireBreaks as breaks
 
 -- ---- lanes
 
@@ -347,6 +348,11 @@ module _ (page_of : List ℕ → Listed) where
     never_tried = alone _ _ _ Silent never_tried;
     came_twice = (the_put ∷ [], the_put ∷ [], scheduled Shows the_put.dispatch.attempts, came_twice);
     moment_beyond = (the_put ∷ [], the_put ∷ [], scheduled Shows the_put.dispatch.attempts, moment_beyond);
+    never_came = breaks.never_came_alone page_of;
+    denied_given_again = breaks.denied_given_again_alone page_of;
+    silent_never_came = breaks.silent_never_came_alone page_of;
+    silent_other_lane = breaks.silent_other_lane_alone page_of;
+    silent_out_of_turn = breaks.silent_out_of_turn_alone page_of;
   }
 
 pub each_wire_breaks_alone : EachWireBreaksAlone

@@ -59,22 +59,22 @@ no_success same = cc
 first_fitting : IsFirstFitting 1 2 2 1
 first_fitting = record { doublings = 0; is_multiple = refl; fits = omega arith; first = λ k before. absurd (omega arith) }
 
-upload_pieces : HasPieces e.setting.config e.setting.limits kind.Upload 2 1 2
+pub upload_pieces : HasPieces e.setting.config e.setting.limits kind.Upload 2 1 2
 upload_pieces = inr (omega arith, (1, first_fitting, refl, refl))
 
-copy_pieces : HasPieces e.setting.config e.setting.limits kind.Copy 1 1 1
+pub copy_pieces : HasPieces e.setting.config e.setting.limits kind.Copy 1 1 1
 copy_pieces = inl (omega arith, refl, refl)
 
-body_is : bytes ≡ bytes_of (get e.setting.held path)
+pub body_is : bytes ≡ bytes_of (get e.setting.held path)
 body_is = sym (ap bytes_of (get-insert_same nat_list_cmp_total text_exact empty path (record { bytes = bytes; micros = 0 })))
 
-unfoldable to_upload : Target upload
+unfoldable pub to_upload : Target upload
 to_upload = record { bucket = bucket; key = uploaded; is_dest = (refl, refl) }
 
-unfoldable to_copy : Target copy
+unfoldable pub to_copy : Target copy
 to_copy = record { bucket = bucket; key = copied; is_dest = (refl, refl) }
 
-unfoldable from_copy : Origin copy
+unfoldable pub from_copy : Origin copy
 from_copy = record { bucket = bucket; key = source; is_source = (refl, refl) }
 
 module _ (page_of : List ℕ → Listed) where

@@ -279,6 +279,34 @@ module _ (page_of : List ℕ → Listed) where
   on_other_lane asked body limit size coming carried =
       let inside : 1 < 1 = carried.lanes (in_second (record { mark = mark.Success; talk = stored_at 5 } ∷ []) asked body limit size) (first (in_second (record { mark = mark.Success; talk = stored_at 5 } ∷ []) asked body limit size) []) in omega arith
 
+  -- ---- given again after a denial, and jobs without a talk
+
+  abbrev giving : (given came earlier : ℕ) → (is_second : Bool) → List Attempt → Ask → List ℕ → ℕ → ℕ → Dispatched
+  giving given came earlier is_second attempts asked body limit size =
+      made (record { job = put_job; lane = 0; given_at = given; came_at = Some came; earlier = earlier; is_second = is_second; attempts = attempts }) asked body limit size
+
+  on_denied_given_again : (a1 : Ask) (b1 : List ℕ) (l1 s1 : ℕ) (a2 : Ask) (b2 : List ℕ) (l2 s2 : ℕ) (coming : List Dispatched)
+      → Carried specs.denied_given_again (giving 0 1 0 false (record { mark = mark.Refusal; talk = denied_at 5 } ∷ []) a1 b1 l1 s1 ∷ giving 2 3 1 true (record { mark = mark.Success; talk = stored_at 6 } ∷ []) a2 b2 l2 s2 ∷ []) coming → ⊥
+  on_denied_given_again a1 b1 l1 s1 a2 b2 l2 s2 coming carried =
+      let again = (carried.given_again 0 1 (giving 0 1 0 false (record { mark = mark.Refusal; talk = denied_at 5 } ∷ []) a1 b1 l1 s1) (omega arith) (omega arith) refl (record { mark = mark.Refusal; talk = denied_at 5 }) refl).0 in
+      never (same_again (class.Refusal (codes "AccessDenied") []) again.0 again.2.0 ∙ again.3)
+
+  abbrev silent : JobId → (lane given : ℕ) → Option ℕ → Ask → List ℕ → ℕ → ℕ → Dispatched
+  silent job lane given came asked body limit size = made (record { job = job; lane = lane; given_at = given; came_at = came; earlier = 0; is_second = false; attempts = [] }) asked body limit size
+
+  on_silent_never_came : (asked : Ask) (body : List ℕ) (limit size : ℕ) (coming : List Dispatched) → Carried specs.silent_never_came (silent put_job 0 0 None asked body limit size ∷ []) coming → ⊥
+  on_silent_never_came asked body limit size coming carried =
+      let here = carried.comes (silent put_job 0 0 None asked body limit size) (first (silent put_job 0 0 None asked body limit size) []) in none_is_some here.0 here.2
+
+  on_silent_other_lane : (asked : Ask) (body : List ℕ) (limit size : ℕ) (coming : List Dispatched) → Carried specs.silent_other_lane (silent put_job 1 0 (Some 1) asked body limit size ∷ []) coming → ⊥
+  on_silent_other_lane asked body limit size coming carried =
+      let inside : 1 < 1 = carried.lanes (silent put_job 1 0 (Some 1) asked body limit size) (first (silent put_job 1 0 (Some 1) asked body limit size) []) in omega arith
+
+  on_silent_out_of_turn : (a1 : Ask) (b1 : List ℕ) (l1 s1 : ℕ) (a2 : Ask) (b2 : List ℕ) (l2 s2 : ℕ) (coming : List Dispatched)
+      → Carried specs.silent_out_of_turn (silent put_job 0 0 (Some 3) a1 b1 l1 s1 ∷ silent specs.second_put 0 1 (Some 2) a2 b2 l2 s2 ∷ []) coming → ⊥
+  on_silent_out_of_turn a1 b1 l1 s1 a2 b2 l2 s2 coming carried =
+      let late : 3 < 2 = carried.in_turn 0 0 1 (silent put_job 0 0 (Some 3) a1 b1 l1 s1) (omega arith) (omega arith) 2 refl in omega arith
+
   pub wires : WiresAreRefused page_of
   wires = record {
     dropped_talk = refute specs.dropped_talk on_dropped_talk;
@@ -300,6 +328,10 @@ module _ (page_of : List ℕ → Listed) where
     moment_beyond = refute specs.moment_beyond (λ asked body limit size coming schedule carried. no_cons _ _ (carried.unused_lanes 1 (omega arith)).1);
     other_wire = refute specs.other_wire (λ asked body limit size coming schedule carried. no_cons _ _ (carried.unused_lanes 1 (omega arith)).0);
     other_lane = refute specs.other_lane (λ asked body limit size coming schedule carried. on_other_lane asked body limit size coming carried);
+    denied_given_again = refute specs.denied_given_again (λ a1 b1 l1 s1 a2 b2 l2 s2 coming schedule carried. on_denied_given_again a1 b1 l1 s1 a2 b2 l2 s2 coming carried);
+    silent_never_came = refute specs.silent_never_came (λ asked body limit size coming schedule carried. on_silent_never_came asked body limit size coming carried);
+    silent_other_lane = refute specs.silent_other_lane (λ asked body limit size coming schedule carried. on_silent_other_lane asked body limit size coming carried);
+    silent_out_of_turn = refute specs.silent_out_of_turn (λ a1 b1 l1 s1 a2 b2 l2 s2 coming schedule carried. on_silent_out_of_turn a1 b1 l1 s1 a2 b2 l2 s2 coming carried);
   }
 
   -- ---- jobs

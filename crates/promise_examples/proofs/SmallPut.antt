@@ -49,7 +49,7 @@ asks of_bucket of_key of_file gained = (to of_bucket of_key of_file, refl, refl,
 
 -- ---- its schedule
 
-never_before : (place : Option ℕ) → IsBefore place 0 → ⊥
+pub never_before : (place : Option ℕ) → IsBefore place 0 → ⊥
 never_before None before = before
 never_before (Some at) before = omega arith
 

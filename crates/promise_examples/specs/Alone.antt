@@ -102,6 +102,12 @@ module _ (page_of : List ℕ → Listed) where
     pub never_tried : BreaksAlone Silent refused.never_tried
     pub came_twice : BreaksAlone NothingElse refused.came_twice
     pub moment_beyond : BreaksAlone UnusedLanes refused.moment_beyond
+    -- where the job that was given is left out of the reading
+    pub never_came : BreaksAlone Shown refused.never_came
+    pub denied_given_again : BreaksAlone GivenAgain refused.denied_given_again
+    pub silent_never_came : BreaksAlone Comes refused.silent_never_came
+    pub silent_other_lane : BreaksAlone Lanes refused.silent_other_lane
+    pub silent_out_of_turn : BreaksAlone InTurn refused.silent_out_of_turn
 
 abbrev pub EachWireBreaksAlone : Type 0
 EachWireBreaksAlone = (page_of : List ℕ → Listed) → WiresBreakAlone page_of

@@ -10,5 +10,6 @@ pub mod Pages
 pub mod Plannings
 pub mod Reading
 pub mod Refused
+pub mod Rules
 pub mod Runs
 pub mod Services

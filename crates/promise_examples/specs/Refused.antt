@@ -5,6 +5,7 @@ use Rattle.s3_model.specs.declared.answers.Listed.{Listed}
 use Rattle.s3_model.specs.declared.outcomes.Event.{Event}
 use Rattle.s3_model.specs.declared.outcomes.Event.TheVariants as entry
 use Rattle.s3_model.specs.declared.outcomes.Outcome.TheVariants as outcome
+use Rattle.s3_model.specs.declared.outcomes.JobId.{JobId}
 use Rattle.s3_model.specs.declared.requests.Op.TheVariants as op
 use Rattle.s3_model.specs.declared.settings.Config.{Config}
 use Rattle.s3_model.specs.declared.settings.Limits.{Limits}
@@ -142,6 +143,11 @@ never_came = run (given_put ∷ []) (in_first []) (in_first [])
 abbrev pub came_twice : Example
 came_twice = run (given_put ∷ put_came (mark.Success ∷ []) ∷ put_came [] ∷ []) (in_first (stored_at 5 ∷ [])) (in_first a_talk)
 
+-- a Put that was denied is given again, and stored
+abbrev pub denied_given_again : Example
+denied_given_again = run (given_put ∷ put_came (mark.Refusal ∷ []) ∷ given_put ∷ put_came (mark.Success ∷ []) ∷ []) (in_first (denied_at 5 ∷ stored_at 6 ∷ []))
+    (in_first (Moment 5 ∷ Began ∷ Pause 1 ∷ Moment 6 ∷ Began ∷ []))
+
 -- a moment is noted on a wire beyond the lanes
 abbrev pub moment_beyond : Example
 moment_beyond = run (once (mark.Success ∷ [])) (in_first (stored_at 5 ∷ [])) (λ lane. if lane == 0 then a_talk else Moment 5 ∷ [])
@@ -152,6 +158,36 @@ other_wire = run (once (mark.Success ∷ [])) (λ lane. stored_at 5 ∷ []) (in_
 
 abbrev pub other_lane : Example
 other_lane = run (entry.Given put_job 1 ∷ entry.Came put_job 1 (mark.Success ∷ []) ∷ []) (λ lane. stored_at 5 ∷ []) (λ lane. a_talk)
+
+-- ---- jobs without a talk, since memory ran out for them
+
+-- another file, to another key
+abbrev pub second_task : Task
+second_task = upload (98 ∷ []) (118 ∷ []) path
+
+abbrev pub second_put : JobId
+second_put = record { task = Some 1; op = op.Put; number = 0 }
+
+abbrev pub silent_run : List Task → List Event → Example
+silent_run tasks journal = record {
+  setting = record setting { tasks = tasks; wanted_memory = λ task. true };
+  outcomes = [];
+  journal = journal;
+  logs = in_first [];
+  notes = in_first [];
+}
+
+-- one does not come
+abbrev pub silent_never_came : Example
+silent_never_came = silent_run (task ∷ []) (given_put ∷ [])
+
+-- one is given to a lane that is not used
+abbrev pub silent_other_lane : Example
+silent_other_lane = silent_run (task ∷ []) (entry.Given put_job 1 ∷ entry.Came put_job 1 [] ∷ [])
+
+-- the second one comes before the first one, in one lane
+abbrev pub silent_out_of_turn : Example
+silent_out_of_turn = silent_run (task ∷ second_task ∷ []) (given_put ∷ entry.Given second_put 0 ∷ entry.Came second_put 0 [] ∷ put_came [] ∷ [])
 
 -- ---- what is changed of the jobs
 
@@ -222,6 +258,10 @@ module _ (page_of : List ℕ → Listed) where
     pub moment_beyond : IsRefused moment_beyond
     pub other_wire : IsRefused other_wire
     pub other_lane : IsRefused other_lane
+    pub denied_given_again : IsRefused denied_given_again
+    pub silent_never_came : IsRefused silent_never_came
+    pub silent_other_lane : IsRefused silent_other_lane
+    pub silent_out_of_turn : IsRefused silent_out_of_turn
 
   pub record JobsAreRefused : Type 0 where
     pub third_giving : IsRefused third_giving

@@ -5,6 +5,7 @@ ghost use Rattle.promise_examples.specs.Lies.{EachLieIsRefused};
 ghost use Rattle.promise_examples.specs.Misfits.{EachTraceIsRefused};
 ghost use Rattle.promise_examples.specs.Orders.{EachOrderIsRefused};
 ghost use Rattle.promise_examples.specs.Plannings.{EachPlanningIsRefused};
+ghost use Rattle.promise_examples.specs.Rules.{EachJobBreaksAlone, EachOrderBreaksAlone, EachPlanningBreaksAlone};
 ghost use Rattle.promise_examples.specs.Refused.{EachJobIsRefused, EachWireIsRefused};
 
 /// A small upload that was stored meets every definition. With one thing changed on its wires, of its jobs, of the order
@@ -19,8 +20,12 @@ pub fn refused()
     ensures lies { EachLieIsRefused }
 {}
 
-/// Fifteen of those changes on the wires break one clause of what is carried and no other: with one reading of its jobs
-/// such a run keeps to the schedule, and all other clauses hold of it.
+/// Twenty of those changes on the wires break one clause of what is carried and no other: with one reading of its jobs
+/// such a run keeps to the schedule, and all other clauses hold of it. Others break one clause of the schedule and no
+/// other: with one reading of its jobs such a run is carried.
 pub fn single_breaks()
-    ensures { EachWireBreaksAlone }
+    ensures wires { EachWireBreaksAlone }
+    ensures jobs { EachJobBreaksAlone }
+    ensures orders { EachOrderBreaksAlone }
+    ensures plannings { EachPlanningBreaksAlone }
 {}
