@@ -9,7 +9,7 @@ use Rattle.s3_model.specs.declared.answers.Reply.TheVariants as reply
 use Rattle.s3_model.specs.Classes.{HasOneReading}
 use Rattle.s3_model.specs.Replies.{IsSameReply}
 use Rattle.reply_xml.specs.declared.elements.Element.TheVariants as element
-use Rattle.reply_xml.specs.Children.{HasLeaf}
+use Rattle.reply_xml.specs.Children.{HasLeaf, HasOnly, IsPlain}
 use Rattle.reply_xml.specs.Contents.{Content}
 use Rattle.reply_xml.specs.Documents.{BeginsDocument, IsOf}
 use Rattle.reply_xml.proofs.DocumentLemmas.{root_at}
@@ -39,7 +39,7 @@ not_both (ask.PartCopy bucket key upload number from_bucket from_key etag range)
     longer 14 (root_of_error (HasLeaf element.ETag) (codes "CopyPartResult") doc code message stored e h) (omega arith)
 not_both (ask.Create bucket key content) doc code message (reply.Created upload) e h = longer 29 (root_of_error (HasLeaf element.UploadId) (codes "InitiateMultipartUploadResult") doc code message upload e h) (omega arith)
 not_both (ask.Complete bucket key upload etags fresh) doc code message reply.Completed e h =
-    longer 29 (root_of_error (HasLeaf element.ETag) (codes "CompleteMultipartUploadResult") doc code message h.0 e h.1) (omega arith)
+    longer 29 (root_of_error (HasOnly IsPlain element.ETag) (codes "CompleteMultipartUploadResult") doc code message h.0 e h.1) (omega arith)
 not_both (ask.List bucket prefix delimited token) doc code message (reply.Listed page) e h = longer 16 (root_of_error HasPage (codes "ListBucketResult") doc code message h.0 e h.1) (omega arith)
 not_both ask.Buckets doc code message (reply.BucketList buckets) e h = longer 22 (root_of_error HasBuckets (codes "ListAllMyBucketsResult") doc code message buckets.items e h) (omega arith)
 not_both asked doc code message said e h = absurd h
