@@ -6,6 +6,8 @@ pub mod FileEnds
 pub mod Files
 pub mod Filling
 pub mod Keeping
+pub mod PlanEnds
+pub mod PlanWitness
 pub mod Ranges
 pub mod RemovalWitness
 pub mod Requests

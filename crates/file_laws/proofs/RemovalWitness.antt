@@ -36,13 +36,13 @@ use Rattle.file_laws.specs.FileWitnesses.{FailedRemovalIsMet, IsFileTaskMet, IsM
 use Rattle.file_laws.proofs.CallWitness.{calls_keep, still_apart}
 use Rattle.file_laws.proofs.Keeping.{removal_downloads, run_of, same_path, some_is_there, true_false, upload_downloads, upload_removes}
 
-makes_or_removes : (path dest temp : List ℕ) (fine : Bool) → Remove path fine ≡ MakeTemp dest (Ok temp) → ⊥
+pub makes_or_removes : (path dest temp : List ℕ) (fine : Bool) → Remove path fine ≡ MakeTemp dest (Ok temp) → ⊥
 makes_or_removes path dest temp fine e = cc
 
-renames_or_removes : (path temp dest : List ℕ) (fine : Bool) → Remove path fine ≡ Rename temp dest None → ⊥
+pub renames_or_removes : (path temp dest : List ℕ) (fine : Bool) → Remove path fine ≡ Rename temp dest None → ⊥
 renames_or_removes path temp dest fine e = cc
 
-failed_or_fine : (path other : List ℕ) → Remove path false ≡ Remove other true → ⊥
+pub failed_or_fine : (path other : List ℕ) → Remove path false ≡ Remove other true → ⊥
 failed_or_fine path other e = cc
 
 same_removal : (path other : List ℕ) (fine : Bool) → Remove path fine ≡ Remove other fine → path ≡ other

@@ -3,6 +3,8 @@
 ghost use Rattle.file_laws.specs.FileEnds.{FileTaskEnds, MovedFilesAreLeft, PromisedFilesStay};
 ghost use Rattle.file_laws.specs.FileLaws.{FileIsDownloaded, FileIsKeptSafe, FileIsMoved, FileIsRemoved, FilesStay};
 ghost use Rattle.file_laws.specs.FileWitnesses.{DownloadIsMet, FailedRemovalIsMet, LeftFileIsMet, MovedFileIsMet, RefusedGetIsMet, RemovalIsMet};
+ghost use Rattle.file_laws.specs.PlanEnds.{PlanEnds};
+ghost use Rattle.file_laws.specs.PlanWitnesses.{PlanIsMet, UncountedIsRefused};
 ghost use Rattle.world_laws.specs.Rounds.{AreNone, NeverFailed, Told, ToldStatus};
 
 use world_laws::{Command, Reading};
@@ -54,6 +56,15 @@ pub fn file_task<C: Command>()
     ensures met_removal { FailedRemovalIsMet }
 {}
 
+/// What a run over objects and files promises follows where each task is one that requests or calls on files decide:
+/// over every honest service that fits, each task ended as its outcome says, and nothing else is changed, neither objects
+/// nor files. Such a run counts a call on files that failed.
+pub fn plan<C: Command>()
+    ensures ends { PlanEnds C.shows C.has_status C.plans C.call_failed }
+    ensures met { PlanIsMet }
+    ensures refused { UncountedIsRefused }
+{}
+
 #[cfg(test)]
 mod tests {
     use super::*;
@@ -80,5 +91,6 @@ mod tests {
         download::<Plain>();
         moved_file::<Plain>();
         file_task::<Plain>();
+        plan::<Plain>();
     }
 }

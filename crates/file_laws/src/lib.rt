@@ -3,4 +3,4 @@
 
 mod laws;
 
-pub use laws::{download, file_removal, file_task, moved_file, other_files};
+pub use laws::{download, file_removal, file_task, moved_file, other_files, plan};
