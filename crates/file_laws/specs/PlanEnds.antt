@@ -1,5 +1,5 @@
--- Runs of plans whose tasks are each decided by requests or by calls on files: how each task ended, and that nothing else
--- changes.
+-- Runs of plans whose tasks are each decided by requests or by calls on files: how each task ended, and that
+-- nothing else changes.
 use Rattle.std.specs.Prelude.{◌≡◌, ◌⊎◌, ℕ, true, List, Some, slice_get}
 use Rattle.s3_model.specs.declared.answers.Class.{Class}
 use Rattle.s3_model.specs.declared.outcomes.Cause.{Cause}

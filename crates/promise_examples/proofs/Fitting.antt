@@ -22,7 +22,7 @@ came_at n c = is_place n c.dispatch.came_at
 at_itself : (n : ℕ) → (n == n) ≡ true
 at_itself n = grind arith
 
-passes_place : (n : ℕ) (place : Option ℕ) → place ≡ Some n → is_place n place ≡ true
+pub passes_place : (n : ℕ) (place : Option ℕ) → place ≡ Some n → is_place n place ≡ true
 passes_place n place e = ap (is_place n) e ∙ at_itself n
 
 -- ---- the clauses, by the event

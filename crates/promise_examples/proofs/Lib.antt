@@ -25,6 +25,7 @@ pub mod Ruling
 pub mod Scheduling
 pub mod Shown
 pub mod SmallPut
+pub mod TraceBreaks
 pub mod TwoPages
 pub mod WireBreaks
 pub mod WholePut

@@ -10,10 +10,12 @@ use Rattle.s3_model.specs.declared.answers.Reply.TheVariants as reply
 use Rattle.s3_model.specs.declared.outcomes.JobId.{JobId}
 use Rattle.s3_model.specs.declared.tries.Mark.TheVariants as mark
 use Rattle.s3_model.specs.Talks.{Talk}
-use Rattle.s3_service.specs.Serves.{Answer, Replied, Refused, Writes}
+use Rattle.s3_service.specs.ServiceState.{State, with_object}
+use Rattle.world_laws.proofs.Objects.{object_at-with_object}
+use Rattle.s3_service.specs.Serves.{Answer, Replied, Refused, Removes, Writes}
 use Rattle.run_promise.specs.Dispatches.{Attempt, Dispatched, dispatches}
 use Rattle.run_promise.specs.Fits.{Fits, Names, request_at}
-use Rattle.run_promise.specs.Traces.{Step, TraceEvent, Request, Given, Begin, Serve, Came, External, IsTrace, IsHonest, events_of}
+use Rattle.run_promise.specs.Traces.{Step, TraceEvent, Request, Given, Begin, Serve, Came, External, IsTrace, IsHonest, events_of, states}
 use Rattle.run_promise.specs.Truthful.{IsDest}
 use Rattle.promise_examples.specs.GivenAgain.{put_job, bytes}
 use Rattle.promise_examples.specs.Misfits as specs
@@ -104,6 +106,16 @@ module _ (page_of : List ℕ → Listed) where
   on_overwritten asked body limit size runs honest fits =
       honest.not_written bucket key (object_of bytes) (at (events_of specs.overwritten) 4 (External (Writes bucket key (object_of bytes))) refl) (task, at (task ∷ []) 0 task refl, refl)
 
+  on_removed : (asked : Ask) (body : List ℕ) (limit size : ℕ) → Unfit specs.removed asked body limit size
+  on_removed asked body limit size runs honest fits = honest.not_removed bucket key (at (events_of specs.removed) 4 (External (Removes bucket key)) refl) (task, at (task ∷ []) 0 task refl, refl)
+
+  on_two_contents : (asked : Ask) (body : List ℕ) (limit size : ℕ) → Unfit specs.two_contents asked body limit size
+  on_two_contents asked body limit size runs honest fits =
+      let last : State = with_object specs.first_content bucket specs.other_key (specs.with_byte 9) in
+      let same : 8 ∷ [] ≡ 9 ∷ [] = honest.one_content specs.first_content last bucket specs.other_key (specs.with_byte 8) (specs.with_byte 9) (at (states before specs.two_contents) 5 specs.first_content refl) (at (states before specs.two_contents) 6 last refl)
+      (object_at-with_object specs.stored bucket specs.other_key (specs.with_byte 8)) (object_at-with_object specs.first_content bucket specs.other_key (specs.with_byte 9)) refl in
+      let byte : ◌≡◌ {A = ℕ} 8 9 = head_is 8 9 [] [] same in omega arith
+
   pub traces : TracesAreRefused page_of
   traces = record {
     whole = met page_of;
@@ -119,4 +131,6 @@ module _ (page_of : List ℕ → Listed) where
     begun_twice = unfit specs.begun_twice on_begun_twice;
     never_given = unfit specs.never_given on_never_given;
     overwritten = unfit specs.overwritten on_overwritten;
+    removed = unfit specs.removed on_removed;
+    two_contents = unfit specs.two_contents on_two_contents;
   }

@@ -48,33 +48,33 @@ module _ (page_of : List ℕ → Listed) where
   abbrev Plans : List Dispatched → Type 0
   Plans planning = planning ≡ []
 
-  abbrev well : Attempt
+  abbrev pub well : Attempt
   well = record { mark = mark.Success; talk = stored_at 5 }
 
-  abbrev sent : Dispatched
+  abbrev pub sent : Dispatched
   sent = small.put_with (well ∷ [])
 
-  abbrev jobs : List Dispatched
+  abbrev pub jobs : List Dispatched
   jobs = sent ∷ []
 
   -- ---- the trace
 
-  there : HasBucket before bucket
+  pub there : HasBucket before bucket
   there = has_bucket (record { objects = empty; uploads = empty; ended = empty; tokens = empty }) bucket empty
 
   runs : IsTrace limits [] before whole_trace
   runs = (refl, (refl, (((0, omega arith, refl), (there, (λ fresh. absurd (never fresh)), (object_of bytes, refl, refl))), (refl, tt))))
 
-  still : IsFaithful before
+  pub still : IsFaithful before
   still = one_bucket_is_faithful bucket
 
-  now : IsFaithful stored
+  pub now : IsFaithful stored
   now = faithful_with before bucket key bytes still
 
-  named : (shown : Class) (b : List ℕ) → Shows sent.ask most_body well.talk shown b → Names shown b (Replied reply.Stored [])
+  pub named : (shown : Class) (b : List ℕ) → Shows sent.ask most_body well.talk shown b → Names shown b (Replied reply.Stored [])
   named = names page_of sent.ask most_body well.talk (Replied reply.Stored []) (reply.Stored, refl, refl)
 
-  answered : IsAnswered Shows jobs (request 1) (Replied reply.Stored [])
+  pub answered : IsAnswered Shows jobs (request 1) (Replied reply.Stored [])
   answered = record { of = sent; known = at jobs 0 sent refl; place = 0; attempt = well; is_attempt = refl; is_sent = refl; names = named }
 
   begins : (lane : ℕ) → filter_map (begun_in lane) (events_of whole_trace) ≡ flat_map requests_of (filter (λ (c : Dispatched). c.dispatch.lane == lane) jobs)
@@ -102,7 +102,7 @@ module _ (page_of : List ℕ → Listed) where
   unused : (lane : ℕ) → 1 ≤ lane → (e.logs lane ≡ []) × (e.notes lane ≡ [])
   unused lane beyond = (carrying.none_in _ lane beyond, carrying.none_in _ lane beyond)
 
-  written : carrying.IsWritten page_of e.setting jobs e.journal e.logs e.notes jobs
+  pub written : carrying.IsWritten page_of e.setting jobs e.journal e.logs e.notes jobs
   written = record {
     shown = refl;
     comes = ((1, mark.Success ∷ [], refl, refl, refl), tt);

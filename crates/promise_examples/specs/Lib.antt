@@ -13,3 +13,4 @@ pub mod Refused
 pub mod Rules
 pub mod Runs
 pub mod Services
+pub mod TraceBreaks

@@ -3,8 +3,8 @@ use Rattle.std.specs.Prelude.{◌≡◌, ℕ, List, [], ◌∷◌, codes}
 use Rattle.s3_model.specs.declared.answers.Listed.{Listed}
 use Rattle.s3_model.specs.declared.answers.Reply.TheVariants as reply
 use Rattle.s3_model.specs.declared.tries.Mark.TheVariants as mark
-use Rattle.s3_service.specs.ServiceState.{State}
-use Rattle.s3_service.specs.Serves.{Replied, Refused, Writes}
+use Rattle.s3_service.specs.ServiceState.{Object, State, with_object, without_object}
+use Rattle.s3_service.specs.Serves.{Replied, Refused, Removes, Writes}
 use Rattle.run_promise.specs.Carried.{IsCarried}
 use Rattle.run_promise.specs.Dispatches.{Dispatched}
 use Rattle.run_promise.specs.Fits.{Fits}
@@ -51,10 +51,14 @@ came state = record { event = Came put_job 0 (mark.Success ∷ []); state = stat
 abbrev pub whole_trace : List Step
 whole_trace = given ∷ begun 0 1 before ∷ answered 1 ∷ came stored ∷ []
 
+-- the same bytes are written once more
+abbrev pub written_again : State
+written_again = with_object stored bucket key (object_of given_again.bytes)
+
 -- ---- what is changed
 
 abbrev pub served_twice : List Step
-served_twice = given ∷ begun 0 1 before ∷ answered 1 ∷ answered 1 ∷ came stored ∷ []
+served_twice = given ∷ begun 0 1 before ∷ answered 1 ∷ record { event = Serve (request 1) (Replied reply.Stored []); state = written_again } ∷ came written_again ∷ []
 
 abbrev pub served_before_begun : List Step
 served_before_begun = given ∷ answered 1 ∷ begun 0 1 stored ∷ came stored ∷ []
@@ -88,7 +92,25 @@ never_given = begun 0 1 before ∷ answered 1 ∷ came stored ∷ []
 
 -- somebody else writes the destination
 abbrev pub overwritten : List Step
-overwritten = given ∷ begun 0 1 before ∷ answered 1 ∷ came stored ∷ record { event = External (Writes bucket key (object_of given_again.bytes)); state = stored } ∷ []
+overwritten = given ∷ begun 0 1 before ∷ answered 1 ∷ came stored ∷ record { event = External (Writes bucket key (object_of given_again.bytes)); state = written_again } ∷ []
+
+-- or removes it
+abbrev pub removed : List Step
+removed = given ∷ begun 0 1 before ∷ answered 1 ∷ came stored ∷ record { event = External (Removes bucket key); state = without_object stored bucket key } ∷ []
+
+-- somebody else writes two contents of one key under one ETag
+abbrev pub other_key : List ℕ
+other_key = 118 ∷ []
+
+abbrev pub with_byte : ℕ → Object
+with_byte byte = record { bytes = byte ∷ []; etag = []; micros = 0 }
+
+abbrev pub first_content : State
+first_content = with_object stored bucket other_key (with_byte 8)
+
+abbrev pub two_contents : List Step
+two_contents = given ∷ begun 0 1 before ∷ answered 1 ∷ came stored ∷ record { event = External (Writes bucket other_key (with_byte 8)); state = first_content }
+    ∷ record { event = External (Writes bucket other_key (with_byte 9)); state = with_object first_content bucket other_key (with_byte 9) } ∷ []
 
 module _ (page_of : List ℕ → Listed) where
   -- however the jobs are read, it is no honest trace that fits
@@ -112,6 +134,8 @@ module _ (page_of : List ℕ → Listed) where
     pub begun_twice : IsUnfit begun_twice
     pub never_given : IsUnfit never_given
     pub overwritten : IsUnfit overwritten
+    pub removed : IsUnfit removed
+    pub two_contents : IsUnfit two_contents
 
 abbrev pub EachTraceIsRefused : Type 0
 EachTraceIsRefused = (page_of : List ℕ → Listed) → TracesAreRefused page_of

@@ -5,6 +5,7 @@ ghost use Rattle.promise_examples.specs.Lies.{EachLieIsRefused};
 ghost use Rattle.promise_examples.specs.Misfits.{EachTraceIsRefused};
 ghost use Rattle.promise_examples.specs.Orders.{EachOrderIsRefused};
 ghost use Rattle.promise_examples.specs.Plannings.{EachPlanningIsRefused};
+ghost use Rattle.promise_examples.specs.TraceBreaks.{EachTraceBreaksAlone};
 ghost use Rattle.promise_examples.specs.Rules.{EachJobBreaksAlone, EachOrderBreaksAlone, EachPlanningBreaksAlone};
 ghost use Rattle.promise_examples.specs.Refused.{EachJobIsRefused, EachWireIsRefused};
 
@@ -22,10 +23,12 @@ pub fn refused()
 
 /// Twenty of those changes on the wires break one clause of what is carried and no other: with one reading of its jobs
 /// such a run keeps to the schedule, and all other clauses hold of it. Others break one clause of the schedule and no
-/// other: with one reading of its jobs such a run is carried.
+/// other: with one reading of its jobs such a run is carried. And ten of those traces break one clause of fitting, of what
+/// a service does or of honesty, and no other.
 pub fn single_breaks()
     ensures wires { EachWireBreaksAlone }
     ensures jobs { EachJobBreaksAlone }
     ensures orders { EachOrderBreaksAlone }
     ensures plannings { EachPlanningBreaksAlone }
+    ensures traces { EachTraceBreaksAlone }
 {}
