@@ -39,7 +39,8 @@ pub record IsRead (words : List (List ℕ)) (command : Command) : Type 0 where
   pub built : is_unbuilt command ≡ false
 
 -- and the settings are those of the variables and the files
-pub record IsBegun (words : List (List ℕ)) (env : Option SeenEnv) (command : Command) (settings : Settings) : Type 0 where
+pub record IsBegun (words : List (List ℕ)) (env : Option SeenEnv) (command : Command)
+    (settings : Settings) : Type 0 where
   pub reads : IsRead words command
   pub settled : IfSome env (λ seen. AreSettings command seen settings)
   pub valid : IsValidConfig settings.config
@@ -60,5 +61,7 @@ RefusedFor command env before after (fatal.Profile fault) = IfSome env (λ seen.
 RefusedFor command env before after fatal.EnvRead = Rose before after
 RefusedFor command env before after why = ⊥
 
-abbrev pub StopsInSettings : (words : List (List ℕ)) → Option SeenEnv → (faults_before faults_after : ℕ) → Fatal → Type 0
-StopsInSettings words env before after why = (command : Command) × IsRead words command × RefusedFor command env before after why
+abbrev pub StopsInSettings : (words : List (List ℕ)) → Option SeenEnv → (faults_before faults_after : ℕ) → Fatal
+    → Type 0
+StopsInSettings words env before after why = (command : Command) × IsRead words command
+    × RefusedFor command env before after why

@@ -67,7 +67,8 @@ pub record HasTask (task : Task) (run : Run) : Type 0 where
   pub no_skip : run.plan.warnings.items ≡ []
   pub no_warning : run.warnings.items ≡ []
 
-abbrev pub MayUpload : Endpoint → Keys → Task → Option SeenFiles → (faults_before faults_after : ℕ) → Run → List Talk → List Note → Type 0
+abbrev pub MayUpload : Endpoint → Keys → Task → Option SeenFiles → (faults_before faults_after : ℕ) → Run → List Talk
+    → List Note → Type 0
 MayUpload endpoint keys task now before after run talks notes =
     IsStopped run talks notes ⊎ (HasTask task run × HasUploaded endpoint keys task now before after run talks notes)
 
@@ -76,14 +77,17 @@ MayWant task before after run = EndsForMemory run ⊎ (HasTask task run × HasOn
 
 -- ---- a command
 
-abbrev pub GoesOn : Command → Settings → Limits → (was now : Option SeenFiles) → (faults_before faults_after : ℕ) → Run → List Talk → List Note → Type 0
+abbrev pub GoesOn : Command → Settings → Limits → (was now : Option SeenFiles) → (faults_before faults_after : ℕ)
+    → Run → List Talk → List Note → Type 0
 GoesOn command settings limits was now before after run talks notes =
     IsUnplanned run talks notes
-    ⊎ ((comes : Fate) × IsFate command settings limits was comes × HasPlan comes run × Works comes command.endpoint settings.keys now before after run talks notes)
+    ⊎ ((comes : Fate) × IsFate command settings limits was comes × HasPlan comes run
+    × Works comes command.endpoint settings.keys now before after run talks notes)
 
 abbrev pub DoesOn : Command → Settings → Limits → (faults_before faults_after : ℕ) → Run → Type 0
 DoesOn command settings limits before after run =
-    IsNothingPlanned run ⊎ ((comes : Fate) × IsFate command settings limits None comes × HasPlan comes run × Wants comes before after run)
+    IsNothingPlanned run
+    ⊎ ((comes : Fate) × IsFate command settings limits None comes × HasPlan comes run × Wants comes before after run)
 
 -- ---- a URL
 
@@ -99,5 +103,7 @@ pub record MakesLine (words : List (List ℕ)) (command : Command) (settings : S
       ⊎ (HasNoTask None [] [] run × HasTexts (url_line command settings moment) [] line)
 
 -- the line that is due, with what the command is there to show
-abbrev pub HasLineOf : (words : List (List ℕ)) → Option SeenEnv → (before after : Option WireLog) → Run → Result (Option Line) OutOfMemory → Type 0
-HasLineOf words env before after run line = (own : List ℕ) × IsOwn words env before after run own × IsLineOf words own run line
+abbrev pub HasLineOf : (words : List (List ℕ)) → Option SeenEnv → (before after : Option WireLog) → Run → Result
+    (Option Line) OutOfMemory → Type 0
+HasLineOf words env before after run line = (own : List ℕ) × IsOwn words env before after run own
+    × IsLineOf words own run line

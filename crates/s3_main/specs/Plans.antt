@@ -26,7 +26,8 @@ use Rattle.s3_main.specs.declared.run.Run.{Run}
 -- ---- the plan
 
 -- What copying the command's file comes to, by what stands at its path.
-pub record IsFate (command : Command) (settings : Settings) (limits : Limits) (files : Option SeenFiles) (comes : Fate) : Type 0 where
+pub record IsFate (command : Command) (settings : Settings) (limits : Limits) (files : Option SeenFiles)
+    (comes : Fate) : Type 0 where
   pub stands : Shape
   pub seen : IfSome files (λ seen. shape_at seen.store (source_path command) ≡ stands)
   pub is : comes ≡ fate_of command settings.config.threshold limits.max_object stands
@@ -88,7 +89,8 @@ abbrev pub put_ask : Task → Ask
 put_ask task = upload_ask (bucket_at (Some task.dest)) (key_at (Some task.dest)) task.content
 
 -- the task's outcome, and what the wire gained for it
-abbrev pub HasUploaded : Endpoint → Keys → Task → Option SeenFiles → (faults_before faults_after : ℕ) → Run → List Talk → List Note → Type 0
+abbrev pub HasUploaded : Endpoint → Keys → Task → Option SeenFiles → (faults_before faults_after : ℕ) → Run
+    → List Talk → List Note → Type 0
 HasUploaded endpoint keys task now before after run talks notes =
     (how : Outcome) × (run.outcomes.items ≡ how ∷ [])
     × Uploads endpoint keys (put_ask task) now (path_of task) task.size before after run.journal.items how talks notes
@@ -100,13 +102,16 @@ pub record IsIdle (run : Run) (talks : List Talk) (notes : List Note) : Type 0 w
   pub no_talk : talks ≡ []
   pub no_note : notes ≡ []
 
-abbrev pub Works : Fate → Endpoint → Keys → Option SeenFiles → (faults_before faults_after : ℕ) → Run → List Talk → List Note → Type 0
-Works (fate.Upload task) endpoint keys now before after run talks notes = HasUploaded endpoint keys task now before after run talks notes
+abbrev pub Works : Fate → Endpoint → Keys → Option SeenFiles → (faults_before faults_after : ℕ) → Run → List Talk
+    → List Note → Type 0
+Works (fate.Upload task) endpoint keys now before after run talks notes =
+    HasUploaded endpoint keys task now before after run talks notes
 Works comes endpoint keys now before after run talks notes = IsIdle run talks notes
 
 -- whatever can be seen: one outcome, with the jobs that it wants
 abbrev pub HasOneOutcome : (faults_before faults_after : ℕ) → Run → Type 0
-HasOneOutcome before after run = (how : Outcome) × (run.outcomes.items ≡ how ∷ []) × WantsJournal before after how run.journal.items
+HasOneOutcome before after run = (how : Outcome) × (run.outcomes.items ≡ how ∷ [])
+    × WantsJournal before after how run.journal.items
 
 abbrev pub Wants : Fate → (faults_before faults_after : ℕ) → Run → Type 0
 Wants (fate.Upload task) before after run = HasOneOutcome before after run

@@ -51,13 +51,15 @@ run_status run = status_by run.fatal run.outcomes.items run.warnings.items
 
 -- The status is that, or 74 where an output failed; where memory ran out it is 70, whatever the outputs did.
 abbrev pub EndsWith : Run → (OutputFailed : Type 0) → Type 0
-EndsWith run OutputFailed = (run.status ≡ run_status run) ⊎ ((run.status ≡ 74) × OutputFailed × (run.fatal ≢ Some fatal.Memory))
+EndsWith run OutputFailed = (run.status ≡ run_status run)
+    ⊎ ((run.status ≡ 74) × OutputFailed × (run.fatal ≢ Some fatal.Memory))
 
 -- ---- the lines
 
 -- Both texts were written whole; after a fault of an output, status 74, a beginning of them; and where memory ran out,
 -- status 70, a beginning of the line that says so.
-pub record IsPrintedAs (status : ℕ) (out err : List ℕ) (out_before out_after err_before err_after : Option (List ℕ)) : Type 0 where
+pub record IsPrintedAs (status : ℕ) (out err : List ℕ)
+    (out_before out_after err_before err_after : Option (List ℕ)) : Type 0 where
   pub whole : status ≢ 70 → status ≢ 74 → Prints out_before out_after out × Prints err_before err_after err
   pub front : status ≢ 70 → PrintsFront out_before out_after out × PrintsFront err_before err_after err
   pub memory : status ≡ 70 → Prints out_before out_after [] × PrintsFront err_before err_after memory_line
@@ -72,22 +74,29 @@ IsPrinted words env before after run out_before out_after err_before err_after =
 -- ---- why a run ended before its task
 
 -- why the planning of a command ends, by what stands at the path of its file
-abbrev pub StopsPlanning : Command → Settings → Limits → Option SeenFiles → (faults_before faults_after : ℕ) → Fatal → Type 0
+abbrev pub StopsPlanning : Command → Settings → Limits → Option SeenFiles → (faults_before faults_after : ℕ) → Fatal
+    → Type 0
 StopsPlanning command settings limits files before after fatal.Memory = Unit {0}
 StopsPlanning command settings limits files before after fatal.NotYet =
-    (stands : Shape) × IfSome files (λ seen. shape_at seen.store (source_path command) ≡ stands) × (is_large settings.config.threshold stands ≡ true)
+    (stands : Shape) × IfSome files (λ seen. shape_at seen.store (source_path command) ≡ stands)
+    × (is_large settings.config.threshold stands ≡ true)
 StopsPlanning command settings limits files before after (fatal.Walk walk.Files) = Rose before after
-StopsPlanning command settings limits files before after (fatal.Plan fault) = IsFate command settings limits files (fate.Refused fault)
+StopsPlanning command settings limits files before after (fatal.Plan fault) = IsFate command settings limits files
+    (fate.Refused fault)
 StopsPlanning command settings limits files before after other = ⊥
 
-abbrev pub StopsInPlan : (words : List (List ℕ)) → Option SeenEnv → Limits → Option SeenFiles → (faults_before faults_after : ℕ) → Fatal → Type 0
+abbrev pub StopsInPlan : (words : List (List ℕ)) → Option SeenEnv → Limits → Option SeenFiles
+    → (faults_before faults_after : ℕ) → Fatal → Type 0
 StopsInPlan words env limits files before after why =
-    (command : Command) × (settings : Settings) × IsBegun words env command settings × (is_presign command.verb ≡ false) × StopsPlanning command settings limits files before after why
+    (command : Command) × (settings : Settings) × IsBegun words env command settings
+    × (is_presign command.verb ≡ false) × StopsPlanning command settings limits files before after why
 
 -- in its words, in its settings, or in its plan
-abbrev pub StopsFor : (words : List (List ℕ)) → Option SeenEnv → (env_before env_after : ℕ) → Limits → Option SeenFiles → (faults_before faults_after : ℕ) → Fatal → Type 0
+abbrev pub StopsFor : (words : List (List ℕ)) → Option SeenEnv → (env_before env_after : ℕ) → Limits
+    → Option SeenFiles → (faults_before faults_after : ℕ) → Fatal → Type 0
 StopsFor words env env_before env_after limits files before after why =
-    StopsInWords words why ⊎ StopsInSettings words env env_before env_after why ⊎ StopsInPlan words env limits files before after why
+    StopsInWords words why ⊎ StopsInSettings words env env_before env_after why
+    ⊎ StopsInPlan words env limits files before after why
 
 -- ---- how far it went
 
@@ -107,7 +116,8 @@ pub record IsUnplanned (run : Run) (talks : List Talk) (notes : List Note) : Typ
   pub no_note : notes ≡ []
 
 -- The run began and has the plan of its command's file; its task, if it has one, was uploaded.
-pub record IsPlanned (words : List (List ℕ)) (env : Option SeenEnv) (limits : Limits) (was now : Option SeenFiles) (faults_before faults_after : ℕ)
+pub record IsPlanned (words : List (List ℕ)) (env : Option SeenEnv) (limits : Limits) (was now : Option SeenFiles)
+    (faults_before faults_after : ℕ)
     (run : Run) (talks : List Talk) (notes : List Note) : Type 0 where
   pub command : Command
   pub settings : Settings
@@ -119,14 +129,16 @@ pub record IsPlanned (words : List (List ℕ)) (env : Option SeenEnv) (limits : 
   pub works : Works comes command.endpoint settings.keys now faults_before faults_after run talks notes
 
 -- no plan was made, or one was, or a URL
-abbrev pub GoesAs : (words : List (List ℕ)) → Option SeenEnv → Limits → (was now : Option SeenFiles) → (faults_before faults_after : ℕ) → Run → List Talk → List Note → Type 0
+abbrev pub GoesAs : (words : List (List ℕ)) → Option SeenEnv → Limits → (was now : Option SeenFiles)
+    → (faults_before faults_after : ℕ) → Run → List Talk → List Note → Type 0
 GoesAs words env limits was now before after run talks notes =
     IsUnplanned run talks notes ⊎ IsPlanned words env limits was now before after run talks notes
     ⊎ IsPresigned words env run talks notes
 
 -- ---- what needs no look at wires, files and variables
 
-pub record IsSomePlanned (words : List (List ℕ)) (limits : Limits) (faults_before faults_after : ℕ) (run : Run) : Type 0 where
+pub record IsSomePlanned (words : List (List ℕ)) (limits : Limits) (faults_before faults_after : ℕ)
+    (run : Run) : Type 0 where
   pub command : Command
   pub settings : Settings
   pub comes : Fate
@@ -149,15 +161,19 @@ Undertakes words limits before after run =
 
 -- ---- the promise
 
--- Over every honest service the outcomes are true, and over a willing one the task is done. The endpoint is the command's and
--- the settings are those of the variables and files, where a request was sent.
-pub record IsTrue (words : List (List ℕ)) (env : Option SeenEnv) (limits : Limits) (faults_before faults_after : ℕ) (run : Run) (talks : List Talk) (notes : List Note) (was now : SeenFiles) : Type 0 where
+-- Over every honest service the outcomes are true, and over a willing one the task is done. The endpoint is the
+-- command's and the settings are those of the variables and files, where a request was sent.
+pub record IsTrue (words : List (List ℕ)) (env : Option SeenEnv) (limits : Limits) (faults_before faults_after : ℕ)
+    (run : Run) (talks : List Talk) (notes : List Note) (was now : SeenFiles) : Type 0 where
   pub endpoint : Endpoint
   pub settings : Settings
-  pub begun : run.journal.items ≢ [] → (command : Command) × IsBegun words env command settings × (command.endpoint ≡ endpoint)
-  pub keeps : KeepsPromise Shows HasStatus (text_of endpoint settings.keys) endpoint.host endpoint.port (path_in words) faults_before faults_after
+  pub begun : run.journal.items ≢ [] → (command : Command) × IsBegun words env command settings
+      × (command.endpoint ≡ endpoint)
+  pub keeps : KeepsPromise Shows HasStatus (text_of endpoint settings.keys) endpoint.host endpoint.port
+      (path_in words) faults_before faults_after
       run.plan.tasks.items run.warnings.items now
-      (shown_by settings.config limits run.status run.plan.tasks.items run.outcomes.items run.journal.items talks notes was now)
+      (shown_by settings.config limits run.status run.plan.tasks.items run.outcomes.items run.journal.items talks notes
+      was now)
 
 -- where the files are seen before and after
 abbrev pub IfSeen : (was now : Option SeenFiles) → (SeenFiles → SeenFiles → Type 0) → Type 0

@@ -1,5 +1,5 @@
--- The settings of a command, from the variables and the files of the environment (AWS CLI User Guide, "Configuration and
--- credential file settings").
+-- The settings of a command, from the variables and the files of the environment (AWS CLI User Guide, "Configuration
+-- and credential file settings").
 use Rattle.std.specs.Prelude.{◌≡◌, ◌⊎◌, ℕ, Option, Result, Ok, Err}
 use Rattle.env_settings.specs.Calls.{AsksFirst}
 use Rattle.env_settings.specs.Places.{settings_paths}
@@ -33,4 +33,5 @@ settings_fatal unread.Memory = fatal.Memory
 abbrev pub AsksOnly : (old new : Option SeenEnv) → (faults_before faults_after : ℕ) → Type 0
 AsksOnly old new before after =
     (new ≡ old)
-    ⊎ ((result : Result Settings SettingsFault) × AsksFirst (λ seen. settings_paths seen.variables) result old new before after)
+    ⊎ ((result : Result Settings SettingsFault)
+    × AsksFirst (λ seen. settings_paths seen.variables) result old new before after)

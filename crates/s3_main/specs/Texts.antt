@@ -88,7 +88,8 @@ abbrev pub MatchesFatal : Option Fatal → Result (Option Line) OutOfMemory → 
 MatchesFatal why (Ok line) = why ≢ Some fatal.Memory
 MatchesFatal why (Err memory) = Unit {0}
 
-pub record IsLineOf (words : List (List ℕ)) (own : List ℕ) (run : Run) (line : Result (Option Line) OutOfMemory) : Type 0 where
+pub record IsLineOf (words : List (List ℕ)) (own : List ℕ) (run : Run)
+    (line : Result (Option Line) OutOfMemory) : Type 0 where
   pub texts : HasTexts (out_text words own run) (err_text words run) line
   pub no_memory : MatchesFatal run.fatal line
 

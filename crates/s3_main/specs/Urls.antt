@@ -27,7 +27,8 @@ pub record IsTaskless (run : Run) : Type 0 where
   pub no_job : run.journal.items ≡ []
 
 -- nothing was sent: the first wire was asked for its moment alone
-pub record IsPresigned (words : List (List ℕ)) (env : Option SeenEnv) (run : Run) (talks : List Talk) (notes : List Note)
+pub record IsPresigned (words : List (List ℕ)) (env : Option SeenEnv) (run : Run) (talks : List Talk)
+    (notes : List Note)
     : Type 0 where
   pub command : Command
   pub settings : Settings

@@ -128,7 +128,8 @@ pub(crate) fn end_skipped(
 ) -> Result<Executed, OutOfMemory>
     requires { IsShown (Warning.Skipped place why) }
     ensures line { IfOk result (λ done. HasTexts [] (warning_lines mode (Warning.Skipped place why ∷ [])) done.line) }
-    ensures run { IfOk result (λ done. HasNoTask None (Warning.Skipped place why ∷ []) (Warning.Skipped place why ∷ []) done.run) }
+    ensures run { IfOk result (λ done. HasNoTask None (Warning.Skipped place why ∷ []) (Warning.Skipped place why ∷ [])
+        done.run) }
 {
     let again = copy_of(&place)?;
     let warning = Warning::Skipped { place, why };

@@ -157,8 +157,8 @@ pub(crate) fn execute<W: Wire, F: Files, E: Env>(
 ) -> Executed
     ensures went { Gains (W.seen wire.old) (W.seen wire.new) (GoesAs (map string_bytes words.now) (E.seen env.new)
         (E.allows env.old) (F.seen files.old) (F.seen files.new) (F.faults files.old) (F.faults files.new) result.run) }
-    ensures line { HasLineOf (map string_bytes words.now) (E.seen env.new) (W.seen wire.old) (W.seen wire.new) result.run
-        result.line }
+    ensures line { HasLineOf (map string_bytes words.now) (E.seen env.new) (W.seen wire.old) (W.seen wire.new)
+        result.run result.line }
     ensures stops { IfSome result.run.fatal (StopsFor (map string_bytes words.now) (E.seen env.new) (E.faults env.old)
         (E.faults env.new) (E.allows env.old) (F.seen files.old) (F.faults files.old) (F.faults files.new)) }
     ensures does { Undertakes (map string_bytes words.now) (E.allows env.old) (F.faults files.old) (F.faults files.new)

@@ -40,7 +40,8 @@ IsPut asked = ⊥
 abbrev pub Carried : Endpoint → Keys → Ask → (body : List ℕ) → Attempted → List Talk → List Note → Type 0
 Carried endpoint keys asked body result talks notes =
     (place : List ℕ)
-    × Makes (record { endpoint = endpoint; keys = keys; asked = asked; body = body; limit = None }) result place talks notes
+    × Makes (record { endpoint = endpoint; keys = keys; asked = asked; body = body; limit = None }) result place
+    talks notes
 
 -- the cause of a task whose bytes did not come
 abbrev pub read_cause : ReadFault → Cause

@@ -88,7 +88,8 @@ shape_fate command max_object (shape.File size micros) =
     file_fate command (source_path command) (bucket_of command) (key_of command) max_object size micros
 
 abbrev pub fate_of : Command → (threshold max_object : ℕ) → Shape → Fate
-fate_of command threshold max_object stands = if is_large threshold stands then fate.NotYet else shape_fate command max_object stands
+fate_of command threshold max_object stands =
+    if is_large threshold stands then fate.NotYet else shape_fate command max_object stands
 
 -- a refusal or a skipped name is never want of memory
 abbrev pub HasNoMemory : Fate → Type 0

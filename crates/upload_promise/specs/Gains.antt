@@ -7,4 +7,5 @@ abbrev pub Gains : Option WireLog → Option WireLog → (List Talk → List Not
 Gains before None P = Unit {0}
 Gains None (Some after) P = ⊥
 Gains (Some before) (Some after) P =
-    (talks : List Talk) × (notes : List Note) × (after.talks ≡ before.talks ++ talks) × (after.notes ≡ before.notes ++ notes) × P talks notes
+    (talks : List Talk) × (notes : List Note) × (after.talks ≡ before.talks ++ talks)
+    × (after.notes ≡ before.notes ++ notes) × P talks notes

@@ -27,11 +27,14 @@ pub record AreIdle (notes : List Note) : Type 0 where
 
 -- `Shows ask limit talk class bytes`: the talk has that class for the ask, and its answer that body
 module _ (Shows : Ask → ℕ → Talk → Class → List ℕ → Type 0) where
-  -- The mark of the attempt and the outcome of the task, by what the talk shows. Where memory ran out it may show anything.
+  -- The mark of the attempt and the outcome of the task, by what the talk shows. Where memory ran out it may show
+  -- anything.
   pub data IsJudged (asked : Ask) (talk : Talk) (IsWanting : Type 0) : Mark → Outcome → Type 0 where
-    stored : (told : Reply) (body : List ℕ) → Shows asked most_body talk (class.Success told) body → IsJudged asked talk IsWanting mark.Success outcome.Done
+    stored : (told : Reply) (body : List ℕ) → Shows asked most_body talk (class.Success told) body
+        → IsJudged asked talk IsWanting mark.Success outcome.Done
     refused : (code message body : List ℕ) → Shows asked most_body talk (class.Refusal code message) body
         → IsJudged asked talk IsWanting mark.Refusal (outcome.Failed (cause.Service op.Put code message))
-    open_ended : (why : Why) (body : List ℕ) → why ≢ reason.Memory → Shows asked most_body talk (class.Uncertain why) body
+    open_ended : (why : Why) (body : List ℕ) → why ≢ reason.Memory → Shows asked most_body talk
+        (class.Uncertain why) body
         → IsJudged asked talk IsWanting mark.Uncertain (outcome.Unknown (cause.Lost op.Put why))
     unread : IsWanting → IsJudged asked talk IsWanting mark.Uncertain (outcome.Unknown cause.Memory)

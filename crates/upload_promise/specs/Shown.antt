@@ -31,7 +31,8 @@ PlansNothing jobs = jobs ≡ []
 abbrev pub in_first : {A : Type 0} → List A → ℕ → List A
 in_first given lane = if lane == 0 then given else []
 
--- the outcome of a task that reads no object says that a file call failed, that its file gave fewer bytes, or that memory ran out
+-- the outcome of a task that reads no object says that a file call failed, that its file gave fewer bytes, or that
+-- memory ran out
 abbrev pub tells_file_failed : Option Outcome → Bool
 tells_file_failed (Some (outcome.Failed (cause.Files call))) = true
 tells_file_failed (Some (outcome.Failed (cause.Blocked length))) = true
@@ -59,7 +60,8 @@ setting_by config limits status tasks outcomes was = record {
 }
 
 -- what the run shows: its plan and outcomes, its journal, what the first wire gained, and the files before and after
-abbrev pub shown_by : Config → Limits → (status : ℕ) → List Task → List Outcome → List Event → List Talk → List Note → (was now : SeenFiles) → Shown
+abbrev pub shown_by : Config → Limits → (status : ℕ) → List Task → List Outcome → List Event → List Talk → List Note
+    → (was now : SeenFiles) → Shown
 shown_by config limits status tasks outcomes journal talks notes was now = record {
   setting = setting_by config limits status tasks outcomes was;
   status = status;
@@ -72,16 +74,24 @@ shown_by config limits status tasks outcomes journal talks notes was now = recor
 }
 
 -- the calls on files show that one of the task failed so: a read failed, or the file gave fewer bytes than planned
-abbrev pub CallFailed : (path : List ℕ) → (now : SeenFiles) → (faults_before faults_after : ℕ) → List Task → ℕ → Cause → Type 0
-CallFailed path now before after tasks n why = (task : Task) × (slice_get tasks n ≡ Some task) × IsReadCause (Some now) path task.size before after why
+abbrev pub CallFailed : (path : List ℕ) → (now : SeenFiles) → (faults_before faults_after : ℕ) → List Task → ℕ
+    → Cause → Type 0
+CallFailed path now before after tasks n why = (task : Task) × (slice_get tasks n ≡ Some task) × IsReadCause
+    (Some now) path task.size before after why
 
 -- `Shows ask limit talk class bytes`: the talk has that class for the ask, and its answer that body.
 -- `HasStatus ask limit talk status`: its answer has that HTTP status.
 -- `request_text ask body moment`: the text of a request, signed at that moment.
-module _ (Shows : Ask → ℕ → Talk → Class → List ℕ → Type 0) (HasStatus : Ask → ℕ → Talk → ℕ → Type 0) (request_text : Ask → List ℕ → ℕ → List ℕ) (host : List ℕ) (port : ℕ) where
-  -- Over every honest service the outcomes are true, and over a willing one the task is done. `path` is that of the file.
-  pub record KeepsPromise (path : List ℕ) (faults_before faults_after : ℕ) (tasks : List Task) (warnings : List Warning) (now : SeenFiles) (shown : Shown) : Type 0 where
-    pub truthful : IsTruthful Shows HasStatus request_text host port PlansNothing (CallFailed path now faults_before faults_after tasks) shown
-    pub willing : IsDoneWhereWilling Shows HasStatus request_text host port PlansNothing (CallFailed path now faults_before faults_after tasks) shown
-    -- the setting is that of a run with this status and these warnings, in which no output is waited for and nothing is listed
+module _ (Shows : Ask → ℕ → Talk → Class → List ℕ → Type 0) (HasStatus : Ask → ℕ → Talk → ℕ → Type 0)
+    (request_text : Ask → List ℕ → ℕ → List ℕ) (host : List ℕ) (port : ℕ) where
+  -- Over every honest service the outcomes are true, and over a willing one the task is done. `path` is that of the
+  -- file.
+  pub record KeepsPromise (path : List ℕ) (faults_before faults_after : ℕ) (tasks : List Task)
+      (warnings : List Warning) (now : SeenFiles) (shown : Shown) : Type 0 where
+    pub truthful : IsTruthful Shows HasStatus request_text host port PlansNothing
+        (CallFailed path now faults_before faults_after tasks) shown
+    pub willing : IsDoneWhereWilling Shows HasStatus request_text host port PlansNothing
+        (CallFailed path now faults_before faults_after tasks) shown
+    -- the setting is that of a run with this status and these warnings, in which no output is waited for and nothing
+    -- is listed
     pub settles : IsSettingOf Shows HasStatus PlansNothing shown warnings ⊥ ⊥

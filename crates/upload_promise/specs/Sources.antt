@@ -27,7 +27,8 @@ LooksAt path (Some before) (Some after) =
 
 -- the first bytes of the file, if there is one
 abbrev pub AreFirstBytes : FileStore → List ℕ → List ℕ → Type 0
-AreFirstBytes store path bytes = (file : HeldFile) → get store.held path ≡ Some file → (bytes ≡ take (length bytes) file.bytes) × (length bytes ≤ length file.bytes)
+AreFirstBytes store path bytes = (file : HeldFile) → get store.held path ≡ Some file
+    → (bytes ≡ take (length bytes) file.bytes) × (length bytes ≤ length file.bytes)
 
 -- the file, if there is one, has fewer bytes
 abbrev pub HasFewer : FileStore → List ℕ → ℕ → Type 0

@@ -74,22 +74,27 @@ pub record IsSilent (journal : List Event) (how : Outcome) (talks : List Talk) (
   pub no_talk : talks ≡ []
   pub idle : AreIdle notes
 
--- Whatever can be seen of wires and files: the jobs that an outcome wants, and a failed call on files only where their count rose.
+-- Whatever can be seen of wires and files: the jobs that an outcome wants, and a failed call on files only where their
+-- count rose.
 abbrev pub WantsJournal : (faults_before faults_after : ℕ) → Outcome → List Event → Type 0
 WantsJournal before after outcome.Done journal = journal ≡ put_events (mark.Success ∷ [])
-WantsJournal before after (outcome.Failed (cause.Service of_op code message)) journal = (of_op ≡ op.Put) × (journal ≡ put_events (mark.Refusal ∷ []))
+WantsJournal before after (outcome.Failed (cause.Service of_op code message)) journal = (of_op ≡ op.Put)
+    × (journal ≡ put_events (mark.Refusal ∷ []))
 WantsJournal before after (outcome.Failed cause.Memory) journal = (journal ≡ []) ⊎ (journal ≡ put_events [])
 WantsJournal before after (outcome.Failed (cause.Files call.Read)) journal = (journal ≡ []) × Rose before after
 WantsJournal before after (outcome.Failed cause.Changed) journal = journal ≡ []
-WantsJournal before after (outcome.Unknown (cause.Lost of_op reason)) journal = (of_op ≡ op.Put) × (journal ≡ put_events (mark.Uncertain ∷ []))
+WantsJournal before after (outcome.Unknown (cause.Lost of_op reason)) journal = (of_op ≡ op.Put)
+    × (journal ≡ put_events (mark.Uncertain ∷ []))
 WantsJournal before after (outcome.Unknown cause.Memory) journal = journal ≡ put_events (mark.Uncertain ∷ [])
 WantsJournal before after how journal = ⊥
 
 -- `Shows ask limit talk class bytes`: the talk has that class for the ask, and its answer that body.
 -- `request_text ask body moment`: the text of a request, signed at that moment.
-module _ (Shows : Ask → ℕ → Talk → Class → List ℕ → Type 0) (request_text : Ask → List ℕ → ℕ → List ℕ) (host : List ℕ) (port : ℕ) where
+module _ (Shows : Ask → ℕ → Talk → Class → List ℕ → Type 0) (request_text : Ask → List ℕ → ℕ → List ℕ)
+    (host : List ℕ) (port : ℕ) where
   -- one talk for the request, signed at the moment that was noted before it
-  pub record IsTalked (asked : Ask) (body : List ℕ) (journal : List Event) (how : Outcome) (talks : List Talk) (notes : List Note) : Type 0 where
+  pub record IsTalked (asked : Ask) (body : List ℕ) (journal : List Event) (how : Outcome) (talks : List Talk)
+      (notes : List Note) : Type 0 where
     pub of_mark : Mark
     pub talk : Talk
     pub seconds : ℕ
@@ -104,16 +109,20 @@ module _ (Shows : Ask → ℕ → Talk → Class → List ℕ → Type 0) (reque
     pub judged : IsJudged Shows asked talk (how ≡ outcome.Unknown cause.Memory) of_mark how
 
   abbrev pub Carries : Ask → (body : List ℕ) → (journal : List Event) → Outcome → List Talk → List Note → Type 0
-  Carries asked body journal how talks notes = IsSilent journal how talks notes ⊎ IsTalked asked body journal how talks notes
+  Carries asked body journal how talks notes = IsSilent journal how talks notes
+      ⊎ IsTalked asked body journal how talks notes
 
   -- the Put of the file's bytes was carried
-  pub record IsGiven (asked : Ask) (seen : Option SeenFiles) (path : List ℕ) (size : ℕ) (journal : List Event) (how : Outcome) (talks : List Talk) (notes : List Note) : Type 0 where
+  pub record IsGiven (asked : Ask) (seen : Option SeenFiles) (path : List ℕ) (size : ℕ) (journal : List Event)
+      (how : Outcome) (talks : List Talk) (notes : List Note) : Type 0 where
     pub bytes : List ℕ
     pub size_is : length bytes ≡ size
     pub read : IfSome seen (λ files. AreFirstBytes files.store path bytes)
     pub carries : Carries asked bytes journal how talks notes
 
   -- either of the two
-  abbrev pub Uploads : Ask → Option SeenFiles → (path : List ℕ) → (size faults_before faults_after : ℕ) → List Event → Outcome → List Talk → List Note → Type 0
+  abbrev pub Uploads : Ask → Option SeenFiles → (path : List ℕ) → (size faults_before faults_after : ℕ) → List Event
+      → Outcome → List Talk → List Note → Type 0
   Uploads asked seen path size before after journal how talks notes =
-      IsUnread seen path size before after journal how talks notes ⊎ IsGiven asked seen path size journal how talks notes
+      IsUnread seen path size before after journal how talks notes
+      ⊎ IsGiven asked seen path size journal how talks notes
