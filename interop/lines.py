@@ -1,4 +1,4 @@
-"""What the program prints of one copy, and the status that it ends with (README, "Statuses and lines")."""
+"""What the program prints of one copy, and the status that it ends with (README, "What it prints, and its exit status")."""
 
 from typing import NamedTuple
 
