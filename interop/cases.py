@@ -3,6 +3,7 @@
 import os
 from typing import NamedTuple
 
+import commands
 from lines import STORED, lost, refused
 from programs import LARGE, line_of
 from service import free_ports
@@ -175,3 +176,4 @@ def try_service(checks, runs, service):
     refusals(checks, runs, service, client)
     unsent(checks, runs, service, client)
     full_output(checks, runs, service)
+    commands.try_commands(checks, runs, service, client)
