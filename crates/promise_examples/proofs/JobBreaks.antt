@@ -1,16 +1,14 @@
 -- Runs of the small upload, and plannings in two pages, that break one clause of the schedule alone.
-use Rattle.std.proofs.Common.{◌≡◌, ◌+◌, ◌<◌, ◌≤◌, ◌==◌, ℕ, zero, suc, true, false, List, [], ◌∷◌, Some, None, refl, ap, inl, inr, Contains, arith}
+use Rattle.std.proofs.Common.{◌≡◌, ◌<◌, ◌≤◌, ◌==◌, ℕ, zero, suc, true, false, List, [], ◌∷◌, Some, None, refl, ap, inl, inr, arith}
 use Rattle.std.specs.Prelude.{◌≢◌, map}
 use Rattle.std.proofs.lemmas.List.Sorted.{IsPermutation-refl}
-use Rattle.s3_model.specs.declared.answers.Class.{Class}
 use Rattle.s3_model.specs.declared.answers.Listed.{Listed}
 use Rattle.s3_model.specs.declared.outcomes.Event.{Event}
 use Rattle.s3_model.specs.declared.requests.Ask.{Ask}
-use Rattle.s3_model.specs.declared.requests.Ask.TheVariants as ask
 use Rattle.s3_model.specs.declared.requests.Op.TheVariants as op
 use Rattle.s3_model.specs.declared.settings.Limits.{Limits}
 use Rattle.s3_model.specs.declared.tries.Mark.TheVariants as mark
-use Rattle.s3_model.specs.Talks.{Talk, Note, Finished, Moment, Began}
+use Rattle.s3_model.specs.Talks.{Talk, Note, Finished}
 use Rattle.run_promise.specs.Carried as wires
 use Rattle.run_promise.specs.Carried.{IsCarried, MayStop}
 use Rattle.run_promise.specs.Dispatches.{Attempt, Dispatched, dispatches}
@@ -18,14 +16,13 @@ use Rattle.run_promise.specs.Schedule.{IsBeforeAny, Setting, gained_before, most
 use Rattle.shared_lemmas.proofs.Clashes.{false_true as never}
 use Rattle.promise_examples.specs.GivenAgain.{bytes, put, put_job}
 use Rattle.promise_examples.specs.Misfits.{bucket, key}
-use Rattle.promise_examples.specs.Everything.{in_two}
-use Rattle.promise_examples.specs.Pages.{in_first, list_after, list_job, listing_run, page_with, talk_of, token}
+use Rattle.promise_examples.specs.Pages.{in_first, list_after, list_job, page_with, talk_of, token}
 use Rattle.promise_examples.specs.Plannings as plannings
 use Rattle.promise_examples.specs.Plannings.{both_notes, talk_with_body}
 use Rattle.promise_examples.specs.Reading.{Reads, signed_body}
 use Rattle.promise_examples.specs.Refused as refused
 use Rattle.promise_examples.specs.Refused.{a_talk, lost_at, once, path, setting, stored_at, task}
-use Rattle.promise_examples.specs.Rules.{Rule, IsComing, InOrder, Asks, Plans, Planned, Numbered, OneByOne, Dry, Twice, NoThird, Stops, MayRepeat, HasFailed, JobsBreakAlone, PlanningsBreakAlone, EachJobBreaksAlone, EachPlanningBreaksAlone, IsListing}
+use Rattle.promise_examples.specs.Rules.{Rule, Asks, Plans, Planned, Numbered, OneByOne, Dry, Twice, NoThird, MayRepeat, HasFailed, JobsBreakAlone, PlanningsBreakAlone, EachJobBreaksAlone, EachPlanningBreaksAlone, IsListing}
 use Rattle.promise_examples.specs.Runs.{Example}
 use Rattle.promise_examples.proofs.Carrying as carrying
 use Rattle.promise_examples.proofs.Concrete.{Each, Slots, at, some_is}

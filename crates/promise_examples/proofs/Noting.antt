@@ -1,8 +1,7 @@
 -- Notes of a wire that are written out, one attempt after the other.
-use Rattle.std.proofs.Common.{◌≡◌, ◌++◌, ℕ, List, [], ◌∷◌, refl, sym, subst, inl, Contains}
+use Rattle.std.proofs.Common.{◌≡◌, ℕ, List, [], ◌∷◌, refl, sym, subst, inl, Contains}
 use Rattle.std.proofs.lemmas.List.{append-nil}
 use Rattle.s3_model.specs.declared.answers.Listed.{Listed}
-use Rattle.s3_model.specs.declared.answers.Class.{Class}
 use Rattle.s3_model.specs.Talks.{Note, Moment, Pause, Began}
 use Rattle.run_promise.specs.Carried.{AreNoted, IsPrefixOf, IsSaid, Numbered, SaysAll}
 use Rattle.run_promise.specs.Dispatches.{Attempt, Dispatched}

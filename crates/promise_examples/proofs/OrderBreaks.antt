@@ -1,5 +1,5 @@
 -- Runs of an upload in parts, and of a move, that break one clause of the schedule alone.
-use Rattle.std.proofs.Common.{◌≡◌, ◌+◌, ◌<◌, ◌≤◌, ◌⊎◌, ◌==◌, ℕ, zero, suc, true, false, List, [], ◌∷◌, Option, Some, None, refl, sym, ap, subst, inl, inr, Contains, slice_get, ◌++◌, ◌∙◌, arith}
+use Rattle.std.proofs.Common.{◌≡◌, ◌+◌, ◌<◌, ◌≤◌, ◌==◌, ℕ, zero, suc, false, List, [], ◌∷◌, Some, refl, sym, ap, subst, inl, inr, ◌++◌, ◌∙◌, arith}
 use Rattle.std.specs.Prelude.{IsPermutation}
 use Rattle.std.proofs.lemmas.List.Sorted.{IsPermutation-refl, IsPermutation-append_right, IsPermutation-append_comm}
 use Rattle.s3_model.specs.declared.answers.Listed.{Listed}
@@ -8,24 +8,21 @@ use Rattle.s3_model.specs.declared.outcomes.JobId.{JobId}
 use Rattle.s3_model.specs.declared.requests.Ask.{Ask}
 use Rattle.s3_model.specs.declared.requests.Ask.TheVariants as ask
 use Rattle.s3_model.specs.declared.requests.Op.TheVariants as op
-use Rattle.s3_model.specs.declared.tasks.Task.{Task}
 use Rattle.s3_model.specs.declared.tries.Mark.TheVariants as mark
 use Rattle.s3_model.specs.Parts.{piece_of}
-use Rattle.s3_model.specs.Talks.{Talk, Note}
 use Rattle.run_promise.specs.Dispatches.{Attempt, Dispatched}
-use Rattle.run_promise.specs.Schedule.{IsBefore, IsDecided, IsUpload, Setting, AreETags, gained_before, job_of}
+use Rattle.run_promise.specs.Schedule.{IsBefore, AreETags, gained_before, job_of}
 use Rattle.shared_lemmas.proofs.Clashes.{false_true as never}
-use Rattle.promise_examples.specs.Everything.{bucket, uploaded, id, first_etag, second_etag, upload, copy, create, complete, copy_ask, delete, part, document, create_job, part_job, complete_job, copy_job, delete_job, create_answered, copy_answered, eventful_run, in_two}
+use Rattle.promise_examples.specs.Everything.{bucket, uploaded, id, first_etag, second_etag, upload, copy, create, complete, copy_ask, delete, part, document, create_job, part_job, complete_job, copy_job, delete_job, create_answered, copy_answered, in_two}
 use Rattle.promise_examples.specs.Orders as orders
 use Rattle.promise_examples.specs.Orders.{abort_job, part_denied, first_stored, second_stored, complete_answered, abort_answered, delete_answered}
 use Rattle.promise_examples.specs.Reading.{Reads}
-use Rattle.promise_examples.specs.Rules.{Rule, IsComing, InOrder, Asks, Plans, Planned, Numbered, OneByOne, Dry, Twice, NoThird, Stops, AbortLast, Aborts, CompletedStays, MovesLast, HasFailed, OrdersBreakAlone, EachOrderBreaksAlone}
+use Rattle.promise_examples.specs.Rules.{IsComing, Asks, Stops, AbortLast, Aborts, CompletedStays, MovesLast, HasFailed, OrdersBreakAlone, EachOrderBreaksAlone}
 use Rattle.promise_examples.proofs.Carrying as carrying
-use Rattle.promise_examples.proofs.Concrete.{Each, at, each, none_is_some, slot, some_is}
+use Rattle.promise_examples.proofs.Concrete.{Each, at, each, slot, some_is}
 use Rattle.promise_examples.proofs.EventfulJobs.{sent_as, well}
 use Rattle.promise_examples.proofs.EventfulPlan.{body_is, copy_pieces, from_copy, to_copy, to_upload, upload_pieces}
 use Rattle.promise_examples.proofs.Noting as noting
-use Rattle.promise_examples.proofs.Repeats.{other_job}
 use Rattle.promise_examples.proofs.Ruling as ruling
 use Rattle.promise_examples.proofs.Scheduling.{failures, other_op}
 

@@ -1,13 +1,12 @@
 -- Jobs that are written out: which clauses of the schedule hold of them where one is broken.
-use Rattle.std.proofs.Common.{◌≡◌, ◌+◌, ◌<◌, ◌⊎◌, ℕ, Bool, true, false, List, [], ◌∷◌, Option, Some, None, refl, sym, ap, subst, inl, inr, Contains, slice_get}
-use Rattle.std.specs.Prelude.{◌≢◌, IsPermutation, IsSome}
+use Rattle.std.proofs.Common.{◌≡◌, ℕ, Bool, true, false, List, [], Option, Some, None, ap, subst, Contains}
+use Rattle.std.specs.Prelude.{◌≢◌, IsPermutation}
 use Rattle.s3_model.specs.declared.answers.Listed.{Listed}
 use Rattle.s3_model.specs.declared.outcomes.JobId.{JobId}
 use Rattle.s3_model.specs.declared.requests.Op.{Op}
 use Rattle.s3_model.specs.declared.requests.Op.TheVariants as op
-use Rattle.s3_model.specs.declared.tasks.Task.{Task}
-use Rattle.run_promise.specs.Dispatches.{Dispatched, is_op, op_number}
-use Rattle.run_promise.specs.Schedule.{IsBefore, IsBeforeAny, IsDecided, gained_before, job_of, most_body, op_of, planning_of}
+use Rattle.run_promise.specs.Dispatches.{Dispatched, is_op}
+use Rattle.run_promise.specs.Schedule.{IsBefore, IsBeforeAny, job_of, most_body, op_of, planning_of}
 use Rattle.promise_examples.specs.Rules.{Rule, IsComing, InOrder, Asks, Plans, Planned, Numbered, OneByOne, Dry, Twice, NoThird, Stops, AbortLast, Aborts, CompletedStays, MovesLast, Obeys, Keeps, Carries, AsksAsPlanned, HasFailed, MayRepeat, Shows, BreaksRule, RulesAreAll}
 use Rattle.promise_examples.specs.Runs.{Example}
 use Rattle.promise_examples.proofs.Concrete.{Each, each, Pairs, pairs, Slots, slot, Tails}

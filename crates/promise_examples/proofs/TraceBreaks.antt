@@ -1,29 +1,25 @@
 -- Traces of the small upload that break one clause alone.
-use Rattle.std.proofs.Common.{◌≡◌, ◌∙◌, ◌+◌, ◌==◌, ◌++◌, ℕ, zero, suc, Bool, true, false, List, [], ◌∷◌, Option, Some, None, refl, sym, ap, Contains, filter, filter_map, length, take, slice_get, arith}
+use Rattle.std.proofs.Common.{◌≡◌, ◌∙◌, ◌==◌, ℕ, zero, suc, false, List, [], ◌∷◌, Some, refl, sym, filter, filter_map, length, take, slice_get, arith}
 use Rattle.std.specs.Prelude.{◌≢◌, flat_map}
-use Rattle.s3_model.specs.declared.answers.Class.{Class}
 use Rattle.s3_model.specs.declared.answers.Listed.{Listed}
 use Rattle.s3_model.specs.declared.answers.Reply.TheVariants as reply
 use Rattle.s3_model.specs.declared.places.Place.TheVariants as place
-use Rattle.s3_model.specs.declared.requests.Ask.{Ask}
 use Rattle.s3_model.specs.declared.tasks.Task.{Task}
-use Rattle.s3_model.specs.declared.tries.Mark.TheVariants as mark
-use Rattle.s3_model.specs.Talks.{Talk}
-use Rattle.s3_service.specs.ServiceState.{HasBucket, Object, State, object_at, objects_in, with_object}
+use Rattle.s3_service.specs.ServiceState.{HasBucket, objects_in}
 use Rattle.std.specs.FinMap.{insert}
 use Rattle.s3_service.specs.Serves.{Replied, Removes, Writes}
 use Rattle.run_promise.specs.Dispatches.{Dispatched}
-use Rattle.run_promise.specs.Fits.{Names, requests_of}
-use Rattle.run_promise.specs.Traces.{External, IsSameAttempt, IsTrace, Serve, Step, TraceEvent, Came, Given, begun_in, event_of, events_of, served_in, states}
+use Rattle.run_promise.specs.Fits.{requests_of}
+use Rattle.run_promise.specs.Traces.{External, IsSameAttempt, Serve, Step, TraceEvent, Came, Given, begun_in, event_of, events_of, served_in, states}
 use Rattle.run_promise.specs.Truthful.{IsDest}
 use Rattle.shared_lemmas.proofs.Clashes.{false_true as never}
 use Rattle.shared_lemmas.proofs.Lists.{head_is}
-use Rattle.promise_examples.specs.GivenAgain.{bytes, put_job}
+use Rattle.promise_examples.specs.GivenAgain.{bytes}
 use Rattle.promise_examples.specs.Misfits as misfits
 use Rattle.promise_examples.specs.Misfits.{before, bucket, key, other_key, request, stored, written_again, with_byte, first_content}
-use Rattle.promise_examples.specs.Refused.{limits, setting, task, whole_run}
+use Rattle.promise_examples.specs.Refused.{setting, task, whole_run}
 use Rattle.promise_examples.specs.Services.{object_of}
-use Rattle.promise_examples.specs.TraceBreaks.{Rule, Moves, Begins, SinceGiven, UntilCame, Once, Answers, Served, Runs, OneContent, NotWritten, NotRemoved, Says, Shows, IsFit, RulesAreAll, BreaksAlone, TracesBreakAlone, EachTraceBreaksAlone}
+use Rattle.promise_examples.specs.TraceBreaks.{TraceClause, Moves, Begins, SinceGiven, UntilCame, Once, Answers, Served, Runs, OneContent, NotWritten, NotRemoved, SaysOfTrace, Shows, IsFit, TraceClausesAreAll, BreaksTraceAlone, TracesBreakAlone, EachTraceBreaksAlone}
 use Rattle.promise_examples.proofs.Carrying as carrying
 use Rattle.promise_examples.proofs.Concrete.{Each, each, each_passing, Slots, slot, Pairs, pairs, Cuts, cut, at}
 use Rattle.promise_examples.proofs.Fitting as fitting
@@ -62,7 +58,7 @@ elsewhere dest = each (λ (t : Task). t.dest ≡ place.Object bucket other_key �
 module _ (page_of : List ℕ → Listed) where
   -- ---- the clauses are all
 
-  says_of : (dispatched : List Dispatched) (trace : List Step) → IsFit page_of dispatched trace → (rule : Rule) → Says page_of dispatched trace rule
+  says_of : (dispatched : List Dispatched) (trace : List Step) → IsFit page_of dispatched trace → (rule : TraceClause) → SaysOfTrace page_of dispatched trace rule
   says_of dispatched trace fit Moves = fit.fits.moves
   says_of dispatched trace fit Begins = fit.fits.begins
   says_of dispatched trace fit SinceGiven = fit.fits.since_given
@@ -75,7 +71,7 @@ module _ (page_of : List ℕ → Listed) where
   says_of dispatched trace fit NotWritten = fit.honest.not_written
   says_of dispatched trace fit NotRemoved = fit.honest.not_removed
 
-  fit_of : (dispatched : List Dispatched) (trace : List Step) → ((rule : Rule) → Says page_of dispatched trace rule) → IsFit page_of dispatched trace
+  fit_of : (dispatched : List Dispatched) (trace : List Step) → ((rule : TraceClause) → SaysOfTrace page_of dispatched trace rule) → IsFit page_of dispatched trace
   fit_of dispatched trace all = record {
     runs = all Runs;
     honest = record { one_content = all OneContent; not_written = all NotWritten; not_removed = all NotRemoved };
@@ -90,8 +86,8 @@ module _ (page_of : List ℕ → Listed) where
     };
   }
 
-  all_rules : RulesAreAll page_of
-  all_rules dispatched trace = (fit_of dispatched trace, says_of dispatched trace)
+  all_clauses : TraceClausesAreAll page_of
+  all_clauses dispatched trace = (fit_of dispatched trace, says_of dispatched trace)
 
   -- ---- by what is written out
 
@@ -102,11 +98,11 @@ module _ (page_of : List ℕ → Listed) where
   sent = whole.sent page_of
 
   module _ (trace : List Step) where
-    abbrev Holds : Rule → Type 0
-    Holds rule = Says page_of jobs trace rule
+    abbrev Holds : TraceClause → Type 0
+    Holds rule = SaysOfTrace page_of jobs trace rule
 
     -- what is to be shown of each clause but the broken one
-    record Parts (broken : Rule) : Type 0 where
+    record Parts (broken : TraceClause) : Type 0 where
       moves : Moves ≢ broken → Holds Moves
       begins : Begins ≢ broken → Holds Begins
       since_given : SinceGiven ≢ broken → Cuts fitting.GivenRule (events_of trace)
@@ -119,7 +115,7 @@ module _ (page_of : List ℕ → Listed) where
       not_written : NotWritten ≢ broken → Each WriteRule (events_of trace)
       not_removed : NotRemoved ≢ broken → Each RemoveRule (events_of trace)
 
-    holds : (broken : Rule) → Parts broken → (rule : Rule) → rule ≢ broken → Holds rule
+    holds : (broken : TraceClause) → Parts broken → (rule : TraceClause) → rule ≢ broken → Holds rule
     holds broken parts Moves other = parts.moves other
     holds broken parts Begins other = parts.begins other
     holds broken parts SinceGiven other = λ front back job lane e. cut fitting.GivenRule (events_of trace) (parts.since_given other) front (Given job lane) back e
@@ -137,7 +133,7 @@ module _ (page_of : List ℕ → Listed) where
     holds broken parts NotWritten other = λ b k object happened. each WriteRule (events_of trace) (parts.not_written other) (External (Writes b k object)) happened
     holds broken parts NotRemoved other = λ b k happened. each RemoveRule (events_of trace) (parts.not_removed other) (External (Removes b k)) happened
 
-    alone : (broken : Rule) → Parts broken → BreaksAlone page_of broken trace
+    alone : (broken : TraceClause) → Parts broken → BreaksTraceAlone page_of broken trace
     alone broken parts = (jobs, jobs, small.scheduled (Shows page_of) (whole.well page_of ∷ []), carrying.carried page_of setting jobs _ _ _ jobs (whole.written page_of), holds broken parts)
 
   -- ---- what is in each trace
@@ -313,7 +309,7 @@ module _ (page_of : List ℕ → Listed) where
 
   pub trace_breaks : TracesBreakAlone page_of
   trace_breaks = record {
-    all_rules = all_rules;
+    all_clauses = all_clauses;
     never_given = alone misfits.never_given Moves never_given;
     other_lane = alone misfits.other_lane Begins other_lane;
     begun_before_given = alone misfits.begun_before_given SinceGiven begun_before_given;

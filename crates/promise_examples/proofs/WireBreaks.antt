@@ -1,5 +1,5 @@
 -- Runs that break the clauses on how jobs are given and come, each alone.
-use Rattle.std.proofs.Common.{◌≡◌, ◌∙◌, ◌==◌, ◌++◌, ◌+◌, ◌<◌, ◌≤◌, ℕ, zero, suc, true, false, List, [], ◌∷◌, Option, Some, None, refl, sym, ap, subst, inl, inr, Contains, slice_get, arith}
+use Rattle.std.proofs.Common.{◌≡◌, ◌∙◌, ◌==◌, ◌++◌, ◌<◌, ℕ, zero, suc, true, false, List, [], ◌∷◌, Option, Some, None, refl, sym, ap, subst, inl, inr, Contains, arith}
 use Rattle.std.specs.Prelude.{flat_map}
 use Rattle.std.proofs.lemmas.List.Sorted.{IsPermutation-refl, IsPermutation-append_comm}
 use Rattle.s3_model.specs.declared.answers.Class.{Class}
@@ -7,15 +7,14 @@ use Rattle.s3_model.specs.declared.answers.Listed.{Listed}
 use Rattle.s3_model.specs.declared.outcomes.JobId.{JobId}
 use Rattle.s3_model.specs.declared.requests.Ask.{Ask}
 use Rattle.s3_model.specs.declared.requests.Op.TheVariants as op
-use Rattle.s3_model.specs.declared.tasks.Task.{Task}
 use Rattle.s3_model.specs.declared.tries.Mark.TheVariants as mark
 use Rattle.s3_model.specs.Talks.{Talk, Note, Moment, Pause, Began}
 use Rattle.run_promise.specs.Carried as wires
 use Rattle.run_promise.specs.Carried.{AreNoted, MayStop, in_lane, numbered_from, talks_of}
 use Rattle.run_promise.specs.Dispatches.{Attempt, Dispatched}
-use Rattle.run_promise.specs.Schedule.{IsBefore, IsFailed, IsSchedule, Setting, gained_before, most_body}
+use Rattle.run_promise.specs.Schedule.{IsBefore, IsFailed, IsSchedule, gained_before, most_body}
 use Rattle.shared_lemmas.proofs.Clashes.{false_true as never}
-use Rattle.promise_examples.specs.Alone.{Clause, Shown, Comes, Lanes, UnusedLanes, NothingElse, InTurn, Gained, Noted, Marks, Again, GivenAgain, AtMost, ToTheEnd, Silent, Says, BreaksAlone, Carries}
+use Rattle.promise_examples.specs.Alone.{Shown, Comes, Lanes, InTurn, GivenAgain, BreaksAlone}
 use Rattle.promise_examples.specs.GivenAgain.{bytes, put, put_job}
 use Rattle.promise_examples.specs.Misfits.{bucket, key}
 use Rattle.promise_examples.specs.Pages.{in_first}
@@ -24,9 +23,8 @@ use Rattle.promise_examples.specs.Refused as refused
 use Rattle.promise_examples.specs.Refused.{denied_at, path, second_put, second_task, setting, stored_at, task}
 use Rattle.promise_examples.specs.Runs.{Example}
 use Rattle.promise_examples.proofs.Carrying as carrying
-use Rattle.promise_examples.proofs.Concrete.{Each, Tails, at, each, has_middle, contains_of, none_is_some, some_is}
+use Rattle.promise_examples.proofs.Concrete.{Each, Tails, at, each, has_middle, contains_of, some_is}
 use Rattle.promise_examples.proofs.Noting as noting
-use Rattle.promise_examples.proofs.Repeats.{other_job}
 use Rattle.promise_examples.proofs.Scheduling as scheduling
 use Rattle.promise_examples.proofs.SmallPut as small
 use Rattle.promise_examples.proofs.Wiring as wiring

@@ -1,12 +1,9 @@
 -- Wires and jobs that are written out: which clauses of what is carried hold of them where one is broken.
-use Rattle.std.proofs.Common.{◌≡◌, ◌∙◌, ◌⊎◌, ◌==◌, ◌+◌, ◌<◌, ◌≤◌, ℕ, zero, suc, Bool, true, false, cond, List, [], ◌∷◌, Option, Some, None, refl, sym, ap, subst, inl, inr, Contains, filter, length, map, arith}
-use Rattle.std.specs.Prelude.{◌≢◌, count_by, flat_map}
-use Rattle.s3_model.specs.declared.answers.Class.{Class}
+use Rattle.std.proofs.Common.{◌≡◌, ◌+◌, ◌<◌, ◌≤◌, ℕ, zero, suc, Bool, true, false, cond, List, [], ◌∷◌, Option, Some, None, refl, sym, subst, inl, filter, length, map, arith}
+use Rattle.std.specs.Prelude.{◌≢◌, flat_map}
 use Rattle.s3_model.specs.declared.answers.Listed.{Listed}
 use Rattle.s3_model.specs.declared.outcomes.Event.TheVariants as entry
-use Rattle.s3_model.specs.declared.requests.Ask.{Ask}
-use Rattle.s3_model.specs.Talks.{Talk, Note}
-use Rattle.run_promise.specs.Carried.{AreNoted, in_lane, numbered_from, talks_of}
+use Rattle.run_promise.specs.Carried.{AreNoted, in_lane, numbered_from}
 use Rattle.run_promise.specs.Dispatches.{Attempt, Dispatched, dispatches, last_of}
 use Rattle.promise_examples.specs.Alone.{Clause, Shown, Comes, Lanes, UnusedLanes, NothingElse, InTurn, Gained, Noted, Marks, Again, GivenAgain, AtMost, ToTheEnd, Silent, Says, IsExcused, GoesOn}
 use Rattle.promise_examples.specs.Reading.{Reads, body_by, signed_body}

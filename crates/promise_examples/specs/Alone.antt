@@ -49,26 +49,41 @@ module _ (page_of : List ℕ → Listed) where
     -- what a clause says of this run and these jobs
     abbrev pub Says : Clause → Type 0
     Says Shown = map (λ (c : Dispatched). c.dispatch) dispatched ≡ dispatches e.journal e.logs
-    Says Comes = (c : Dispatched) → Contains dispatched c → (place : ℕ) × (tries : List Mark) × (c.dispatch.came_at ≡ Some place)
-        × (slice_get e.journal place ≡ Some (entry.Came c.dispatch.job c.dispatch.lane tries)) × (length tries ≡ length c.dispatch.attempts)
+    Says Comes = (c : Dispatched) → Contains dispatched c → (place : ℕ) × (tries : List Mark)
+        × (c.dispatch.came_at ≡ Some place)
+        × (slice_get e.journal place ≡ Some (entry.Came c.dispatch.job c.dispatch.lane tries))
+        × (length tries ≡ length c.dispatch.attempts)
     Says Lanes = (c : Dispatched) → Contains dispatched c → c.dispatch.lane < e.setting.lanes
     Says UnusedLanes = (lane : ℕ) → e.setting.lanes ≤ lane → (e.logs lane ≡ []) × (e.notes lane ≡ [])
-    Says NothingElse = (place lane : ℕ) (job : JobId) (tries : List Mark) → slice_get e.journal place ≡ Some (entry.Came job lane tries)
+    Says NothingElse = (place lane : ℕ) (job : JobId) (tries : List Mark)
+        → slice_get e.journal place ≡ Some (entry.Came job lane tries)
         → (c : Dispatched) × Contains dispatched c × (c.dispatch.came_at ≡ Some place)
-    Says InTurn = (lane : ℕ) → AllPairs (λ (a b : Dispatched). (at : ℕ) → b.dispatch.came_at ≡ Some at → IsBefore a.dispatch.came_at at) (in_lane lane dispatched)
+    Says InTurn = (lane : ℕ) → AllPairs
+        (λ (a b : Dispatched). (at : ℕ) → b.dispatch.came_at ≡ Some at → IsBefore a.dispatch.came_at at)
+        (in_lane lane dispatched)
     Says Gained = (lane : ℕ) → e.logs lane ≡ flat_map talks_of (in_lane lane dispatched)
-    Says Noted = (lane : ℕ) → (unused : ℕ) × (unused ≤ count_by (λ (c : Dispatched). e.setting.wanted_memory c.dispatch.job.task) (in_lane lane dispatched))
-        × AreNoted Shows signed_body [] 80 unused (flat_map (λ (c : Dispatched). numbered_from c 0 c.dispatch.attempts) (in_lane lane dispatched)) (e.notes lane)
-    Says Marks = (c : Dispatched) (k : ℕ) (attempt : Attempt) → Contains dispatched c → slice_get c.dispatch.attempts k ≡ Some attempt
-        → ((shown : Class) × (bytes : List ℕ) × Shows c.ask c.limit attempt.talk shown bytes × (attempt.mark ≡ mark_of shown)
+    Says Noted = (lane : ℕ) → (unused : ℕ)
+        × (unused ≤ count_by (λ (c : Dispatched). e.setting.wanted_memory c.dispatch.job.task)
+        (in_lane lane dispatched))
+        × AreNoted Shows signed_body [] 80 unused
+        (flat_map (λ (c : Dispatched). numbered_from c 0 c.dispatch.attempts) (in_lane lane dispatched)) (e.notes lane)
+    Says Marks = (c : Dispatched) (k : ℕ) (attempt : Attempt) → Contains dispatched c
+        → slice_get c.dispatch.attempts k ≡ Some attempt
+        → ((shown : Class) × (bytes : List ℕ) × Shows c.ask c.limit attempt.talk shown bytes
+        × (attempt.mark ≡ mark_of shown)
         × (shown ≡ class.Uncertain why.Memory → IsWanting Shows signed_body [] 80 e.setting c))
-        ⊎ ((k + 1 ≡ length c.dispatch.attempts) × (attempt.mark ≡ mark.Uncertain) × IsWanting Shows signed_body [] 80 e.setting c)
-    Says Again = (c : Dispatched) (k : ℕ) (attempt : Attempt) → Contains dispatched c → slice_get c.dispatch.attempts k ≡ Some attempt
+        ⊎ ((k + 1 ≡ length c.dispatch.attempts) × (attempt.mark ≡ mark.Uncertain)
+        × IsWanting Shows signed_body [] 80 e.setting c)
+    Says Again = (c : Dispatched) (k : ℕ) (attempt : Attempt) → Contains dispatched c
+        → slice_get c.dispatch.attempts k ≡ Some attempt
         → k + 1 < length c.dispatch.attempts → GoesOn c attempt
-    Says GivenAgain = AllPairs (λ (a b : Dispatched). a.dispatch.job ≡ b.dispatch.job → (attempt : Attempt) → last_of a.dispatch.attempts ≡ Some attempt
+    Says GivenAgain = AllPairs (λ (a b : Dispatched). a.dispatch.job ≡ b.dispatch.job → (attempt : Attempt)
+        → last_of a.dispatch.attempts ≡ Some attempt
         → GoesOn a attempt × (length a.dispatch.attempts < e.setting.config.attempts)) dispatched
-    Says AtMost = (c : Dispatched) → Contains dispatched c → c.dispatch.earlier + length c.dispatch.attempts ≤ e.setting.config.attempts
-    Says ToTheEnd = (c : Dispatched) (attempt : Attempt) → Contains dispatched c → last_of c.dispatch.attempts ≡ Some attempt → GoesOn c attempt
+    Says AtMost = (c : Dispatched) → Contains dispatched c
+        → c.dispatch.earlier + length c.dispatch.attempts ≤ e.setting.config.attempts
+    Says ToTheEnd = (c : Dispatched) (attempt : Attempt) → Contains dispatched c
+        → last_of c.dispatch.attempts ≡ Some attempt → GoesOn c attempt
         → (c.dispatch.earlier + length c.dispatch.attempts ≡ e.setting.config.attempts) ⊎ IsExcused c
     Says Silent = (c : Dispatched) → Contains dispatched c → c.dispatch.attempts ≡ [] → IsExcused c
 
@@ -78,11 +93,13 @@ module _ (page_of : List ℕ → Listed) where
   -- the clauses together say what is carried, no more and no less
   abbrev pub ClausesAreAll : Type 0
   ClausesAreAll = (e : Example) (dispatched coming : List Dispatched)
-      → (((clause : Clause) → Says e dispatched coming clause) → Carries e dispatched coming) × (Carries e dispatched coming → (clause : Clause) → Says e dispatched coming clause)
+      → (((clause : Clause) → Says e dispatched coming clause) → Carries e dispatched coming)
+      × (Carries e dispatched coming → (clause : Clause) → Says e dispatched coming clause)
 
   -- With one reading of its jobs they keep to the schedule, and every clause holds but this one.
   abbrev pub BreaksAlone : Clause → Example → Type 0
-  BreaksAlone broken e = (dispatched : List Dispatched) × (coming : List Dispatched) × IsSchedule Shows e.setting (λ planning. planning ≡ []) dispatched coming
+  BreaksAlone broken e = (dispatched : List Dispatched) × (coming : List Dispatched)
+      × IsSchedule Shows e.setting (λ planning. planning ≡ []) dispatched coming
       × ((clause : Clause) → clause ≢ broken → Says e dispatched coming clause)
 
   pub record WiresBreakAlone : Type 0 where

@@ -1,4 +1,5 @@
--- A run over two lanes: an upload in parts whose Create was lost and then answered, with a part that was cut short, given again and also
+-- A run over two lanes: an upload in parts whose Create was lost and then answered, with a part that was cut short,
+-- given again and also
 -- served late, and a Complete that was lost and then answered again; and a copy that is moved, whose Delete was lost.
 use Rattle.std.specs.Prelude.{◌≡◌, ◌==◌, ℕ, false, List, [], ◌∷◌, None, if◌then◌else◌}
 use Rattle.std.specs.FinMap.{insert, empty}
@@ -157,7 +158,8 @@ second_talks = copy_answered ∷ other_stored ∷ delete_lost ∷ delete_again �
 
 abbrev pub first_notes : List Note
 first_notes =
-    Moment 1 ∷ Began ∷ Pause 1 ∷ Moment 2 ∷ Began ∷ Moment 3 ∷ Began ∷ Pause 1 ∷ Moment 4 ∷ Began ∷ Moment 5 ∷ Began ∷ Pause 1 ∷ Moment 6 ∷ Began ∷ []
+    Moment 1 ∷ Began ∷ Pause 1 ∷ Moment 2 ∷ Began ∷ Moment 3 ∷ Began ∷ Pause 1 ∷ Moment 4 ∷ Began ∷ Moment 5 ∷ Began
+    ∷ Pause 1 ∷ Moment 6 ∷ Began ∷ []
 
 abbrev pub second_notes : List Note
 second_notes = Moment 1 ∷ Began ∷ Moment 3 ∷ Began ∷ Moment 4 ∷ Began ∷ Pause 1 ∷ Moment 6 ∷ Began ∷ []
@@ -330,4 +332,5 @@ eventful_trace =
     ∷ []
 
 abbrev pub EverythingIsMet : Type 0
-EverythingIsMet = (page_of : List ℕ → Listed) → IsMet page_of (λ planning. planning ≡ []) eventful_run start eventful_trace
+EverythingIsMet = (page_of : List ℕ → Listed)
+    → IsMet page_of (λ planning. planning ≡ []) eventful_run start eventful_trace

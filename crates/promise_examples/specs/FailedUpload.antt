@@ -1,4 +1,5 @@
--- An upload in parts over two lanes that failed: one part was denied, the other one cut short after that, and the upload aborted.
+-- An upload in parts over two lanes that failed: one part was denied, the other one cut short after that, and the
+-- upload aborted.
 use Rattle.std.specs.Prelude.{◌≡◌, ℕ, List, [], ◌∷◌, codes}
 use Rattle.s3_model.specs.declared.answers.Listed.{Listed}
 use Rattle.s3_model.specs.declared.answers.Reply.TheVariants as reply
@@ -87,4 +88,5 @@ failed_trace =
     ∷ []
 
 abbrev pub FailedUploadIsMet : Type 0
-FailedUploadIsMet = (page_of : List ℕ → Listed) → IsMet page_of (λ planning. planning ≡ []) failed_run start failed_trace
+FailedUploadIsMet = (page_of : List ℕ → Listed)
+    → IsMet page_of (λ planning. planning ≡ []) failed_run start failed_trace

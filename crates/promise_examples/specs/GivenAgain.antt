@@ -34,26 +34,36 @@ put_job = record { task = Some 0; op = op.Put; number = 0 }
 -- the Put is given, refused, given again and stored
 abbrev pub twice : List Event
 twice =
-    entry.Given put_job 0 ∷ entry.Came put_job 0 (mark.Refusal ∷ []) ∷ entry.Given put_job 0 ∷ entry.Came put_job 0 (mark.Success ∷ []) ∷ []
+    entry.Given put_job 0 ∷ entry.Came put_job 0 (mark.Refusal ∷ []) ∷ entry.Given put_job 0
+    ∷ entry.Came put_job 0 (mark.Success ∷ []) ∷ []
 
 module _ (Shows : Ask → ℕ → Talk → Class → List ℕ → Type 0) (Plans : List Dispatched → Type 0) where
   -- whatever was asked, the talk shows a refusal with this code and nothing else
   abbrev pub IsRefusedBy : Talk → List ℕ → Type 0
-  IsRefusedBy talk code = (asked : Ask) (limit : ℕ) (shown : Class) (bytes : List ℕ) → Shows asked limit talk shown bytes → (message : List ℕ) × (shown ≡ class.Refusal code message)
+  IsRefusedBy talk code = (asked : Ask) (limit : ℕ) (shown : Class) (bytes : List ℕ)
+      → Shows asked limit talk shown bytes → (message : List ℕ) × (shown ≡ class.Refusal code message)
 
   -- No job is given again after a last attempt that would not be tried again.
   abbrev pub RefusedForGood : Type 0
-  RefusedForGood = (request_text : Ask → List ℕ → ℕ → List ℕ) (host : List ℕ) (port : ℕ) (s : Setting) (journal : List Event) (logs : ℕ → List Talk) (notes : ℕ → List Note)
-      (dispatched coming : List Dispatched) → IsCarried Shows request_text host port s journal logs notes dispatched coming
-      → (a b : Dispatched) (i j : ℕ) (attempt : Attempt) → i < j → slice_get dispatched i ≡ Some a → slice_get dispatched j ≡ Some b → a.dispatch.job ≡ b.dispatch.job
+  RefusedForGood = (request_text : Ask → List ℕ → ℕ → List ℕ) (host : List ℕ) (port : ℕ) (s : Setting)
+      (journal : List Event) (logs : ℕ → List Talk) (notes : ℕ → List Note)
+      (dispatched coming : List Dispatched)
+      → IsCarried Shows request_text host port s journal logs notes dispatched coming
+      → (a b : Dispatched) (i j : ℕ) (attempt : Attempt) → i < j → slice_get dispatched i ≡ Some a
+      → slice_get dispatched j ≡ Some b → a.dispatch.job ≡ b.dispatch.job
       → last_of a.dispatch.attempts ≡ Some attempt
-      → ((shown : Class) (bytes : List ℕ) → Shows a.ask a.limit attempt.talk shown bytes → is_tried_again shown ≡ false) → ⊥
+      → ((shown : Class) (bytes : List ℕ) → Shows a.ask a.limit attempt.talk shown bytes
+      → is_tried_again shown ≡ false) → ⊥
 
-  -- So a Put that was refused with AccessDenied is not given again and stored, whatever the setting, the rest of the logs and the notes.
+  -- So a Put that was refused with AccessDenied is not given again and stored, whatever the setting, the rest of the
+  -- logs and the notes.
   abbrev pub DeniedIsNotGivenAgain : Type 0
-  DeniedIsNotGivenAgain = (request_text : Ask → List ℕ → ℕ → List ℕ) (host : List ℕ) (port : ℕ) (s : Setting) (logs : ℕ → List Talk) (notes : ℕ → List Note)
-      (dispatched coming : List Dispatched) (talk : Talk) (rest : List Talk) → IsRefusedBy talk (codes "AccessDenied") → logs 0 ≡ talk ∷ rest
-      → IsSchedule Shows s Plans dispatched coming → IsCarried Shows request_text host port s twice logs notes dispatched coming → ⊥
+  DeniedIsNotGivenAgain = (request_text : Ask → List ℕ → ℕ → List ℕ) (host : List ℕ) (port : ℕ) (s : Setting)
+      (logs : ℕ → List Talk) (notes : ℕ → List Note)
+      (dispatched coming : List Dispatched) (talk : Talk) (rest : List Talk)
+      → IsRefusedBy talk (codes "AccessDenied") → logs 0 ≡ talk ∷ rest
+      → IsSchedule Shows s Plans dispatched coming
+      → IsCarried Shows request_text host port s twice logs notes dispatched coming → ⊥
 
 -- ---- the neighbour: the service was busy
 
@@ -91,7 +101,8 @@ module _ (bucket key path : List ℕ) where
     };
     outcomes = outcome.Done ∷ [];
     journal = twice;
-    logs = in_first (record { host = []; port = 80; sent = 5 ∷ bytes; got = busy; ending = Closed } ∷ record { host = []; port = 80; sent = 7 ∷ bytes; got = []; ending = Finished } ∷ []);
+    logs = in_first (record { host = []; port = 80; sent = 5 ∷ bytes; got = busy; ending = Closed }
+        ∷ record { host = []; port = 80; sent = 7 ∷ bytes; got = []; ending = Finished } ∷ []);
     notes = in_first (Moment 5 ∷ Began ∷ Pause 1 ∷ Moment 7 ∷ Began ∷ []);
   }
 
@@ -113,4 +124,5 @@ module _ (bucket key path : List ℕ) where
 -- A Put that was refused since the service was busy may be given again and stored.
 abbrev pub BusyIsGivenAgain : Type 0
 BusyIsGivenAgain = (limits : Limits) (page_of : List ℕ → Listed) (bucket key path : List ℕ)
-    → IsMet page_of (λ planning. planning ≡ []) (busy_run bucket key path limits) (one_bucket bucket) (busy_trace bucket key path)
+    → IsMet page_of (λ planning. planning ≡ []) (busy_run bucket key path limits) (one_bucket bucket)
+    (busy_trace bucket key path)

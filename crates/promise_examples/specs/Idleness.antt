@@ -1,4 +1,5 @@
--- A run that fails and never tried, though no file call failed and memory did not run out: no willing service is owed that.
+-- A run that fails and never tried, though no file call failed and memory did not run out: no willing service is owed
+-- that.
 use Rattle.std.specs.Prelude.{◌≡◌, false, ℕ, List, [], ◌∷◌}
 use Rattle.s3_model.specs.declared.answers.Listed.{Listed}
 use Rattle.s3_model.specs.declared.outcomes.Cause.{Cause}
@@ -22,4 +23,5 @@ idle_run why = record {
 
 abbrev pub IdlenessIsRefused : Type 0
 IdlenessIsRefused = (page_of : List ℕ → Listed) (why : Cause)
-    → ¬ (IsDoneWhereWilling (Reads page_of) HasNoStatus signed_body [] 80 (λ planning. planning ≡ []) NeverFailed (idle_run why))
+    → ¬ (IsDoneWhereWilling (Reads page_of) HasNoStatus signed_body [] 80 (λ planning. planning ≡ []) NeverFailed
+    (idle_run why))

@@ -22,10 +22,12 @@ use Rattle.promise_examples.specs.Runs.{Example}
 
 -- the Put was lost and then denied, or lost at both attempts
 abbrev pub lost_then_denied : Example
-lost_then_denied = run (once (mark.Uncertain ∷ mark.Refusal ∷ [])) (in_first (lost_at 5 ∷ denied_at 6 ∷ [])) (in_first (Moment 5 ∷ Began ∷ Pause 1 ∷ Moment 6 ∷ Began ∷ []))
+lost_then_denied = run (once (mark.Uncertain ∷ mark.Refusal ∷ [])) (in_first (lost_at 5 ∷ denied_at 6 ∷ []))
+    (in_first (Moment 5 ∷ Began ∷ Pause 1 ∷ Moment 6 ∷ Began ∷ []))
 
 abbrev pub lost_twice : Example
-lost_twice = run (once (mark.Uncertain ∷ mark.Uncertain ∷ [])) (in_first (lost_at 5 ∷ lost_at 6 ∷ [])) (in_first (Moment 5 ∷ Began ∷ Pause 1 ∷ Moment 6 ∷ Began ∷ []))
+lost_twice = run (once (mark.Uncertain ∷ mark.Uncertain ∷ [])) (in_first (lost_at 5 ∷ lost_at 6 ∷ []))
+    (in_first (Moment 5 ∷ Began ∷ Pause 1 ∷ Moment 6 ∷ Began ∷ []))
 
 -- the Put was denied
 abbrev pub denied_once : Example
@@ -34,7 +36,8 @@ denied_once = run (once (mark.Refusal ∷ [])) (in_first (denied_at 5 ∷ [])) (
 module _ (page_of : List ℕ → Listed) where
   -- however the jobs of the run are read, its first task does not have that outcome
   abbrev pub IsLie : Example → Task → Outcome → Type 0
-  IsLie e of_task how = (dispatched coming : List Dispatched) → IsSchedule (Reads page_of) e.setting (λ planning. planning ≡ []) dispatched coming
+  IsLie e of_task how = (dispatched coming : List Dispatched)
+      → IsSchedule (Reads page_of) e.setting (λ planning. planning ≡ []) dispatched coming
       → IsCarried (Reads page_of) signed_body [] 80 e.setting e.journal e.logs e.notes dispatched coming
       → HasOutcome (Reads page_of) HasNoStatus NeverFailed e.setting dispatched coming 0 of_task how → ⊥
 

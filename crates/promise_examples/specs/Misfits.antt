@@ -58,7 +58,8 @@ written_again = with_object stored bucket key (object_of given_again.bytes)
 -- ---- what is changed
 
 abbrev pub served_twice : List Step
-served_twice = given ∷ begun 0 1 before ∷ answered 1 ∷ record { event = Serve (request 1) (Replied reply.Stored []); state = written_again } ∷ came written_again ∷ []
+served_twice = given ∷ begun 0 1 before ∷ answered 1
+    ∷ record { event = Serve (request 1) (Replied reply.Stored []); state = written_again } ∷ came written_again ∷ []
 
 abbrev pub served_before_begun : List Step
 served_before_begun = given ∷ answered 1 ∷ begun 0 1 stored ∷ came stored ∷ []
@@ -70,7 +71,8 @@ abbrev pub served_after_came : List Step
 served_after_came = given ∷ begun 0 1 before ∷ came before ∷ answered 1 ∷ []
 
 abbrev pub other_answer : List Step
-other_answer = given ∷ begun 0 1 before ∷ record { event = Serve (request 1) (Refused (codes "AccessDenied")); state = before } ∷ came before ∷ []
+other_answer = given ∷ begun 0 1 before
+    ∷ record { event = Serve (request 1) (Refused (codes "AccessDenied")); state = before } ∷ came before ∷ []
 
 abbrev pub begun_before_given : List Step
 begun_before_given = begun 0 1 before ∷ given ∷ answered 1 ∷ came stored ∷ []
@@ -92,11 +94,13 @@ never_given = begun 0 1 before ∷ answered 1 ∷ came stored ∷ []
 
 -- somebody else writes the destination
 abbrev pub overwritten : List Step
-overwritten = given ∷ begun 0 1 before ∷ answered 1 ∷ came stored ∷ record { event = External (Writes bucket key (object_of given_again.bytes)); state = written_again } ∷ []
+overwritten = given ∷ begun 0 1 before ∷ answered 1 ∷ came stored
+    ∷ record { event = External (Writes bucket key (object_of given_again.bytes)); state = written_again } ∷ []
 
 -- or removes it
 abbrev pub removed : List Step
-removed = given ∷ begun 0 1 before ∷ answered 1 ∷ came stored ∷ record { event = External (Removes bucket key); state = without_object stored bucket key } ∷ []
+removed = given ∷ begun 0 1 before ∷ answered 1 ∷ came stored
+    ∷ record { event = External (Removes bucket key); state = without_object stored bucket key } ∷ []
 
 -- somebody else writes two contents of one key under one ETag
 abbrev pub other_key : List ℕ
@@ -109,16 +113,22 @@ abbrev pub first_content : State
 first_content = with_object stored bucket other_key (with_byte 8)
 
 abbrev pub two_contents : List Step
-two_contents = given ∷ begun 0 1 before ∷ answered 1 ∷ came stored ∷ record { event = External (Writes bucket other_key (with_byte 8)); state = first_content }
-    ∷ record { event = External (Writes bucket other_key (with_byte 9)); state = with_object first_content bucket other_key (with_byte 9) } ∷ []
+two_contents = given ∷ begun 0 1 before ∷ answered 1 ∷ came stored
+    ∷ record { event = External (Writes bucket other_key (with_byte 8)); state = first_content }
+    ∷ record {
+      event = External (Writes bucket other_key (with_byte 9));
+      state = with_object first_content bucket other_key (with_byte 9);
+    } ∷ []
 
 module _ (page_of : List ℕ → Listed) where
   -- however the jobs are read, it is no honest trace that fits
   abbrev pub IsUnfit : List Step → Type 0
   IsUnfit trace = (dispatched coming : List Dispatched)
       → IsSchedule (Reads page_of) whole_run.setting (λ planning. planning ≡ []) dispatched coming
-      → IsCarried (Reads page_of) signed_body [] 80 whole_run.setting whole_run.journal whole_run.logs whole_run.notes dispatched coming
-      → IsTrace whole_run.setting.limits [] before trace → IsHonest before trace (IsDest whole_run.setting.tasks) → Fits (Reads page_of) (events_of trace) whole_run.journal dispatched → ⊥
+      → IsCarried (Reads page_of) signed_body [] 80 whole_run.setting whole_run.journal whole_run.logs whole_run.notes
+      dispatched coming
+      → IsTrace whole_run.setting.limits [] before trace → IsHonest before trace (IsDest whole_run.setting.tasks)
+      → Fits (Reads page_of) (events_of trace) whole_run.journal dispatched → ⊥
 
   pub record TracesAreRefused : Type 0 where
     pub whole : IsMet page_of (λ planning. planning ≡ []) whole_run before whole_trace

@@ -40,43 +40,84 @@ delete_answered = talk 4 [] Finished []
 -- a run with the tasks of the eventful one
 abbrev pub run : List Event → List Talk → List Talk → List Note → List Note → Example
 run journal first second first_notes second_notes =
-    record { setting = eventful_run.setting; outcomes = eventful_run.outcomes; journal = journal; logs = in_two first second; notes = in_two first_notes second_notes }
+    record {
+      setting = eventful_run.setting;
+      outcomes = eventful_run.outcomes;
+      journal = journal;
+      logs = in_two first second;
+      notes = in_two first_notes second_notes;
+    }
 
 -- an upload is left open after a part failed
 abbrev pub no_abort : Example
-no_abort = run (entry.Given create_job 0 ∷ entry.Came create_job 0 (mark.Success ∷ []) ∷ entry.Given (part_job 1) 0 ∷ entry.Came (part_job 1) 0 (mark.Refusal ∷ []) ∷ []) (create_answered ∷ part_denied ∷ []) [] (Moment 2 ∷ Began ∷ Moment 3 ∷ Began ∷ []) []
+no_abort = run (entry.Given create_job 0 ∷ entry.Came create_job 0 (mark.Success ∷ []) ∷ entry.Given (part_job 1) 0
+    ∷ entry.Came (part_job 1) 0 (mark.Refusal ∷ []) ∷ []) (create_answered ∷ part_denied ∷ []) []
+    (Moment 2 ∷ Began ∷ Moment 3 ∷ Began ∷ []) []
 
 -- an Abort is given while a part is out
 abbrev pub early_abort : Example
-early_abort = run (entry.Given create_job 0 ∷ entry.Came create_job 0 (mark.Success ∷ []) ∷ entry.Given (part_job 1) 1 ∷ entry.Given abort_job 0 ∷ entry.Came abort_job 0 (mark.Success ∷ []) ∷ entry.Came (part_job 1) 1 (mark.Refusal ∷ []) ∷ []) (create_answered ∷ abort_answered ∷ []) (part_denied ∷ []) (Moment 2 ∷ Began ∷ Moment 6 ∷ Began ∷ []) (Moment 3 ∷ Began ∷ [])
+early_abort = run (entry.Given create_job 0 ∷ entry.Came create_job 0 (mark.Success ∷ [])
+    ∷ entry.Given (part_job 1) 1 ∷ entry.Given abort_job 0 ∷ entry.Came abort_job 0 (mark.Success ∷ [])
+    ∷ entry.Came (part_job 1) 1 (mark.Refusal ∷ []) ∷ []) (create_answered ∷ abort_answered ∷ []) (part_denied ∷ [])
+    (Moment 2 ∷ Began ∷ Moment 6 ∷ Began ∷ []) (Moment 3 ∷ Began ∷ [])
 
 -- the source of a move is deleted while its copy is out
 abbrev pub early_delete : Example
-early_delete = run (entry.Given copy_job 0 ∷ entry.Given delete_job 1 ∷ entry.Came copy_job 0 (mark.Success ∷ []) ∷ entry.Came delete_job 1 (mark.Success ∷ []) ∷ []) (copy_answered ∷ []) (delete_answered ∷ []) (Moment 1 ∷ Began ∷ []) (Moment 4 ∷ Began ∷ [])
+early_delete = run (entry.Given copy_job 0 ∷ entry.Given delete_job 1 ∷ entry.Came copy_job 0 (mark.Success ∷ [])
+    ∷ entry.Came delete_job 1 (mark.Success ∷ []) ∷ []) (copy_answered ∷ []) (delete_answered ∷ [])
+    (Moment 1 ∷ Began ∷ []) (Moment 4 ∷ Began ∷ [])
 
 -- a part is given after another one failed
 abbrev pub after_failure : Example
-after_failure = run (entry.Given create_job 0 ∷ entry.Came create_job 0 (mark.Success ∷ []) ∷ entry.Given (part_job 1) 0 ∷ entry.Came (part_job 1) 0 (mark.Refusal ∷ []) ∷ entry.Given (part_job 2) 0 ∷ entry.Came (part_job 2) 0 (mark.Success ∷ []) ∷ entry.Given abort_job 0 ∷ entry.Came abort_job 0 (mark.Success ∷ []) ∷ []) (create_answered ∷ part_denied ∷ second_stored ∷ abort_answered ∷ []) [] (Moment 2 ∷ Began ∷ Moment 3 ∷ Began ∷ Moment 4 ∷ Began ∷ Moment 6 ∷ Began ∷ []) []
+after_failure = run (entry.Given create_job 0 ∷ entry.Came create_job 0 (mark.Success ∷ [])
+    ∷ entry.Given (part_job 1) 0 ∷ entry.Came (part_job 1) 0 (mark.Refusal ∷ []) ∷ entry.Given (part_job 2) 0
+    ∷ entry.Came (part_job 2) 0 (mark.Success ∷ []) ∷ entry.Given abort_job 0
+    ∷ entry.Came abort_job 0 (mark.Success ∷ []) ∷ [])
+    (create_answered ∷ part_denied ∷ second_stored ∷ abort_answered ∷ []) []
+    (Moment 2 ∷ Began ∷ Moment 3 ∷ Began ∷ Moment 4 ∷ Began ∷ Moment 6 ∷ Began ∷ []) []
 
 -- a part is given while Create is out
 abbrev pub early_part : Example
-early_part = run (entry.Given create_job 0 ∷ entry.Given (part_job 1) 1 ∷ entry.Came create_job 0 (mark.Success ∷ []) ∷ entry.Came (part_job 1) 1 (mark.Success ∷ []) ∷ []) (create_answered ∷ []) (first_stored ∷ []) (Moment 2 ∷ Began ∷ []) (Moment 3 ∷ Began ∷ [])
+early_part = run (entry.Given create_job 0 ∷ entry.Given (part_job 1) 1 ∷ entry.Came create_job 0 (mark.Success ∷ [])
+    ∷ entry.Came (part_job 1) 1 (mark.Success ∷ []) ∷ []) (create_answered ∷ []) (first_stored ∷ [])
+    (Moment 2 ∷ Began ∷ []) (Moment 3 ∷ Began ∷ [])
 
 -- a lane gives back its second job before its first
 abbrev pub out_of_turn : Example
-out_of_turn = run (entry.Given create_job 0 ∷ entry.Came create_job 0 (mark.Success ∷ []) ∷ entry.Given (part_job 1) 0 ∷ entry.Given (part_job 2) 0 ∷ entry.Came (part_job 2) 0 (mark.Success ∷ []) ∷ entry.Came (part_job 1) 0 (mark.Success ∷ []) ∷ entry.Given complete_job 0 ∷ entry.Came complete_job 0 (mark.Success ∷ []) ∷ []) (create_answered ∷ first_stored ∷ second_stored ∷ complete_answered ∷ []) [] (Moment 2 ∷ Began ∷ Moment 3 ∷ Began ∷ Moment 4 ∷ Began ∷ Moment 5 ∷ Began ∷ []) []
+out_of_turn = run (entry.Given create_job 0 ∷ entry.Came create_job 0 (mark.Success ∷ [])
+    ∷ entry.Given (part_job 1) 0 ∷ entry.Given (part_job 2) 0 ∷ entry.Came (part_job 2) 0 (mark.Success ∷ [])
+    ∷ entry.Came (part_job 1) 0 (mark.Success ∷ []) ∷ entry.Given complete_job 0
+    ∷ entry.Came complete_job 0 (mark.Success ∷ []) ∷ [])
+    (create_answered ∷ first_stored ∷ second_stored ∷ complete_answered ∷ []) []
+    (Moment 2 ∷ Began ∷ Moment 3 ∷ Began ∷ Moment 4 ∷ Began ∷ Moment 5 ∷ Began ∷ []) []
 
 -- an upload that was completed is aborted
 abbrev pub abort_after_complete : Example
-abort_after_complete = run (entry.Given create_job 0 ∷ entry.Came create_job 0 (mark.Success ∷ []) ∷ entry.Given (part_job 1) 0 ∷ entry.Came (part_job 1) 0 (mark.Success ∷ []) ∷ entry.Given (part_job 2) 0 ∷ entry.Came (part_job 2) 0 (mark.Success ∷ []) ∷ entry.Given complete_job 0 ∷ entry.Came complete_job 0 (mark.Success ∷ []) ∷ entry.Given abort_job 0 ∷ entry.Came abort_job 0 (mark.Success ∷ []) ∷ []) (create_answered ∷ first_stored ∷ second_stored ∷ complete_answered ∷ abort_answered ∷ []) [] (Moment 2 ∷ Began ∷ Moment 3 ∷ Began ∷ Moment 4 ∷ Began ∷ Moment 5 ∷ Began ∷ Moment 6 ∷ Began ∷ []) []
+abort_after_complete = run (entry.Given create_job 0 ∷ entry.Came create_job 0 (mark.Success ∷ [])
+    ∷ entry.Given (part_job 1) 0 ∷ entry.Came (part_job 1) 0 (mark.Success ∷ []) ∷ entry.Given (part_job 2) 0
+    ∷ entry.Came (part_job 2) 0 (mark.Success ∷ []) ∷ entry.Given complete_job 0
+    ∷ entry.Came complete_job 0 (mark.Success ∷ []) ∷ entry.Given abort_job 0
+    ∷ entry.Came abort_job 0 (mark.Success ∷ []) ∷ [])
+    (create_answered ∷ first_stored ∷ second_stored ∷ complete_answered ∷ abort_answered ∷ []) []
+    (Moment 2 ∷ Began ∷ Moment 3 ∷ Began ∷ Moment 4 ∷ Began ∷ Moment 5 ∷ Began ∷ Moment 6 ∷ Began ∷ []) []
 
 -- Complete is given without one of the parts
 abbrev pub early_complete : Example
-early_complete = run (entry.Given create_job 0 ∷ entry.Came create_job 0 (mark.Success ∷ []) ∷ entry.Given (part_job 1) 0 ∷ entry.Came (part_job 1) 0 (mark.Success ∷ []) ∷ entry.Given complete_job 0 ∷ entry.Came complete_job 0 (mark.Success ∷ []) ∷ []) (create_answered ∷ first_stored ∷ complete_answered ∷ []) [] (Moment 2 ∷ Began ∷ Moment 3 ∷ Began ∷ Moment 5 ∷ Began ∷ []) []
+early_complete = run (entry.Given create_job 0 ∷ entry.Came create_job 0 (mark.Success ∷ [])
+    ∷ entry.Given (part_job 1) 0 ∷ entry.Came (part_job 1) 0 (mark.Success ∷ []) ∷ entry.Given complete_job 0
+    ∷ entry.Came complete_job 0 (mark.Success ∷ []) ∷ [])
+    (create_answered ∷ first_stored ∷ complete_answered ∷ []) []
+    (Moment 2 ∷ Began ∷ Moment 3 ∷ Began ∷ Moment 5 ∷ Began ∷ []) []
 
 -- a part is given behind the last one
 abbrev pub part_beyond : Example
-part_beyond = run (entry.Given create_job 0 ∷ entry.Came create_job 0 (mark.Success ∷ []) ∷ entry.Given (part_job 1) 0 ∷ entry.Came (part_job 1) 0 (mark.Success ∷ []) ∷ entry.Given (part_job 2) 0 ∷ entry.Came (part_job 2) 0 (mark.Success ∷ []) ∷ entry.Given (part_job 3) 0 ∷ entry.Came (part_job 3) 0 (mark.Success ∷ []) ∷ entry.Given complete_job 0 ∷ entry.Came complete_job 0 (mark.Success ∷ []) ∷ []) (create_answered ∷ first_stored ∷ second_stored ∷ third_stored ∷ complete_again ∷ []) [] (Moment 2 ∷ Began ∷ Moment 3 ∷ Began ∷ Moment 4 ∷ Began ∷ Moment 5 ∷ Began ∷ Moment 6 ∷ Began ∷ []) []
+part_beyond = run (entry.Given create_job 0 ∷ entry.Came create_job 0 (mark.Success ∷ [])
+    ∷ entry.Given (part_job 1) 0 ∷ entry.Came (part_job 1) 0 (mark.Success ∷ []) ∷ entry.Given (part_job 2) 0
+    ∷ entry.Came (part_job 2) 0 (mark.Success ∷ []) ∷ entry.Given (part_job 3) 0
+    ∷ entry.Came (part_job 3) 0 (mark.Success ∷ []) ∷ entry.Given complete_job 0
+    ∷ entry.Came complete_job 0 (mark.Success ∷ []) ∷ [])
+    (create_answered ∷ first_stored ∷ second_stored ∷ third_stored ∷ complete_again ∷ []) []
+    (Moment 2 ∷ Began ∷ Moment 3 ∷ Began ∷ Moment 4 ∷ Began ∷ Moment 5 ∷ Began ∷ Moment 6 ∷ Began ∷ []) []
 
 module _ (page_of : List ℕ → Listed) where
   pub record OrdersAreRefused : Type 0 where

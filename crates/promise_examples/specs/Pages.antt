@@ -51,8 +51,18 @@ token = 116 ∷ []
 
 -- the page that a text says: the first where it is a token, and else the last; `spare` is as its reader has it
 abbrev pub page_with : ℕ → List ℕ → Listed
-page_with spare [] = record { entries = record { items = entry_of last_key ∷ []; spare = spare }; prefixes = record { items = []; spare = spare }; more = false; token = None }
-page_with spare (byte ∷ bytes) = record { entries = record { items = entry_of first_key ∷ []; spare = spare }; prefixes = record { items = []; spare = spare }; more = true; token = Some (byte ∷ bytes) }
+page_with spare [] = record {
+  entries = record { items = entry_of last_key ∷ []; spare = spare };
+  prefixes = record { items = []; spare = spare };
+  more = false;
+  token = None;
+}
+page_with spare (byte ∷ bytes) = record {
+  entries = record { items = entry_of first_key ∷ []; spare = spare };
+  prefixes = record { items = []; spare = spare };
+  more = true;
+  token = Some (byte ∷ bytes);
+}
 
 -- ---- the run
 
@@ -81,7 +91,8 @@ listing_run limits = record {
     wanted_memory = λ task. false;
   };
   outcomes = [];
-  journal = entry.Given (list_job 0) 0 ∷ entry.Came (list_job 0) 0 (mark.Success ∷ []) ∷ entry.Given (list_job 1) 0 ∷ entry.Came (list_job 1) 0 (mark.Success ∷ []) ∷ [];
+  journal = entry.Given (list_job 0) 0 ∷ entry.Came (list_job 0) 0 (mark.Success ∷ []) ∷ entry.Given (list_job 1) 0
+      ∷ entry.Came (list_job 1) 0 (mark.Success ∷ []) ∷ [];
   logs = in_first (talk_of 5 token ∷ talk_of 6 [] ∷ []);
   notes = in_first (Moment 5 ∷ Began ∷ Moment 6 ∷ Began ∷ []);
 }
@@ -109,4 +120,5 @@ listing_trace =
 -- The planning needs this listing, and has it in two pages, whatever room the reader's lists have.
 abbrev pub TwoPagesAreMet : Type 0
 TwoPagesAreMet = (limits : Limits) (spare : ℕ)
-    → IsMet (page_with spare) (PlansFor (Reads (page_with spare)) (λ prefix pages. ⊥) ⊥ ⊥ (Listing bucket [] false ∷ [])) (listing_run limits) full listing_trace
+    → IsMet (page_with spare) (PlansFor (Reads (page_with spare)) (λ prefix pages. ⊥) ⊥ ⊥
+    (Listing bucket [] false ∷ [])) (listing_run limits) full listing_trace

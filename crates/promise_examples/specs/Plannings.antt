@@ -13,7 +13,13 @@ use Rattle.promise_examples.specs.Refused.{IsRefusedWith}
 use Rattle.promise_examples.specs.Runs.{Example}
 
 abbrev pub run : Setting → List Event → (ℕ → List Talk) → (ℕ → List Note) → Example
-run setting journal logs notes = record { setting = setting; outcomes = []; journal = journal; logs = logs; notes = notes }
+run setting journal logs notes = record {
+  setting = setting;
+  outcomes = [];
+  journal = journal;
+  logs = logs;
+  notes = notes;
+}
 
 abbrev pub both_talks : List Talk
 both_talks = talk_of 5 token ∷ talk_of 6 [] ∷ []
@@ -32,24 +38,28 @@ module _ (limits : Limits) where
   -- the last page is asked for while the first one is out
   abbrev pub early_page : Example
   early_page = run setting
-      (entry.Given (list_job 0) 0 ∷ entry.Given (list_job 1) 0 ∷ entry.Came (list_job 0) 0 (mark.Success ∷ []) ∷ entry.Came (list_job 1) 0 (mark.Success ∷ []) ∷ [])
+      (entry.Given (list_job 0) 0 ∷ entry.Given (list_job 1) 0 ∷ entry.Came (list_job 0) 0 (mark.Success ∷ [])
+      ∷ entry.Came (list_job 1) 0 (mark.Success ∷ []) ∷ [])
       (in_first both_talks) (in_first both_notes)
 
   -- a number is left out
   abbrev pub skipped_number : Example
   skipped_number = run setting
-      (entry.Given (list_job 0) 0 ∷ entry.Came (list_job 0) 0 (mark.Success ∷ []) ∷ entry.Given (list_job 2) 0 ∷ entry.Came (list_job 2) 0 (mark.Success ∷ []) ∷ [])
+      (entry.Given (list_job 0) 0 ∷ entry.Came (list_job 0) 0 (mark.Success ∷ []) ∷ entry.Given (list_job 2) 0
+      ∷ entry.Came (list_job 2) 0 (mark.Success ∷ []) ∷ [])
       (in_first both_talks) (in_first both_notes)
 
   -- there are two lanes, and the last page is asked for on the second one
   abbrev pub second_lane : Example
   second_lane = run (record setting { lanes = 2 })
-      (entry.Given (list_job 0) 0 ∷ entry.Came (list_job 0) 0 (mark.Success ∷ []) ∷ entry.Given (list_job 1) 1 ∷ entry.Came (list_job 1) 1 (mark.Success ∷ []) ∷ [])
+      (entry.Given (list_job 0) 0 ∷ entry.Came (list_job 0) 0 (mark.Success ∷ []) ∷ entry.Given (list_job 1) 1
+      ∷ entry.Came (list_job 1) 1 (mark.Success ∷ []) ∷ [])
       (in_two (talk_of 5 token ∷ []) (talk_of 6 [] ∷ [])) (in_two (Moment 5 ∷ Began ∷ []) (Moment 6 ∷ Began ∷ []))
 
   -- a request has a body
   abbrev pub page_with_body : Example
-  page_with_body = run setting (listing_run limits).journal (in_first (talk_of 5 token ∷ talk_with_body ∷ [])) (in_first both_notes)
+  page_with_body = run setting (listing_run limits).journal (in_first (talk_of 5 token ∷ talk_with_body ∷ []))
+      (in_first both_notes)
 
   module _ (page_of : List ℕ → Listed) where
     -- it is refused even where any planning is right

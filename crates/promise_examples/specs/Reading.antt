@@ -26,7 +26,8 @@ module _ (page_of : List ℕ → Listed) where
   reply_to (ask.List bucket prefix delimited token) got = reply.Listed (page_of got)
   reply_to asked got = reply.Stored
 
-  -- a talk that finished is a success, one that the other side closed a refusal with that code, and one that failed is lost
+  -- a talk that finished is a success, one that the other side closed a refusal with that code, and one that failed
+  -- is lost
   abbrev pub class_by : Ending → Ask → List ℕ → Class
   class_by Finished asked got = class.Success (reply_to asked got)
   class_by Closed asked got = class.Refusal got []
@@ -39,7 +40,8 @@ module _ (page_of : List ℕ → Listed) where
 
   -- A page is shown by its items alone: how many more would fit its lists without memory is left open.
   abbrev pub Reads : Ask → ℕ → Talk → Class → List ℕ → Type 0
-  Reads asked limit talk shown bytes = IsSameClass (class_by talk.ending asked talk.got) shown × (bytes ≡ body_by asked talk.got)
+  Reads asked limit talk shown bytes =
+      IsSameClass (class_by talk.ending asked talk.got) shown × (bytes ≡ body_by asked talk.got)
 
 -- no talk shows a status
 abbrev pub HasNoStatus : Ask → ℕ → Talk → ℕ → Type 0

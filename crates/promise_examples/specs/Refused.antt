@@ -50,7 +50,13 @@ setting = record {
 }
 
 abbrev pub run : List Event → (ℕ → List Talk) → (ℕ → List Note) → Example
-run journal logs notes = record { setting = setting; outcomes = outcome.Done ∷ []; journal = journal; logs = logs; notes = notes }
+run journal logs notes = record {
+  setting = setting;
+  outcomes = outcome.Done ∷ [];
+  journal = journal;
+  logs = logs;
+  notes = notes;
+}
 
 abbrev pub given_put : Event
 given_put = entry.Given put_job 0
@@ -95,15 +101,20 @@ other_moment = run (once (mark.Success ∷ [])) (in_first (stored_at 6 ∷ [])) 
 
 -- it says other bytes than the file's
 abbrev pub other_body : Example
-other_body = run (once (mark.Success ∷ [])) (in_first (record { host = []; port = 80; sent = 5 ∷ 1 ∷ 3 ∷ []; got = []; ending = Finished } ∷ [])) (in_first a_talk)
+other_body = run (once (mark.Success ∷ []))
+    (in_first (record { host = []; port = 80; sent = 5 ∷ 1 ∷ 3 ∷ []; got = []; ending = Finished } ∷ []))
+    (in_first a_talk)
 
 -- a beginning of it was sent, and it was answered
 abbrev pub partly_sent : Example
-partly_sent = run (once (mark.Success ∷ [])) (in_first (record { host = []; port = 80; sent = 5 ∷ 1 ∷ []; got = []; ending = Finished } ∷ [])) (in_first a_talk)
+partly_sent = run (once (mark.Success ∷ []))
+    (in_first (record { host = []; port = 80; sent = 5 ∷ 1 ∷ []; got = []; ending = Finished } ∷ [])) (in_first a_talk)
 
 -- it went to another host
 abbrev pub other_host : Example
-other_host = run (once (mark.Success ∷ [])) (in_first (record { host = 120 ∷ []; port = 80; sent = 5 ∷ bytes; got = []; ending = Finished } ∷ [])) (in_first a_talk)
+other_host = run (once (mark.Success ∷ []))
+    (in_first (record { host = 120 ∷ []; port = 80; sent = 5 ∷ bytes; got = []; ending = Finished } ∷ []))
+    (in_first a_talk)
 
 -- its mark is another one
 abbrev pub other_mark : Example
@@ -111,18 +122,22 @@ other_mark = run (once (mark.Refusal ∷ [])) (in_first (stored_at 5 ∷ [])) (i
 
 -- another talk began, of which the log tells nothing
 abbrev pub untold_talk : Example
-untold_talk = run (once (mark.Success ∷ [])) (in_first (stored_at 5 ∷ [])) (in_first (Moment 5 ∷ Began ∷ Moment 6 ∷ Began ∷ []))
+untold_talk = run (once (mark.Success ∷ [])) (in_first (stored_at 5 ∷ []))
+    (in_first (Moment 5 ∷ Began ∷ Moment 6 ∷ Began ∷ []))
 
 -- no pause is noted before the second attempt, or a longer one
 abbrev pub no_pause : Example
-no_pause = run (once (mark.Uncertain ∷ mark.Success ∷ [])) (in_first (lost_at 5 ∷ stored_at 6 ∷ [])) (in_first (Moment 5 ∷ Began ∷ Moment 6 ∷ Began ∷ []))
+no_pause = run (once (mark.Uncertain ∷ mark.Success ∷ [])) (in_first (lost_at 5 ∷ stored_at 6 ∷ []))
+    (in_first (Moment 5 ∷ Began ∷ Moment 6 ∷ Began ∷ []))
 
 abbrev pub longer_pause : Example
-longer_pause = run (once (mark.Uncertain ∷ mark.Success ∷ [])) (in_first (lost_at 5 ∷ stored_at 6 ∷ [])) (in_first (Moment 5 ∷ Began ∷ Pause 2 ∷ Moment 6 ∷ Began ∷ []))
+longer_pause = run (once (mark.Uncertain ∷ mark.Success ∷ [])) (in_first (lost_at 5 ∷ stored_at 6 ∷ []))
+    (in_first (Moment 5 ∷ Began ∷ Pause 2 ∷ Moment 6 ∷ Began ∷ []))
 
 -- an attempt too many, and one too few
 abbrev pub third_attempt : Example
-third_attempt = run (once (mark.Uncertain ∷ mark.Uncertain ∷ mark.Success ∷ [])) (in_first (lost_at 5 ∷ lost_at 6 ∷ stored_at 8 ∷ []))
+third_attempt = run (once (mark.Uncertain ∷ mark.Uncertain ∷ mark.Success ∷ []))
+    (in_first (lost_at 5 ∷ lost_at 6 ∷ stored_at 8 ∷ []))
     (in_first (Moment 5 ∷ Began ∷ Pause 1 ∷ Moment 6 ∷ Began ∷ Pause 2 ∷ Moment 8 ∷ Began ∷ []))
 
 abbrev pub given_up : Example
@@ -134,30 +149,35 @@ never_tried = run (once []) (in_first []) (in_first [])
 
 -- a refusal for good that is tried again
 abbrev pub denied_again : Example
-denied_again = run (once (mark.Refusal ∷ mark.Success ∷ [])) (in_first (denied_at 5 ∷ stored_at 6 ∷ [])) (in_first (Moment 5 ∷ Began ∷ Pause 1 ∷ Moment 6 ∷ Began ∷ []))
+denied_again = run (once (mark.Refusal ∷ mark.Success ∷ [])) (in_first (denied_at 5 ∷ stored_at 6 ∷ []))
+    (in_first (Moment 5 ∷ Began ∷ Pause 1 ∷ Moment 6 ∷ Began ∷ []))
 
 -- the job does not come, or comes once more
 abbrev pub never_came : Example
 never_came = run (given_put ∷ []) (in_first []) (in_first [])
 
 abbrev pub came_twice : Example
-came_twice = run (given_put ∷ put_came (mark.Success ∷ []) ∷ put_came [] ∷ []) (in_first (stored_at 5 ∷ [])) (in_first a_talk)
+came_twice = run (given_put ∷ put_came (mark.Success ∷ []) ∷ put_came [] ∷ []) (in_first (stored_at 5 ∷ []))
+    (in_first a_talk)
 
 -- a Put that was denied is given again, and stored
 abbrev pub denied_given_again : Example
-denied_given_again = run (given_put ∷ put_came (mark.Refusal ∷ []) ∷ given_put ∷ put_came (mark.Success ∷ []) ∷ []) (in_first (denied_at 5 ∷ stored_at 6 ∷ []))
+denied_given_again = run (given_put ∷ put_came (mark.Refusal ∷ []) ∷ given_put ∷ put_came (mark.Success ∷ []) ∷ [])
+    (in_first (denied_at 5 ∷ stored_at 6 ∷ []))
     (in_first (Moment 5 ∷ Began ∷ Pause 1 ∷ Moment 6 ∷ Began ∷ []))
 
 -- a moment is noted on a wire beyond the lanes
 abbrev pub moment_beyond : Example
-moment_beyond = run (once (mark.Success ∷ [])) (in_first (stored_at 5 ∷ [])) (λ lane. if lane == 0 then a_talk else Moment 5 ∷ [])
+moment_beyond = run (once (mark.Success ∷ [])) (in_first (stored_at 5 ∷ []))
+    (λ lane. if lane == 0 then a_talk else Moment 5 ∷ [])
 
 -- a wire beyond the lanes gained a talk, or a job stands there
 abbrev pub other_wire : Example
 other_wire = run (once (mark.Success ∷ [])) (λ lane. stored_at 5 ∷ []) (in_first a_talk)
 
 abbrev pub other_lane : Example
-other_lane = run (entry.Given put_job 1 ∷ entry.Came put_job 1 (mark.Success ∷ []) ∷ []) (λ lane. stored_at 5 ∷ []) (λ lane. a_talk)
+other_lane = run (entry.Given put_job 1 ∷ entry.Came put_job 1 (mark.Success ∷ []) ∷ []) (λ lane. stored_at 5 ∷ [])
+    (λ lane. a_talk)
 
 -- ---- jobs without a talk, since memory ran out for them
 
@@ -187,20 +207,24 @@ silent_other_lane = silent_run (task ∷ []) (entry.Given put_job 1 ∷ entry.Ca
 
 -- the second one comes before the first one, in one lane
 abbrev pub silent_out_of_turn : Example
-silent_out_of_turn = silent_run (task ∷ second_task ∷ []) (given_put ∷ entry.Given second_put 0 ∷ entry.Came second_put 0 [] ∷ put_came [] ∷ [])
+silent_out_of_turn = silent_run (task ∷ second_task ∷ [])
+    (given_put ∷ entry.Given second_put 0 ∷ entry.Came second_put 0 [] ∷ put_came [] ∷ [])
 
 -- ---- what is changed of the jobs
 
 abbrev pub given_three_times : List Mark → List Mark → List Mark → List Event
-given_three_times first second third = given_put ∷ put_came first ∷ given_put ∷ put_came second ∷ given_put ∷ put_came third ∷ []
+given_three_times first second third =
+    given_put ∷ put_came first ∷ given_put ∷ put_came second ∷ given_put ∷ put_came third ∷ []
 
 -- it is given three times
 abbrev pub third_giving : Example
-third_giving = run (given_three_times (mark.Uncertain ∷ []) [] (mark.Success ∷ [])) (in_first (lost_at 5 ∷ stored_at 6 ∷ [])) (in_first (Moment 5 ∷ Began ∷ Pause 1 ∷ Moment 6 ∷ Began ∷ []))
+third_giving = run (given_three_times (mark.Uncertain ∷ []) [] (mark.Success ∷ []))
+    (in_first (lost_at 5 ∷ stored_at 6 ∷ [])) (in_first (Moment 5 ∷ Began ∷ Pause 1 ∷ Moment 6 ∷ Began ∷ []))
 
 -- it is given again after a success
 abbrev pub again_after_success : Example
-again_after_success = run (given_put ∷ put_came (mark.Success ∷ []) ∷ given_put ∷ put_came (mark.Success ∷ []) ∷ []) (in_first (stored_at 5 ∷ stored_at 6 ∷ []))
+again_after_success = run (given_put ∷ put_came (mark.Success ∷ []) ∷ given_put ∷ put_came (mark.Success ∷ []) ∷ [])
+    (in_first (stored_at 5 ∷ stored_at 6 ∷ []))
     (in_first (Moment 5 ∷ Began ∷ Pause 1 ∷ Moment 6 ∷ Began ∷ []))
 
 abbrev pub with_setting : Setting → Example → Example
@@ -209,7 +233,8 @@ with_setting s e = record { setting = s; outcomes = e.outcomes; journal = e.jour
 -- it is given again after the run was cancelled
 abbrev pub again_after_cancel : Example
 again_after_cancel = with_setting (record setting { cancelled_at = Some 2 })
-    (run (given_put ∷ put_came (mark.Uncertain ∷ []) ∷ given_put ∷ put_came (mark.Success ∷ []) ∷ []) (in_first (lost_at 5 ∷ stored_at 6 ∷ [])) (in_first (Moment 5 ∷ Began ∷ Pause 1 ∷ Moment 6 ∷ Began ∷ [])))
+    (run (given_put ∷ put_came (mark.Uncertain ∷ []) ∷ given_put ∷ put_came (mark.Success ∷ []) ∷ [])
+    (in_first (lost_at 5 ∷ stored_at 6 ∷ [])) (in_first (Moment 5 ∷ Began ∷ Pause 1 ∷ Moment 6 ∷ Began ∷ [])))
 
 -- the plan is only to be shown
 abbrev pub dry_put : Example
@@ -225,13 +250,16 @@ no_such_task = with_setting (record setting { tasks = [] }) whole_run
 
 -- a job of planning for which there is no need
 abbrev pub needless_list : Example
-needless_list = run (entry.Given (record { task = None; op = op.List; number = 0 }) 0 ∷ entry.Came (record { task = None; op = op.List; number = 0 }) 0 (mark.Success ∷ []) ∷ [])
+needless_list = run (entry.Given (record { task = None; op = op.List; number = 0 }) 0
+    ∷ entry.Came (record { task = None; op = op.List; number = 0 }) 0 (mark.Success ∷ []) ∷ [])
     (in_first (record { host = []; port = 80; sent = 5 ∷ []; got = []; ending = Finished } ∷ [])) (in_first a_talk)
 
 module _ (page_of : List ℕ → Listed) where
-  -- however its jobs are read, and where these are the planning jobs that it needs, they do not keep to the schedule or are not carried
+  -- however its jobs are read, and where these are the planning jobs that it needs, they do not keep to the schedule
+  -- or are not carried
   abbrev pub IsRefusedWith : (Plans : List Dispatched → Type 0) → Example → Type 0
-  IsRefusedWith Plans e = (dispatched coming : List Dispatched) → IsSchedule (Reads page_of) e.setting Plans dispatched coming
+  IsRefusedWith Plans e = (dispatched coming : List Dispatched)
+      → IsSchedule (Reads page_of) e.setting Plans dispatched coming
       → IsCarried (Reads page_of) signed_body [] 80 e.setting e.journal e.logs e.notes dispatched coming → ⊥
 
   -- the same where it needs none

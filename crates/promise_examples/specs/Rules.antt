@@ -73,10 +73,12 @@ module _ (page_of : List ℕ → Listed) (AreNeeded : List Dispatched → Type 0
     Obeys InOrder = AllPairs (λ (a b : Dispatched). IsBeforeAny a.dispatch.came_at b.dispatch.came_at) coming
     Obeys Asks = (c : Dispatched) (n : ℕ) → Contains dispatched c → c.dispatch.job.task ≡ Some n → AsksAsPlanned c n
     Obeys Plans = AreNeeded (planning_of dispatched)
-    Obeys Planned = (c : Dispatched) → Contains dispatched c → c.dispatch.job.task ≡ None → (c.limit ≡ most_body) × (c.body ≡ [])
+    Obeys Planned = (c : Dispatched) → Contains dispatched c → c.dispatch.job.task ≡ None → (c.limit ≡ most_body)
+        × (c.body ≡ [])
     Obeys Numbered = (k : ℕ) (c : Dispatched) → slice_get (planning_of dispatched) k ≡ Some c
         → (c.dispatch.job ≡ record { task = None; op = op_of c.ask; number = k }) × (c.dispatch.lane ≡ 0)
-    Obeys OneByOne = AllPairs (λ (a b : Dispatched). IsBefore a.dispatch.came_at b.dispatch.given_at) (planning_of dispatched)
+    Obeys OneByOne = AllPairs (λ (a b : Dispatched). IsBefore a.dispatch.came_at b.dispatch.given_at)
+        (planning_of dispatched)
     Obeys Dry = (c : Dispatched) → e.setting.dryrun ≡ true → Contains dispatched c → c.dispatch.job.task ≡ None
     Obeys Twice = AllPairs (λ (a b : Dispatched). a.dispatch.job ≡ b.dispatch.job → MayRepeat a b) dispatched
     Obeys NoThird = (a b c : Dispatched) (i j k : ℕ) → i < j → j < k → slice_get dispatched i ≡ Some a
@@ -86,11 +88,14 @@ module _ (page_of : List ℕ → Listed) (AreNeeded : List Dispatched → Type 0
         → failed.dispatch.job.op ≢ op.Abort → Contains dispatched c → c.dispatch.job.task ≡ failed.dispatch.job.task
         → IsBefore failed.dispatch.came_at c.dispatch.given_at → c.dispatch.job.op ≡ op.Abort
     Obeys AbortLast = (a c : Dispatched) → Contains dispatched a → Contains dispatched c → a.dispatch.job.op ≡ op.Abort
-        → c.dispatch.job.task ≡ a.dispatch.job.task → c.dispatch.job.op ≢ op.Abort → IsBefore c.dispatch.came_at a.dispatch.given_at
-    Obeys Aborts = (n : ℕ) (id : List ℕ) (end : ℕ) → ((c : Dispatched) → Contains dispatched c → IsBefore c.dispatch.came_at end)
+        → c.dispatch.job.task ≡ a.dispatch.job.task → c.dispatch.job.op ≢ op.Abort
+        → IsBefore c.dispatch.came_at a.dispatch.given_at
+    Obeys Aborts = (n : ℕ) (id : List ℕ) (end : ℕ)
+        → ((c : Dispatched) → Contains dispatched c → IsBefore c.dispatch.came_at end)
         → IsUpload (gained_before Shows dispatched end) n id
         → WasCompleted n end ⊎ ((a : Dispatched) × Contains dispatched a × (a.dispatch.job ≡ job_of n op.Abort 0))
-    Obeys CompletedStays = (n : ℕ) (end : ℕ) (a : Dispatched) → Contains dispatched a → a.dispatch.job ≡ job_of n op.Abort 0
+    Obeys CompletedStays = (n : ℕ) (end : ℕ) (a : Dispatched) → Contains dispatched a
+        → a.dispatch.job ≡ job_of n op.Abort 0
         → ¬ (WasCompleted n end)
     Obeys MovesLast = (c : Dispatched) (n : ℕ) (task : Task) → Contains dispatched c → c.dispatch.job.task ≡ Some n
         → slice_get e.setting.tasks n ≡ Some task → task.moves ≡ true → c.dispatch.job.op ≡ op.Delete
@@ -117,30 +122,30 @@ module _ (page_of : List ℕ → Listed) (AreNeeded : List Dispatched → Type 0
 
 module _ (page_of : List ℕ → Listed) where
   -- where no planning job is needed
-  abbrev pub BreaksAlone : Rule → Example → Type 0
-  BreaksAlone = BreaksRule page_of (λ planning. planning ≡ [])
+  abbrev pub BreaksRuleAlone : Rule → Example → Type 0
+  BreaksRuleAlone = BreaksRule page_of (λ planning. planning ≡ [])
 
   pub record JobsBreakAlone : Type 0 where
     pub all_rules : RulesAreAll page_of (λ planning. planning ≡ [])
-    pub third_giving : BreaksAlone NoThird refused.third_giving
-    pub again_after_cancel : BreaksAlone Twice refused.again_after_cancel
-    pub dry_put : BreaksAlone Dry refused.dry_put
-    pub at_threshold : BreaksAlone Asks refused.at_threshold
-    pub no_such_task : BreaksAlone Asks refused.no_such_task
-    pub needless_list : BreaksAlone Plans refused.needless_list
+    pub third_giving : BreaksRuleAlone NoThird refused.third_giving
+    pub again_after_cancel : BreaksRuleAlone Twice refused.again_after_cancel
+    pub dry_put : BreaksRuleAlone Dry refused.dry_put
+    pub at_threshold : BreaksRuleAlone Asks refused.at_threshold
+    pub no_such_task : BreaksRuleAlone Asks refused.no_such_task
+    pub needless_list : BreaksRuleAlone Plans refused.needless_list
 
 -- ---- uploads in parts, and a move
 
 module _ (page_of : List ℕ → Listed) where
   pub record OrdersBreakAlone : Type 0 where
-    pub no_abort : BreaksAlone page_of Aborts orders.no_abort
-    pub early_abort : BreaksAlone page_of AbortLast orders.early_abort
-    pub early_delete : BreaksAlone page_of MovesLast orders.early_delete
-    pub after_failure : BreaksAlone page_of Stops orders.after_failure
+    pub no_abort : BreaksRuleAlone page_of Aborts orders.no_abort
+    pub early_abort : BreaksRuleAlone page_of AbortLast orders.early_abort
+    pub early_delete : BreaksRuleAlone page_of MovesLast orders.early_delete
+    pub after_failure : BreaksRuleAlone page_of Stops orders.after_failure
     -- the same where its failure is left out of what came
-    pub after_failure_unseen : BreaksAlone page_of IsComing orders.after_failure
-    pub abort_after_complete : BreaksAlone page_of CompletedStays orders.abort_after_complete
-    pub early_complete : BreaksAlone page_of Asks orders.early_complete
+    pub after_failure_unseen : BreaksRuleAlone page_of IsComing orders.after_failure
+    pub abort_after_complete : BreaksRuleAlone page_of CompletedStays orders.abort_after_complete
+    pub early_complete : BreaksRuleAlone page_of Asks orders.early_complete
 
 abbrev pub EachOrderBreaksAlone : Type 0
 EachOrderBreaksAlone = (page_of : List ℕ → Listed) → OrdersBreakAlone page_of

@@ -1,4 +1,5 @@
--- A run that meets every definition: its jobs, its wires, a trace of a service that fits, and the cause of each outcome.
+-- A run that meets every definition: its jobs, its wires, a trace of a service that fits, and the cause of each
+-- outcome.
 use Rattle.std.specs.Prelude.{◌≡◌, ℕ, List, [], Some, slice_get}
 use Rattle.s3_model.specs.declared.answers.Listed.{Listed}
 use Rattle.s3_model.specs.declared.outcomes.Event.{Event}
@@ -36,5 +37,6 @@ module _ (page_of : List ℕ → Listed) (Plans : List Dispatched → Type 0) wh
     pub honest : IsHonest start trace (IsDest e.setting.tasks)
     pub fits : Fits (Reads page_of) (events_of trace) e.journal dispatched
     pub whole : HasJournal e.journal trace trace
-    pub causes : (n : ℕ) (task : Task) (how : Outcome) → slice_get e.setting.tasks n ≡ Some task → slice_get e.outcomes n ≡ Some how
+    pub causes : (n : ℕ) (task : Task) (how : Outcome) → slice_get e.setting.tasks n ≡ Some task
+        → slice_get e.outcomes n ≡ Some how
         → HasOutcome (Reads page_of) HasNoStatus NeverFailed e.setting dispatched coming n task how

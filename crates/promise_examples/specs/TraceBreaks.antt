@@ -21,18 +21,18 @@ use Rattle.promise_examples.specs.Reading.{Reads, signed_body}
 use Rattle.promise_examples.specs.Refused.{whole_run}
 
 -- the clauses of `Fits`, by their names there; that a service does each step (`IsTrace`); and those of `IsHonest`
-pub data Rule : Type 0 where
-  Moves : Rule
-  Begins : Rule
-  SinceGiven : Rule
-  UntilCame : Rule
-  Once : Rule
-  Answers : Rule
-  Served : Rule
-  Runs : Rule
-  OneContent : Rule
-  NotWritten : Rule
-  NotRemoved : Rule
+pub data TraceClause : Type 0 where
+  Moves : TraceClause
+  Begins : TraceClause
+  SinceGiven : TraceClause
+  UntilCame : TraceClause
+  Once : TraceClause
+  Answers : TraceClause
+  Served : TraceClause
+  Runs : TraceClause
+  OneContent : TraceClause
+  NotWritten : TraceClause
+  NotRemoved : TraceClause
 
 module _ (page_of : List ℕ → Listed) where
   abbrev pub Shows : Ask → ℕ → Talk → Class → List ℕ → Type 0
@@ -43,29 +43,34 @@ module _ (page_of : List ℕ → Listed) where
     events = events_of trace
 
     -- what a clause says of this trace of the small upload
-    abbrev pub Says : Rule → Type 0
-    Says Moves = filter_map event_of events ≡ whole_run.journal
-    Says Begins = (lane : ℕ) → filter_map (begun_in lane) events
+    abbrev pub SaysOfTrace : TraceClause → Type 0
+    SaysOfTrace Moves = filter_map event_of events ≡ whole_run.journal
+    SaysOfTrace Begins = (lane : ℕ) → filter_map (begun_in lane) events
         ≡ flat_map requests_of (filter (λ (c : Dispatched). c.dispatch.lane == lane) dispatched)
-    Says SinceGiven = (front back : List TraceEvent) (job : JobId) (lane : ℕ) → events ≡ front ++ Given job lane ∷ back
+    SaysOfTrace SinceGiven = (front back : List TraceEvent) (job : JobId) (lane : ℕ)
+        → events ≡ front ++ Given job lane ∷ back
         → count_by (is_begin_of job) front ≡ sum_by (marks_come job) front
-    Says UntilCame = (front back : List TraceEvent) (job : JobId) (lane : ℕ) (tries : List Mark)
+    SaysOfTrace UntilCame = (front back : List TraceEvent) (job : JobId) (lane : ℕ) (tries : List Mark)
         → events ≡ front ++ Came job lane tries ∷ back
         → count_by (is_begin_of job) front ≡ sum_by (marks_come job) front + length tries
-    Says Once = AllPairs (λ a b. ¬ (IsSameAttempt a b)) (filter_map served_in events)
-    Says Answers = (sent : Request) (answer : Answer) → Contains events (Serve sent answer) → IsAnswered Shows dispatched sent answer
-    Says Served = (front back : List TraceEvent) (job : JobId) (lane : ℕ) (tries : List Mark) (c : Dispatched) (place : ℕ)
+    SaysOfTrace Once = AllPairs (λ a b. ¬ (IsSameAttempt a b)) (filter_map served_in events)
+    SaysOfTrace Answers = (sent : Request) (answer : Answer) → Contains events (Serve sent answer)
+        → IsAnswered Shows dispatched sent answer
+    SaysOfTrace Served = (front back : List TraceEvent) (job : JobId) (lane : ℕ) (tries : List Mark) (c : Dispatched)
+        (place : ℕ)
         (attempt : Attempt) (shown : Class) (bytes : List ℕ) → events ≡ front ++ Came job lane tries ∷ back
         → Contains dispatched c → c.dispatch.job ≡ job → c.dispatch.came_at ≡ Some (length (filter_map event_of front))
-        → slice_get c.dispatch.attempts place ≡ Some attempt → Shows c.ask c.limit attempt.talk shown bytes → IsCertain shown
+        → slice_get c.dispatch.attempts place ≡ Some attempt → Shows c.ask c.limit attempt.talk shown bytes
+        → IsCertain shown
         → (answer : Answer) × Contains front (Serve (request_at c place) answer) × Names shown bytes answer
-    Says Runs = IsTrace whole_run.setting.limits [] before trace
-    Says OneContent = (t u : State) (bucket key : List ℕ) (a b : Object) → Contains (states before trace) t
+    SaysOfTrace Runs = IsTrace whole_run.setting.limits [] before trace
+    SaysOfTrace OneContent = (t u : State) (bucket key : List ℕ) (a b : Object) → Contains (states before trace) t
         → Contains (states before trace) u → object_at t bucket key ≡ Some a → object_at u bucket key ≡ Some b
         → a.etag ≡ b.etag → a.bytes ≡ b.bytes
-    Says NotWritten = (bucket key : List ℕ) (object : Object) → Contains events (External (Writes bucket key object))
+    SaysOfTrace NotWritten = (bucket key : List ℕ) (object : Object)
+        → Contains events (External (Writes bucket key object))
         → ¬ (IsDest whole_run.setting.tasks bucket key)
-    Says NotRemoved = (bucket key : List ℕ) → Contains events (External (Removes bucket key))
+    SaysOfTrace NotRemoved = (bucket key : List ℕ) → Contains events (External (Removes bucket key))
         → ¬ (IsDest whole_run.setting.tasks bucket key)
 
     -- the trace is one of an honest service, and it fits
@@ -75,30 +80,31 @@ module _ (page_of : List ℕ → Listed) where
       pub fits : Fits Shows events whole_run.journal dispatched
 
   -- the clauses together say that, no more and no less
-  abbrev pub RulesAreAll : Type 0
-  RulesAreAll = (dispatched : List Dispatched) (trace : List Step)
-      → (((rule : Rule) → Says dispatched trace rule) → IsFit dispatched trace)
-      × (IsFit dispatched trace → (rule : Rule) → Says dispatched trace rule)
+  abbrev pub TraceClausesAreAll : Type 0
+  TraceClausesAreAll = (dispatched : List Dispatched) (trace : List Step)
+      → (((rule : TraceClause) → SaysOfTrace dispatched trace rule) → IsFit dispatched trace)
+      × (IsFit dispatched trace → (rule : TraceClause) → SaysOfTrace dispatched trace rule)
 
   -- With one reading of the upload, whose jobs keep to the schedule and are carried, every clause holds but this one.
-  abbrev pub BreaksAlone : Rule → List Step → Type 0
-  BreaksAlone broken trace = (dispatched : List Dispatched) × (coming : List Dispatched)
+  abbrev pub BreaksTraceAlone : TraceClause → List Step → Type 0
+  BreaksTraceAlone broken trace = (dispatched : List Dispatched) × (coming : List Dispatched)
       × IsSchedule Shows whole_run.setting (λ planning. planning ≡ []) dispatched coming
-      × IsCarried Shows signed_body [] 80 whole_run.setting whole_run.journal whole_run.logs whole_run.notes dispatched coming
-      × ((rule : Rule) → rule ≢ broken → Says dispatched trace rule)
+      × IsCarried Shows signed_body [] 80 whole_run.setting whole_run.journal whole_run.logs whole_run.notes
+      dispatched coming
+      × ((rule : TraceClause) → rule ≢ broken → SaysOfTrace dispatched trace rule)
 
   pub record TracesBreakAlone : Type 0 where
-    pub all_rules : RulesAreAll
-    pub never_given : BreaksAlone Moves misfits.never_given
-    pub other_lane : BreaksAlone Begins misfits.other_lane
-    pub begun_before_given : BreaksAlone SinceGiven misfits.begun_before_given
-    pub served_twice : BreaksAlone Once misfits.served_twice
-    pub never_served : BreaksAlone Served misfits.never_served
-    pub served_after_came : BreaksAlone Served misfits.served_after_came
-    pub served_before_begun : BreaksAlone Runs misfits.served_before_begun
-    pub two_contents : BreaksAlone OneContent misfits.two_contents
-    pub overwritten : BreaksAlone NotWritten misfits.overwritten
-    pub removed : BreaksAlone NotRemoved misfits.removed
+    pub all_clauses : TraceClausesAreAll
+    pub never_given : BreaksTraceAlone Moves misfits.never_given
+    pub other_lane : BreaksTraceAlone Begins misfits.other_lane
+    pub begun_before_given : BreaksTraceAlone SinceGiven misfits.begun_before_given
+    pub served_twice : BreaksTraceAlone Once misfits.served_twice
+    pub never_served : BreaksTraceAlone Served misfits.never_served
+    pub served_after_came : BreaksTraceAlone Served misfits.served_after_came
+    pub served_before_begun : BreaksTraceAlone Runs misfits.served_before_begun
+    pub two_contents : BreaksTraceAlone OneContent misfits.two_contents
+    pub overwritten : BreaksTraceAlone NotWritten misfits.overwritten
+    pub removed : BreaksTraceAlone NotRemoved misfits.removed
 
 abbrev pub EachTraceBreaksAlone : Type 0
 EachTraceBreaksAlone = (page_of : List ℕ → Listed) → TracesBreakAlone page_of
