@@ -55,7 +55,7 @@ class Copies:
         self.checks, self.runs, self.service, self.client = checks, runs, service, client
 
     def shows(self, name, words, due, env=None):
-        words = ("cp", *words, "--endpoint-url", self.service.url)
+        words = ("cp", "--endpoint-url", self.service.url, *words)
         shown = self.runs.run(words, self.service.keys if env is None else env)
         self.checks.check(f"{name}: status and lines", shown == due, line_of(shown))
 
