@@ -211,7 +211,7 @@ fn listed(alloc: Global, doc: &[u8]) -> Result<String, AllocError> {
 }
 
 /// Listings as Amazon's reference prints them, as MinIO and Ceph write them, and others.
-const LISTINGS: [(&str, &str); 16] = [
+const LISTINGS: [(&str, &str); 17] = [
     (
         "<?xml version=\"1.0\" encoding=\"UTF-8\"?>\n<ListBucketResult xmlns=\"http://s3.amazonaws.com/doc/2006-03-01/\"><Name>b</Name><Prefix></Prefix><KeyCount>1</KeyCount><MaxKeys>1000</MaxKeys><Delimiter></Delimiter><IsTruncated>false</IsTruncated><Contents><Key>a+b</Key><LastModified>2026-01-02T03:04:05.678Z</LastModified><ETag>&#34;5d41&#34;</ETag><Size>5</Size><StorageClass>STANDARD</StorageClass></Contents><EncodingType>url</EncodingType></ListBucketResult>",
         "false; a b 5 \"5d41\" 1767323045678000",
@@ -270,8 +270,12 @@ const LISTINGS: [(&str, &str); 16] = [
         "BadEscape",
     ),
     (
+        "<ListBucketResult><Contents><Key>k<b/></Key></Contents></ListBucketResult>",
+        "NotADocument(35)",
+    ),
+    (
         "<ListBucketResult><Contents><Key><b/></Key></Contents></ListBucketResult>",
-        "NotADocument(34)",
+        "BadText(Key)",
     ),
 ];
 
