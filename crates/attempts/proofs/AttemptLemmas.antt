@@ -8,12 +8,19 @@ use Rattle.s3_model.specs.Talks.{Talk, Note, Began, WireLog}
 use Rattle.answer_grammar.specs.Answer.{Begins, IsOfTalk}
 use Rattle.http_exchange.specs.Exchange as exchange
 use Rattle.attempts.specs.declared.send.Attempted.TheVariants as attempted
-use Rattle.attempts.specs.Attempts.{Gains, IsGet, IsOneTalk, Makes, Request}
+use Rattle.attempts.specs.Attempts.{IsGet, IsOneTalk, Makes, SignedRequest}
+use Rattle.run_promise.specs.Gains.{Gains}
 use Rattle.attempts.specs.Steps.{IsAnsweredBy, IsJudged, IsSigned, exchange_of}
 use Rattle.attempts.proofs.ClassLemmas.{has_class}
-use Rattle.attempts.proofs.GainLemmas.{gains_both, gains_talk}
+use Rattle.http_exchange.specs.Seen.{with_talk}
+use Rattle.run_promise.proofs.GainLemmas.{gains_both, gains_step}
+use Rattle.s3_outside.specs.Seen.{IsSeenAfter}
 
-module _ (r : Request) (keep : Bool) (head : List ℕ) (shown : Class) where
+gains_talk : (P : List Talk → List Note → Type 0) (talk : Talk) (before after : Option WireLog) (b a : ℕ) → IsSeenAfter (with_talk talk) before after b a
+    → P (talk ∷ []) (Began ∷ []) → Gains before after P
+gains_talk P talk = gains_step P (with_talk talk) (talk ∷ []) (Began ∷ []) (λ log. (refl, refl))
+
+module _ (r : SignedRequest) (keep : Bool) (head : List ℕ) (shown : Class) where
   one_talk : (first last : Buffer) (result : Talked) (talk : Talk) (kept : Bool) (talks : List Talk) (notes : List Note) → IfSome r.limit (λ most. IsGet r.asked × (most ≤ first.room))
       → IsSigned r.endpoint r.keys r.asked r.body head talks notes → exchange.IsExchange (exchange_of r keep head) first last result talk kept → exchange.IfBroken result IsOfTalk
       → IsJudged r.asked result shown → IsOneTalk r shown last.bytes (talks ++ talk ∷ []) (notes ++ Began ∷ [])

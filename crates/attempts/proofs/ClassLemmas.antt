@@ -23,7 +23,7 @@ use Rattle.answer_classes.specs.Classifying.{IsClassed}
 use Rattle.answer_classes.specs.Documents.{ReadsError, ReadsReply}
 use Rattle.http_exchange.specs.Exchange as exchange
 use Rattle.attempts.specs.Attempts as attempt
-use Rattle.attempts.specs.Attempts.{IsGet, IsInPlace, Request}
+use Rattle.attempts.specs.Attempts.{IsGet, IsInPlace, SignedRequest}
 use Rattle.attempts.specs.Steps.{IsJudged, exchange_of}
 
 -- ---- no limit is the greatest one
@@ -158,7 +158,7 @@ failed_call request first last talk kept asked (talked.Broken reason) shown e j 
 
 -- ---- the class of a talk
 
-module _ (r : Request) (keep : Bool) (head : List ℕ) (first last : Buffer) (talk : Talk) (kept : Bool) where
+module _ (r : SignedRequest) (keep : Bool) (head : List ℕ) (first last : Buffer) (talk : Talk) (kept : Bool) where
   abbrev Exchanged : Talked → Type 0
   Exchanged result = exchange.IsExchange (exchange_of r keep head) first last result talk kept
 

@@ -1,4 +1,3 @@
 pub mod AttemptLemmas
 pub mod ClassLemmas
-pub mod GainLemmas
 pub mod SaidLemmas

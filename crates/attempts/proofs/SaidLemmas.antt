@@ -14,7 +14,7 @@ use Rattle.s3_model.specs.Talks.{Talk, Note, Failed}
 use Rattle.answer_classes.specs.Showing.{Shows}
 use Rattle.run_promise.specs.Carried.{IsPrefixOf, IsSaid, SaysAll, mark_of}
 use Rattle.run_promise.specs.Dispatches.{Dispatched}
-use Rattle.attempts.specs.Attempts.{HasClass, IsOneTalk, Request, most_of, text_at, text_of}
+use Rattle.attempts.specs.Attempts.{HasClass, IsOneTalk, SignedRequest, most_of, text_at, text_of}
 
 success_certain : (said : Reply) (reason : Why) → class.Success said ≡ class.Uncertain reason → ⊥
 success_certain said reason e = cc
@@ -22,7 +22,7 @@ success_certain said reason e = cc
 refusal_certain : (code message : List ℕ) (reason : Why) → class.Refusal code message ≡ class.Uncertain reason → ⊥
 refusal_certain code message reason e = cc
 
-module _ (r : Request) (talk : Talk) where
+module _ (r : SignedRequest) (talk : Talk) where
   -- a talk with an answer had no failed call
   answered_well : (shown : Class) (bytes : List ℕ) → Shows r.asked (most_of r) talk shown bytes → ((reason : Why) → shown ≡ class.Uncertain reason → ⊥) → talk.ending ≡ Failed → ⊥
   answered_well shown bytes (inl h) certain failed = h.1.1.no_fault failed
@@ -36,7 +36,7 @@ module _ (r : Request) (talk : Talk) where
     says (class.Uncertain reason) bytes h = front
 
 module _ (endpoint : Endpoint) (keys : Keys) (c : Dispatched) (limit : Option ℕ) (is_limit : unwrap_or limit 8388608 ≡ c.limit) (shown : Class) (place : List ℕ) where
-  abbrev request : Request
+  abbrev request : SignedRequest
   request = record { endpoint = endpoint; keys = keys; asked = c.ask; body = c.body; limit = limit }
 
   -- the talk of an attempt says the dispatched request

@@ -7,27 +7,19 @@ use Rattle.s3_model.specs.declared.answers.Class.TheVariants as class
 use Rattle.s3_model.specs.declared.answers.Why.TheVariants as why
 use Rattle.s3_model.specs.declared.places.Endpoint.{Endpoint}
 use Rattle.s3_model.specs.declared.settings.Keys.{Keys}
-use Rattle.s3_model.specs.Talks.{Talk, Note, Moment, Began, Failed, WireLog}
+use Rattle.s3_model.specs.declared.tries.Mark.{Mark}
+use Rattle.s3_model.specs.Talks.{Talk, Note, Moment, Began, Failed}
 use Rattle.s3_requests.specs.Requests.{request_text}
 use Rattle.answer_grammar.specs.Answer.{Begins}
 use Rattle.answer_classes.specs.Showing.{Shows}
+use Rattle.run_promise.specs.Carried.{mark_of}
 use Rattle.attempts.specs.declared.send.Attempted.{Attempted}
 use Rattle.attempts.specs.declared.send.Attempted.TheVariants as attempted
-
--- ---- what a wire gains
-
--- P of the talks and notes behind those before, as far as the wire is still seen
-abbrev pub Gains : Option WireLog → Option WireLog → (List Talk → List Note → Type 0) → Type 0
-Gains before None P = Unit {0}
-Gains None (Some after) P = ⊥
-Gains (Some before) (Some after) P =
-    (talks : List Talk) × (notes : List Note)
-    × (after.talks ≡ before.talks ++ talks) × (after.notes ≡ before.notes ++ notes) × P talks notes
 
 -- ---- the request
 
 -- where a request goes, the keys that sign it, what it asks, its body, and the limit of the body of its 2xx answer
-pub record Request : Type 0 where
+pub record SignedRequest : Type 0 where
   pub endpoint : Endpoint
   pub keys : Keys
   pub asked : Ask
@@ -38,11 +30,11 @@ pub record Request : Type 0 where
 abbrev pub text_of : Endpoint → Keys → Ask → (body : List ℕ) → (moment : ℕ) → List ℕ
 text_of endpoint keys asked body moment = request_text asked endpoint keys moment body
 
-abbrev pub text_at : Request → (moment : ℕ) → List ℕ
+abbrev pub text_at : SignedRequest → (moment : ℕ) → List ℕ
 text_at r moment = text_of r.endpoint r.keys r.asked r.body moment
 
 -- the greatest length of the body of a 2xx answer, in bytes
-abbrev pub most_of : Request → ℕ
+abbrev pub most_of : SignedRequest → ℕ
 most_of r = unwrap_or r.limit 8_388_608
 
 abbrev pub IsGet : Ask → Type 0
@@ -57,7 +49,7 @@ IsInPlace (Some limit) (class.Success said) body place = place ≡ body
 IsInPlace limit shown body place = Unit {0}
 
 -- The talk shows this class, or memory ran out.
-abbrev pub HasClass : Request → Talk → Class → (place : List ℕ) → Type 0
+abbrev pub HasClass : SignedRequest → Talk → Class → (place : List ℕ) → Type 0
 HasClass r talk shown place =
     (shown ≡ class.Uncertain why.Memory)
     ⊎ ((body : List ℕ) × Shows r.asked (most_of r) talk shown body × IsInPlace r.limit shown body place)
@@ -66,7 +58,7 @@ HasClass r talk shown place =
 
 -- One talk, with the endpoint. It says the request, signed at the moment that was noted before it, or begins to say it
 -- and then a call of the wire failed.
-pub record IsOneTalk (r : Request) (shown : Class) (place : List ℕ) (talks : List Talk) (notes : List Note)
+pub record IsOneTalk (r : SignedRequest) (shown : Class) (place : List ℕ) (talks : List Talk) (notes : List Note)
     : Type 0 where
   pub talk : Talk
   pub moment : ℕ
@@ -84,9 +76,14 @@ pub record IsSilent (talks : List Talk) (notes : List Note) : Type 0 where
   pub idle : (notes ≡ []) ⊎ ((moment : ℕ) × (notes ≡ Moment moment ∷ []))
 
 -- what the wire gains by one attempt
-abbrev pub Makes : Request → Attempted → (place : List ℕ) → List Talk → List Note → Type 0
+abbrev pub Makes : SignedRequest → Attempted → (place : List ℕ) → List Talk → List Note → Type 0
 Makes r attempted.Memory place talks notes = IsSilent talks notes
 Makes r (attempted.Made shown) place talks notes = IsOneTalk r shown place talks notes
+
+-- the marks of a job that was attempted once
+abbrev pub tries_of : Attempted → List Mark
+tries_of attempted.Memory = []
+tries_of (attempted.Made shown) = mark_of shown ∷ []
 
 -- P of the class, if a talk was made
 abbrev pub IfMade : Attempted → (Class → Type 0) → Type 0

@@ -12,7 +12,7 @@ use Rattle.answer_grammar.specs.Answer.{IsOfTalk}
 use Rattle.answer_classes.specs.Classifying.{IfAnswered, IfBroken, IsClassed}
 use Rattle.answer_classes.specs.Showing.{is_head}
 use Rattle.http_exchange.specs.Exchange as exchange
-use Rattle.attempts.specs.Attempts.{Request, text_of}
+use Rattle.attempts.specs.Attempts.{SignedRequest, text_of}
 
 -- A moment was noted, and the head is signed at it.
 pub record IsSigned (endpoint : Endpoint) (keys : Keys) (asked : Ask) (body head : List ℕ) (talks : List Talk)
@@ -23,7 +23,7 @@ pub record IsSigned (endpoint : Endpoint) (keys : Keys) (asked : Ask) (body head
   pub signed : head ++ body ≡ text_of endpoint keys asked body moment
 
 -- the exchange for a request with that head
-abbrev pub exchange_of : Request → (keep : Bool) → (head : List ℕ) → exchange.Request
+abbrev pub exchange_of : SignedRequest → (keep : Bool) → (head : List ℕ) → exchange.Request
 exchange_of r keep head = record {
   endpoint = r.endpoint;
   bytes = head ++ r.body;
@@ -38,7 +38,7 @@ pub record IsJudged (asked : Ask) (result : Talked) (shown : Class) : Type 0 whe
   pub classed : IfAnswered result (λ answered. 200 ≤ answered.status → IsClassed asked answered shown)
 
 -- One exchange was made for a request with that head, and judged.
-pub record IsAnsweredBy (r : Request) (keep : Bool) (head : List ℕ) (before after : Option WireLog)
+pub record IsAnsweredBy (r : SignedRequest) (keep : Bool) (head : List ℕ) (before after : Option WireLog)
     (alive : Option Bool) (faults_before faults_after : ℕ) (first last : Buffer) (shown : Class) : Type 0 where
   pub result : Talked
   pub own : exchange.IfBroken result IsOfTalk

@@ -2,9 +2,11 @@
 #![tactic(auto)]
 
 mod client;
+mod marks;
 mod payload;
 mod send;
 
 pub use client::Client;
+pub use marks::tries_of;
 pub use payload::Payload;
 pub use send::{Attempted, attempt};

@@ -2,7 +2,8 @@
 
 ghost use Rattle.std.specs.Prelude.{◌≡◌, ◌≢◌, ◌≤◌, false, true, Some, None, IfSome, IfOk, OnErr};
 ghost use Rattle.s3_model.specs.Counts.{Rose};
-ghost use Rattle.attempts.specs.Attempts.{Gains, IfMade, IsGet, IsSilent, Makes, Request};
+ghost use Rattle.attempts.specs.Attempts.{IfMade, IsGet, IsSilent, Makes, SignedRequest};
+ghost use Rattle.run_promise.specs.Gains.{Gains};
 ghost use Rattle.attempts.specs.Steps.{IsAnsweredBy, IsSigned};
 ghost use Rattle.answer_classes.specs.Showing.{is_head};
 
@@ -69,7 +70,7 @@ fn send<W: Wire>(
     keep: bool,
 ) -> Class
     requires limit { IfSome limit (λ most. IsGet ask.now × (most ≤ into.old.room)) }
-    ensures answered { let request : Request = record {
+    ensures answered { let request : SignedRequest = record {
       endpoint = client.old.endpoint;
       keys = client.old.signer;
       asked = ask.now;
@@ -121,7 +122,7 @@ pub fn attempt<W: Wire>(
     keep: bool,
 ) -> Attempted
     requires limit { IfSome limit (λ most. IsGet ask.now × (most ≤ into.old.room)) }
-    ensures gained { let request : Request = record {
+    ensures gained { let request : SignedRequest = record {
       endpoint = client.old.endpoint;
       keys = client.old.signer;
       asked = ask.now;

@@ -35,7 +35,7 @@ use Rattle.run_promise.specs.Schedule.{IsBefore, IsBeforeAny, IsDecided, IsFaile
 use Rattle.run_promise.specs.Traces.{Step, states}
 use Rattle.run_promise.specs.Truthful.{IsDest}
 use Rattle.local_files.specs.Calls.{DropTemp, IsCallRun, IsTempFor, Leads, MakeTemp, Rename, Stamp, WriteAt, written_at}
-use Rattle.world_laws.specs.Premises.{IsFitting}
+use Rattle.run_promise.specs.Runs.{IsFitting}
 use Rattle.world_laws.specs.Rounds.{AreServed, Round, Told, ToldStatus, attempt_of, dispatch_at, dispatched_from, journal_of, steps_from}
 use Rattle.world_laws.specs.SmallTransfers.{HadContent}
 use Rattle.world_laws.specs.Tasks.{AreQuestions, HasSourceObject, IsScheduled}

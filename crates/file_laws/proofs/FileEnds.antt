@@ -26,7 +26,8 @@ use Rattle.run_promise.specs.Endings.{Excused, Holds, IsLeftover, IsAbsent, IsAs
 use Rattle.run_promise.specs.Outcomes.{HasOutcome, IsDecidedByRequest, IsObjectPlace, IsSourceDeleted, StoodAt}
 use Rattle.run_promise.specs.Schedule.{Setting, is_small}
 use Rattle.run_promise.specs.Traces.{Step, state_after, states}
-use Rattle.run_promise.specs.Truthful.{HasJournal, IsTouchedFile}
+use Rattle.run_promise.specs.Truthful.{IsTouchedFile}
+use Rattle.run_promise.specs.Runs.{HasJournal, Run}
 use Rattle.world_laws.specs.Promises.{IsFileLeft}
 use Rattle.world_laws.specs.Tasks.{HasSourceObject, IsScheduled, IsTraceOf, MayBeNew}
 use Rattle.shared_lemmas.proofs.Clashes.{some_is}
@@ -48,6 +49,9 @@ module _ (Shows : Ask → ℕ → Talk → Class → List ℕ → Type 0) (HasSt
     (start : State) (trace part : List Step) (journal : List Event) (a : AreCalls Shows (run_of s excused dispatched coming calls)) (r : IsScheduled Shows s journal dispatched coming)
     (traced : IsTraceOf Shows s (record { start = start; trace = trace; journal = journal; dispatched = dispatched })) (whole : HasJournal journal trace part)
     (n : ℕ) (task : Task) (is_task : slice_get s.tasks n ≡ Some task) (path : List ℕ) (is_dest : task.dest ≡ place.File path) where
+  abbrev run : Run
+  run = record { start = start; trace = trace; journal = journal; dispatched = dispatched }
+
   abbrev before : Scene
   before = record { state = start; held = s.held; others = s.others }
 
@@ -130,7 +134,7 @@ module _ (Shows : Ask → ℕ → Talk → Class → List ℕ → Type 0) (HasSt
     stood h = subst (λ (d : Place). IsThereIn before d) (sym is_dest) (subst (λ (d : Place). StoodAt s.held s.others d) is_dest h)
 
     download_ends : (how : Outcome) → (MayBeNew how → HasSourceObject (states start trace) task) → HasOutcome Shows HasStatus CallFailed s dispatched coming n task how → IsShownByCalls how (IsRenamed calls n) (HasFailedAct calls n)
-        → IsEnded excused journal start trace before after n task how
+        → IsEnded excused run before after n task how
     download_ends outcome.Done source is shown = (new (source tt) shown.0, gone is.2)
     download_ends (outcome.Copied why) source is shown = (new (source tt) shown.0, gone_or_there)
     download_ends (outcome.Failed why) source is shown = (old shown.0, spared_by (unrenamed_spares shown.0))
@@ -154,7 +158,7 @@ module _ (Shows : Ask → ℕ → Talk → Class → List ℕ → Type 0) (HasSt
     moves_nothing : (P : Type 0) → OnTrue task.moves P
     moves_nothing P = OnTrue_from task.moves P (λ moves. absurd (true_false (sym moves ∙ keeps)))
 
-    removal_ends : (how : Outcome) → HasOutcome Shows HasStatus CallFailed s dispatched coming n task how → IsShownByCalls how (IsRemoved calls n) (HasFailedAct calls n) → IsEnded excused journal start trace before after n task how
+    removal_ends : (how : Outcome) → HasOutcome Shows HasStatus CallFailed s dispatched coming n task how → IsShownByCalls how (IsRemoved calls n) (HasFailedAct calls n) → IsEnded excused run before after n task how
     removal_ends outcome.Done is shown =
         let absent : IsAbsent excused after (place.File path) =
         elim ((files.file_is_removed Shows (run_of s excused dispatched coming calls) a n task path (is_task, is_dest) removal).0 shown.0) [ inl e ↦ inl e | inr stayed ↦ inr stayed.1 ] in (

@@ -17,11 +17,13 @@ use Rattle.run_promise.specs.Fits.{Fits}
 use Rattle.run_promise.specs.Outcomes.{IsDecidedByRequest}
 use Rattle.run_promise.specs.Schedule.{Setting, is_small}
 use Rattle.run_promise.specs.Traces.{Step, IsHonest, IsTrace, events_of, state_after, states}
-use Rattle.run_promise.specs.Truthful.{AllEnded, HasJournal, HoldsOver, IsDest, Shown}
+use Rattle.run_promise.specs.Truthful.{AllEnded, FitsShown, HoldsOver, IsDest, Shown}
+use Rattle.run_promise.specs.Runs.{HasJournal, Run}
 use Rattle.world_laws.specs.Promises.{AreFilesLeft, IsByRequests, run_of}
 use Rattle.world_laws.specs.Tasks.{HasSource, HasSourceObject, IsTraceOf, MayBeNew}
 use Rattle.world_laws.proofs.InParts.{aborts_are_final}
 use Rattle.world_laws.proofs.Promises as promises
+use Rattle.world_laws.proofs.Promises.{IsAllTrue}
 use Rattle.file_laws.specs.FileEnds.{IsByFiles, run_shown}
 use Rattle.file_laws.specs.FileTasks.{TaskCall, files_after}
 use Rattle.file_laws.specs.PlanEnds.{HasPlannedSource, IsPlanCarriedOut, PlanEnds}
@@ -53,16 +55,22 @@ module _ (Shows : Ask → ℕ → Talk → Class → List ℕ → Type 0) (HasSt
 
   module _ (start : State) (trace part : List Step) (runs : IsTrace shown.setting.limits [] start trace) (honest : IsHonest start trace (IsDest shown.setting.tasks)) (fits : Fits Shows (events_of trace) shown.journal dispatched)
       (whole : HasJournal shown.journal trace part) where
-    of_trace : IsTraceOf Shows shown.setting (run_of shown dispatched start trace)
+    abbrev run : Run
+    run = run_of shown dispatched start trace
+
+    of_trace : IsTraceOf Shows shown.setting run
     of_trace = record { runs = runs; honest = honest; fits = fits }
 
+    of_shown : FitsShown Shows shown run
+    of_shown = record { of_journal = refl; fitting = of_trace }
+
     abbrev Ends : ℕ → Task → Outcome → MapOf HeldFile → Type 0
-    Ends n task how held = IsEnded shown.excused shown.journal start trace (record { state = start; held = shown.setting.held; others = shown.setting.others })
+    Ends n task how held = IsEnded shown.excused run (record { state = start; held = shown.setting.held; others = shown.setting.others })
         (record { state = state_after start part; held = held; others = shown.setting.others }) n task how
 
     source_of : (n : ℕ) (task : Task) (how : Outcome) → slice_get shown.setting.tasks n ≡ Some task → slice_get shown.outcomes n ≡ Some how → IsByRequests task → MayBeNew how
         → HasSource shown.setting.held (states start trace) task task.kind (is_small shown.setting task)
-    source_of n task how is_task at_how by may = of_requests shown.setting (states start trace) task task.kind by.decided (o.sources start trace of_trace n task how is_task at_how may)
+    source_of n task how is_task at_how by may = of_requests shown.setting (states start trace) task task.kind by.decided (o.sources run refl of_shown n task how is_task at_how may)
 
     by_requests : (n : ℕ) (task : Task) (how : Outcome) → slice_get shown.setting.tasks n ≡ Some task → slice_get shown.outcomes n ≡ Some how → IsByRequests task → Ends n task how shown.held_after
     by_requests n task how is_task at_how by =
@@ -74,10 +82,10 @@ module _ (Shows : Ask → ℕ → Talk → Class → List ℕ → Type 0) (HasSt
         subst (Ends n task how) (sym o.held_after)
         (file_task_ends Shows HasStatus CallFailed (run_shown shown dispatched coming calls) start trace part shown.journal o.over_files
         (promises.scheduled Shows HasStatus Plans CallFailed request_text host port shown dispatched coming o.over_wires) of_trace whole n task how is_task by
-        (λ may load. subst (HasPlannedSource shown.setting (states start trace) task) load (o.sources start trace of_trace n task how is_task at_how may))
+        (λ may load. subst (HasPlannedSource shown.setting (states start trace) task) load (o.sources run refl of_shown n task how is_task at_how may))
         (o.over_wires.causes n task how is_task at_how) (o.decided n task how is_task at_how by))
 
-    all_ended : AllEnded shown start trace part
+    all_ended : AllEnded shown run part
     all_ended n task how is_task at_how = elim (o.tasks n task is_task) [
       | inl by ↦ by_requests n task how is_task at_how by
       | inr by ↦ by_files n task how is_task at_how by
@@ -86,16 +94,20 @@ module _ (Shows : Ask → ℕ → Talk → Class → List ℕ → Type 0) (HasSt
     copy_by_requests : (n : ℕ) (task : Task) → slice_get shown.setting.tasks n ≡ Some task → task.kind ≡ kind.Copy → IsByRequests task
     copy_by_requests n task is_task is_copy = elim (o.tasks n task is_task) [ inl by ↦ by | inr by ↦ absurd (no_copy_by_files task is_copy by) ]
 
-  holds_over : HoldsOver Shows HasStatus request_text host port Plans CallFailed shown dispatched
-  holds_over start trace part runs honest fits whole = (
-    all_ended start trace part runs honest fits whole,
-    promises.none_changed Shows HasStatus Plans CallFailed request_text host port shown dispatched coming o.over_wires start trace part runs honest fits whole,
-    promises.others Shows HasStatus Plans CallFailed request_text host port shown dispatched coming o.over_wires start trace part runs honest fits whole,
-    promises.moves_after Shows HasStatus Plans CallFailed request_text host port shown dispatched coming o.over_wires start trace part runs honest fits whole
-        (copy_by_requests start trace part runs honest fits whole)
-        (λ n task how is_task is_copy at_how may. source_of start trace part runs honest fits whole n task how is_task at_how (copy_by_requests start trace part runs honest fits whole n task is_task is_copy) may),
-    aborts_are_final shown.setting.limits start trace runs,
+  all_true : (start : State) (trace part : List Step) → IsTraceOf Shows shown.setting (run_of shown dispatched start trace) → HasJournal shown.journal trace part
+      → IsAllTrue shown (run_of shown dispatched start trace) part
+  all_true start trace part fitting whole = (
+    all_ended start trace part fitting.runs fitting.honest fitting.fits whole,
+    promises.none_changed Shows HasStatus Plans CallFailed request_text host port shown dispatched coming o.over_wires start trace part fitting.runs fitting.honest fitting.fits whole,
+    promises.others Shows HasStatus Plans CallFailed request_text host port shown dispatched coming o.over_wires start trace part fitting.runs fitting.honest fitting.fits whole,
+    promises.moves_after Shows HasStatus Plans CallFailed request_text host port shown dispatched coming o.over_wires start trace part fitting.runs fitting.honest fitting.fits whole
+        (copy_by_requests start trace part fitting.runs fitting.honest fitting.fits whole)
+        (λ n task how is_task is_copy at_how may. source_of start trace part fitting.runs fitting.honest fitting.fits whole n task how is_task at_how (copy_by_requests start trace part fitting.runs fitting.honest fitting.fits whole n task is_task is_copy) may),
+    aborts_are_final shown.setting.limits start trace fitting.runs,
   )
+
+  holds_over : HoldsOver Shows shown dispatched
+  holds_over run part same of_shown whole = promises.as_shown Shows shown dispatched run part same of_shown whole (λ fitting ended. all_true run.start run.trace part fitting ended)
 
 module _ (Shows : Ask → ℕ → Talk → Class → List ℕ → Type 0) (HasStatus : Ask → ℕ → Talk → ℕ → Type 0) (Plans : List Dispatched → Type 0) (CallFailed : ℕ → Cause → Type 0) where
   pub plan_ends : PlanEnds Shows HasStatus Plans CallFailed

@@ -147,7 +147,7 @@ module _ (path : List ℕ) where
     decided = λ n of_task how is_task at_how by. cause_is n of_task how is_task at_how (λ m t h. IsShownByCalls h (IsDestChanged t.kind calls m) (HasFailedAct calls m)) shows;
     moved = λ n of_task how p move at_how. absurd (true_false (sym move.1 ∙ ap (λ (t : Task). t.moves) (one_task task n of_task move.0).1));
     counted = λ n of_task is_task by. subst (λ (m : ℕ). IsCountedByCalls setting calls m) (sym (one_task task n of_task is_task).0) ((λ any. refl), (λ is. inl failed));
-    sources = λ start trace traced n of_task how is_task at_how may. absurd (cause_is n of_task how is_task at_how (λ m t h. MayBeNew h → ⊥) (λ never. never) may);
+    sources = λ run same of_shown n of_task how is_task at_how may. absurd (cause_is n of_task how is_task at_how (λ m t h. MayBeNew h → ⊥) (λ never. never) may);
   }
 
 pub plan_is_met : PlanIsMet

@@ -22,7 +22,7 @@ use Rattle.run_promise.specs.Outcomes.{HasOutcome}
 use Rattle.run_promise.specs.Schedule.{IsBefore, IsFailed, Setting, job_of}
 use Rattle.run_promise.specs.Truthful.{IsDest}
 use Rattle.local_files.specs.Calls.{IsCallRun, MakeTemp, Remove, Rename}
-use Rattle.world_laws.specs.Premises.{IsFitting}
+use Rattle.run_promise.specs.Runs.{IsFitting}
 use Rattle.world_laws.specs.Rounds.{Round, Told, ToldStatus, dispatch_at}
 use Rattle.world_laws.specs.Tasks.{AreQuestions, IsScheduled}
 use Rattle.world_laws.proofs.Faithful.{bare, bare_is_faithful, rounds_fitting, run_by}

@@ -28,10 +28,10 @@ use Rattle.run_promise.specs.Dispatches.{Attempt, Dispatched, FitsAsk, FitsLast,
 use Rattle.run_promise.specs.Endings.{HasContent, IsGone}
 use Rattle.run_promise.specs.Schedule.{Gained, HasReply, IsSource, IsTaskAsk, Known, Origin, Setting, asked_range, gained_before, is_small, job_of, source_bytes}
 use Rattle.run_promise.specs.Traces.{Step, state_after, states}
-use Rattle.run_promise.specs.Truthful.{HasJournal}
+use Rattle.run_promise.specs.Runs.{HasJournal, IsFitting}
 use Rattle.world_laws.specs.Downloads.{IsGot, IsPartial}
 use Rattle.world_laws.specs.Multipart.{joined}
-use Rattle.world_laws.specs.Premises.{HasSucceeded, IsFitting, IsNoPlace}
+use Rattle.world_laws.specs.Premises.{HasSucceeded, IsNoPlace}
 use Rattle.world_laws.specs.SmallTransfers.{HadContent}
 use Rattle.world_laws.specs.Tasks.{HasSourceObject, IsScheduled, IsTraceOf}
 use Rattle.world_laws.proofs.Downloads.{ranges_tell, whole_tells}

@@ -9,7 +9,7 @@ use Rattle.s3_model.specs.declared.tries.Mark.{Mark}
 use Rattle.s3_service.specs.Serves.{Answer}
 use Rattle.run_promise.specs.Dispatches.{Attempt, Dispatched}
 use Rattle.run_promise.specs.Fits.{Fits, IsCertain, Names, request_at, requests_from, requests_of}
-use Rattle.run_promise.specs.Traces.{Came, Request, Serve, TraceEvent, event_of}
+use Rattle.run_promise.specs.Traces.{SentRequest, Came, Serve, TraceEvent, event_of}
 use Rattle.world_laws.specs.Premises.{AreGiven, HasCome}
 use Rattle.world_laws.specs.Rounds.{Told}
 use Rattle.shared_lemmas.proofs.Members.{contains_of, Has, has, has-map, mapped}
@@ -29,7 +29,7 @@ module _ (limit size : ℕ) where
 
   same_requests : (c : Dispatched) (k : ℕ) (attempts : List Attempt) → requests_from (resized c) k attempts ≡ requests_from c k attempts
   same_requests c k [] = refl
-  same_requests c k (attempt ∷ attempts) = ap (λ (rest : List Request). request_at c k ∷ rest) (same_requests c (k + 1) attempts)
+  same_requests c k (attempt ∷ attempts) = ap (λ (rest : List SentRequest). request_at c k ∷ rest) (same_requests c (k + 1) attempts)
 
   same_begins : (lane : ℕ) (dispatched : List Dispatched)
       → flat_map requests_of (filter (λ (c : Dispatched). c.dispatch.lane == lane) dispatched) ≡ flat_map requests_of (filter (λ (c : Dispatched). c.dispatch.lane == lane) (all_resized dispatched))
@@ -40,8 +40,8 @@ module _ (limit size : ℕ) where
           → flat_map requests_of (cond b (c ∷ filter (λ (d : Dispatched). d.dispatch.lane == lane) rest) (filter (λ (d : Dispatched). d.dispatch.lane == lane) rest))
           ≡ flat_map requests_of (cond b (resized c ∷ filter (λ (d : Dispatched). d.dispatch.lane == lane) (all_resized rest)) (filter (λ (d : Dispatched). d.dispatch.lane == lane) (all_resized rest)))
       by true e =
-          ap (λ (xs : List Request). xs ++ flat_map requests_of (filter (λ (d : Dispatched). d.dispatch.lane == lane) rest)) (sym (same_requests c 0 c.dispatch.attempts))
-          ∙ ap (λ (xs : List Request). requests_from (resized c) 0 c.dispatch.attempts ++ xs) e
+          ap (λ (xs : List SentRequest). xs ++ flat_map requests_of (filter (λ (d : Dispatched). d.dispatch.lane == lane) rest)) (sym (same_requests c 0 c.dispatch.attempts))
+          ∙ ap (λ (xs : List SentRequest). requests_from (resized c) 0 c.dispatch.attempts ++ xs) e
       by false e = e
 
   abbrev ServedAs : List TraceEvent → Dispatched → Type 0

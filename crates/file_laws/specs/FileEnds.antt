@@ -19,7 +19,8 @@ use Rattle.run_promise.specs.Dispatches.{Dispatched}
 use Rattle.run_promise.specs.Endings.{IsEnded}
 use Rattle.run_promise.specs.Outcomes.{HasOutcome}
 use Rattle.run_promise.specs.Traces.{Step, states}
-use Rattle.run_promise.specs.Truthful.{HasJournal, OtherFilesStay, Shown}
+use Rattle.run_promise.specs.Truthful.{OtherFilesStay, Shown}
+use Rattle.run_promise.specs.Runs.{HasJournal}
 use Rattle.local_files.specs.Calls.{Blocked, Call, Failed, MakeTemp, Remove, Rename, WriteAt}
 use Rattle.world_laws.specs.Promises.{AreFilesLeft, IsFileLeft}
 use Rattle.world_laws.specs.Tasks.{HasSourceObject, IsScheduled, IsTraceOf, MayBeNew, scene_after, scene_before}
@@ -139,6 +140,7 @@ module _ (Shows : Ask → ℕ → Talk → Class → List ℕ → Type 0) where
         → (MayBeNew how → task.kind ≡ kind.Download → HasSourceObject (states start trace) task)
         → HasOutcome Shows HasStatus CallFailed run.setting run.dispatched run.coming n task how
         → IsShownByCalls how (IsDestChanged task.kind run.calls n) (HasFailedAct run.calls n)
-        → IsEnded run.excused journal start trace (scene_before run.setting (with_trace run journal start trace))
+        → IsEnded run.excused (with_trace run journal start trace)
+        (scene_before run.setting (with_trace run journal start trace))
         (scene_after run.setting (files_after run.setting.held run.calls) (with_trace run journal start trace) part)
         n task how

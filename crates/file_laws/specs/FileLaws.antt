@@ -15,9 +15,10 @@ use Rattle.run_promise.specs.Schedule.{Setting}
 use Rattle.run_promise.specs.Traces.{Step, states}
 use Rattle.run_promise.specs.Truthful.{IsTouchedFile}
 use Rattle.local_files.specs.Calls.{IsCallRun, WriteAt}
-use Rattle.world_laws.specs.Premises.{Run}
+use Rattle.run_promise.specs.Runs.{Run}
 use Rattle.world_laws.specs.Tasks.{HasSourceObject, IsScheduled, IsTraceOf}
-use Rattle.file_laws.specs.FileTasks.{AreFileCalls, AreFilesApart, HasFailedDrop, HasFailedStamp, IsDecidedBefore, IsMade, IsMoveOf, IsRemoved, IsRenamed, IsTaskTo, TaskCall, files_after, steps_of}
+use Rattle.file_laws.specs.FileTasks.{AreFileCalls, AreFilesApart, HasFailedDrop, HasFailedStamp, IsDecidedBefore}
+use Rattle.file_laws.specs.FileTasks.{IsMade, IsMoveOf, IsRemoved, IsRenamed, IsTaskTo, TaskCall, files_after, steps_of}
 
 -- a run as files see it: what it began with, what its warnings except, its dispatched requests, and its calls on files
 pub record FileRun : Type 0 where

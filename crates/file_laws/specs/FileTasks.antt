@@ -1,5 +1,6 @@
 -- Tasks whose destination is a file, and files that are moved: which calls on files a run makes for them, and when.
-use Rattle.std.specs.Prelude.{◌≡◌, ◌≢◌, ◌⊎◌, ◌≤◌, ◌++◌, ℕ, Bool, true, false, List, [], ◌∷◌, Option, Some, None, Ok, IsSome, Contains, AllPairs, length, map, slice_get}
+use Rattle.std.specs.Prelude.{◌≡◌, ◌≢◌, ◌⊎◌, ◌≤◌, ◌++◌, ℕ, Bool, true, false, List, [], ◌∷◌, Option, Some, None, Ok}
+use Rattle.std.specs.Prelude.{IsSome, Contains, AllPairs, length, map, slice_get}
 use Rattle.std.specs.FinMap.{get}
 use Rattle.s3_model.specs.declared.answers.Class.{Class}
 use Rattle.s3_model.specs.declared.answers.Class.TheVariants as class
@@ -20,7 +21,8 @@ use Rattle.run_promise.specs.Dispatches.{Attempt, Dispatched, IsCompletedWell, S
 use Rattle.run_promise.specs.Endings.{Excused, IsLeft, IsUntimed}
 use Rattle.run_promise.specs.Outcomes.{deciding}
 use Rattle.run_promise.specs.Schedule.{HasReply, IsBefore, IsFailed, Setting, is_small, job_of}
-use Rattle.local_files.specs.Calls.{Call, CallStep, DropTemp, Fault, MakeTemp, Remove, Rename, Stamp, WriteAt, held_after}
+use Rattle.local_files.specs.Calls.{Call, CallStep, DropTemp, Fault, MakeTemp, Remove, Rename, Stamp, WriteAt}
+use Rattle.local_files.specs.Calls.{held_after}
 
 -- ---- the calls of a run
 

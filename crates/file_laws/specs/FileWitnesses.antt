@@ -1,5 +1,6 @@
 -- Runs that meet the premises of the laws on files.
-use Rattle.std.specs.Prelude.{◌≡◌, ℕ, true, false, List, [], ◌∷◌, Option, Some, None, codes, filter_map, slice_get, IsSome}
+use Rattle.std.specs.Prelude.{◌≡◌, ℕ, true, false, List, [], ◌∷◌, Option, Some, None, codes, filter_map, slice_get}
+use Rattle.std.specs.Prelude.{IsSome}
 use Rattle.s3_model.specs.declared.outcomes.Cause.TheVariants as cause
 use Rattle.s3_model.specs.declared.outcomes.Event.{Event}
 use Rattle.s3_model.specs.declared.outcomes.FileCall.TheVariants as call
@@ -13,7 +14,7 @@ use Rattle.s3_service.specs.ServiceState.{State}
 use Rattle.run_promise.specs.Endings.{IsLeftover}
 use Rattle.run_promise.specs.Outcomes.{HasOutcome}
 use Rattle.run_promise.specs.Traces.{Step, states}
-use Rattle.run_promise.specs.Truthful.{HasJournal}
+use Rattle.run_promise.specs.Runs.{HasJournal}
 use Rattle.local_files.specs.Calls.{Call, WriteAt}
 use Rattle.world_laws.specs.Rounds.{Told, ToldStatus}
 use Rattle.world_laws.specs.Tasks.{HasSourceObject, IsScheduled, IsTraceOf, MayBeNew}

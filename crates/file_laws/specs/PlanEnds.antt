@@ -12,10 +12,10 @@ use Rattle.s3_model.specs.Talks.{Talk}
 use Rattle.s3_service.specs.ServiceState.{State}
 use Rattle.run_promise.specs.Dispatches.{Dispatched}
 use Rattle.run_promise.specs.Schedule.{Setting, is_small}
-use Rattle.run_promise.specs.Traces.{Step, states}
-use Rattle.run_promise.specs.Truthful.{HoldsOver, OtherFilesStay, Shown}
-use Rattle.world_laws.specs.Promises.{IsByRequests, IsCarriedOut, run_of}
-use Rattle.world_laws.specs.Tasks.{HasSource, HasSourceObject, IsTraceOf, MayBeNew}
+use Rattle.run_promise.specs.Runs.{Run, moments}
+use Rattle.run_promise.specs.Truthful.{FitsShown, HoldsOver, OtherFilesStay, Shown}
+use Rattle.world_laws.specs.Promises.{IsByRequests, IsCarriedOut}
+use Rattle.world_laws.specs.Tasks.{HasSource, HasSourceObject, MayBeNew}
 use Rattle.file_laws.specs.FileEnds.{HasFailedAct, IsByFiles, IsDestChanged, IsMoveShown, IsShownByCalls, run_shown}
 use Rattle.file_laws.specs.FileLaws.{AreCalls}
 use Rattle.file_laws.specs.FileTasks.{IsMoveOf, IsRemoved, TaskCall, files_after}
@@ -54,15 +54,14 @@ module _ (Shows : Ask → ℕ → Talk → Class → List ℕ → Type 0) (HasSt
     pub counted : (n : ℕ) (task : Task) → slice_get shown.setting.tasks n ≡ Some task → IsByFiles task
         → IsCountedByCalls shown.setting calls n
     -- over every honest trace that fits, a task's source is as planned where its destination may be new
-    pub sources : (start : State) (trace : List Step)
-        → IsTraceOf Shows shown.setting (run_of shown dispatched start trace)
+    pub sources : (run : Run) → run.dispatched ≡ dispatched → FitsShown Shows shown run
         → (n : ℕ) (task : Task) (how : Outcome) → slice_get shown.setting.tasks n ≡ Some task
         → slice_get shown.outcomes n ≡ Some how → MayBeNew how
-        → HasPlannedSource shown.setting (states start trace) task task.kind
+        → HasPlannedSource shown.setting (moments run) task task.kind
 
   -- Over every honest service each task ended as its outcome says, and no other object and no other file is changed.
   abbrev pub PlanEnds : Type 0
   PlanEnds = (request_text : Ask → List ℕ → ℕ → List ℕ) (host : List ℕ) (port : ℕ) (shown : Shown)
       (dispatched coming : List Dispatched) (calls : List TaskCall)
       → IsPlanCarriedOut request_text host port shown dispatched coming calls
-      → HoldsOver Shows HasStatus request_text host port Plans CallFailed shown dispatched × OtherFilesStay shown
+      → HoldsOver Shows shown dispatched × OtherFilesStay shown

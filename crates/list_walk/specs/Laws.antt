@@ -1,7 +1,8 @@
 -- What pages that were taken make together.
 use Rattle.std.specs.Prelude.{◌≡◌, ◌↔◌, ◌++◌, List, [], ◌∷◌, ℕ, Bool, true, None, IsSome, flat_map, fold}
 use Rattle.s3_model.specs.declared.answers.Listed.{Listed}
-use Rattle.list_walk.specs.Pages.{Gathered, IsRefusedPage, IsSound, gathered_from, gathered_with, new_walk, refusal_of, with_page}
+use Rattle.list_walk.specs.Pages.{Gathered, IsRefusedPage, IsSound, gathered_from, gathered_with, new_walk, refusal_of}
+use Rattle.list_walk.specs.Pages.{with_page}
 
 -- each of these pages is taken, behind those before it
 abbrev pub AreTaken : List ℕ → List Listed → Type 0

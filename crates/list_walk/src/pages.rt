@@ -1,7 +1,9 @@
 //! The walk over the pages of a listing.
 
 ghost use Rattle.std.specs.Prelude.{◌≡◌, ◌≢◌, ◌==◌, None, Some, OnOk, OnErr, IfOk, IfErr, min};
-ghost use Rattle.list_walk.specs.Pages.{AllBeginWith, IsAscending, count_of, ended, gathered_with, keys_fault, keys_of, new_walk, next_ask, prefixes_fault, refusal_of, total_of, whole_fault, with_page};
+ghost use Rattle.list_walk.specs.Pages.{AllBeginWith, IsAscending, count_of, ended, gathered_with, keys_fault, keys_of};
+ghost use Rattle.list_walk.specs.Pages.{new_walk, next_ask, prefixes_fault, refusal_of, total_of, whole_fault};
+ghost use Rattle.list_walk.specs.Pages.{with_page};
 
 use crate::items::{append, copy_all};
 use crate::names::{check_names, last_name};
@@ -108,8 +110,8 @@ impl Pages {
     ///
     /// Refused are a name not above the one before it (in byte order, keys and prefixes apart), a name that does not
     /// begin with the prefix, more pages without a token, the 1,000th page in a row without an entry, and more than
-    /// 1,000,000 entries, where keys and prefixes alike are entries. The keys are tried first, one after the other, then
-    /// the prefixes, then the page as a whole. Where memory runs out, nothing of the page is kept.
+    /// 1,000,000 entries, where keys and prefixes alike are entries. The keys are tried first, one after the other,
+    /// then the prefixes, then the page as a whole. Where memory runs out, nothing of the page is kept.
     pub fn feed(&mut self, page: &Listed) -> Result<(), BadListing>
         ensures fits { OnOk result (refusal_of self.old.prefix self.old.gathered page.now ≡ None) }
         ensures taken { OnOk result (self.new ≡ with_page self.old page.now) }

@@ -11,7 +11,8 @@ pub record KeepsListings (before after : State) : Type 0 where
   pub objects : after.objects ≡ before.objects
   pub tokens : (token text : List ℕ) → get before.tokens token ≡ Some text → get after.tokens token ≡ Some text
 
--- Each page is a page of the listing (ListObjectsV2), asked for with the token of the page before; the last has no more.
+-- Each page is a page of the listing (ListObjectsV2), asked for with the token of the page before; the last has no
+-- more.
 abbrev pub AreReplies : State → List ℕ → List ℕ → Bool → Option (List ℕ) → List Listed → Type 0
 AreReplies t bucket prefix delimited token [] = ⊥
 AreReplies t bucket prefix delimited token (page ∷ []) =

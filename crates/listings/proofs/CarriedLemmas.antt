@@ -82,7 +82,7 @@ module _ (place number : ℕ) (a : Asked) (rest : List Asked) (logs : ℕ → Li
 
   -- the logs behind the job, where it comes with these marks
   abbrev logs_behind : Option (ℕ × List Mark) → ℕ → List Talk
-  logs_behind came other = if other == 0 then drop (length (journal.marks_of came)) (logs other) else logs other
+  logs_behind came other = if other == 0 then drop (length (journal.next_marks came)) (logs other) else logs other
 
   abbrev given : Option (ℕ × List Mark) → List Dispatch → Dispatch
   given came same = record {
@@ -92,7 +92,7 @@ module _ (place number : ℕ) (a : Asked) (rest : List Asked) (logs : ℕ → Li
     came_at = place_of came;
     earlier = sum_by (λ (d : Dispatch). length d.attempts) same;
     is_second = nat_lt 0 (length same);
-    attempts = paired (journal.marks_of came) (logs 0);
+    attempts = paired (journal.next_marks came) (logs 0);
   }
 
   abbrev goes_on : Option (ℕ × List Mark) → List Dispatch → List Dispatch

@@ -9,8 +9,8 @@ use Rattle.s3_model.specs.declared.outcomes.Event.{Event}
 use Rattle.s3_model.specs.declared.places.Endpoint.{Endpoint}
 use Rattle.s3_model.specs.declared.settings.Keys.{Keys}
 use Rattle.s3_model.specs.Talks.{WireLog}
-use Rattle.attempts.specs.Attempts.{Gains}
-use Rattle.attempts.proofs.GainLemmas.{gains_both, gains_nothing}
+use Rattle.run_promise.specs.Gains.{Gains}
+use Rattle.run_promise.proofs.GainLemmas.{gains_both, gains_nothing}
 use Rattle.list_walk.specs.Pages.{Gathered, IsSound, Walk, count_of, gathered_with, new_walk, refusal_of, total_of, with_page}
 use Rattle.list_walk.proofs.LawLemmas.{taken_where_sound}
 use Rattle.listings.specs.Asked.{IsGiven}

@@ -14,9 +14,7 @@ use Rattle.s3_model.specs.Talks.{Talk, Note}
 use Rattle.run_promise.specs.Carried.{mark_of}
 use Rattle.run_promise.specs.Dispatches.{Attempt, Dispatched}
 use Rattle.run_promise.specs.Schedule.{most_body, op_of}
-use Rattle.attempts.specs.Attempts.{IsOneTalk, IsSilent, Request}
-use Rattle.attempts.specs.declared.send.Attempted.{Attempted}
-use Rattle.attempts.specs.declared.send.Attempted.TheVariants as attempted
+use Rattle.attempts.specs.Attempts.{IsOneTalk, IsSilent, SignedRequest}
 
 -- ---- requests
 
@@ -32,10 +30,6 @@ attempts_of (Some attempt) = attempt ∷ []
 abbrev pub marks_of : Option Attempt → List Mark
 marks_of None = []
 marks_of (Some attempt) = attempt.mark ∷ []
-
-abbrev pub tries_of : Attempted → List Mark
-tries_of attempted.Memory = []
-tries_of (attempted.Made shown) = mark_of shown ∷ []
 
 abbrev pub job_of : (number : ℕ) → Ask → JobId
 job_of number asked = record { task = None; op = op_of asked; number = number }
@@ -82,7 +76,7 @@ dispatched_from place number (a ∷ rest) = dispatched_at place number a ∷ dis
 
 -- ---- the wire
 
-abbrev pub request_for : Endpoint → Keys → Ask → Request
+abbrev pub request_for : Endpoint → Keys → Ask → SignedRequest
 request_for endpoint keys asked = record { endpoint = endpoint; keys = keys; asked = asked; body = []; limit = None }
 
 -- the talk of this attempt was made, with the class of its mark; where memory ran out that is wanted

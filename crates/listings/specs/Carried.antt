@@ -18,7 +18,8 @@ in_first given lane = if lane == 0 then given else []
 abbrev pub RequestsAreCarried : Type 0
 RequestsAreCarried =
     (endpoint : Endpoint) (keys : Keys) (wanting : Bool) (s : Setting) (first : ℕ) (asked : List Asked)
-    (talks : List Talk) (notes : List Note) → 1 ≤ s.lanes → s.config.attempts ≡ 1 → (wanting ≡ true → s.wanted_memory None ≡ true)
+    (talks : List Talk) (notes : List Note) → 1 ≤ s.lanes → s.config.attempts ≡ 1
+    → (wanting ≡ true → s.wanted_memory None ≡ true)
     → AreAsked endpoint keys wanting asked talks notes
     → IsCarried Shows (text_of endpoint keys) endpoint.host endpoint.port s (events_from first asked) (in_first talks)
     (in_first notes) (dispatched_from 0 first asked) (dispatched_from 0 first asked)

@@ -106,7 +106,8 @@ TakesAnswer walk None after result = result ≡ Err fault.Memory
 
 -- the next page was asked for, and its answer taken
 pub record IsNext (endpoint : Endpoint) (keys : Keys) (number : ℕ) (walk after : Walk)
-    (events_before events_after : List Event) (result : Result Bool ListingFault) (talks : List Talk) (notes : List Note) : Type 0 where
+    (events_before events_after : List Event) (result : Result Bool ListingFault) (talks : List Talk)
+    (notes : List Note) : Type 0 where
   pub given : Option Class
   pub gives : IsGiven endpoint keys (ask.List walk.bucket walk.prefix walk.delimited walk.token) number events_before
       events_after given talks notes

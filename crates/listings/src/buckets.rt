@@ -1,7 +1,7 @@
 //! The list of buckets.
 
 ghost use Rattle.std.specs.Prelude.{◌≡◌, ◌≤◌};
-ghost use Rattle.attempts.specs.Attempts.{Gains};
+ghost use Rattle.run_promise.specs.Gains.{Gains};
 ghost use Rattle.listings.specs.Buckets.{ListsBuckets, buckets_of};
 
 use crate::fault::{ListingFault, fault_of};

@@ -2,36 +2,13 @@
 
 ghost use Rattle.std.specs.Prelude.{◌≡◌, ◌≤◌, ◌+◌, length};
 ghost use Rattle.run_promise.specs.Schedule.{op_of};
-ghost use Rattle.attempts.specs.Attempts.{Gains};
-ghost use Rattle.run_promise.specs.Carried.{mark_of};
-ghost use Rattle.listings.specs.Asked.{IsGiven, tries_of};
+ghost use Rattle.run_promise.specs.Gains.{Gains};
+ghost use Rattle.listings.specs.Asked.{IsGiven};
 
-use attempts::{Attempted, Client, Payload, attempt};
-use s3_model::{Ask, Bytes, Class, Event, JobId, Journal, Mark, Op, Tries};
+use attempts::{Attempted, Client, Payload, attempt, tries_of};
+use s3_model::{Ask, Bytes, Class, Event, JobId, Journal, Op};
 use s3_outside::Wire;
 use std::alloc::Global;
-
-/// The mark of an attempt whose talk has that class.
-fn mark_of(class: &Class) -> Mark
-    ensures { result ≡ mark_of class.now }
-{
-    match class {
-        Class::Success(_) => Mark::Success,
-        Class::Refusal { .. } => Mark::Refusal,
-        Class::Uncertain(_) => Mark::Uncertain,
-    }
-}
-
-/// The mark of the attempt, or none where no talk was made.
-fn tries_of(attempted: &Attempted) -> Tries
-    ensures { result ≡ tries_of attempted.now }
-{
-    let mut tries = Tries::none();
-    if let Attempted::Made(class) = attempted {
-        tries.add(mark_of(class));
-    }
-    tries
-}
 
 /// Gives a request as the planning job of that number, and makes its one attempt: the class of its talk, or None where
 /// memory ran out before it. The journal has the job, unless memory ran out before that.

@@ -1,7 +1,7 @@
 //! All pages of a listing.
 
 ghost use Rattle.std.specs.Prelude.{◌≡◌, ◌≤◌, ◌+◌, false, IfOk, length};
-ghost use Rattle.attempts.specs.Attempts.{Gains};
+ghost use Rattle.run_promise.specs.Gains.{Gains};
 ghost use Rattle.listings.specs.Pages.{IsNext, Listing, Lists, TakesClass, TakesPage, TookPage};
 
 use crate::fault::{ListingFault, fault_of};

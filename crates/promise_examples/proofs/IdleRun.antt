@@ -15,6 +15,7 @@ use Rattle.run_promise.specs.Fits.{Fits}
 use Rattle.run_promise.specs.Schedule.{IsSchedule}
 use Rattle.run_promise.specs.Traces.{External}
 use Rattle.run_promise.specs.Truthful.{IsDest, IsFinished, WasTaken}
+use Rattle.world_laws.specs.Promises.{run_of}
 use Rattle.promise_examples.specs.Idleness.{idle_run, IdlenessIsRefused}
 use Rattle.promise_examples.specs.Reading.{Reads, signed_body}
 use Rattle.promise_examples.specs.Refused.{setting, task}
@@ -87,5 +88,6 @@ module _ (page_of : List ℕ → Listed) where
 pub idleness_is_refused : IdlenessIsRefused
 idleness_is_refused page_of why owed =
     idleness page_of why
-    (owed [] [] start [] (no_jobs page_of) (nothing_carried page_of) tt (honest start [] (one_bucket_is_faithful (98 ∷ []), tt) tt (IsDest setting.tasks)) tt (nothing_fits page_of)
+    (owed (run_of (idle_run why) [] start []) [] (no_jobs page_of) (nothing_carried page_of)
+    (record { of_journal = refl; fitting = record { runs = tt; honest = honest start [] (one_bucket_is_faithful (98 ∷ []), tt) tt (IsDest setting.tasks); fits = nothing_fits page_of } }) tt
     (λ c place attempt reason bytes known slot shows. has [] c known) (λ write happened. has [] (External write) happened) buckets refl 0 (outcome.Failed why) refl)

@@ -15,7 +15,7 @@ use Rattle.world_laws.proofs.Objects.{object_at-with_object}
 use Rattle.s3_service.specs.Serves.{Answer, Replied, Refused, Removes, Writes}
 use Rattle.run_promise.specs.Dispatches.{Attempt, Dispatched, dispatches}
 use Rattle.run_promise.specs.Fits.{Fits, Names, request_at}
-use Rattle.run_promise.specs.Traces.{Step, TraceEvent, Request, Given, Begin, Serve, Came, External, IsTrace, IsHonest, events_of, states}
+use Rattle.run_promise.specs.Traces.{SentRequest, Step, TraceEvent, Given, Begin, Serve, Came, External, IsTrace, IsHonest, events_of, states}
 use Rattle.run_promise.specs.Truthful.{IsDest}
 use Rattle.promise_examples.specs.GivenAgain.{put_job, bytes}
 use Rattle.promise_examples.specs.Misfits as specs
@@ -28,10 +28,10 @@ use Rattle.promise_examples.proofs.Readings.{reads, shown_by}
 use Rattle.promise_examples.proofs.Shown.{made, of_shown}
 use Rattle.promise_examples.proofs.WholePut.{met}
 
-given_serve : (j : JobId) (l : ℕ) (s : Request) (a : Answer) → Given j l ≡ Serve s a → ⊥
+given_serve : (j : JobId) (l : ℕ) (s : SentRequest) (a : Answer) → Given j l ≡ Serve s a → ⊥
 given_serve j l s a e = cc
 
-begin_serve : (l : ℕ) (r s : Request) (a : Answer) → Begin l r ≡ Serve s a → ⊥
+begin_serve : (l : ℕ) (r s : SentRequest) (a : Answer) → Begin l r ≡ Serve s a → ⊥
 begin_serve l r s a e = cc
 
 refused_replied : (code : List ℕ) (said : Reply) (bytes : List ℕ) → Refused code ≡ Replied said bytes → ⊥
@@ -65,7 +65,7 @@ module _ (page_of : List ℕ → Listed) where
   abbrev in_front : List TraceEvent
   in_front = Given put_job 0 ∷ Begin 0 (request 1) ∷ []
 
-  not_in_front : (s : Request) (a : Answer) → Contains in_front (Serve s a) → ⊥
+  not_in_front : (s : SentRequest) (a : Answer) → Contains in_front (Serve s a) → ⊥
   not_in_front s a known = each (λ (event : TraceEvent). event ≡ Serve s a → ⊥) in_front (given_serve put_job 0 s a, (begin_serve 0 (request 1) s a, tt)) (Serve s a) known refl
 
   unserved : (later : List TraceEvent) (asked : Ask) (body : List ℕ) (limit size : ℕ) → Fits Shows (in_front ++ Came put_job 0 (mark.Success ∷ []) ∷ later) whole_run.journal (sent asked body limit size ∷ []) → ⊥
@@ -94,7 +94,7 @@ module _ (page_of : List ℕ → Listed) where
       let n : ◌≡◌ {A = ℕ} 0 1 = fits.until_came (Given put_job 0 ∷ []) (Begin 0 (request 1) ∷ Serve (request 1) (Replied reply.Stored []) ∷ []) put_job 0 (mark.Success ∷ []) refl in omega arith
 
   on_other_number : (asked : Ask) (body : List ℕ) (limit size : ℕ) → Unfit specs.other_number asked body limit size
-  on_other_number asked body limit size runs honest fits = let n : ◌≡◌ {A = ℕ} 2 1 = ap (λ (r : Request). r.number) (head_is _ _ _ _ (fits.begins 0)) in omega arith
+  on_other_number asked body limit size runs honest fits = let n : ◌≡◌ {A = ℕ} 2 1 = ap (λ (r : SentRequest). r.number) (head_is _ _ _ _ (fits.begins 0)) in omega arith
 
   on_begun_twice : (asked : Ask) (body : List ℕ) (limit size : ℕ) → Unfit specs.begun_twice asked body limit size
   on_begun_twice asked body limit size runs honest fits = let n : ◌≡◌ {A = ℕ} 2 1 = ap length (fits.begins 0) in omega arith

@@ -1,5 +1,6 @@
 -- Neighbours of a small upload that break one clause of what is carried, and no other.
-use Rattle.std.specs.Prelude.{◌≡◌, ◌≢◌, ◌+◌, ◌<◌, ◌≤◌, ◌⊎◌, ℕ, List, [], Some, map, count_by, flat_map, length, slice_get, Contains, AllPairs}
+use Rattle.std.specs.Prelude.{◌≡◌, ◌≢◌, ◌+◌, ◌<◌, ◌≤◌, ◌⊎◌, ℕ, List, [], Some, map, count_by, flat_map, length}
+use Rattle.std.specs.Prelude.{slice_get, Contains, AllPairs}
 use Rattle.s3_model.specs.declared.answers.Class.{Class}
 use Rattle.s3_model.specs.declared.answers.Class.TheVariants as class
 use Rattle.s3_model.specs.declared.answers.Listed.{Listed}
@@ -10,7 +11,8 @@ use Rattle.s3_model.specs.declared.requests.Ask.{Ask}
 use Rattle.s3_model.specs.declared.tries.Mark.{Mark}
 use Rattle.s3_model.specs.declared.tries.Mark.TheVariants as mark
 use Rattle.s3_model.specs.Talks.{Talk}
-use Rattle.run_promise.specs.Carried.{AreNoted, IsCarried, IsWanting, MayStop, WouldGoOn, in_lane, mark_of, numbered_from, talks_of}
+use Rattle.run_promise.specs.Carried.{AreNoted, IsCarried, IsWanting, MayStop, WouldGoOn, in_lane, mark_of}
+use Rattle.run_promise.specs.Carried.{numbered_from, talks_of}
 use Rattle.run_promise.specs.Dispatches.{Attempt, Dispatched, dispatches, last_of}
 use Rattle.run_promise.specs.Schedule.{IsBefore, IsSchedule}
 use Rattle.promise_examples.specs.Reading.{Reads, signed_body}

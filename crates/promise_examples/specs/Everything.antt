@@ -20,10 +20,11 @@ use Rattle.s3_model.specs.declared.tasks.Task.{Task}
 use Rattle.s3_model.specs.declared.tries.Mark.TheVariants as mark
 use Rattle.s3_model.specs.Documents.{document_of}
 use Rattle.s3_model.specs.Talks.{Talk, Note, Ending, Failed, Finished, Moment, Pause, Began}
-use Rattle.s3_service.specs.ServiceState.{State, Upload, StoredPart, CompletedBy, with_object, without_object, with_upload, with_part, with_ended}
+use Rattle.s3_service.specs.ServiceState.{State, Upload, StoredPart, CompletedBy, with_object, without_object}
+use Rattle.s3_service.specs.ServiceState.{with_upload, with_part, with_ended}
 use Rattle.s3_service.specs.Serves.{Replied}
 use Rattle.run_promise.specs.Schedule.{job_of}
-use Rattle.run_promise.specs.Traces.{Request, Step, TraceEvent, Given, Begin, Serve, Came}
+use Rattle.run_promise.specs.Traces.{SentRequest, Step, TraceEvent, Given, Begin, Serve, Came}
 use Rattle.world_laws.specs.ExampleTasks as tasks
 use Rattle.promise_examples.specs.Runs.{Example, IsMet}
 use Rattle.promise_examples.specs.Services.{object_of, one_bucket}
@@ -268,28 +269,28 @@ after_all = without_object completed bucket source
 abbrev pub step : TraceEvent → State → Step
 step event state = record { event = event; state = state }
 
-abbrev pub request : JobId → ℕ → Ask → List ℕ → Request
+abbrev pub request : JobId → ℕ → Ask → List ℕ → SentRequest
 request job number asked body = record { job = job; number = number; ask = asked; body = body }
 
-abbrev pub create_request : ℕ → Request
+abbrev pub create_request : ℕ → SentRequest
 create_request number = request create_job number create []
 
-abbrev pub copy_request : Request
+abbrev pub copy_request : SentRequest
 copy_request = request copy_job 1 copy_ask []
 
-abbrev pub part_request : ℕ → Request
+abbrev pub part_request : ℕ → SentRequest
 part_request number = request (part_job 1) number (part 1) (1 ∷ [])
 
-abbrev pub other_request : Request
+abbrev pub other_request : SentRequest
 other_request = request (part_job 2) 1 (part 2) (2 ∷ [])
 
-abbrev pub delete_request : ℕ → Request
+abbrev pub delete_request : ℕ → SentRequest
 delete_request number = request delete_job number delete []
 
-abbrev pub complete_request : ℕ → Request
+abbrev pub complete_request : ℕ → SentRequest
 complete_request number = request complete_job number complete document
 
-abbrev pub answered : Request → Reply → TraceEvent
+abbrev pub answered : SentRequest → Reply → TraceEvent
 answered sent said = Serve sent (Replied said [])
 
 -- the part that was cut short is served after its Came, and the second Delete after all

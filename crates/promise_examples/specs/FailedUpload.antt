@@ -14,8 +14,10 @@ use Rattle.s3_model.specs.declared.tries.Mark.TheVariants as mark
 use Rattle.s3_model.specs.Talks.{Talk, Failed, Moment, Began}
 use Rattle.s3_service.specs.ServiceState.{State, Aborted, with_ended, with_part, with_upload}
 use Rattle.s3_service.specs.Serves.{Refused}
-use Rattle.run_promise.specs.Traces.{Request, Step, Given, Begin, Serve, Came}
-use Rattle.promise_examples.specs.Everything.{bucket, uploaded, id, second_etag, upload, create_job, part_job, create_answered, unused, second_part, talk, step, request, create_request, part_request, other_request, answered, in_two, eventful_run}
+use Rattle.run_promise.specs.Traces.{SentRequest, Step, Given, Begin, Serve, Came}
+use Rattle.promise_examples.specs.Everything.{bucket, uploaded, id, second_etag, upload, create_job, part_job}
+use Rattle.promise_examples.specs.Everything.{create_answered, unused, second_part, talk, step, request, create_request}
+use Rattle.promise_examples.specs.Everything.{part_request, other_request, answered, in_two, eventful_run}
 use Rattle.promise_examples.specs.Orders.{abort_job, part_denied, abort_answered}
 use Rattle.promise_examples.specs.Runs.{Example, IsMet}
 use Rattle.promise_examples.specs.Services.{one_bucket}
@@ -23,7 +25,7 @@ use Rattle.promise_examples.specs.Services.{one_bucket}
 abbrev pub abort : Ask
 abort = ask.Abort bucket uploaded id
 
-abbrev pub abort_request : Request
+abbrev pub abort_request : SentRequest
 abort_request = request abort_job 1 abort []
 
 abbrev pub other_lost : Talk

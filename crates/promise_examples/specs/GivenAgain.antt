@@ -22,7 +22,7 @@ use Rattle.s3_service.specs.Serves.{Replied, Refused}
 use Rattle.run_promise.specs.Carried.{IsCarried}
 use Rattle.run_promise.specs.Dispatches.{Attempt, Dispatched, last_of}
 use Rattle.run_promise.specs.Schedule.{Setting, IsSchedule}
-use Rattle.run_promise.specs.Traces.{Request, Step, Given, Begin, Serve, Came}
+use Rattle.run_promise.specs.Traces.{SentRequest, Step, Given, Begin, Serve, Came}
 use Rattle.world_laws.specs.ExampleTasks as tasks
 use Rattle.promise_examples.specs.Pages.{in_first}
 use Rattle.promise_examples.specs.Runs.{Example, IsMet}
@@ -81,7 +81,7 @@ module _ (bucket key path : List ℕ) where
   abbrev pub put : Ask
   put = ask.Put bucket key None false
 
-  abbrev pub request : ℕ → Request
+  abbrev pub request : ℕ → SentRequest
   request number = record { job = put_job; number = number; ask = put; body = bytes }
 
   -- one Put, refused at its first attempt and stored at its second, over one lane

@@ -5,7 +5,7 @@ use Rattle.s3_model.specs.declared.answers.Listed.{Listed}
 use Rattle.s3_model.specs.declared.outcomes.Cause.{Cause}
 use Rattle.s3_model.specs.declared.outcomes.Outcome.TheVariants as outcome
 use Rattle.run_promise.specs.Truthful.{Shown, IsDoneWhereWilling}
-use Rattle.promise_examples.specs.Reading.{Reads, HasNoStatus, NeverFailed, signed_body}
+use Rattle.promise_examples.specs.Reading.{Reads, signed_body}
 use Rattle.promise_examples.specs.Refused.{setting}
 
 -- no job was given, and the upload failed
@@ -23,5 +23,4 @@ idle_run why = record {
 
 abbrev pub IdlenessIsRefused : Type 0
 IdlenessIsRefused = (page_of : List ℕ → Listed) (why : Cause)
-    → ¬ (IsDoneWhereWilling (Reads page_of) HasNoStatus signed_body [] 80 (λ planning. planning ≡ []) NeverFailed
-    (idle_run why))
+    → ¬ (IsDoneWhereWilling (Reads page_of) signed_body [] 80 (λ planning. planning ≡ []) (idle_run why))

@@ -9,7 +9,8 @@ use Rattle.run_promise.specs.Carried.{IsCarried}
 use Rattle.run_promise.specs.Dispatches.{Dispatched}
 use Rattle.run_promise.specs.Fits.{Fits}
 use Rattle.run_promise.specs.Schedule.{IsSchedule}
-use Rattle.run_promise.specs.Traces.{Step, Request, Given, Begin, Serve, Came, External, IsTrace, IsHonest, events_of}
+use Rattle.run_promise.specs.Traces.{SentRequest, Step, Given, Begin, Serve, Came, External, IsTrace, IsHonest}
+use Rattle.run_promise.specs.Traces.{events_of}
 use Rattle.run_promise.specs.Truthful.{IsDest}
 use Rattle.promise_examples.specs.GivenAgain as given_again
 use Rattle.promise_examples.specs.GivenAgain.{put_job}
@@ -24,7 +25,7 @@ bucket = 98 ∷ []
 abbrev pub key : List ℕ
 key = 117 ∷ []
 
-abbrev pub request : ℕ → Request
+abbrev pub request : ℕ → SentRequest
 request number = given_again.request bucket key path number
 
 abbrev pub before : State

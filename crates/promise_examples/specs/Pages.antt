@@ -15,7 +15,7 @@ use Rattle.s3_model.specs.Talks.{Talk, Finished, Moment, Began}
 use Rattle.s3_service.specs.ServiceState.{State, Object, with_object, with_token}
 use Rattle.s3_service.specs.Serves.{Replied}
 use Rattle.run_promise.specs.Planning.{Listing, PlansFor}
-use Rattle.run_promise.specs.Traces.{Request, Step, Given, Begin, Serve, Came}
+use Rattle.run_promise.specs.Traces.{SentRequest, Step, Given, Begin, Serve, Came}
 use Rattle.promise_examples.specs.Reading.{Reads}
 use Rattle.promise_examples.specs.Services.{object_of, one_bucket}
 use Rattle.promise_examples.specs.Runs.{Example, IsMet}
@@ -99,7 +99,7 @@ listing_run limits = record {
 
 -- ---- the trace: the service answers with pages whose lists have no room
 
-abbrev pub request : ℕ → Option (List ℕ) → Request
+abbrev pub request : ℕ → Option (List ℕ) → SentRequest
 request number after = record { job = list_job number; number = 1; ask = list_after after; body = [] }
 
 abbrev pub listed : State

@@ -1,5 +1,6 @@
 -- Runs that break one clause of the schedule, and no other.
-use Rattle.std.specs.Prelude.{◌≡◌, ◌≢◌, ◌<◌, ◌⊎◌, ℕ, true, false, List, [], ◌∷◌, Some, None, slice_get, Contains, AllPairs, IsPermutation, IsSome}
+use Rattle.std.specs.Prelude.{◌≡◌, ◌≢◌, ◌<◌, ◌⊎◌, ℕ, true, false, List, [], ◌∷◌, Some, None, slice_get, Contains}
+use Rattle.std.specs.Prelude.{AllPairs, IsPermutation, IsSome}
 use Rattle.s3_model.specs.declared.answers.Listed.{Listed}
 use Rattle.s3_model.specs.declared.answers.Reply.TheVariants as reply
 use Rattle.s3_model.specs.declared.requests.Ask.{Ask}
@@ -13,7 +14,8 @@ use Rattle.run_promise.specs.Carried.{IsCarried}
 use Rattle.run_promise.specs.Dispatches.{Dispatched, IsSuccessLast, last_of}
 use Rattle.run_promise.specs.Planning.{Listing, PlansFor}
 use Rattle.run_promise.specs.Schedule.{IsBefore, IsBeforeAny, IsDecided, IsFailed, IsSchedule, IsTaskAsk, IsUpload}
-use Rattle.run_promise.specs.Schedule.{gained_before, is_small, job_of, limit_of, most_body, op_of, planning_of, source_bytes}
+use Rattle.run_promise.specs.Schedule.{gained_before, is_small, job_of, limit_of, most_body, op_of, planning_of}
+use Rattle.run_promise.specs.Schedule.{source_bytes}
 use Rattle.promise_examples.specs.Orders as orders
 use Rattle.promise_examples.specs.Pages.{bucket, page_with}
 use Rattle.promise_examples.specs.Plannings as plannings

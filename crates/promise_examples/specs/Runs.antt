@@ -14,7 +14,8 @@ use Rattle.run_promise.specs.Fits.{Fits}
 use Rattle.run_promise.specs.Outcomes.{HasOutcome}
 use Rattle.run_promise.specs.Schedule.{Setting, IsSchedule}
 use Rattle.run_promise.specs.Traces.{Step, IsTrace, IsHonest, events_of}
-use Rattle.run_promise.specs.Truthful.{IsDest, HasJournal}
+use Rattle.run_promise.specs.Truthful.{IsDest}
+use Rattle.run_promise.specs.Runs.{HasJournal}
 use Rattle.promise_examples.specs.Reading.{Reads, HasNoStatus, NeverFailed, signed_body}
 
 -- what a run shows: its setting, its outcomes, the journal, and each wire's talks and notes

@@ -1,5 +1,6 @@
 -- Traces that break one clause of how a trace fits, of what a service does, or of honesty, and no other.
-use Rattle.std.specs.Prelude.{◌≡◌, ◌≢◌, ◌+◌, ◌++◌, ◌==◌, ℕ, List, [], ◌∷◌, Some, filter, filter_map, flat_map, count_by, sum_by, length, slice_get, Contains, AllPairs}
+use Rattle.std.specs.Prelude.{◌≡◌, ◌≢◌, ◌+◌, ◌++◌, ◌==◌, ℕ, List, [], ◌∷◌, Some, filter, filter_map, flat_map, count_by}
+use Rattle.std.specs.Prelude.{sum_by, length, slice_get, Contains, AllPairs}
 use Rattle.s3_model.specs.declared.answers.Class.{Class}
 use Rattle.s3_model.specs.declared.answers.Listed.{Listed}
 use Rattle.s3_model.specs.declared.outcomes.JobId.{JobId}
@@ -12,7 +13,8 @@ use Rattle.run_promise.specs.Carried.{IsCarried}
 use Rattle.run_promise.specs.Dispatches.{Attempt, Dispatched}
 use Rattle.run_promise.specs.Fits.{Fits, IsAnswered, IsCertain, Names, request_at, requests_of}
 use Rattle.run_promise.specs.Schedule.{IsSchedule}
-use Rattle.run_promise.specs.Traces.{Came, External, Given, IsHonest, IsSameAttempt, IsTrace, Request, Serve, Step, TraceEvent}
+use Rattle.run_promise.specs.Traces.{SentRequest, Came, External, Given, IsHonest, IsSameAttempt, IsTrace, Serve, Step}
+use Rattle.run_promise.specs.Traces.{TraceEvent}
 use Rattle.run_promise.specs.Traces.{begun_in, event_of, events_of, is_begin_of, marks_come, served_in, states}
 use Rattle.run_promise.specs.Truthful.{IsDest}
 use Rattle.promise_examples.specs.Misfits as misfits
@@ -54,7 +56,7 @@ module _ (page_of : List ℕ → Listed) where
         → events ≡ front ++ Came job lane tries ∷ back
         → count_by (is_begin_of job) front ≡ sum_by (marks_come job) front + length tries
     SaysOfTrace Once = AllPairs (λ a b. ¬ (IsSameAttempt a b)) (filter_map served_in events)
-    SaysOfTrace Answers = (sent : Request) (answer : Answer) → Contains events (Serve sent answer)
+    SaysOfTrace Answers = (sent : SentRequest) (answer : Answer) → Contains events (Serve sent answer)
         → IsAnswered Shows dispatched sent answer
     SaysOfTrace Served = (front back : List TraceEvent) (job : JobId) (lane : ℕ) (tries : List Mark) (c : Dispatched)
         (place : ℕ)

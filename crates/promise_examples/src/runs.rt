@@ -39,8 +39,8 @@ pub fn everything()
     ensures { EverythingIsMet }
 {}
 
-/// An upload in parts that failed meets every definition: one part was denied, the other one cut short after that though
-/// the service stored it, and the upload aborted.
+/// An upload in parts that failed meets every definition: one part was denied, the other one cut short after that
+/// though the service stored it, and the upload aborted.
 pub fn failed_upload()
     ensures { FailedUploadIsMet }
 {}

@@ -1,5 +1,7 @@
--- Jobs as the journal and the logs show them: each dispatch of a job with its attempts, which were cut, and which failed.
-use Rattle.std.specs.Prelude.{◌≡◌, ◌≢◌, ◌+◌, ◌<◌, ◌⊎◌, ◌&&◌, ◌==◌, ℕ, Bool, true, false, List, [], ◌∷◌, Option, Some, None, IsSome, Contains, filter, length, drop, nat_lt, if◌then◌else◌, sum_by, reverse}
+-- Jobs as the journal and the logs show them: each dispatch of a job with its attempts, which were cut, and which
+-- failed.
+use Rattle.std.specs.Prelude.{◌≡◌, ◌≢◌, ◌+◌, ◌<◌, ◌⊎◌, ◌&&◌, ◌==◌, ℕ, Bool, true, false, List, [], ◌∷◌, Option, Some}
+use Rattle.std.specs.Prelude.{None, IsSome, Contains, filter, length, drop, nat_lt, if◌then◌else◌, sum_by, reverse}
 use Rattle.s3_model.specs.declared.outcomes.JobId.{JobId}
 use Rattle.s3_model.specs.declared.requests.Op.{Op}
 use Rattle.s3_model.specs.declared.requests.Op.TheVariants as op
@@ -66,15 +68,16 @@ pub record Dispatch : Type 0 where
 abbrev pub next_came : JobId → ℕ → List Event → Option (ℕ × List Mark)
 next_came job at [] = None
 next_came job at (entry.Given other lane ∷ events) = next_came job (at + 1) events
-next_came job at (entry.Came other lane tries ∷ events) = if is_job job other then Some (at, tries) else next_came job (at + 1) events
+next_came job at (entry.Came other lane tries ∷ events) =
+    if is_job job other then Some (at, tries) else next_came job (at + 1) events
 
 abbrev pub place_of : Option (ℕ × List Mark) → Option ℕ
 place_of None = None
 place_of (Some came) = Some came.0
 
-abbrev pub marks_of : Option (ℕ × List Mark) → List Mark
-marks_of None = []
-marks_of (Some came) = came.1
+abbrev pub next_marks : Option (ℕ × List Mark) → List Mark
+next_marks None = []
+next_marks (Some came) = came.1
 
 abbrev pub paired : List Mark → List Talk → List Attempt
 paired [] talks = []
@@ -84,14 +87,15 @@ paired (mark ∷ marks) (talk ∷ talks) = record { mark = mark; talk = talk } �
 abbrev pub earlier_dispatches : JobId → List Dispatch → List Dispatch
 earlier_dispatches job dispatches = filter (λ dispatch. is_job dispatch.job job) dispatches
 
--- The dispatches of a journal, in order, each with the next talks of its lane. `before` are those so far, the newest first.
+-- The dispatches of a journal, in order, each with the next talks of its lane. `before` are those so far, the newest
+-- first.
 abbrev pub dispatches_from : (ℕ → List Talk) → List Dispatch → ℕ → List Event → List Dispatch
 dispatches_from logs before at [] = reverse before
 dispatches_from logs before at (entry.Came job lane tries ∷ events) = dispatches_from logs before (at + 1) events
 dispatches_from logs before at (entry.Given job lane ∷ events) =
     let came = next_came job (at + 1) events in
     let same = earlier_dispatches job before in
-    dispatches_from (λ other. if other == lane then drop (length (marks_of came)) (logs other) else logs other)
+    dispatches_from (λ other. if other == lane then drop (length (next_marks came)) (logs other) else logs other)
     (record {
       job = job;
       lane = lane;
@@ -99,7 +103,7 @@ dispatches_from logs before at (entry.Given job lane ∷ events) =
       came_at = place_of came;
       earlier = sum_by (λ dispatch. length dispatch.attempts) same;
       is_second = nat_lt 0 (length same);
-      attempts = paired (marks_of came) (logs lane);
+      attempts = paired (next_marks came) (logs lane);
     } ∷ before)
     (at + 1) events
 
@@ -128,7 +132,8 @@ IsSuccessLast (Some attempt) = attempt.mark ≡ mark.Success
 
 -- the reply to a Get is what was asked for: the whole of that size, or the range
 abbrev pub FitsAsk : Dispatched → Ask → Class → Type 0
-FitsAsk c (ask.Get bucket key etag None) (class.Success (reply.Got status range length)) = (status ≡ 200) × (length ≡ c.limit)
+FitsAsk c (ask.Get bucket key etag None) (class.Success (reply.Got status range length)) =
+    (status ≡ 200) × (length ≡ c.limit)
 FitsAsk c (ask.Get bucket key etag (Some asked)) (class.Success (reply.Got status range length)) =
     (status ≡ 206) × (range ≡ Some (asked.0, asked.1, c.size)) × (length ≡ c.limit)
 FitsAsk c asked answer = Unit {0}
@@ -140,7 +145,8 @@ module _ (Shows : Ask → ℕ → Talk → Class → List ℕ → Type 0) where
 
   abbrev pub FitsLast : Dispatched → Option Attempt → Type 0
   FitsLast c None = ⊥
-  FitsLast c (Some attempt) = (of_class : Class) (bytes : List ℕ) → ShowsIn c attempt of_class bytes → FitsAsk c c.ask of_class
+  FitsLast c (Some attempt) =
+      (of_class : Class) (bytes : List ℕ) → ShowsIn c attempt of_class bytes → FitsAsk c c.ask of_class
 
   -- its last attempt was a Success, and a Get's reply is what was asked for
   abbrev pub IsCompletedWell : Dispatched → Type 0
@@ -150,17 +156,20 @@ module _ (Shows : Ask → ℕ → Talk → Class → List ℕ → Type 0) where
   abbrev pub IsUnfinished : ℕ → Dispatched → Option Attempt → Type 0
   IsUnfinished most c None = Unit {0}
   IsUnfinished most c (Some attempt) =
-      (of_class : Class) × (bytes : List ℕ) × ShowsIn c attempt of_class bytes × (is_tried_again of_class ≡ true) × (c.dispatch.earlier + length c.dispatch.attempts < most)
+      (of_class : Class) × (bytes : List ℕ) × ShowsIn c attempt of_class bytes × (is_tried_again of_class ≡ true)
+      × (c.dispatch.earlier + length c.dispatch.attempts < most)
 
   -- A job that came is cut where it is given again, or where it was unfinished and something else stopped it.
   abbrev pub IsCut : ℕ → Dispatched → List Dispatched → Type 0 → Type 0
   IsCut most c later IsStopped =
       ((other : Dispatched) × Contains later other × (other.dispatch.job ≡ c.dispatch.job))
-      ⊎ ((c.dispatch.is_second ≡ false) × (c.dispatch.job.op ≢ op.Abort) × IsSome c.dispatch.job.task × IsUnfinished most c (last_of c.dispatch.attempts) × IsStopped)
+      ⊎ ((c.dispatch.is_second ≡ false) × (c.dispatch.job.op ≢ op.Abort) × IsSome c.dispatch.job.task
+      × IsUnfinished most c (last_of c.dispatch.attempts) × IsStopped)
 
   -- a job of the task, no Abort, failed among those that came, which stand in the order of their coming
   abbrev pub IsFailing : ℕ → Option ℕ → Type 0 → List Dispatched → Type 0
   IsFailing most task IsStopped [] = ⊥
   IsFailing most task IsStopped (c ∷ later) =
-      ((c.dispatch.job.task ≡ task) × (c.dispatch.job.op ≢ op.Abort) × ¬ (IsCut most c later (IsStopped ⊎ IsFailing most task IsStopped later)) × ¬ (IsCompletedWell c))
+      ((c.dispatch.job.task ≡ task) × (c.dispatch.job.op ≢ op.Abort)
+      × ¬ (IsCut most c later (IsStopped ⊎ IsFailing most task IsStopped later)) × ¬ (IsCompletedWell c))
       ⊎ IsFailing most task IsStopped later

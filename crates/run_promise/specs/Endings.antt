@@ -19,7 +19,8 @@ use Rattle.s3_model.specs.TempNames.{is_temp_name}
 use Rattle.s3_service.specs.ServiceState.{State, Object, object_at, HasBytes}
 use Rattle.s3_model.specs.Files.{HeldFile, is_listed}
 use Rattle.s3_service.specs.Serves.{IsThere, Replied, Writes}
-use Rattle.run_promise.specs.Traces.{Step, Request, Serve, External, states, events_of}
+use Rattle.run_promise.specs.Runs.{Run, moments}
+use Rattle.run_promise.specs.Traces.{Step, SentRequest, Serve, External, events_of}
 
 -- a state and the files at one step
 pub record Scene : Type 0 where
@@ -51,15 +52,18 @@ IsUntimed excused path = Contains excused.untimed path ⊎ (excused.wanted_memor
 -- the bytes of a source: a file's at the start, or those that an object had at some step under that ETag
 abbrev pub HasContent : MapOf HeldFile → List State → List ℕ → Option Place → List ℕ → Type 0
 HasContent held moments etag None bytes = ⊥
-HasContent held moments etag (Some (place.File path)) bytes = (file : HeldFile) × (get held path ≡ Some file) × (file.bytes ≡ bytes)
+HasContent held moments etag (Some (place.File path)) bytes =
+    (file : HeldFile) × (get held path ≡ Some file) × (file.bytes ≡ bytes)
 HasContent held moments etag (Some (place.Object bucket key)) bytes =
-    (state : State) × (object : Object) × Contains moments state × IsThere state bucket key etag object × (object.bytes ≡ bytes)
+    (state : State) × (object : Object) × Contains moments state × IsThere state bucket key etag object
+    × (object.bytes ≡ bytes)
 
 -- the place has these bytes, and a file has that time
 abbrev pub Holds : Excused → Scene → Place → ℕ → List ℕ → Type 0
 Holds excused scene (place.Object bucket key) micros bytes = HasBytes scene.state bucket key bytes
 Holds excused scene (place.File path) micros bytes =
-    (file : HeldFile) × (get scene.held path ≡ Some file) × (file.bytes ≡ bytes) × ((file.micros ≡ micros) ⊎ IsUntimed excused path)
+    (file : HeldFile) × (get scene.held path ≡ Some file) × (file.bytes ≡ bytes)
+    × ((file.micros ≡ micros) ⊎ IsUntimed excused path)
 
 abbrev pub IsAbsent : Excused → Scene → Place → Type 0
 IsAbsent excused scene (place.Object bucket key) = object_at scene.state bucket key ≡ None
@@ -67,9 +71,15 @@ IsAbsent excused scene (place.File path) = (get scene.held path ≡ None) ⊎ Is
 
 -- The destination is as the task is to leave it.
 abbrev pub IsNew : Excused → MapOf HeldFile → List State → Scene → Task → Kind → Type 0
-IsNew excused held moments scene task kind.Upload = (bytes : List ℕ) × HasContent held moments task.etag task.source bytes × Holds excused scene task.dest task.micros bytes
-IsNew excused held moments scene task kind.Download = (bytes : List ℕ) × HasContent held moments task.etag task.source bytes × Holds excused scene task.dest task.micros bytes
-IsNew excused held moments scene task kind.Copy = (bytes : List ℕ) × HasContent held moments task.etag task.source bytes × Holds excused scene task.dest task.micros bytes
+IsNew excused held moments scene task kind.Upload =
+    (bytes : List ℕ) × HasContent held moments task.etag task.source bytes
+    × Holds excused scene task.dest task.micros bytes
+IsNew excused held moments scene task kind.Download =
+    (bytes : List ℕ) × HasContent held moments task.etag task.source bytes
+    × Holds excused scene task.dest task.micros bytes
+IsNew excused held moments scene task kind.Copy =
+    (bytes : List ℕ) × HasContent held moments task.etag task.source bytes
+    × Holds excused scene task.dest task.micros bytes
 IsNew excused held moments scene task kind.RemoveObject = IsAbsent excused scene task.dest
 IsNew excused held moments scene task kind.RemoveFile = IsAbsent excused scene task.dest
 
@@ -88,13 +98,16 @@ IsThereIn scene (place.File path) = IsSome (get scene.held path) ⊎ (is_listed 
 
 abbrev pub IsDeleted : List Step → List ℕ → List ℕ → Type 0
 IsDeleted trace bucket key =
-    (sent : Request) × (bytes : List ℕ) × (sent.ask ≡ ask.Delete bucket key) × Contains (events_of trace) (Serve sent (Replied reply.Gone bytes))
+    (sent : SentRequest) × (bytes : List ℕ) × (sent.ask ≡ ask.Delete bucket key)
+    × Contains (events_of trace) (Serve sent (Replied reply.Gone bytes))
 
 -- a Delete was served and nothing is there but what somebody else wrote, or the file was removed
 abbrev pub IsGone : List Step → Scene → Option Place → Type 0
 IsGone trace after None = Unit {0}
 IsGone trace after (Some (place.Object bucket key)) =
-    IsDeleted trace bucket key × ((object_at after.state bucket key ≡ None) ⊎ ((object : Object) × Contains (events_of trace) (External (Writes bucket key object))))
+    IsDeleted trace bucket key
+    × ((object_at after.state bucket key ≡ None)
+    ⊎ ((object : Object) × Contains (events_of trace) (External (Writes bucket key object))))
 IsGone trace after (Some (place.File path)) = get after.held path ≡ None
 
 -- a local file is there; an object may be
@@ -107,12 +120,14 @@ IsGoneOrThere before after (Some (place.File path)) = get after.held path ≡ ge
 abbrev pub IsSpared : ℕ → List Event → Scene → Scene → Option Place → Type 0
 IsSpared task journal before after None = Unit {0}
 IsSpared task journal before after (Some (place.Object bucket key)) =
-    (number lane : ℕ) → ¬ (Contains journal (entry.Given (record { task = Some task; op = op.Delete; number = number }) lane))
+    (number lane : ℕ)
+    → ¬ (Contains journal (entry.Given (record { task = Some task; op = op.Delete; number = number }) lane))
 IsSpared task journal before after (Some (place.File path)) = get after.held path ≡ get before.held path
 
 -- ---- how an outcome leaves things
 
--- By what holds where the destination is new, where it is as before, where it was there before, and of the source of a move.
+-- By what holds where the destination is new, where it is as before, where it was there before, and of the source of a
+-- move.
 abbrev pub LeavesAs : Outcome → (new old was_there gone gone_or_there spared : Type 0) → Type 0
 LeavesAs outcome.Done new old was_there gone gone_or_there spared = new × gone
 LeavesAs (outcome.Copied cause) new old was_there gone gone_or_there spared = new × gone_or_there
@@ -121,7 +136,10 @@ LeavesAs (outcome.Unknown cause) new old was_there gone gone_or_there spared = (
 LeavesAs outcome.Dry new old was_there gone gone_or_there spared = old × spared
 LeavesAs outcome.Skipped new old was_there gone gone_or_there spared = old × was_there × spared
 
-abbrev pub IsEnded : Excused → List Event → State → List Step → Scene → Scene → ℕ → Task → Outcome → Type 0
-IsEnded excused journal start trace before after number task how =
-    LeavesAs how (IsNew excused before.held (states start trace) after task task.kind) (IsAsBefore before after task.dest) (IsThereIn before task.dest)
-    (OnTrue task.moves (IsGone trace after task.source)) (OnTrue task.moves (IsGoneOrThere before after task.source)) (OnTrue task.moves (IsSpared number journal before after task.source))
+abbrev pub IsEnded : Excused → Run → Scene → Scene → ℕ → Task → Outcome → Type 0
+IsEnded excused run before after number task how =
+    LeavesAs how (IsNew excused before.held (moments run) after task task.kind)
+    (IsAsBefore before after task.dest) (IsThereIn before task.dest)
+    (OnTrue task.moves (IsGone run.trace after task.source))
+    (OnTrue task.moves (IsGoneOrThere before after task.source))
+    (OnTrue task.moves (IsSpared number run.journal before after task.source))

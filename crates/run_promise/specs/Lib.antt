@@ -3,8 +3,10 @@ pub mod Carried
 pub mod Dispatches
 pub mod Endings
 pub mod Fits
+pub mod Gains
 pub mod Outcomes
 pub mod Planning
+pub mod Runs
 pub mod Schedule
 pub mod Settled
 pub mod Traces

@@ -1,5 +1,6 @@
 -- How a task ended, by what the talks of its jobs show: the outcome that is printed, and its cause.
-use Rattle.std.specs.Prelude.{◌≡◌, ◌≢◌, ◌⊎◌, ℕ, Bool, true, false, List, [], Option, Some, None, slice_get, codes, Contains, IsSome}
+use Rattle.std.specs.Prelude.{◌≡◌, ◌≢◌, ◌⊎◌, ℕ, Bool, true, false, List, [], Option, Some, None, slice_get, codes}
+use Rattle.std.specs.Prelude.{Contains, IsSome}
 use Rattle.s3_model.specs.declared.requests.Ask.{Ask}
 use Rattle.s3_model.specs.declared.requests.Op.{Op}
 use Rattle.s3_model.specs.declared.requests.Op.TheVariants as op
@@ -27,7 +28,8 @@ use Rattle.s3_model.specs.Maps.{MapOf}
 use Rattle.s3_model.specs.Talks.{Talk}
 use Rattle.s3_service.specs.Serves.{taken_codes}
 use Rattle.run_promise.specs.Dispatches.{Attempt, Dispatched, FitsAsk, ShowsIn, last_of}
-use Rattle.run_promise.specs.Schedule.{Setting, IsBefore, IsBeforePlace, IsDecided, IsFailed, HasReply, is_small, job_of}
+use Rattle.run_promise.specs.Schedule.{Setting, IsBefore, IsBeforePlace, IsDecided, IsFailed, HasReply, is_small}
+use Rattle.run_promise.specs.Schedule.{job_of}
 
 -- ---- requests
 
@@ -39,7 +41,8 @@ deciding kind.Copy true = op.Copy
 deciding kind.Copy false = op.Complete
 deciding of_kind small = op.Delete
 
--- the kinds of task that such a request decides; a download is decided by its Gets, and a removal of a file by a call on files
+-- the kinds of task that such a request decides; a download is decided by its Gets, and a removal of a file by a call
+-- on files
 abbrev pub IsDecidedByRequest : Kind → Type 0
 IsDecidedByRequest kind.Upload = Unit {0}
 IsDecidedByRequest kind.Copy = Unit {0}
@@ -77,11 +80,14 @@ IsFilePlace other = ⊥
 
 -- some attempt has that mark
 abbrev pub HasMark : Dispatched → Mark → Type 0
-HasMark c of_mark = (k : ℕ) × (attempt : Attempt) × (slice_get c.dispatch.attempts k ≡ Some attempt) × (attempt.mark ≡ of_mark)
+HasMark c of_mark =
+    (k : ℕ) × (attempt : Attempt) × (slice_get c.dispatch.attempts k ≡ Some attempt) × (attempt.mark ≡ of_mark)
 
 -- no later giving of the job made an attempt
 abbrev pub IsLastTried : List Dispatched → Dispatched → Type 0
-IsLastTried dispatched c = (d : Dispatched) → Contains dispatched d → d.dispatch.job ≡ c.dispatch.job → IsBefore (Some c.dispatch.given_at) d.dispatch.given_at → d.dispatch.attempts ≡ []
+IsLastTried dispatched c =
+    (d : Dispatched) → Contains dispatched d → d.dispatch.job ≡ c.dispatch.job
+    → IsBefore (Some c.dispatch.given_at) d.dispatch.given_at → d.dispatch.attempts ≡ []
 
 -- the source of a move that a request removes
 abbrev pub IsObjectPlace : Option Place → Type 0
@@ -95,7 +101,9 @@ module _ (Shows : Ask → ℕ → Talk → Class → List ℕ → Type 0) (HasSt
 
   -- the answer refuses with a code that one of these says
   abbrev pub IsRefusedWith : Dispatched → Attempt → (List ℕ → Type 0) → Type 0
-  IsRefusedWith c attempt IsSuch = (code : List ℕ) × (message : List ℕ) × (bytes : List ℕ) × ShowsIn Shows c attempt (class.Refusal code message) bytes × IsSuch code
+  IsRefusedWith c attempt IsSuch =
+      (code : List ℕ) × (message : List ℕ) × (bytes : List ℕ)
+      × ShowsIn Shows c attempt (class.Refusal code message) bytes × IsSuch code
 
   -- the source is no longer the one under that ETag
   abbrev pub SaysChanged : Dispatched → Attempt → Type 0
@@ -114,11 +122,15 @@ module _ (Shows : Ask → ℕ → Talk → Class → List ℕ → Type 0) (HasSt
   abbrev pub IsCauseOf : Dispatched → Option Attempt → Cause → Type 0
   IsCauseOf c None why = ⊥
   IsCauseOf c (Some attempt) (cause.Service of_op code message) =
-      (of_op ≡ c.dispatch.job.op) × ((bytes : List ℕ) × ShowsIn Shows c attempt (class.Refusal code message) bytes) × ¬ (SaysChanged c attempt)
-  IsCauseOf c (Some attempt) (cause.Lost of_op reason) = (of_op ≡ c.dispatch.job.op) × (reason ≢ reason_of.Memory) × (bytes : List ℕ) × ShowsIn Shows c attempt (class.Uncertain reason) bytes
+      (of_op ≡ c.dispatch.job.op) × ((bytes : List ℕ) × ShowsIn Shows c attempt (class.Refusal code message) bytes)
+      × ¬ (SaysChanged c attempt)
+  IsCauseOf c (Some attempt) (cause.Lost of_op reason) =
+      (of_op ≡ c.dispatch.job.op) × (reason ≢ reason_of.Memory) × (bytes : List ℕ)
+      × ShowsIn Shows c attempt (class.Uncertain reason) bytes
   IsCauseOf c (Some attempt) cause.Changed = SaysChanged c attempt
   IsCauseOf c (Some attempt) (cause.BadReply of_op) =
-      (of_op ≡ c.dispatch.job.op) × (answered : Reply) × (bytes : List ℕ) × ShowsIn Shows c attempt (class.Success answered) bytes × ¬ (FitsAsk c c.ask (class.Success answered))
+      (of_op ≡ c.dispatch.job.op) × (answered : Reply) × (bytes : List ℕ)
+      × ShowsIn Shows c attempt (class.Success answered) bytes × ¬ (FitsAsk c c.ask (class.Success answered))
   IsCauseOf c (Some attempt) other = ⊥
 
   abbrev pub IsLastCause : Dispatched → Cause → Type 0
@@ -137,12 +149,14 @@ module _ (Shows : Ask → ℕ → Talk → Class → List ℕ → Type 0) (HasSt
     -- no other job of the task failed before it
     abbrev pub IsFirstFailure : ℕ → Dispatched → Type 0
     IsFirstFailure n c = IsFailureOf n c
-        × ((other : Dispatched) → IsFailureOf n other → (other.dispatch ≡ c.dispatch) ⊎ IsBeforePlace c.dispatch.came_at other.dispatch.came_at)
+        × ((other : Dispatched) → IsFailureOf n other → (other.dispatch ≡ c.dispatch)
+        ⊎ IsBeforePlace c.dispatch.came_at other.dispatch.came_at)
 
     -- ---- the deciding request
 
     abbrev pub HasDeciding : ℕ → Task → Mark → Type 0
-    HasDeciding n task of_mark = (c : Dispatched) × Contains dispatched c × IsDecidingJob s n task c.dispatch.job × HasMark c of_mark
+    HasDeciding n task of_mark =
+        (c : Dispatched) × Contains dispatched c × IsDecidingJob s n task c.dispatch.job × HasMark c of_mark
 
     -- Nobody can know: some attempt of the deciding request was uncertain, and none a success.
     abbrev pub IsLeftOpen : ℕ → Task → Type 0
@@ -151,7 +165,8 @@ module _ (Shows : Ask → ℕ → Talk → Class → List ℕ → Type 0) (HasSt
     -- its Put or its Complete was refused since the object was there, without an attempt that leaves it open
     abbrev pub IsSkippedByRequest : ℕ → Task → Type 0
     IsSkippedByRequest n task = (task.fresh ≡ true) × (task.kind ≡ kind.Upload) × ¬ (HasDeciding n task mark.Uncertain)
-        × ((c : Dispatched) × Contains dispatched c × IsDecidingJob s n task c.dispatch.job × IsFirstFailure n c × IsTakenLast c (last_of c.dispatch.attempts))
+        × ((c : Dispatched) × Contains dispatched c × IsDecidingJob s n task c.dispatch.job × IsFirstFailure n c
+        × IsTakenLast c (last_of c.dispatch.attempts))
 
     -- ---- causes
 
@@ -164,8 +179,10 @@ module _ (Shows : Ask → ℕ → Talk → Class → List ℕ → Type 0) (HasSt
     FailsFor n task (cause.Files of_call) = IsCallOf task.kind of_call × CallFailed n (cause.Files of_call)
     FailsFor n task (cause.Blocked length) = (task.kind ≡ kind.Download) × CallFailed n (cause.Blocked length)
     FailsFor n task (cause.Cancelled reason) = IsSome s.cancelled_at × HasNoFailure n
-    FailsFor n task cause.Changed = ((task.kind ≡ kind.Upload) × CallFailed n cause.Changed) ⊎ FailsFirstBy n cause.Changed
-    FailsFor n task (cause.Service of_op code message) = FailsFirstBy n (cause.Service of_op code message) × ¬ (IsSkippedByRequest n task)
+    FailsFor n task cause.Changed =
+        ((task.kind ≡ kind.Upload) × CallFailed n cause.Changed) ⊎ FailsFirstBy n cause.Changed
+    FailsFor n task (cause.Service of_op code message) =
+        FailsFirstBy n (cause.Service of_op code message) × ¬ (IsSkippedByRequest n task)
     FailsFor n task why = FailsFirstBy n why
 
     -- Why the source of a move stayed: its file could not be removed, or as above.
@@ -179,11 +196,15 @@ module _ (Shows : Ask → ℕ → Talk → Class → List ℕ → Type 0) (HasSt
     -- its cause is that of the deciding request's last attempt
     abbrev pub IsOpenFor : ℕ → Task → Cause → Type 0
     IsOpenFor n task cause.Memory = s.wanted_memory (Some n) ≡ true
-    IsOpenFor n task why = (c : Dispatched) × Contains dispatched c × IsDecidingJob s n task c.dispatch.job × IsLastTried dispatched c × IsLastCause c why
+    IsOpenFor n task why =
+        (c : Dispatched) × Contains dispatched c × IsDecidingJob s n task c.dispatch.job × IsLastTried dispatched c
+        × IsLastCause c why
 
     -- which successes came
     abbrev pub came_with : JobId → Reply → Type 0
-    came_with job answered = (c : Dispatched) × Contains dispatched c × (c.dispatch.job ≡ job) × HasReply Shows c (last_of c.dispatch.attempts) answered
+    came_with job answered =
+        (c : Dispatched) × Contains dispatched c × (c.dispatch.job ≡ job)
+        × HasReply Shows c (last_of c.dispatch.attempts) answered
 
     -- the request that decides it came with success, or each Get of a download
     abbrev pub IsDecidedAt : ℕ → Task → Kind → Type 0
@@ -197,13 +218,16 @@ module _ (Shows : Ask → ℕ → Talk → Class → List ℕ → Type 0) (HasSt
 
     -- its file was there at the start, and no Get was sent
     abbrev pub IsSkippedByFile : ℕ → Task → Type 0
-    IsSkippedByFile n task = (task.fresh ≡ true) × (task.kind ≡ kind.Download) × StoodAt s.held s.others task.dest × ((c : Dispatched) → Contains dispatched c → c.dispatch.job.task ≢ Some n)
+    IsSkippedByFile n task =
+        (task.fresh ≡ true) × (task.kind ≡ kind.Download) × StoodAt s.held s.others task.dest
+        × ((c : Dispatched) → Contains dispatched c → c.dispatch.job.task ≢ Some n)
 
     -- ---- outcomes
 
     abbrev pub HasOutcome : ℕ → Task → Outcome → Type 0
     HasOutcome n task outcome.Done =
-        HasNoFailure n × IsDecidedAt n task task.kind × (task.moves ≡ true → IsObjectPlace task.source → IsSourceDeleted n task)
+        HasNoFailure n × IsDecidedAt n task task.kind
+        × (task.moves ≡ true → IsObjectPlace task.source → IsSourceDeleted n task)
         × (task.fresh ≡ true → task.kind ≡ kind.Download → ¬ (StoodAt s.held s.others task.dest))
     HasOutcome n task (outcome.Copied why) =
         (task.moves ≡ true) × IsDecidedAt n task task.kind × ¬ (IsSourceDeleted n task) × StaysFor n task why

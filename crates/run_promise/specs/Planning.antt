@@ -1,4 +1,5 @@
--- What planning has to ask, one request after the other: the entry of a single object, all buckets, listings page by page.
+-- What planning has to ask, one request after the other: the entry of a single object, all buckets, listings page by
+-- page.
 use Rattle.std.specs.Prelude.{◌≡◌, ◌⊎◌, ◌++◌, ℕ, Bool, true, false, List, [], ◌∷◌, Option, None}
 use Rattle.s3_model.specs.declared.requests.Ask.{Ask}
 use Rattle.s3_model.specs.declared.requests.Ask.TheVariants as ask
@@ -18,24 +19,28 @@ pub data Need : Type 0 where
 -- `Shows ask limit talk class bytes`: the talk has that class for the ask, and its answer that body.
 -- `IsRefusedPage prefix pages`: of these pages of the listing of that prefix the last is refused by name.
 -- `HasFault`: a fault that no request shows ended the planning. `MemoryRanOut`: memory ran out in it.
-module _ (Shows : Ask → ℕ → Talk → Class → List ℕ → Type 0) (IsRefusedPage : (prefix : List ℕ) → List Listed → Type 0) (HasFault MemoryRanOut : Type 0) where
+module _ (Shows : Ask → ℕ → Talk → Class → List ℕ → Type 0)
+    (IsRefusedPage : (prefix : List ℕ) → List Listed → Type 0) (HasFault MemoryRanOut : Type 0) where
   abbrev pub IsAnsweredBy : Dispatched → Reply → Type 0
   IsAnsweredBy c answered = HasReply Shows c (last_of c.dispatch.attempts) answered
 
   abbrev pub IsUnanswered : Dispatched → Type 0
   IsUnanswered c = (answered : Reply) → ¬ (IsAnsweredBy c answered)
 
-  -- The planning jobs, in order, ask for the needs, and nothing behind their first fault. A listing goes on at `token`, behind these pages of it.
+  -- The planning jobs, in order, ask for the needs, and nothing behind their first fault. A listing goes on at `token`,
+  -- behind these pages of it.
   abbrev pub AreAsked : List Dispatched → List Need → (pages : List Listed) → (token : Option (List ℕ)) → Type 0
   AreAsked [] needs pages token = (needs ≡ []) ⊎ ((pages ≡ []) × HasFault) ⊎ MemoryRanOut
   AreAsked (c ∷ later) [] pages token = ⊥
   AreAsked (c ∷ later) (One asked ∷ needs) pages token =
-      (c.ask ≡ asked) × (((answered : Reply) × IsAnsweredBy c answered × AreAsked later needs [] None) ⊎ (IsUnanswered c × (later ≡ [])))
+      (c.ask ≡ asked) × (((answered : Reply) × IsAnsweredBy c answered × AreAsked later needs [] None)
+      ⊎ (IsUnanswered c × (later ≡ [])))
   AreAsked (c ∷ later) (Listing bucket prefix delimited ∷ needs) pages token =
       (c.ask ≡ ask.List bucket prefix delimited token)
       × (((page : Listed) × IsAnsweredBy c (reply.Listed page)
       × ((IsRefusedPage prefix (pages ++ page ∷ []) × (later ≡ []))
-      ⊎ (¬ (IsRefusedPage prefix (pages ++ page ∷ [])) × (page.more ≡ true) × AreAsked later (Listing bucket prefix delimited ∷ needs) (pages ++ page ∷ []) page.token)
+      ⊎ (¬ (IsRefusedPage prefix (pages ++ page ∷ [])) × (page.more ≡ true)
+      × AreAsked later (Listing bucket prefix delimited ∷ needs) (pages ++ page ∷ []) page.token)
       ⊎ (¬ (IsRefusedPage prefix (pages ++ page ∷ [])) × (page.more ≡ false) × AreAsked later needs [] None)))
       ⊎ (IsUnanswered c × (later ≡ [])))
 

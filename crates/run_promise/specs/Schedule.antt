@@ -1,5 +1,7 @@
 -- Which jobs a run gives, and what each of them asks.
-use Rattle.std.specs.Prelude.{◌≡◌, ◌≢◌, ◌+◌, ◌-◌, ◌<◌, ◌≤◌, ◌++◌, ◌⊎◌, ◌||◌, ℕ, Bool, true, false, List, [], ◌∷◌, Option, Some, None, length, slice_get, Contains, AllPairs, IsPermutation, IsSome, nat_lt, is_some, filter, not}
+use Rattle.std.specs.Prelude.{◌≡◌, ◌≢◌, ◌+◌, ◌-◌, ◌<◌, ◌≤◌, ◌++◌, ◌⊎◌, ◌||◌, ℕ, Bool, true, false, List, [], ◌∷◌}
+use Rattle.std.specs.Prelude.{Option, Some, None, length, slice_get, Contains, AllPairs, IsPermutation, IsSome, nat_lt}
+use Rattle.std.specs.Prelude.{is_some, filter, not}
 use Rattle.std.specs.FinMap.{get}
 use Rattle.s3_model.specs.declared.tasks.Task.{Task}
 use Rattle.s3_model.specs.declared.places.Place.{Place}
@@ -49,11 +51,13 @@ IsUpload gained task id = gained (job_of task op.Create 0) (reply.Created id)
 -- the ETags of parts 1 to count, in order
 pub record AreETags (gained : Gained) (task : ℕ) (part : Op) (count : ℕ) (etags : List (List ℕ)) : Type 0 where
   pub each_part : length etags ≡ count
-  pub in_order : (n : ℕ) (etag : List ℕ) → slice_get etags n ≡ Some etag → gained (job_of task part (n + 1)) (reply.PartStored etag)
+  pub in_order : (n : ℕ) (etag : List ℕ) → slice_get etags n ≡ Some etag
+      → gained (job_of task part (n + 1)) (reply.PartStored etag)
 
 -- the range of a piece as a request names it, with both ends inside
 abbrev pub asked_range : ℕ → ℕ → ℕ → ℕ × ℕ
-asked_range size piece number = ((piece_range size piece number).0, (piece_range size piece number).0 + (piece_range size piece number).1 - 1)
+asked_range size piece number =
+    ((piece_range size piece number).0, (piece_range size piece number).0 + (piece_range size piece number).1 - 1)
 
 -- the greatest length of the body of a 2xx answer, in bytes, for every request but a Get
 abbrev pub most_body : ℕ
@@ -88,11 +92,13 @@ IsPart known number = (1 ≤ number) × (number ≤ known.count)
 
 abbrev pub IsComplete : Gained → Task → Known → Op → Ask → Type 0
 IsComplete gained task known part asked =
-    (to : Target task) × (id : List ℕ) × (etags : List (List ℕ)) × (spare : ℕ) × IsUpload gained known.number id × AreETags gained known.number part known.count etags
+    (to : Target task) × (id : List ℕ) × (etags : List (List ℕ)) × (spare : ℕ) × IsUpload gained known.number id
+    × AreETags gained known.number part known.count etags
     × (asked ≡ ask.Complete to.bucket to.key id (record { items = etags; spare = spare }) task.fresh)
 
 abbrev pub IsAbort : Gained → Task → Known → Ask → Type 0
-IsAbort gained task known asked = (to : Target task) × (id : List ℕ) × IsUpload gained known.number id × (asked ≡ ask.Abort to.bucket to.key id)
+IsAbort gained task known asked =
+    (to : Target task) × (id : List ℕ) × IsUpload gained known.number id × (asked ≡ ask.Abort to.bucket to.key id)
 
 abbrev pub IsSourceDelete : Task → Ask → Type 0
 IsSourceDelete task asked = (from : Origin task) × (task.moves ≡ true) × (asked ≡ ask.Delete from.bucket from.key)
@@ -100,26 +106,42 @@ IsSourceDelete task asked = (from : Origin task) × (task.moves ≡ true) × (as
 -- The ask and the body of a task's job, by the task's kind, whether it is below the threshold, and the job's op.
 -- A job with no row here is never given.
 abbrev pub IsTaskAsk : Gained → Task → Known → Kind → Bool → Op → ℕ → Ask → List ℕ → Type 0
-IsTaskAsk gained task known kind.Upload true op.Put number asked body = (to : Target task) × (number ≡ 0) × (asked ≡ ask.Put to.bucket to.key task.content task.fresh) × (body ≡ known.bytes)
-IsTaskAsk gained task known kind.Upload false op.Create number asked body = (to : Target task) × (number ≡ 0) × (asked ≡ ask.Create to.bucket to.key task.content) × (body ≡ [])
+IsTaskAsk gained task known kind.Upload true op.Put number asked body =
+    (to : Target task) × (number ≡ 0) × (asked ≡ ask.Put to.bucket to.key task.content task.fresh)
+    × (body ≡ known.bytes)
+IsTaskAsk gained task known kind.Upload false op.Create number asked body =
+    (to : Target task) × (number ≡ 0) × (asked ≡ ask.Create to.bucket to.key task.content) × (body ≡ [])
 IsTaskAsk gained task known kind.Upload false op.Part number asked body =
-    (to : Target task) × (id : List ℕ) × IsUpload gained known.number id × IsPart known number × (asked ≡ ask.Part to.bucket to.key id number) × (body ≡ piece_of known.bytes known.piece number)
-IsTaskAsk gained task known kind.Upload false op.Complete number asked body = IsComplete gained task known op.Part asked × (number ≡ 0) × (body ≡ document_of asked)
-IsTaskAsk gained task known kind.Upload false op.Abort number asked body = IsAbort gained task known asked × (number ≡ 0) × (body ≡ [])
-IsTaskAsk gained task known kind.Download true op.Get number asked body = (from : Origin task) × (number ≡ 0) × (asked ≡ ask.Get from.bucket from.key task.etag None) × (body ≡ [])
+    (to : Target task) × (id : List ℕ) × IsUpload gained known.number id × IsPart known number
+    × (asked ≡ ask.Part to.bucket to.key id number) × (body ≡ piece_of known.bytes known.piece number)
+IsTaskAsk gained task known kind.Upload false op.Complete number asked body =
+    IsComplete gained task known op.Part asked × (number ≡ 0) × (body ≡ document_of asked)
+IsTaskAsk gained task known kind.Upload false op.Abort number asked body =
+    IsAbort gained task known asked × (number ≡ 0) × (body ≡ [])
+IsTaskAsk gained task known kind.Download true op.Get number asked body =
+    (from : Origin task) × (number ≡ 0) × (asked ≡ ask.Get from.bucket from.key task.etag None) × (body ≡ [])
 IsTaskAsk gained task known kind.Download false op.Get number asked body =
-    (from : Origin task) × IsPart known number × (asked ≡ ask.Get from.bucket from.key task.etag (Some (asked_range task.size known.piece number))) × (body ≡ [])
-IsTaskAsk gained task known kind.Download small op.Delete number asked body = IsSourceDelete task asked × (number ≡ 0) × (body ≡ [])
+    (from : Origin task) × IsPart known number
+    × (asked ≡ ask.Get from.bucket from.key task.etag (Some (asked_range task.size known.piece number))) × (body ≡ [])
+IsTaskAsk gained task known kind.Download small op.Delete number asked body =
+    IsSourceDelete task asked × (number ≡ 0) × (body ≡ [])
 IsTaskAsk gained task known kind.Copy true op.Copy number asked body =
-    (to : Target task) × (from : Origin task) × (number ≡ 0) × (asked ≡ ask.Copy to.bucket to.key from.bucket from.key task.etag) × (body ≡ [])
-IsTaskAsk gained task known kind.Copy false op.Create number asked body = (to : Target task) × (number ≡ 0) × (asked ≡ ask.Create to.bucket to.key None) × (body ≡ [])
+    (to : Target task) × (from : Origin task) × (number ≡ 0)
+    × (asked ≡ ask.Copy to.bucket to.key from.bucket from.key task.etag) × (body ≡ [])
+IsTaskAsk gained task known kind.Copy false op.Create number asked body =
+    (to : Target task) × (number ≡ 0) × (asked ≡ ask.Create to.bucket to.key None) × (body ≡ [])
 IsTaskAsk gained task known kind.Copy false op.PartCopy number asked body =
     (to : Target task) × (from : Origin task) × (id : List ℕ) × IsUpload gained known.number id × IsPart known number
-    × (asked ≡ ask.PartCopy to.bucket to.key id number from.bucket from.key task.etag (asked_range task.size known.piece number)) × (body ≡ [])
-IsTaskAsk gained task known kind.Copy false op.Complete number asked body = IsComplete gained task known op.PartCopy asked × (number ≡ 0) × (body ≡ document_of asked)
-IsTaskAsk gained task known kind.Copy false op.Abort number asked body = IsAbort gained task known asked × (number ≡ 0) × (body ≡ [])
-IsTaskAsk gained task known kind.Copy small op.Delete number asked body = IsSourceDelete task asked × (number ≡ 0) × (body ≡ [])
-IsTaskAsk gained task known kind.RemoveObject small op.Delete number asked body = (to : Target task) × (number ≡ 0) × (asked ≡ ask.Delete to.bucket to.key) × (body ≡ [])
+    × (asked ≡ ask.PartCopy to.bucket to.key id number from.bucket from.key task.etag
+    (asked_range task.size known.piece number)) × (body ≡ [])
+IsTaskAsk gained task known kind.Copy false op.Complete number asked body =
+    IsComplete gained task known op.PartCopy asked × (number ≡ 0) × (body ≡ document_of asked)
+IsTaskAsk gained task known kind.Copy false op.Abort number asked body =
+    IsAbort gained task known asked × (number ≡ 0) × (body ≡ [])
+IsTaskAsk gained task known kind.Copy small op.Delete number asked body =
+    IsSourceDelete task asked × (number ≡ 0) × (body ≡ [])
+IsTaskAsk gained task known kind.RemoveObject small op.Delete number asked body =
+    (to : Target task) × (number ≡ 0) × (asked ≡ ask.Delete to.bucket to.key) × (body ≡ [])
 IsTaskAsk gained task known of_kind small of_op number asked body = ⊥
 
 -- the op of a request
@@ -146,7 +168,8 @@ is_planning c = not (is_some c.dispatch.job.task)
 abbrev pub planning_of : List Dispatched → List Dispatched
 planning_of dispatched = filter is_planning dispatched
 
--- what a run began with, what its outcomes show of file calls, and how many events of the journal stood before the run was cancelled, if it was
+-- what a run began with, what its outcomes show of file calls, and how many events of the journal stood before the run
+-- was cancelled, if it was
 pub record Setting : Type 0 where
   pub config : Config
   pub limits : Limits
@@ -203,11 +226,14 @@ abbrev pub IsDecidedBy : Kind → Bool → ℕ → ℕ → Gained → Type 0
 IsDecidedBy kind.Copy true n count gained = gained (job_of n op.Copy 0) reply.Copied
 IsDecidedBy kind.Copy false n count gained = gained (job_of n op.Complete 0) reply.Completed
 IsDecidedBy kind.Download true n count gained = (answered : Reply) × gained (job_of n op.Get 0) answered
-IsDecidedBy kind.Download false n count gained = (k : ℕ) → 1 ≤ k → k ≤ count → (answered : Reply) × gained (job_of n op.Get k) answered
+IsDecidedBy kind.Download false n count gained =
+    (k : ℕ) → 1 ≤ k → k ≤ count → (answered : Reply) × gained (job_of n op.Get k) answered
 IsDecidedBy of_kind small n count gained = ⊥
 
 abbrev pub IsDecided : Setting → Task → ℕ → Gained → Type 0
-IsDecided s task n gained = (piece count : ℕ) → HasPieces s.config s.limits task.kind task.size piece count → IsDecidedBy task.kind (is_small s task) n count gained
+IsDecided s task n gained =
+    (piece count : ℕ) → HasPieces s.config s.limits task.kind task.size piece count
+    → IsDecidedBy task.kind (is_small s task) n count gained
 
 -- what stopped a task but its own jobs: a file call that failed, or a cancel of the run
 abbrev pub IsStopped : Setting → Option ℕ → Type 0
@@ -217,66 +243,86 @@ IsStopped s task = is_stopped s task ≡ true
 module _ (Shows : Ask → ℕ → Talk → Class → List ℕ → Type 0) where
   abbrev pub HasReply : Dispatched → Option Attempt → Reply → Type 0
   HasReply c None answered = ⊥
-  HasReply c (Some attempt) answered = (attempt.mark ≡ mark.Success) × (bytes : List ℕ) × Shows c.ask c.limit attempt.talk (class.Success answered) bytes
+  HasReply c (Some attempt) answered =
+      (attempt.mark ≡ mark.Success) × (bytes : List ℕ) × Shows c.ask c.limit attempt.talk (class.Success answered) bytes
 
   -- the successes that came before a place of the journal
   abbrev pub gained_before : List Dispatched → ℕ → JobId → Reply → Type 0
   gained_before dispatched place job answered =
-      (c : Dispatched) × Contains dispatched c × (c.dispatch.job ≡ job) × IsBefore c.dispatch.came_at place × HasReply c (last_of c.dispatch.attempts) answered
+      (c : Dispatched) × Contains dispatched c × (c.dispatch.job ≡ job) × IsBefore c.dispatch.came_at place
+      × HasReply c (last_of c.dispatch.attempts) answered
 
   -- It came and was cut. `coming` are the dispatches in the order of their coming.
   abbrev pub IsCutIn : Setting → List Dispatched → Dispatched → Type 0
   IsCutIn s coming c =
       (front : List Dispatched) × (later : List Dispatched) × (coming ≡ front ++ c ∷ later)
       × IsCut Shows s.config.attempts c later
-      (IsStopped s c.dispatch.job.task ⊎ IsFailing Shows s.config.attempts c.dispatch.job.task (IsStopped s c.dispatch.job.task) later)
+      (IsStopped s c.dispatch.job.task
+      ⊎ IsFailing Shows s.config.attempts c.dispatch.job.task (IsStopped s c.dispatch.job.task) later)
 
   -- It came, was not cut, and did not do what it was to do. `coming` are the dispatches in the order of their coming.
   abbrev pub IsFailed : Setting → List Dispatched → Dispatched → Type 0
   IsFailed s coming c =
       (front : List Dispatched) × (later : List Dispatched) × (coming ≡ front ++ c ∷ later)
       × ¬ (IsCut Shows s.config.attempts c later
-      (IsStopped s c.dispatch.job.task ⊎ IsFailing Shows s.config.attempts c.dispatch.job.task (IsStopped s c.dispatch.job.task) later))
+      (IsStopped s c.dispatch.job.task
+      ⊎ IsFailing Shows s.config.attempts c.dispatch.job.task (IsStopped s c.dispatch.job.task) later))
       × ¬ (IsCompletedWell Shows c)
 
-  -- What the jobs of a run are to keep to. `dispatched` stand in the order of their Given, `coming` in that of their Came. `Plans` says of
-  -- the planning jobs, in order, that they are those that the command needs.
-  pub record IsSchedule (s : Setting) (Plans : List Dispatched → Type 0) (dispatched coming : List Dispatched) : Type 0 where
+  -- What the jobs of a run are to keep to. `dispatched` stand in the order of their Given, `coming` in that of their
+  -- Came. `Plans` says of the planning jobs, in order, that they are those that the command needs.
+  pub record IsSchedule (s : Setting) (Plans : List Dispatched → Type 0) (dispatched coming : List Dispatched)
+      : Type 0 where
     pub is_coming : IsPermutation dispatched coming
     pub in_order : AllPairs (λ (a b : Dispatched). IsBeforeAny a.dispatch.came_at b.dispatch.came_at) coming
     -- each asks what its task, the pieces and the successes before it say
     pub asks : (c : Dispatched) (n : ℕ) → Contains dispatched c → c.dispatch.job.task ≡ Some n
-        → (task : Task) × (piece : ℕ) × (count : ℕ) × (slice_get s.tasks n ≡ Some task) × HasPieces s.config s.limits task.kind task.size piece count × (c.size ≡ task.size)
+        → (task : Task) × (piece : ℕ) × (count : ℕ) × (slice_get s.tasks n ≡ Some task)
+        × HasPieces s.config s.limits task.kind task.size piece count × (c.size ≡ task.size)
         × (c.limit ≡ limit_of task.size piece c.dispatch.job.number c.ask)
-        × IsTaskAsk (gained_before dispatched c.dispatch.given_at) task (record { number = n; bytes = source_bytes s.held task.source; piece = piece; count = count })
+        × IsTaskAsk (gained_before dispatched c.dispatch.given_at) task
+        (record { number = n; bytes = source_bytes s.held task.source; piece = piece; count = count })
         task.kind (is_small s task) c.dispatch.job.op c.dispatch.job.number c.ask c.body
     pub plans : Plans (planning_of dispatched)
-    pub planned : (c : Dispatched) → Contains dispatched c → c.dispatch.job.task ≡ None → (c.limit ≡ most_body) × (c.body ≡ [])
+    pub planned : (c : Dispatched) → Contains dispatched c → c.dispatch.job.task ≡ None → (c.limit ≡ most_body)
+        × (c.body ≡ [])
     -- they are numbered from 0 and go to the first lane
     pub numbered : (k : ℕ) (c : Dispatched) → slice_get (planning_of dispatched) k ≡ Some c
         → (c.dispatch.job ≡ record { task = None; op = op_of c.ask; number = k }) × (c.dispatch.lane ≡ 0)
     -- one planning job after the other
-    pub one_by_one : AllPairs (λ (a b : Dispatched). IsBefore a.dispatch.came_at b.dispatch.given_at) (planning_of dispatched)
+    pub one_by_one : AllPairs (λ (a b : Dispatched). IsBefore a.dispatch.came_at b.dispatch.given_at)
+        (planning_of dispatched)
     -- a dry run gives no job of a task
     pub dry : (c : Dispatched) → s.dryrun ≡ true → Contains dispatched c → c.dispatch.job.task ≡ None
-    -- A job is given once. Only one of a task, no Abort, is given again, where it came without success, before a failure of its task and before a cancel.
+    -- A job is given once. Only one of a task, no Abort, is given again, where it came without success, before a
+    -- failure of its task and before a cancel.
     pub twice : AllPairs (λ (a b : Dispatched). a.dispatch.job ≡ b.dispatch.job
-        → IsBefore a.dispatch.came_at b.dispatch.given_at × ¬ (IsSuccessLast (last_of a.dispatch.attempts)) × IsBeforeAny (Some b.dispatch.given_at) s.cancelled_at
-        × ((failed : Dispatched) → IsFailed s coming failed → failed.dispatch.job.task ≡ a.dispatch.job.task → IsBeforeAny a.dispatch.came_at failed.dispatch.came_at)
+        → IsBefore a.dispatch.came_at b.dispatch.given_at × ¬ (IsSuccessLast (last_of a.dispatch.attempts))
+        × IsBeforeAny (Some b.dispatch.given_at) s.cancelled_at
+        × ((failed : Dispatched) → IsFailed s coming failed → failed.dispatch.job.task ≡ a.dispatch.job.task
+        → IsBeforeAny a.dispatch.came_at failed.dispatch.came_at)
         × IsSome a.dispatch.job.task × (a.dispatch.job.op ≢ op.Abort)) dispatched
-    pub no_third : (a b c : Dispatched) (i j k : ℕ) → i < j → j < k → slice_get dispatched i ≡ Some a → slice_get dispatched j ≡ Some b → slice_get dispatched k ≡ Some c
+    pub no_third : (a b c : Dispatched) (i j k : ℕ) → i < j → j < k → slice_get dispatched i ≡ Some a
+        → slice_get dispatched j ≡ Some b → slice_get dispatched k ≡ Some c
         → a.dispatch.job ≡ b.dispatch.job → b.dispatch.job ≡ c.dispatch.job → ⊥
     -- after a failed Came no job of its task is given but Abort
-    pub stops : (failed c : Dispatched) → IsFailed s coming failed → IsSome failed.dispatch.job.task → failed.dispatch.job.op ≢ op.Abort → Contains dispatched c
-        → c.dispatch.job.task ≡ failed.dispatch.job.task → IsBefore failed.dispatch.came_at c.dispatch.given_at → c.dispatch.job.op ≡ op.Abort
+    pub stops : (failed c : Dispatched) → IsFailed s coming failed → IsSome failed.dispatch.job.task
+        → failed.dispatch.job.op ≢ op.Abort → Contains dispatched c
+        → c.dispatch.job.task ≡ failed.dispatch.job.task → IsBefore failed.dispatch.came_at c.dispatch.given_at
+        → c.dispatch.job.op ≡ op.Abort
     -- an Abort comes after every other job of its task, exactly where Create came with success and Complete did not
-    pub abort_last : (a c : Dispatched) → Contains dispatched a → Contains dispatched c → a.dispatch.job.op ≡ op.Abort → c.dispatch.job.task ≡ a.dispatch.job.task → c.dispatch.job.op ≢ op.Abort
+    pub abort_last : (a c : Dispatched) → Contains dispatched a → Contains dispatched c → a.dispatch.job.op ≡ op.Abort
+        → c.dispatch.job.task ≡ a.dispatch.job.task → c.dispatch.job.op ≢ op.Abort
         → IsBefore c.dispatch.came_at a.dispatch.given_at
-    pub aborts : (n : ℕ) (id : List ℕ) (end : ℕ) → ((c : Dispatched) → Contains dispatched c → IsBefore c.dispatch.came_at end) → IsUpload (gained_before dispatched end) n id
+    pub aborts : (n : ℕ) (id : List ℕ) (end : ℕ)
+        → ((c : Dispatched) → Contains dispatched c → IsBefore c.dispatch.came_at end)
+        → IsUpload (gained_before dispatched end) n id
         → gained_before dispatched end (job_of n op.Complete 0) reply.Completed
         ⊎ ((a : Dispatched) × Contains dispatched a × (a.dispatch.job ≡ job_of n op.Abort 0))
-    pub completed_stays : (n : ℕ) (end : ℕ) (a : Dispatched) → Contains dispatched a → a.dispatch.job ≡ job_of n op.Abort 0
+    pub completed_stays : (n : ℕ) (end : ℕ) (a : Dispatched) → Contains dispatched a
+        → a.dispatch.job ≡ job_of n op.Abort 0
         → ¬ (gained_before dispatched end (job_of n op.Complete 0) reply.Completed)
     -- the source of a move goes only after the deciding request, or every Get, came with success
-    pub moves_last : (c : Dispatched) (n : ℕ) (task : Task) → Contains dispatched c → c.dispatch.job.task ≡ Some n → slice_get s.tasks n ≡ Some task → task.moves ≡ true → c.dispatch.job.op ≡ op.Delete
+    pub moves_last : (c : Dispatched) (n : ℕ) (task : Task) → Contains dispatched c → c.dispatch.job.task ≡ Some n
+        → slice_get s.tasks n ≡ Some task → task.moves ≡ true → c.dispatch.job.op ≡ op.Delete
         → IsDecided s task n (gained_before dispatched c.dispatch.given_at)

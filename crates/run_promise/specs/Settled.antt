@@ -1,5 +1,6 @@
 -- What of a run's setting follows from its outcomes, warnings and status, and when a run may be cancelled.
-use Rattle.std.specs.Prelude.{◌≡◌, ◌≤◌, ℕ, Bool, true, false, List, Option, Some, None, map, filter_map, slice_get, Contains, IsSome}
+use Rattle.std.specs.Prelude.{◌≡◌, ◌≤◌, ℕ, Bool, true, false, List, Option, Some, None, map, filter_map, slice_get}
+use Rattle.std.specs.Prelude.{Contains, IsSome}
 use Rattle.s3_model.specs.declared.requests.Ask.{Ask}
 use Rattle.s3_model.specs.declared.answers.Class.{Class}
 use Rattle.s3_model.specs.declared.outcomes.Cause.{Cause}
@@ -42,7 +43,8 @@ untimed_by other = None
 
 -- ---- cancels
 
--- A run is cancelled where an output failed, where its listing ended early, or memory ran out; 70 is the status of such a run.
+-- A run is cancelled where an output failed, where its listing ended early, or memory ran out; 70 is the status of such
+-- a run.
 abbrev pub MayCancel : ℕ → Type 0 → Type 0 → Reason → Type 0
 MayCancel status OutputFailed ListingEnded reason.OutputFailed = OutputFailed
 MayCancel status OutputFailed ListingEnded reason.ListingEnded = ListingEnded
@@ -51,15 +53,18 @@ MayCancel status OutputFailed ListingEnded reason.TaskFailed = ⊥
 
 -- `Shows ask limit talk class bytes`: the talk has that class for the ask, and its answer that body;
 -- `HasStatus ask limit talk status`: its answer has that HTTP status
-module _ (Shows : Ask → ℕ → Talk → Class → List ℕ → Type 0) (HasStatus : Ask → ℕ → Talk → ℕ → Type 0) (Plans : List Dispatched → Type 0) where
+module _ (Shows : Ask → ℕ → Talk → Class → List ℕ → Type 0) (HasStatus : Ask → ℕ → Talk → ℕ → Type 0)
+    (Plans : List Dispatched → Type 0) where
   -- ---- file calls that failed
 
   -- no Get, Copy or PartCopy of the task was answered so
   abbrev pub NoneSaysChanged : List Dispatched → ℕ → Type 0
-  NoneSaysChanged dispatched n = (c : Dispatched) (place : ℕ) (attempt : Attempt) → Contains dispatched c → c.dispatch.job.task ≡ Some n
+  NoneSaysChanged dispatched n =
+      (c : Dispatched) (place : ℕ) (attempt : Attempt) → Contains dispatched c → c.dispatch.job.task ≡ Some n
       → slice_get c.dispatch.attempts place ≡ Some attempt → ¬ (SaysChanged Shows HasStatus c attempt)
 
-  -- a file call of the task failed, its file gave fewer bytes than planned, or memory ran out for it, as its outcome shows
+  -- a file call of the task failed, its file gave fewer bytes than planned, or memory ran out for it, as its outcome
+  -- shows
   abbrev pub HasFileFailed : List Dispatched → ℕ → Option Outcome → Type 0
   HasFileFailed dispatched n (Some (outcome.Failed (cause.Files call))) = Unit {0}
   HasFileFailed dispatched n (Some (outcome.Failed (cause.Blocked prefix))) = Unit {0}
@@ -84,9 +89,12 @@ module _ (Shows : Ask → ℕ → Talk → Class → List ℕ → Type 0) (HasSt
     -- however the jobs of the run are read
     pub files : (dispatched coming : List Dispatched) → IsSchedule Shows shown.setting Plans dispatched coming
         → map (λ (c : Dispatched). c.dispatch) dispatched ≡ dispatches shown.journal shown.logs
-        → (n : ℕ) → (shown.setting.file_failed n ≡ true → HasFileFailed dispatched n (slice_get shown.outcomes n)) × (HasFileFailed dispatched n (slice_get shown.outcomes n) → shown.setting.file_failed n ≡ true)
+        → (n : ℕ) → (shown.setting.file_failed n ≡ true → HasFileFailed dispatched n (slice_get shown.outcomes n))
+        × (HasFileFailed dispatched n (slice_get shown.outcomes n) → shown.setting.file_failed n ≡ true)
     -- the run was cancelled only for such a reason, and a task only where the run was
-    pub cancelled : IsSome shown.setting.cancelled_at → (why : Reason) × MayCancel shown.status OutputFailed ListingEnded why
-    pub cancels : (n : ℕ) (why : Reason) → cause_of (slice_get shown.outcomes n) ≡ Some (cause.Cancelled why) → IsSome shown.setting.cancelled_at × MayCancel shown.status OutputFailed ListingEnded why
+    pub cancelled : IsSome shown.setting.cancelled_at → (why : Reason)
+        × MayCancel shown.status OutputFailed ListingEnded why
+    pub cancels : (n : ℕ) (why : Reason) → cause_of (slice_get shown.outcomes n) ≡ Some (cause.Cancelled why)
+        → IsSome shown.setting.cancelled_at × MayCancel shown.status OutputFailed ListingEnded why
     -- a dry run shows each task and does none
     pub dry : (n : ℕ) (how : Outcome) → slice_get shown.outcomes n ≡ Some how → is_dry how ≡ shown.setting.dryrun

@@ -1,5 +1,6 @@
 -- Truthful outcomes: what a run of `cp`, `mv`, `rm` and `sync` promises over every honest service.
-use Rattle.std.specs.Prelude.{◌≡◌, ◌++◌, ◌⊎◌, ℕ, Bool, true, false, List, [], ◌∷◌, Some, None, filter_map, length, slice_get, Contains, IsNone}
+use Rattle.std.specs.Prelude.{◌≡◌, ◌++◌, ◌⊎◌, ℕ, Bool, true, false, List, [], ◌∷◌, Some, None, filter_map, length}
+use Rattle.std.specs.Prelude.{slice_get, Contains, IsNone}
 use Rattle.std.specs.FinMap.{get}
 use Rattle.s3_model.specs.declared.requests.Ask.{Ask}
 use Rattle.s3_model.specs.declared.requests.Op.TheVariants as op
@@ -23,16 +24,16 @@ use Rattle.s3_service.specs.ServiceState.{State, Object, object_at, HasBucket}
 use Rattle.s3_model.specs.Files.{HeldFile}
 use Rattle.s3_service.specs.Serves.{Replied, ExternalWrite, Writes, Removes}
 use Rattle.run_promise.specs.Dispatches.{Attempt, Dispatched}
-use Rattle.run_promise.specs.Traces.{Step, Request, Begin, Serve, External, IsTrace, states, IsHonest, IsWilling, events_of, state_after, event_of}
-use Rattle.run_promise.specs.Fits.{Fits}
-use Rattle.run_promise.specs.Endings.{Excused, IsEnded, IsLeftover, IsNew, IsThereIn}
+use Rattle.run_promise.specs.Traces.{Step, SentRequest, Begin, Serve, External, IsWilling, events_of, state_after}
+use Rattle.run_promise.specs.Runs.{Run, moments, HasEndedBy, IsFitting}
+use Rattle.run_promise.specs.Endings.{Excused, Scene, IsEnded, IsLeftover, IsNew, IsThereIn}
 use Rattle.run_promise.specs.Schedule.{Setting, IsSchedule}
 use Rattle.run_promise.specs.Outcomes.{HasOutcome}
 use Rattle.run_promise.specs.Buffers.{KeepsBuffers}
 use Rattle.run_promise.specs.Carried.{IsCarried}
 
--- What a run shows: its status, the plan with its outcomes, the journal, what each wire's log and notes gained, the files before and after,
--- and what warnings except.
+-- What a run shows: its status, the plan with its outcomes, the journal, what each wire's log and notes gained, the
+-- files before and after, and what warnings except.
 pub record Shown : Type 0 where
   pub setting : Setting
   pub status : ℕ
@@ -49,54 +50,70 @@ abbrev pub IsDest : List Task → List ℕ → List ℕ → Type 0
 IsDest tasks bucket key = (task : Task) × Contains tasks task × (task.dest ≡ place.Object bucket key)
 
 abbrev pub IsMovedSource : List Task → List ℕ → List ℕ → Type 0
-IsMovedSource tasks bucket key = (task : Task) × Contains tasks task × (task.moves ≡ true) × (task.source ≡ Some (place.Object bucket key))
+IsMovedSource tasks bucket key =
+    (task : Task) × Contains tasks task × (task.moves ≡ true) × (task.source ≡ Some (place.Object bucket key))
 
 abbrev pub IsExternal : List Step → List ℕ → List ℕ → Type 0
 IsExternal trace bucket key =
-    ((object : Object) × Contains (events_of trace) (External (Writes bucket key object))) ⊎ Contains (events_of trace) (External (Removes bucket key))
+    ((object : Object) × Contains (events_of trace) (External (Writes bucket key object)))
+    ⊎ Contains (events_of trace) (External (Removes bucket key))
 
 abbrev pub IsTouchedFile : List Task → List ℕ → Type 0
 IsTouchedFile tasks path =
-    (task : Task) × Contains tasks task × ((task.dest ≡ place.File path) ⊎ (task.moves ≡ true) × (task.source ≡ Some (place.File path)))
+    (task : Task) × Contains tasks task
+    × ((task.dest ≡ place.File path) ⊎ (task.moves ≡ true) × (task.source ≡ Some (place.File path)))
 
--- ---- moments
+-- ---- what is promised of a run, once all of its journal has happened
 
--- a part of a trace that has all of the journal: up to the end of the run, or up to a step that follows it
-abbrev pub HasJournal : List Event → List Step → List Step → Type 0
-HasJournal journal trace part = (late : List Step) × (trace ≡ part ++ late) × (filter_map event_of (events_of part) ≡ journal)
+-- how things were when the run began, and how they are after a beginning of its trace
+abbrev pub shown_before : Shown → State → Scene
+shown_before shown state = record { state = state; held = shown.setting.held; others = shown.setting.others }
 
--- ---- what is promised at each of them
+abbrev pub shown_after : Shown → State → Scene
+shown_after shown state = record { state = state; held = shown.held_after; others = shown.setting.others }
 
 -- each task is as its outcome says
-abbrev pub AllEnded : Shown → State → List Step → List Step → Type 0
-AllEnded shown start trace part = (n : ℕ) (task : Task) (how : Outcome) → slice_get shown.setting.tasks n ≡ Some task → slice_get shown.outcomes n ≡ Some how
-    → IsEnded shown.excused shown.journal start trace (record { state = start; held = shown.setting.held; others = shown.setting.others }) (record { state = state_after start part; held = shown.held_after; others = shown.setting.others }) n task how
+abbrev pub AllEnded : Shown → Run → List Step → Type 0
+AllEnded shown run part = (n : ℕ) (task : Task) (how : Outcome) → slice_get shown.setting.tasks n ≡ Some task
+    → slice_get shown.outcomes n ≡ Some how
+    → IsEnded shown.excused run (shown_before shown run.start) (shown_after shown (state_after run.start part))
+    n task how
+
+-- the object is as it was at the start
+abbrev pub IsOldAfter : Run → List Step → List ℕ → List ℕ → Type 0
+IsOldAfter run part bucket key = object_at (state_after run.start part) bucket key ≡ object_at run.start bucket key
 
 -- where memory ran out before a job of a task was given, there are no outcomes, and no object is changed
-abbrev pub NoneChanged : Shown → State → List Step → List Step → Type 0
-NoneChanged shown start trace part =
-    (bucket key : List ℕ) → shown.outcomes ≡ [] → IsExternal trace bucket key ⊎ (object_at (state_after start part) bucket key ≡ object_at start bucket key)
+abbrev pub NoneChanged : Shown → Run → List Step → Type 0
+NoneChanged shown run part =
+    (bucket key : List ℕ) → shown.outcomes ≡ [] → IsExternal run.trace bucket key ⊎ IsOldAfter run part bucket key
 
 -- no other object and no other file is changed
-abbrev pub OthersStay : Shown → State → List Step → List Step → Type 0
-OthersStay shown start trace part =
-    (bucket key : List ℕ) → IsDest shown.setting.tasks bucket key ⊎ IsMovedSource shown.setting.tasks bucket key ⊎ IsExternal trace bucket key
-    ⊎ (object_at (state_after start part) bucket key ≡ object_at start bucket key)
+abbrev pub OthersStay : Shown → Run → List Step → Type 0
+OthersStay shown run part = (bucket key : List ℕ)
+    → IsDest shown.setting.tasks bucket key ⊎ IsMovedSource shown.setting.tasks bucket key
+    ⊎ IsExternal run.trace bucket key ⊎ IsOldAfter run part bucket key
 
 abbrev pub OtherFilesStay : Shown → Type 0
-OtherFilesStay shown = (path : List ℕ) → IsTouchedFile shown.setting.tasks path ⊎ IsLeftover shown.excused shown.setting.held path ⊎ (get shown.held_after path ≡ get shown.setting.held path)
+OtherFilesStay shown =
+    (path : List ℕ) → IsTouchedFile shown.setting.tasks path ⊎ IsLeftover shown.excused shown.setting.held path
+    ⊎ (get shown.held_after path ≡ get shown.setting.held path)
 
 -- the Delete of a copied source begins only once the destination is new
-abbrev pub MovesAfter : Shown → State → List Step → Type 0
-MovesAfter shown start trace =
-    (n : ℕ) (task : Task) (front later : List Step) (step : Step) (lane : ℕ) (sent : Request) → slice_get shown.setting.tasks n ≡ Some task → task.kind ≡ kind.Copy → trace ≡ front ++ step ∷ later
+abbrev pub MovesAfter : Shown → Run → Type 0
+MovesAfter shown run =
+    (n : ℕ) (task : Task) (front later : List Step) (step : Step) (lane : ℕ) (sent : SentRequest)
+    → slice_get shown.setting.tasks n ≡ Some task → task.kind ≡ kind.Copy → run.trace ≡ front ++ step ∷ later
     → step.event ≡ Begin lane sent → sent.job ≡ record { task = Some n; op = op.Delete; number = 0 }
-    → IsNew shown.excused shown.setting.held (states start trace) (record { state = step.state; held = shown.held_after; others = shown.setting.others }) task task.kind
+    → IsNew shown.excused shown.setting.held (moments run) (shown_after shown step.state) task task.kind
 
 -- an upload whose Abort was answered with success is open at no later step
 abbrev pub AbortsLast : List Step → Type 0
-AbortsLast trace = (front mid late : List Step) (step : Step) (sent : Request) (bucket key id bytes : List ℕ) → trace ≡ front ++ step ∷ (mid ++ late)
-    → step.event ≡ Serve sent (Replied reply.Gone bytes) → sent.ask ≡ ask.Abort bucket key id → IsNone (get (state_after step.state mid).uploads id)
+AbortsLast trace =
+    (front mid late : List Step) (step : Step) (sent : SentRequest) (bucket key id bytes : List ℕ)
+    → trace ≡ front ++ step ∷ (mid ++ late)
+    → step.event ≡ Serve sent (Replied reply.Gone bytes) → sent.ask ≡ ask.Abort bucket key id
+    → IsNone (get (state_after step.state mid).uploads id)
 
 -- ---- what a willing service owes
 
@@ -107,7 +124,8 @@ IsAlone trace = (write : ExternalWrite) → ¬ (Contains (events_of trace) (Exte
 abbrev pub HasDestBuckets : List Task → State → Type 0
 HasDestBuckets tasks start = (bucket key : List ℕ) → IsDest tasks bucket key → HasBucket start bucket
 
--- Done, or skipped where the task is not to replace and its destination was there; under `--dryrun` dry. Copied only where a moved file could not be removed.
+-- Done, or skipped where the task is not to replace and its destination was there; under `--dryrun` dry. Copied only
+-- where a moved file could not be removed.
 abbrev pub IsFinished : Bool → (WasTaken : Type 0) → Outcome → Type 0
 IsFinished true WasTaken how = how ≡ outcome.Dry
 IsFinished false WasTaken outcome.Done = ¬ WasTaken
@@ -122,57 +140,73 @@ MayBeFresh kind.Download = Unit {0}
 MayBeFresh other = ⊥
 
 abbrev pub WasTaken : Shown → State → ℕ → Type 0
-WasTaken shown start n = (task : Task) × (slice_get shown.setting.tasks n ≡ Some task) × (task.fresh ≡ true) × MayBeFresh task.kind
-    × IsThereIn (record { state = start; held = shown.setting.held; others = shown.setting.others }) task.dest
+WasTaken shown start n = (task : Task) × (slice_get shown.setting.tasks n ≡ Some task) × (task.fresh ≡ true)
+    × MayBeFresh task.kind × IsThereIn (shown_before shown start) task.dest
 
 -- each task has its outcome; where memory ran out before a job of a task was given, there may be none
 abbrev pub HasOutcomes : Shown → List Dispatched → Type 0
 HasOutcomes shown dispatched =
     (length shown.outcomes ≡ length shown.setting.tasks)
-    ⊎ ((shown.status ≡ 70) × (shown.outcomes ≡ []) × ((c : Dispatched) → Contains dispatched c → c.dispatch.job.task ≡ None)
+    ⊎ ((shown.status ≡ 70) × (shown.outcomes ≡ [])
+    × ((c : Dispatched) → Contains dispatched c → c.dispatch.job.task ≡ None)
     × ((path : List ℕ) → get shown.held_after path ≡ get shown.setting.held path))
 
--- `Shows ask limit talk class bytes`: the talk has that class for the ask, and its answer that body;
--- `HasStatus ask limit talk status`: its answer has that HTTP status;
--- `request_text ask body moment`: the text of a request, signed at that moment;
--- `Plans`: the planning jobs, in order, are those that the command needs;
--- `CallFailed n why`: the calls on files show that one of task n failed so
-module _ (Shows : Ask → ℕ → Talk → Class → List ℕ → Type 0) (HasStatus : Ask → ℕ → Talk → ℕ → Type 0) (request_text : Ask → List ℕ → ℕ → List ℕ) (host : List ℕ) (port : ℕ)
-    (Plans : List Dispatched → Type 0) (CallFailed : ℕ → Cause → Type 0) where
+-- `Shows ask limit talk class bytes`: the talk has that class for the ask, and its answer that body
+module _ (Shows : Ask → ℕ → Talk → Class → List ℕ → Type 0) where
+  -- a run with the journal that is shown, over an honest trace that fits
+  pub record FitsShown (shown : Shown) (run : Run) : Type 0 where
+    pub of_journal : run.journal ≡ shown.journal
+    pub fitting : IsFitting Shows shown.setting.limits run (IsDest shown.setting.tasks)
+
   -- Over every honest service, and whatever is lost, refused or late.
   abbrev pub HoldsOver : Shown → List Dispatched → Type 0
-  HoldsOver shown dispatched = (start : State) (trace part : List Step) → IsTrace shown.setting.limits [] start trace → IsHonest start trace (IsDest shown.setting.tasks)
-      → Fits Shows (events_of trace) shown.journal dispatched → HasJournal shown.journal trace part
-      → AllEnded shown start trace part × NoneChanged shown start trace part × OthersStay shown start trace part × MovesAfter shown start trace × AbortsLast trace
+  HoldsOver shown dispatched = (run : Run) (part : List Step) → run.dispatched ≡ dispatched → FitsShown shown run
+      → HasEndedBy run part
+      → AllEnded shown run part × NoneChanged shown run part × OthersStay shown run part × MovesAfter shown run
+      × AbortsLast run.trace
 
-  -- The jobs are those of the plan, the wires carried them and nothing else, each task has its outcome with the cause that the talks show,
-  -- and over every honest trace that fits it is true.
+  -- each answer says what became of its request
+  abbrev pub AreCertain : List Dispatched → Type 0
+  AreCertain dispatched = (c : Dispatched) (place : ℕ) (attempt : Attempt) (why : Why) (bytes : List ℕ)
+      → Contains dispatched c → slice_get c.dispatch.attempts place ≡ Some attempt
+      → ¬ (Shows c.ask c.limit attempt.talk (class.Uncertain why) bytes)
+
+  -- `request_text ask body moment`: the text of a request, signed at that moment;
+  -- `Plans`: the planning jobs, in order, are those that the command needs
+  module _ (request_text : Ask → List ℕ → ℕ → List ℕ) (host : List ℕ) (port : ℕ) (Plans : List Dispatched → Type 0)
+    where
+      -- However the jobs of the run are read, and over every honest service that does what it may: where each answer is
+      -- certain, nobody else writes, the buckets of the destinations are there, and the run is not cancelled, each task
+      -- is done (or skipped, see above), but one whose file call failed or for which memory ran out.
+      abbrev pub IsDoneWhereWilling : Shown → Type 0
+      IsDoneWhereWilling shown = (run : Run) (coming : List Dispatched)
+          → IsSchedule Shows shown.setting Plans run.dispatched coming
+          → IsCarried Shows request_text host port shown.setting shown.journal shown.logs shown.notes
+          run.dispatched coming
+          → FitsShown shown run → IsWilling shown.setting.limits run.start run.trace
+          → AreCertain run.dispatched → IsAlone run.trace → HasDestBuckets shown.setting.tasks run.start
+          → shown.setting.cancelled_at ≡ None
+          → (n : ℕ) (how : Outcome) → slice_get shown.outcomes n ≡ Some how
+          → IsFinished shown.setting.dryrun (WasTaken shown run.start n) how ⊎ (shown.setting.file_failed n ≡ true)
+          ⊎ (shown.setting.wanted_memory (Some n) ≡ true)
+
+-- `HasStatus ask limit talk status`: its answer has that HTTP status;
+-- `CallFailed n why`: the calls on files show that one of task n failed so
+module _ (Shows : Ask → ℕ → Talk → Class → List ℕ → Type 0) (HasStatus : Ask → ℕ → Talk → ℕ → Type 0)
+    (request_text : Ask → List ℕ → ℕ → List ℕ) (host : List ℕ) (port : ℕ)
+    (Plans : List Dispatched → Type 0) (CallFailed : ℕ → Cause → Type 0) where
+  -- The jobs are those of the plan, the wires carried them and nothing else, each task has its outcome with the cause
+  -- that the talks show, and over every honest trace that fits it is true.
   pub record IsTruthful (shown : Shown) : Type 0 where
     pub dispatched : List Dispatched
     pub coming : List Dispatched
     pub schedule : IsSchedule Shows shown.setting Plans dispatched coming
-    pub carried : IsCarried Shows request_text host port shown.setting shown.journal shown.logs shown.notes dispatched coming
+    pub carried : IsCarried Shows request_text host port shown.setting shown.journal shown.logs shown.notes
+        dispatched coming
     pub buffers : KeepsBuffers shown.setting.config.buffers shown.journal
     pub outcomes : HasOutcomes shown dispatched
-    pub causes : (n : ℕ) (task : Task) (how : Outcome) → slice_get shown.setting.tasks n ≡ Some task → slice_get shown.outcomes n ≡ Some how
+    pub causes : (n : ℕ) (task : Task) (how : Outcome) → slice_get shown.setting.tasks n ≡ Some task
+        → slice_get shown.outcomes n ≡ Some how
         → HasOutcome Shows HasStatus CallFailed shown.setting dispatched coming n task how
     pub files : OtherFilesStay shown
-    pub holds : HoldsOver shown dispatched
-
-  -- each answer says what became of its request
-  abbrev pub AreCertain : List Dispatched → Type 0
-  AreCertain dispatched = (c : Dispatched) (place : ℕ) (attempt : Attempt) (why : Why) (bytes : List ℕ) → Contains dispatched c → slice_get c.dispatch.attempts place ≡ Some attempt
-      → ¬ (Shows c.ask c.limit attempt.talk (class.Uncertain why) bytes)
-
-  -- However the jobs of the run are read, and over every honest service that does what it may: where each answer is certain, nobody else writes, the buckets
-  -- of the destinations are there, and the run is not cancelled, each task is done (or skipped, see above), but one whose file call failed or for which
-  -- memory ran out.
-  abbrev pub IsDoneWhereWilling : Shown → Type 0
-  IsDoneWhereWilling shown = (dispatched coming : List Dispatched) (start : State) (trace : List Step)
-      → IsSchedule Shows shown.setting Plans dispatched coming
-      → IsCarried Shows request_text host port shown.setting shown.journal shown.logs shown.notes dispatched coming
-      → IsTrace shown.setting.limits [] start trace → IsHonest start trace (IsDest shown.setting.tasks) → IsWilling shown.setting.limits start trace
-      → Fits Shows (events_of trace) shown.journal dispatched
-      → AreCertain dispatched → IsAlone trace → HasDestBuckets shown.setting.tasks start → shown.setting.cancelled_at ≡ None
-      → (n : ℕ) (how : Outcome) → slice_get shown.outcomes n ≡ Some how
-      → IsFinished shown.setting.dryrun (WasTaken shown start n) how ⊎ (shown.setting.file_failed n ≡ true) ⊎ (shown.setting.wanted_memory (Some n) ≡ true)
+    pub holds : HoldsOver Shows shown dispatched

@@ -15,9 +15,9 @@ use Rattle.s3_words.specs.declared.commands.Command.{Command}
 use Rattle.s3_words.specs.declared.commands.Verb.TheVariants as verb
 use Rattle.s3_words.specs.Commands.{IsCommand}
 use Rattle.upload_plans.specs.Commands.{is_presign, path_at, source_path}
-use Rattle.upload_promise.specs.Gains.{Gains}
+use Rattle.run_promise.specs.Gains.{Gains}
 use Rattle.upload_promise.specs.Sources.{LooksAt}
-use Rattle.upload_promise.proofs.GainLemmas.{gains_as, gains_nothing}
+use Rattle.run_promise.proofs.GainLemmas.{gains_as, gains_nothing}
 use Rattle.s3_main.specs.declared.run.Fatal.{Fatal}
 use Rattle.s3_main.specs.declared.run.Fatal.TheVariants as fatal
 use Rattle.s3_main.specs.declared.run.Run.{Run}

@@ -23,9 +23,9 @@ use Rattle.upload_plans.specs.Plans.{fate_of, planned_task}
 use Rattle.upload_plans.specs.declared.plan.Fate.{Fate}
 use Rattle.upload_plans.specs.declared.plan.Fate.TheVariants as fate
 use Rattle.upload_plans.proofs.FateLemmas.{large_of, task_of}
-use Rattle.upload_promise.specs.Gains.{Gains}
+use Rattle.run_promise.specs.Gains.{Gains}
 use Rattle.upload_promise.specs.Uploads.{IsReadCause, WantsJournal}
-use Rattle.upload_promise.proofs.GainLemmas.{gains_as, gains_nothing}
+use Rattle.run_promise.proofs.GainLemmas.{gains_as, gains_nothing}
 use Rattle.small_uploads.specs.Uploading.{Uploads}
 use Rattle.s3_main.specs.declared.run.Fatal.{Fatal}
 use Rattle.s3_main.specs.declared.run.Fatal.TheVariants as fatal

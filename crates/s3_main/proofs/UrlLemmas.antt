@@ -18,8 +18,8 @@ use Rattle.s3_words.specs.declared.options.OptionName.TheVariants.{ExpiresIn}
 use Rattle.s3_words.specs.Given.{value_of}
 use Rattle.s3_words.specs.Values.{seconds}
 use Rattle.upload_plans.specs.Commands.{is_presign}
-use Rattle.upload_promise.specs.Gains.{Gains}
-use Rattle.upload_promise.proofs.GainLemmas.{gains_as, gains_step}
+use Rattle.run_promise.specs.Gains.{Gains}
+use Rattle.run_promise.proofs.GainLemmas.{gains_as, gains_step}
 use Rattle.s3_model.specs.declared.outcomes.Outcome.{Outcome}
 use Rattle.s3_model.specs.declared.tasks.Mode.{Mode}
 use Rattle.s3_model.specs.declared.tasks.Task.{Task}

@@ -13,14 +13,15 @@ use Rattle.s3_model.specs.Talks.{Talk, Note, Moment, WireLog}
 use Rattle.s3_outside.specs.Env.{SeenEnv}
 use Rattle.s3_outside.specs.Files.{SeenFiles}
 use Rattle.s3_words.specs.declared.commands.Command.{Command}
-use Rattle.upload_promise.specs.Gains.{Gains}
+use Rattle.run_promise.specs.Gains.{Gains}
 use Rattle.upload_plans.specs.declared.plan.Fate.{Fate}
 use Rattle.upload_plans.specs.declared.plan.Fate.TheVariants as fate
 use Rattle.s3_main.specs.declared.execution.Executed.{Executed}
 use Rattle.s3_main.specs.declared.run.Fatal.{Fatal}
 use Rattle.s3_main.specs.declared.run.Fatal.TheVariants as fatal
 use Rattle.s3_main.specs.declared.run.Run.{Run}
-use Rattle.s3_main.specs.Plans.{HasNoTask, HasOneOutcome, HasPlan, HasUploaded, IsFate, Wants, Works, skips_of, warnings_of}
+use Rattle.s3_main.specs.Plans.{HasNoTask, HasOneOutcome, HasPlan, HasUploaded, IsFate, Wants, Works, skips_of}
+use Rattle.s3_main.specs.Plans.{warnings_of}
 use Rattle.s3_main.specs.Runs.{IsNothingPlanned, IsUnplanned}
 use Rattle.s3_main.specs.Texts.{HasTexts, IsLineOf}
 use Rattle.s3_main.specs.Urls.{IsOwn, url_line}

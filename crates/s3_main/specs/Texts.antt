@@ -1,5 +1,6 @@
 -- What a run prints.
-use Rattle.std.specs.Prelude.{◌≡◌, ◌≢◌, ◌++◌, ℕ, List, [], ◌∷◌, Option, Some, None, Result, Ok, Err, codes, flat_map, if◌then◌else◌}
+use Rattle.std.specs.Prelude.{◌≡◌, ◌≢◌, ◌++◌, ℕ, List, [], ◌∷◌, Option, Some, None, Result, Ok, Err, codes, flat_map}
+use Rattle.std.specs.Prelude.{if◌then◌else◌}
 use Rattle.s3_model.specs.declared.list.OutOfMemory.{OutOfMemory}
 use Rattle.s3_model.specs.declared.outcomes.Outcome.{Outcome}
 use Rattle.s3_model.specs.declared.tasks.Mode.{Mode}
@@ -8,7 +9,8 @@ use Rattle.s3_model.specs.declared.tasks.Warning.{Warning}
 use Rattle.result_lines.specs.declared.tasks.Line.{Line}
 use Rattle.result_lines.specs.Causes as causes
 use Rattle.result_lines.specs.Causes.{cause_text}
-use Rattle.result_lines.specs.Faults.{IsListingFault, IsPlanFault, IsWalkFault, fatal_line, listing_text, memory_line, plan_text, profile_text, program_line, unread_line, walk_text, word_text}
+use Rattle.result_lines.specs.Faults.{IsListingFault, IsPlanFault, IsWalkFault, fatal_line, listing_text, memory_line}
+use Rattle.result_lines.specs.Faults.{plan_text, profile_text, program_line, unread_line, walk_text, word_text}
 use Rattle.result_lines.specs.Tasks.{line_of}
 use Rattle.result_lines.specs.Warnings.{warning_line}
 use Rattle.s3_main.specs.declared.run.Fatal.{Fatal}

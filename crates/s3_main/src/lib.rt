@@ -1,4 +1,4 @@
-//! The top call of the program `s3`: a command line, settings, files and a service come in, and an exit status comes back.
+//! The top call of the program `s3`: words, settings, files and a service come in, and an exit status comes back.
 #![tactic(auto)]
 
 mod endings;

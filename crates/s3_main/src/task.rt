@@ -4,7 +4,7 @@ ghost use Rattle.std.specs.Prelude.{◌≡◌, ◌≤◌, [], ◌∷◌, None, I
 ghost use Rattle.result_lines.specs.Tasks.{HasShownCause, HasSource};
 ghost use Rattle.small_uploads.specs.Uploading.{IsPut};
 ghost use Rattle.upload_plans.specs.Commands.{bucket_at, key_at};
-ghost use Rattle.upload_promise.specs.Gains.{Gains};
+ghost use Rattle.run_promise.specs.Gains.{Gains};
 ghost use Rattle.upload_promise.specs.Sources.{LooksAt};
 ghost use Rattle.s3_main.specs.Plans.{HasOneOutcome, HasUploaded, IsUpload, path_of, put_ask};
 ghost use Rattle.s3_main.specs.Rooms.{HasRoom};

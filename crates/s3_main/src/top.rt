@@ -2,7 +2,7 @@
 
 ghost use Rattle.std.specs.Prelude.{◌≤◌, ◌⊎◌, map, string_bytes, vec_len, IfSome};
 ghost use Rattle.s3_model.specs.Counts.{Rose};
-ghost use Rattle.upload_promise.specs.Gains.{Gains};
+ghost use Rattle.run_promise.specs.Gains.{Gains};
 ghost use Rattle.upload_promise.specs.Sources.{LooksAt};
 ghost use Rattle.s3_main.specs.Begun.{path_in};
 ghost use Rattle.s3_main.specs.Settings.{AsksOnly};
@@ -20,11 +20,11 @@ use std::thread::Threads;
 ///
 /// By now it does `presign`, which prints a URL from the first wire's moment on and makes no talk, and `cp` of one
 /// local file to an object, which goes up in one Put (Amazon S3 API Reference, "PutObject") that is tried once, over
-/// the first wire. The other commands, a file of the settings' threshold or more, trees and dry runs are refused with 252, and so
-/// are faulty words (AWS CLI Command Reference, `s3`). The status is 253 where the settings are refused or a file of
-/// them was not read; 0 where the file is copied or left out by a filter; 1 where it failed, where nobody can know,
-/// where it is not there, is a folder or could not be looked at; 2 where it was skipped with a warning. Where memory
-/// ran out the status is 70, and after a fault of an output 74.
+/// the first wire. The other commands, a file of the settings' threshold or more, trees and dry runs are refused with
+/// 252, and so are faulty words (AWS CLI Command Reference, `s3`). The status is 253 where the settings are refused or
+/// a file of them was not read; 0 where the file is copied or left out by a filter; 1 where it failed, where nobody can
+/// know, where it is not there, is a folder or could not be looked at; 2 where it was skipped with a warning. Where
+/// memory ran out the status is 70, and after a fault of an output 74.
 pub fn run_s3<R, W, F, O, X, E>(
     rt: &R,
     alloc: Global,

@@ -2,8 +2,7 @@
 use Rattle.std.proofs.Common.{◌≡◌, ◌≢◌, ◌++◌, ◌∙◌, ◌⊎◌, ℕ, List, [], ◌∷◌, Option, Some, None, refl, sym, subst, inl, inr, Contains}
 use Rattle.answer_classes.specs.Showing.{Shows}
 use Rattle.answer_grammar.specs.Answer.{Begins}
-use Rattle.attempts.specs.Attempts as attempt
-use Rattle.attempts.specs.Attempts.{HasClass, IsOneTalk, Makes, Request, text_of}
+use Rattle.attempts.specs.Attempts.{HasClass, IsOneTalk, Makes, SignedRequest, text_of}
 use Rattle.attempts.specs.Payloads.{body_of}
 use Rattle.attempts.specs.declared.send.Attempted.{Attempted}
 use Rattle.attempts.specs.declared.send.Attempted.TheVariants as attempted
@@ -22,18 +21,12 @@ use Rattle.s3_model.specs.declared.requests.Ask.{Ask}
 use Rattle.s3_model.specs.declared.requests.Ask.TheVariants as ask
 use Rattle.s3_model.specs.declared.settings.Keys.{Keys}
 use Rattle.s3_model.specs.Talks.{Talk, Note, Moment, Began, Failed, WireLog}
-use Rattle.upload_promise.specs.Gains.{Gains}
-use Rattle.upload_promise.proofs.GainLemmas.{gains_as, gains_nothing}
+use Rattle.run_promise.specs.Gains.{Gains}
+use Rattle.run_promise.proofs.GainLemmas.{gains_as, gains_nothing}
 use Rattle.upload_promise.specs.Puts.{AreIdle, IsJudged, stored, refused, open_ended, unread}
 use Rattle.upload_promise.specs.Uploads.{Carries}
 use Rattle.upload_promise.proofs.JobLemmas.{in_none, only}
 use Rattle.small_uploads.specs.Uploading.{Carried, IsPut, outcome_of, put_journal}
-
--- the two ways to say what a wire gains say the same
-pub gains_of : (P : List Talk → List Note → Type 0) (before after : Option WireLog) → attempt.Gains before after P → Gains before after P
-gains_of P before None g = tt
-gains_of P None (Some after) g = absurd g
-gains_of P (Some before) (Some after) g = g
 
 moment_is_no_talk : (moment : ℕ) → Moment moment ≡ Began → ⊥
 moment_is_no_talk moment e = cc
@@ -49,7 +42,7 @@ refusal_is_certain : (code message : List ℕ) (reason : Why) → class.Refusal 
 refusal_is_certain code message reason e = cc
 
 module _ (endpoint : Endpoint) (keys : Keys) (asked : Ask) (body : List ℕ) where
-  abbrev request : Request
+  abbrev request : SignedRequest
   request = record { endpoint = endpoint; keys = keys; asked = asked; body = body; limit = None }
 
   abbrev text : Ask → List ℕ → ℕ → List ℕ
@@ -115,12 +108,11 @@ put_body (ask.Put bucket key content fresh) bytes is_put = refl
 put_body asked bytes is_put = absurd is_put
 
 pub attempted_put : (endpoint : Endpoint) (keys : Keys) (asked : Ask) (bytes body place : List ℕ) (result : Attempted) (before after : Option WireLog) → IsPut asked → body ≡ body_of asked bytes
-    → attempt.Gains before after (Makes (record { endpoint = endpoint; keys = keys; asked = asked; body = body; limit = None }) result place) → Gains before after (Carried endpoint keys asked bytes result)
+    → Gains before after (Makes (record { endpoint = endpoint; keys = keys; asked = asked; body = body; limit = None }) result place) → Gains before after (Carried endpoint keys asked bytes result)
 attempted_put endpoint keys asked bytes body place result before after is_put is gains =
     let same : body ≡ bytes = is ∙ put_body asked bytes is_put in
-    let made = subst (λ (of_body : List ℕ). attempt.Gains before after (Makes (record { endpoint = endpoint; keys = keys; asked = asked; body = of_body; limit = None }) result place)) same gains in
-    gains_as (Makes (record { endpoint = endpoint; keys = keys; asked = asked; body = bytes; limit = None }) result place) (Carried endpoint keys asked bytes result) (λ talks notes makes. (place, makes)) before after
-    (gains_of (Makes (record { endpoint = endpoint; keys = keys; asked = asked; body = bytes; limit = None }) result place) before after made)
+    let made = subst (λ (of_body : List ℕ). Gains before after (Makes (record { endpoint = endpoint; keys = keys; asked = asked; body = of_body; limit = None }) result place)) same gains in
+    gains_as (Makes (record { endpoint = endpoint; keys = keys; asked = asked; body = bytes; limit = None }) result place) (Carried endpoint keys asked bytes result) (λ talks notes makes. (place, makes)) before after made
 
 -- memory ran out before it
 pub silent_put : (endpoint : Endpoint) (keys : Keys) (asked : Ask) (bytes : List ℕ) (seen : Option WireLog) → Gains seen seen (Carried endpoint keys asked bytes attempted.Memory)

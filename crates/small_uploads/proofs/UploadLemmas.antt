@@ -13,17 +13,18 @@ use Rattle.s3_outside.specs.Files.{SeenFiles}
 use Rattle.upload_promise.specs.Puts.{put_job}
 use Rattle.s3_model.specs.declared.answers.Why.{Why}
 use Rattle.s3_model.specs.declared.answers.Why.TheVariants as why
+use Rattle.attempts.specs.Attempts.{tries_of}
 use Rattle.attempts.specs.declared.send.Attempted.{Attempted}
 use Rattle.attempts.specs.declared.send.Attempted.TheVariants as attempted
 use Rattle.s3_model.specs.declared.answers.Class.TheVariants as class
 use Rattle.small_uploads.specs.declared.source.ReadFault.{ReadFault}
 use Rattle.small_uploads.specs.declared.source.ReadFault.TheVariants as read
-use Rattle.upload_promise.specs.Gains.{Gains}
+use Rattle.run_promise.specs.Gains.{Gains}
 use Rattle.upload_promise.specs.Sources.{AreFirstBytes, HasFewer}
 use Rattle.upload_promise.specs.Uploads.{IsReadCause, WantsJournal, put_events}
-use Rattle.small_uploads.specs.Uploading.{Carried, Uploads, lost_cause, marks_of, outcome_of, put_journal, read_cause}
+use Rattle.small_uploads.specs.Uploading.{Carried, Uploads, lost_cause, outcome_of, put_journal, read_cause}
 use Rattle.small_uploads.proofs.AttemptLemmas.{carries}
-use Rattle.upload_promise.proofs.GainLemmas.{gains_nothing, gains_as}
+use Rattle.run_promise.proofs.GainLemmas.{gains_nothing, gains_as}
 
 -- the cause of a read that failed
 read_reason : (seen : Option SeenFiles) (path : List ℕ) (size before after : ℕ) (fault : ReadFault) → (fault ≡ read.Failed → Rose before after)
@@ -58,7 +59,7 @@ short_told T (Some files) path size fault h = λ e. h (ap Err e)
 
 -- the two events of the job
 pub journal_of : (old one two : List Event) (marks : List Mark) (result : Attempted) → old ≡ [] → one ≡ old ++ entry.Given put_job 0 ∷ [] → two ≡ one ++ entry.Came put_job 0 marks ∷ []
-    → marks ≡ marks_of result → two ≡ put_journal result
+    → marks ≡ tries_of result → two ≡ put_journal result
 journal_of old one two marks result none given came same =
     came ∙ (ap (λ (xs : List Event). xs ++ entry.Came put_job 0 marks ∷ []) (given ∙ ap (λ (xs : List Event). xs ++ entry.Given put_job 0 ∷ []) none)
     ∙ ap (λ (ms : List Mark). entry.Given put_job 0 ∷ entry.Came put_job 0 ms ∷ []) same)

@@ -1,10 +1,9 @@
 -- What became of one upload, by the reading of its file and by the attempt of its Put.
 use Rattle.std.specs.Prelude.{ℕ, List, [], ◌∷◌, Option, None}
 use Rattle.answer_classes.specs.Showing.{Shows}
-use Rattle.attempts.specs.Attempts.{Makes, text_of}
+use Rattle.attempts.specs.Attempts.{Makes, text_of, tries_of}
 use Rattle.attempts.specs.declared.send.Attempted.{Attempted}
 use Rattle.attempts.specs.declared.send.Attempted.TheVariants as attempted
-use Rattle.run_promise.specs.Carried.{mark_of}
 use Rattle.s3_model.specs.declared.answers.Class.TheVariants as class
 use Rattle.s3_model.specs.declared.answers.Why.{Why}
 use Rattle.s3_model.specs.declared.answers.Why.TheVariants as why
@@ -19,7 +18,6 @@ use Rattle.s3_model.specs.declared.requests.Ask.{Ask}
 use Rattle.s3_model.specs.declared.requests.Ask.TheVariants as ask
 use Rattle.s3_model.specs.declared.requests.Op.TheVariants as op
 use Rattle.s3_model.specs.declared.settings.Keys.{Keys}
-use Rattle.s3_model.specs.declared.tries.Mark.{Mark}
 use Rattle.s3_model.specs.Talks.{Talk, Note}
 use Rattle.s3_outside.specs.Files.{SeenFiles}
 use Rattle.upload_promise.specs.Uploads as any_service
@@ -61,10 +59,5 @@ outcome_of (attempted.Made (class.Refusal code message)) = outcome.Failed (cause
 outcome_of (attempted.Made (class.Uncertain reason)) = outcome.Unknown (lost_cause reason)
 outcome_of attempted.Memory = outcome.Failed cause.Memory
 
--- the marks of the Put
-abbrev pub marks_of : Attempted → List Mark
-marks_of attempted.Memory = []
-marks_of (attempted.Made shown) = mark_of shown ∷ []
-
 abbrev pub put_journal : Attempted → List Event
-put_journal result = put_events (marks_of result)
+put_journal result = put_events (tries_of result)

@@ -1,17 +1,14 @@
 //! The work of one upload.
 
 ghost use Rattle.std.specs.Prelude.{◌≡◌, ◌≤◌, []};
-ghost use Rattle.run_promise.specs.Carried.{mark_of};
-ghost use Rattle.upload_promise.specs.Gains.{Gains};
+ghost use Rattle.run_promise.specs.Gains.{Gains};
 ghost use Rattle.upload_promise.specs.Sources.{LooksAt};
 ghost use Rattle.upload_promise.specs.Uploads.{WantsJournal};
-ghost use Rattle.small_uploads.specs.Uploading.{Carried, IsPut, Uploads, lost_cause, marks_of, outcome_of, read_cause};
+ghost use Rattle.small_uploads.specs.Uploading.{Carried, IsPut, Uploads, lost_cause, outcome_of, read_cause};
 
 use crate::source::{ReadFault, read_whole};
-use attempts::{Attempted, Client, Payload, attempt};
-use s3_model::{
-    Ask, Bytes, Cause, Class, Event, FileCall, JobId, Journal, Mark, Op, Outcome, Tries, Why,
-};
+use attempts::{Attempted, Client, Payload, attempt, tries_of};
+use s3_model::{Ask, Bytes, Cause, Class, Event, FileCall, JobId, Journal, Op, Outcome, Why};
 use s3_outside::{Files, Wire};
 use std::alloc::Global;
 
@@ -32,26 +29,6 @@ fn read_cause(fault: ReadFault) -> Cause
         ReadFault::Short => Cause::Changed,
         ReadFault::Memory => Cause::Memory,
     }
-}
-
-fn mark_of(class: &Class) -> Mark
-    ensures { result ≡ mark_of class.now }
-{
-    match class {
-        Class::Success(_) => Mark::Success,
-        Class::Refusal { .. } => Mark::Refusal,
-        Class::Uncertain(_) => Mark::Uncertain,
-    }
-}
-
-fn tries(attempted: &Attempted) -> Tries
-    ensures { result ≡ marks_of attempted.now }
-{
-    let mut tries = Tries::none();
-    if let Attempted::Made(class) = attempted {
-        tries.add(mark_of(class));
-    }
-    tries
 }
 
 fn lost_cause(why: Why) -> Cause
@@ -130,7 +107,7 @@ pub fn upload<F: Files, W: Wire>(
     journal.push(Event::Came {
         job: PUT,
         lane: 0,
-        tries: tries(&attempted),
+        tries: tries_of(&attempted),
     });
     outcome_of(attempted)
 }

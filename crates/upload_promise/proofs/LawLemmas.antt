@@ -15,7 +15,7 @@ use Rattle.run_promise.specs.Carried.{IsCarried}
 use Rattle.run_promise.specs.Dispatches.{Dispatched, dispatches}
 use Rattle.run_promise.specs.Outcomes.{HasOutcome}
 use Rattle.run_promise.specs.Schedule.{IsSchedule, is_small}
-use Rattle.run_promise.specs.Traces.{states}
+use Rattle.run_promise.specs.Runs.{moments}
 use Rattle.run_promise.specs.Truthful.{Shown, IsTruthful, IsDoneWhereWilling}
 use Rattle.world_laws.specs.Completeness.{AreCallsCounted, AreSourcesThere}
 use Rattle.world_laws.specs.Promises.{AreFilesLeft, IsByRequests, IsOrderly}
@@ -66,7 +66,7 @@ module _ (Shows : Ask → ℕ → Talk → Class → List ℕ → Type 0) (HasSt
           questions = λ c known of_none. o.questions c (subst (λ (all : List Dispatched). Contains all c) are.0 known) of_none;
           tasks = o.tasks;
           apart = o.apart;
-          sources = λ start trace of_trace n task how at_task at_how may. o.sources (states start trace) n task at_task;
+          sources = λ run same of_shown n task how at_task at_how may. o.sources (moments run) n task at_task;
           files = o.left;
           one_class = λ n task at_task is_fresh. absurd (o.replaces n task at_task is_fresh);
           config = o.config;
@@ -86,7 +86,7 @@ module _ (Shows : Ask → ℕ → Talk → Class → List ℕ → Type 0) (HasSt
       holds = promise_holds Shows HasStatus Plans CallFailed request_text host port shown jobs jobs (orderly jobs jobs o.schedule o.carried);
     }
 
-    pub done_where_willing : IsDoneWhereWilling Shows HasStatus request_text host port Plans CallFailed shown
+    pub done_where_willing : IsDoneWhereWilling Shows request_text host port Plans shown
     done_where_willing =
         orderly_is_done Shows HasStatus Plans CallFailed request_text host port shown o.counted (λ n task at_task is_fresh. absurd (o.replaces n task at_task is_fresh)) orderly
-        (λ dispatched coming start trace scheduled carried runs honest willing alone fits. o.there start)
+        (λ run coming scheduled carried of_shown willing alone. o.there run.start)

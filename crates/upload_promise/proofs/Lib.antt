@@ -1,4 +1,3 @@
-pub mod GainLemmas
 pub mod JobLemmas
 pub mod LawLemmas
 pub mod OutcomeLemmas

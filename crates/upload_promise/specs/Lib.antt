@@ -1,4 +1,3 @@
-pub mod Gains
 pub mod Puts
 pub mod Sources
 pub mod Uploads

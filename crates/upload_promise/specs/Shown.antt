@@ -90,8 +90,7 @@ module _ (Shows : Ask → ℕ → Talk → Class → List ℕ → Type 0) (HasSt
       (warnings : List Warning) (now : SeenFiles) (shown : Shown) : Type 0 where
     pub truthful : IsTruthful Shows HasStatus request_text host port PlansNothing
         (CallFailed path now faults_before faults_after tasks) shown
-    pub willing : IsDoneWhereWilling Shows HasStatus request_text host port PlansNothing
-        (CallFailed path now faults_before faults_after tasks) shown
+    pub willing : IsDoneWhereWilling Shows request_text host port PlansNothing shown
     -- the setting is that of a run with this status and these warnings, in which no output is waited for and nothing
     -- is listed
     pub settles : IsSettingOf Shows HasStatus PlansNothing shown warnings ⊥ ⊥

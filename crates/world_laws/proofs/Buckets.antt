@@ -11,7 +11,7 @@ use Rattle.s3_model.specs.declared.settings.Limits.{Limits}
 use Rattle.s3_model.specs.Maps.{MapOf}
 use Rattle.s3_service.specs.ServiceState.{State, Object, HasBucket, objects_in}
 use Rattle.s3_service.specs.Listing.{Name, Remembers}
-use Rattle.s3_service.specs.Serves.{Succeeds, Gains, ExternalWrite, Writes, Removes, after_external}
+use Rattle.s3_service.specs.Serves.{Succeeds, StoresObject, ExternalWrite, Writes, Removes, after_external}
 use Rattle.shared_lemmas.proofs.Maps.{get-insert_other, get-insert_same, text_decided, text_exact}
 use Rattle.world_laws.proofs.Traces.{IsStable}
 
@@ -28,7 +28,7 @@ module _ (bucket : List ℕ) where
         | inr other ↦ ap (λ (found : Option (MapOf Object)). is_some found) (get-insert_other nat_list_cmp_total text_exact old.objects b inner bucket other) ∙ there
       ]
 
-  gained : (old : State) (b k bytes : List ℕ) (new : State) → Gains old b k bytes new → HasBucket old bucket → HasBucket new bucket
+  gained : (old : State) (b k bytes : List ℕ) (new : State) → StoresObject old b k bytes new → HasBucket old bucket → HasBucket new bucket
   gained old b k bytes new gains there = one_anew old new b (insert (objects_in old b) k gains.0) (ap (λ (t : State). t.objects) gains.2) there
 
   listed : (old : State) (page rest : List Name) (more : Bool) (token : Option (List ℕ)) (new : State) → Remembers old page rest more token new → HasBucket old bucket → HasBucket new bucket

@@ -38,6 +38,7 @@ use Rattle.run_promise.specs.Dispatches.{Attempt, Dispatched, last_of, op_number
 use Rattle.run_promise.specs.Endings.{IsThereIn}
 use Rattle.run_promise.specs.Fits.{request_at}
 use Rattle.run_promise.specs.Outcomes.{HasDeciding, HasOutcome, IsCauseOf, IsDecidedByRequest, IsFirstFailure, IsSkippedByFile, IsSkippedByRequest, ReadsSource, IsTakenLast, FailsFirstBy, FailsFor, StaysFor, deciding}
+use Rattle.run_promise.specs.Runs.{Run}
 use Rattle.run_promise.specs.Schedule.{Setting, IsObject, IsTaskAsk, Known, Target, gained_before, is_small, job_of, source_bytes, IsUpload}
 use Rattle.run_promise.specs.Traces.{Step, TraceEvent, Serve, IsWilling, Steps, state_after}
 use Rattle.run_promise.specs.Truthful.{Shown, AreCertain, HasDestBuckets, IsAlone, IsFinished, MayBeFresh, WasTaken}
@@ -63,7 +64,7 @@ use Rattle.world_laws.proofs.RefusedJobs.{upload_is_no_removal, part_is_no_abort
 module _ (Shows : Ask → ℕ → Talk → Class → List ℕ → Type 0) (HasStatus : Ask → ℕ → Talk → ℕ → Type 0) (Plans : List Dispatched → Type 0) (CallFailed : ℕ → Cause → Type 0)
     (request_text : Ask → List ℕ → ℕ → List ℕ) (host : List ℕ) (port : ℕ) (shown : Shown) (dispatched coming : List Dispatched)
     (o : IsOrderly Shows HasStatus Plans CallFailed request_text host port shown dispatched coming)
-    (certain : AreCertain Shows HasStatus request_text host port Plans CallFailed dispatched) (not_cancelled : shown.setting.cancelled_at ≡ None)
+    (certain : AreCertain Shows dispatched) (not_cancelled : shown.setting.cancelled_at ≡ None)
     (start : State) (trace : List Step) (p : IsTraceOf Shows shown.setting (run_of shown dispatched start trace)) (willing : IsWilling shown.setting.limits start trace) (alone : IsAlone trace)
     (buckets : HasDestBuckets shown.setting.tasks start) (sources : AreSourcesThere shown.setting.held shown.setting.tasks start) where
   abbrev s : Setting
@@ -365,10 +366,11 @@ module _ (Shows : Ask → ℕ → Talk → Class → List ℕ → Type 0) (HasSt
 
 module _ (Shows : Ask → ℕ → Talk → Class → List ℕ → Type 0) (HasStatus : Ask → ℕ → Talk → ℕ → Type 0) (Plans : List Dispatched → Type 0) (CallFailed : ℕ → Cause → Type 0) where
   pub willing_is_done : WillingIsDone Shows HasStatus Plans CallFailed
-  willing_is_done request_text host port shown dispatched coming start trace o counted fresh p willing certain alone buckets sources not_cancelled =
-      nothing_owed Shows HasStatus Plans CallFailed request_text host port shown dispatched coming o certain not_cancelled start trace p willing alone buckets sources counted fresh
+  willing_is_done request_text host port shown run coming o counted fresh of_shown willing certain alone buckets sources not_cancelled =
+      nothing_owed Shows HasStatus Plans CallFailed request_text host port shown run.dispatched coming o certain not_cancelled run.start run.trace
+      (subst (λ (r : Run). IsTraceOf Shows shown.setting r) (promises.run_is shown run.dispatched run refl of_shown.of_journal) of_shown.fitting) willing alone buckets sources counted fresh
 
   pub orderly_is_done : OrderlyIsDone Shows HasStatus Plans CallFailed
-  orderly_is_done request_text host port shown counted fresh orderly sources dispatched coming start trace scheduled carried runs honest willing fits certain alone buckets not_cancelled =
-      willing_is_done request_text host port shown dispatched coming start trace (orderly dispatched coming scheduled carried) counted fresh (record { runs = runs; honest = honest; fits = fits })
-      willing certain alone buckets (sources dispatched coming start trace scheduled carried runs honest willing alone fits) not_cancelled
+  orderly_is_done request_text host port shown counted fresh orderly sources run coming scheduled carried of_shown willing certain alone buckets not_cancelled =
+      willing_is_done request_text host port shown run coming (orderly run.dispatched coming scheduled carried) counted fresh of_shown
+      willing certain alone buckets (sources run coming scheduled carried of_shown willing alone) not_cancelled

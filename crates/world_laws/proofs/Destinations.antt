@@ -11,7 +11,7 @@ use Rattle.s3_model.specs.Talks.{Talk}
 use Rattle.s3_service.specs.ServiceState.{State, Object, object_at}
 use Rattle.s3_service.specs.Serves.{Replied, Refused, MayChange, ExternalWrite, after_external}
 use Rattle.run_promise.specs.Dispatches.{Dispatched}
-use Rattle.run_promise.specs.Traces.{Request, Step, Serve, External, IsTrace, state_after, events_of, event_of}
+use Rattle.run_promise.specs.Traces.{SentRequest, Step, Serve, External, IsTrace, state_after, events_of, event_of}
 use Rattle.run_promise.specs.Fits.{Fits, request_at}
 use Rattle.run_promise.specs.Truthful.{IsExternal}
 use Rattle.world_laws.specs.Premises.{HasCome, HasSucceeded, AllRefused}
@@ -94,12 +94,12 @@ module _ (Shows : Ask → ℕ → Talk → Class → List ℕ → Type 0) (limit
         stays old new same (inr is_new) = inr (subst IsNew (sym same) is_new)
 
     -- a success that is served leaves it new from then on
-    pub success_lands : (front : List Step) (step : Step) (rest late : List Step) (sent : Request) (answered : Reply) (bytes : List ℕ) → trace ≡ (front ++ step ∷ rest) ++ late
+    pub success_lands : (front : List Step) (step : Step) (rest late : List Step) (sent : SentRequest) (answered : Reply) (bytes : List ℕ) → trace ≡ (front ++ step ∷ rest) ++ late
         → step.event ≡ Serve sent (Replied answered bytes) → MayChange sent.ask bucket key → IsNew (object_at (state_after start (front ++ step ∷ rest)) bucket key)
     success_lands front step rest late sent answered bytes is is_event may =
         let flat : trace ≡ front ++ step ∷ (rest ++ late) = is ∙ append_assoc front (step ∷ rest) late in
         let found = success_at Shows limits start trace dispatched journal runs fits front step (rest ++ late) sent answered bytes flat is_event in
-        let may_too : MayChange found.0.ask bucket key = subst (λ (asked : Ask). MayChange asked bucket key) (ap (λ (r : Request). r.ask) found.2.is_sent) may in
+        let may_too : MayChange found.0.ask bucket key = subst (λ (asked : Ask). MayChange asked bucket key) (ap (λ (r : SentRequest). r.ask) found.2.is_sent) may in
         let here : IsNew (object_at step.state bucket key) = makes_new found.0 (state_after start front) answered bytes step.state found.1 may_too in
         let after : IsNew (object_at (state_after start (front ++ step ∷ [])) bucket key) = subst (λ (t : State). IsNew (object_at t bucket key)) (sym (state_after_step front step start)) here in
         let split : trace ≡ (front ++ step ∷ []) ++ (rest ++ late) = flat ∙ sym (append_assoc front (step ∷ []) (rest ++ late)) in

@@ -16,7 +16,8 @@ use Rattle.run_promise.specs.Traces.{Step, TraceEvent, Serve, Steps, state_after
 use Rattle.run_promise.specs.Fits.{request_at}
 use Rattle.s3_model.specs.Parts.{piece_count}
 use Rattle.run_promise.specs.Schedule.{asked_range}
-use Rattle.world_laws.specs.Premises.{Run, moments, IsFitting, IsNoPlace, HasCome}
+use Rattle.world_laws.specs.Premises.{IsNoPlace, HasCome}
+use Rattle.run_promise.specs.Runs.{Run, moments, IsFitting}
 use Rattle.world_laws.specs.SmallTransfers.{HadContent}
 use Rattle.world_laws.specs.Multipart.{joined}
 use Rattle.world_laws.specs.Downloads.{IsPartial, IsGot, GetTells, RangesTell}

@@ -11,7 +11,7 @@ use Rattle.s3_model.specs.Talks.{Talk}
 use Rattle.s3_service.specs.ServiceState.{State}
 use Rattle.s3_service.specs.Serves.{Answer, Replied, Refused}
 use Rattle.run_promise.specs.Dispatches.{Dispatched}
-use Rattle.run_promise.specs.Traces.{Request, Step, TraceEvent, Given, Begin, Serve, External, Came, IsTrace, Steps, state_after, events_of, event_of}
+use Rattle.run_promise.specs.Traces.{SentRequest, Step, TraceEvent, Given, Begin, Serve, External, Came, IsTrace, Steps, state_after, events_of, event_of}
 use Rattle.run_promise.specs.Fits.{Fits}
 use Rattle.run_promise.specs.Truthful.{IsAlone}
 use Rattle.world_laws.specs.Premises.{AreGiven}
@@ -49,7 +49,7 @@ module _ (Shows : Ask → ℕ → Talk → Class → List ℕ → Type 0) (limit
   IsKeptUntil Holds = (c : Dispatched) (old : State) (answered : Reply) (bytes : List ℕ) (new : State) → IsServed Shows limits start trace dispatched c old answered bytes new → IsGivenEarly c → Holds old → Holds new
 
   -- a request that is served was given before
-  pub served_early : (c : Dispatched) (front : List Step) (step : Step) (back : List Step) (sent : Request) (answer : Answer) → trace ≡ front ++ step ∷ back → step.event ≡ Serve sent answer
+  pub served_early : (c : Dispatched) (front : List Step) (step : Step) (back : List Step) (sent : SentRequest) (answer : Answer) → trace ≡ front ++ step ∷ back → step.event ≡ Serve sent answer
       → sent.job ≡ c.dispatch.job → IsEarly front → IsGivenEarly c
   served_early c front step back sent answer is is_event is_job early =
       let begun = fitting.served_was_begun Shows limits start trace dispatched journal runs fits front step back sent answer is is_event in
@@ -78,7 +78,7 @@ module _ (Shows : Ask → ℕ → Talk → Class → List ℕ → Type 0) (limit
         by_event (Serve sent (Replied answered bytes)) is_event steps =
             let found = fitting.success_at Shows limits start trace dispatched journal runs fits front step back sent answered bytes is is_event in
             kept found.0 (state_after start front) answered bytes step.state found.1
-            (served_early found.0 front step back sent (Replied answered bytes) is is_event (ap (λ (r : Request). r.job) found.2.is_sent) early) holds
+            (served_early found.0 front step back sent (Replied answered bytes) is is_event (ap (λ (r : SentRequest). r.job) found.2.is_sent) early) holds
 
     pub holds_on : (rest front late : List Step) → trace ≡ front ++ (rest ++ late) → IsEarly (front ++ rest) → Holds (state_after start front) → Holds (state_after start (front ++ rest))
     holds_on [] front late is early holds = subst (λ (t : List Step). Holds (state_after start t)) (sym (append-nil front)) holds

@@ -10,11 +10,11 @@ use Rattle.s3_model.specs.Maps.{MapOf}
 use Rattle.s3_service.specs.ServiceState.{objects_in, State, Object, object_at, HasBucket, with_object, without_object}
 use Rattle.s3_service.specs.Serves.{ExternalWrite, Writes, Removes}
 use Rattle.run_promise.specs.Traces.{Given, Begin, Serve, External, Came, states, events_of}
-use Rattle.run_promise.specs.Truthful.{IsExternal, HasJournal}
+use Rattle.run_promise.specs.Truthful.{IsExternal}
+use Rattle.run_promise.specs.Runs.{HasJournal, Run, IsFitting}
 use Rattle.shared_lemmas.proofs.Clashes.{some_is}
 use Rattle.shared_lemmas.proofs.Maps.{found_after_insert, found_in_empty, get-insert_other, get-insert_same, not_both, text_decided, text_exact}
 use Rattle.shared_lemmas.proofs.Members.{Has, has}
-use Rattle.world_laws.specs.Premises.{Run, IsFitting}
 use Rattle.world_laws.specs.Rounds.{Told, Round, dispatched_from, journal_of, steps_from, AreServed}
 use Rattle.world_laws.proofs.Objects.{place_decided, object_at-with_object, object_at-with_object_other, object_at-without_object, object_at-without_object_other}
 use Rattle.world_laws.proofs.Rounds.{AreApart, rounds_trace, rounds_fit}

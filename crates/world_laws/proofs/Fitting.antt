@@ -15,25 +15,25 @@ use Rattle.s3_model.specs.Talks.{Talk}
 use Rattle.s3_service.specs.ServiceState.{State, HasBucket}
 use Rattle.s3_service.specs.Serves.{Answer, Replied, Refused, Succeeds, ExternalWrite, bucket_of, after_external}
 use Rattle.run_promise.specs.Dispatches.{Attempt, Dispatched}
-use Rattle.run_promise.specs.Traces.{Request, Step, TraceEvent, Given, Begin, Serve, External, Came, IsTrace, Steps, state_after, states, events_of, event_of, begun_in}
+use Rattle.run_promise.specs.Traces.{SentRequest, Step, TraceEvent, Given, Begin, Serve, External, Came, IsTrace, Steps, state_after, states, events_of, event_of, begun_in}
 use Rattle.run_promise.specs.Fits.{Fits, IsCertain, Names, request_at, requests_from, requests_of}
-use Rattle.run_promise.specs.Truthful.{HasJournal}
+use Rattle.run_promise.specs.Runs.{HasJournal}
 use Rattle.world_laws.specs.Premises.{HasCome, HasSucceeded}
 use Rattle.shared_lemmas.proofs.Members.{contains_of, gathered, Has, has, has-append_left, has-filter_map, kept, split_at}
 use Rattle.world_laws.proofs.Traces.{begun_through, begun_from, state_after_step, step_within, event_within, has_state_after, beginning_of}
 
 -- ---- requests of a dispatch
 
-pub record IsRequestOf (c : Dispatched) (sent : Request) : Type 0 where
+pub record IsRequestOf (c : Dispatched) (sent : SentRequest) : Type 0 where
   pub place : ℕ
   pub is_sent : sent ≡ request_at c place
 
-requested : (c : Dispatched) (k : ℕ) (attempts : List Attempt) (sent : Request) → Has (requests_from c k attempts) sent → IsRequestOf c sent
+requested : (c : Dispatched) (k : ℕ) (attempts : List Attempt) (sent : SentRequest) → Has (requests_from c k attempts) sent → IsRequestOf c sent
 requested c k [] sent h = absurd h
 requested c k (attempt ∷ attempts) sent (inl e) = record { place = k; is_sent = sym e }
 requested c k (attempt ∷ attempts) sent (inr h) = requested c (k + 1) attempts sent h
 
-same_lane : (lane : ℕ) (sent : Request) → begun_in lane (Begin lane sent) ≡ Some sent
+same_lane : (lane : ℕ) (sent : SentRequest) → begun_in lane (Begin lane sent) ≡ Some sent
 same_lane lane sent = let same : (lane == lane) ≡ true = grind arith in ap (λ b. cond b (Some sent) None) same
 
 pub came_event : (event : TraceEvent) (job : JobId) (lane : ℕ) (tries : List Mark) → event_of event ≡ Some (entry.Came job lane tries) → event ≡ Came job lane tries
@@ -68,15 +68,15 @@ module _ (Shows : Ask → ℕ → Talk → Class → List ℕ → Type 0) (limit
 
   module _ (journal : List Event) (runs : IsTrace limits [] start trace) (fits : Fits Shows (events_of trace) journal dispatched) where
     -- what begins was dispatched
-    pub begin_is_dispatched : (lane : ℕ) (sent : Request) → Has (events_of trace) (Begin lane sent) → (c : Dispatched) × Contains dispatched c × IsRequestOf c sent
+    pub begin_is_dispatched : (lane : ℕ) (sent : SentRequest) → Has (events_of trace) (Begin lane sent) → (c : Dispatched) × Contains dispatched c × IsRequestOf c sent
     begin_is_dispatched lane sent h =
         let among = has-filter_map (begun_in lane) (events_of trace) (Begin lane sent) sent h (same_lane lane sent) in
-        let of_lane = subst (λ (all : List Request). Has all sent) (fits.begins lane) among in
+        let of_lane = subst (λ (all : List SentRequest). Has all sent) (fits.begins lane) among in
         let found = gathered requests_of (filter (λ (c : Dispatched). c.dispatch.lane == lane) dispatched) sent of_lane in
         (found.0, contains_of dispatched found.0 (kept (λ (c : Dispatched). c.dispatch.lane == lane) dispatched found.0 found.1), requested found.0 0 found.0.dispatch.attempts sent found.2)
 
     -- what is served was begun before
-    pub served_was_begun : (front : List Step) (step : Step) (back : List Step) (sent : Request) (answer : Answer) → trace ≡ front ++ step ∷ back → step.event ≡ Serve sent answer
+    pub served_was_begun : (front : List Step) (step : Step) (back : List Step) (sent : SentRequest) (answer : Answer) → trace ≡ front ++ step ∷ back → step.event ≡ Serve sent answer
         → (lane : ℕ) × Has (events_of front) (Begin lane sent)
     served_was_begun front step back sent answer is is_event =
         let at_step = step_within limits front step back [] start (subst (λ (t : List Step). IsTrace limits [] start t) is runs) in
@@ -90,7 +90,7 @@ module _ (Shows : Ask → ℕ → Talk → Class → List ℕ → Type 0) (limit
     happens_at front step back is = subst (λ (t : List Step). Has (events_of t) step.event) (sym is) (event_within front step back)
 
     -- a success at its step, by the dispatch that it is of
-    pub success_at : (front : List Step) (step : Step) (back : List Step) (sent : Request) (answered : Reply) (bytes : List ℕ) → trace ≡ front ++ step ∷ back
+    pub success_at : (front : List Step) (step : Step) (back : List Step) (sent : SentRequest) (answered : Reply) (bytes : List ℕ) → trace ≡ front ++ step ∷ back
         → step.event ≡ Serve sent (Replied answered bytes) → (c : Dispatched) × IsServed c (state_after start front) answered bytes step.state × IsRequestOf c sent
     success_at front step back sent answered bytes is is_event =
         let steps = subst (λ (event : TraceEvent). Steps limits (begun_through [] front) (state_after start front) event step.state) is_event (steps_at front step back is) in
@@ -103,13 +103,13 @@ module _ (Shows : Ask → ℕ → Talk → Class → List ℕ → Type 0) (limit
             attempt = told.attempt;
             is_attempt = told.is_attempt;
             names = told.names;
-            succeeds = subst (λ (s : Request). Succeeds limits (state_after start front) s.ask s.body answered bytes step.state) told.is_sent steps.1;
+            succeeds = subst (λ (s : SentRequest). Succeeds limits (state_after start front) s.ask s.body answered bytes step.state) told.is_sent steps.1;
             among = subst (λ (t : List Step). Has (states start t) (state_after start front)) (sym is) (has_state_after front (step ∷ back) start);
             front = front;
             step = step;
             back = back;
             is = is;
-            is_event = is_event ∙ ap (λ (s : Request). Serve s (Replied answered bytes)) told.is_sent;
+            is_event = is_event ∙ ap (λ (s : SentRequest). Serve s (Replied answered bytes)) told.is_sent;
             is_old = refl;
             is_new = refl;
           },
@@ -125,7 +125,7 @@ module _ (Shows : Ask → ℕ → Talk → Class → List ℕ → Type 0) (limit
         (λ write is_event there. kept_by.written write (state_after start front) (subst (λ (event : TraceEvent). Has (events_of trace) event) is_event (happens_at front step back is)) there holds)
       where
         by_event : (event : TraceEvent) → step.event ≡ event → Steps limits (begun_through [] front) (state_after start front) event step.state
-            → ((sent : Request) (answered : Reply) (bytes : List ℕ) → step.event ≡ Serve sent (Replied answered bytes) → Holds step.state)
+            → ((sent : SentRequest) (answered : Reply) (bytes : List ℕ) → step.event ≡ Serve sent (Replied answered bytes) → Holds step.state)
             → ((write : ExternalWrite) → step.event ≡ External write → HasBucket (state_after start front) (bucket_of write) → Holds (after_external write (state_after start front)))
             → Holds step.state
         by_event (Given job lane) is_event steps served written = subst Holds (sym steps) holds

@@ -29,7 +29,8 @@ use Rattle.world_laws.specs.SmallTransfers.{HasSize}
 use Rattle.world_laws.specs.Downloads.{AreGotInParts, IsGot, IsPartial}
 use Rattle.world_laws.specs.Sources.{TellsOf, IsFound}
 use Rattle.world_laws.specs.Rounds.{body_by, page_of, reply_to, Told, Round, dispatch_at, dispatched_from, journal_of, steps_from, AreServed}
-use Rattle.world_laws.specs.Premises.{Run, IsNoPlace}
+use Rattle.world_laws.specs.Premises.{IsNoPlace}
+use Rattle.run_promise.specs.Runs.{Run}
 use Rattle.run_promise.specs.Truthful.{IsDest}
 use Rattle.world_laws.proofs.ScheduleWitness.{setting_of, the_limits}
 use Rattle.world_laws.specs.Witnesses.{HeadIsMet, IsFoundMet, PageIsMet, AreRangesGot, IsMet, GetIsMet, RangesAreMet}

@@ -12,7 +12,8 @@ use Rattle.s3_service.specs.ServiceState.{State, Object, Aborted, object_at}
 use Rattle.s3_service.specs.Serves.{Succeeds, bytes_within, IsThere}
 use Rattle.run_promise.specs.Dispatches.{Dispatched}
 use Rattle.run_promise.specs.Traces.{Step, TraceEvent, IsTrace, Steps, begun_after, state_after}
-use Rattle.world_laws.specs.Premises.{Run, moments, IsFitting, IsPlace}
+use Rattle.world_laws.specs.Premises.{IsPlace}
+use Rattle.run_promise.specs.Runs.{Run, moments, IsFitting}
 use Rattle.world_laws.specs.Destinations.{IsNewOnceCome}
 use Rattle.world_laws.specs.SmallTransfers.{HadContent, IsStored}
 use Rattle.world_laws.specs.Multipart.{joined, IsCopiedInParts, AreParts, AreCopiedParts, PartsAreStored, PartsAreWhole, CopiedPartsAreStored, CopiedPartsAreWhole, AbortsAreFinal}

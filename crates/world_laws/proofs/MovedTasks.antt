@@ -25,7 +25,8 @@ use Rattle.s3_model.specs.Maps.{MapOf}
 use Rattle.s3_model.specs.Files.{HeldFile}
 use Rattle.shared_lemmas.proofs.Clashes.{some_is}
 use Rattle.shared_lemmas.proofs.Members.{contains_of, found_or_not, has_at}
-use Rattle.world_laws.specs.Premises.{Run, moments, HasEndedBy, HasSucceeded}
+use Rattle.world_laws.specs.Premises.{HasSucceeded}
+use Rattle.run_promise.specs.Runs.{Run, moments, HasEndedBy}
 use Rattle.world_laws.specs.Destinations.{AllThatChange}
 use Rattle.world_laws.specs.SmallTransfers.{AsksDelete}
 use Rattle.world_laws.specs.Tasks.{scene_after, IsRunOf, IsScheduled, IsTaskNew, MovedTaskIsNew, MovedSourceIsGone, OtherObjectsStay}

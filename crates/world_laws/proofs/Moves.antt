@@ -15,11 +15,11 @@ use Rattle.s3_model.specs.Talks.{Talk}
 use Rattle.s3_service.specs.ServiceState.{State, Object, object_at}
 use Rattle.s3_service.specs.Serves.{Replied, Succeeds, MayChange, ExternalWrite, Writes, Removes, after_external}
 use Rattle.run_promise.specs.Dispatches.{Dispatched}
-use Rattle.run_promise.specs.Traces.{Request, Step, TraceEvent, Given, Begin, Serve, External, Came, IsTrace, Steps, state_after, events_of, event_of}
+use Rattle.run_promise.specs.Traces.{SentRequest, Step, TraceEvent, Given, Begin, Serve, External, Came, IsTrace, Steps, state_after, events_of, event_of}
 use Rattle.run_promise.specs.Fits.{Fits, request_at}
 use Rattle.run_promise.specs.Endings.{IsDeleted}
-use Rattle.run_promise.specs.Truthful.{HasJournal}
-use Rattle.world_laws.specs.Premises.{moments, HasCome, HasSucceeded}
+use Rattle.run_promise.specs.Runs.{HasJournal, moments}
+use Rattle.world_laws.specs.Premises.{HasCome, HasSucceeded}
 use Rattle.world_laws.specs.Destinations.{AllThatChange, Making, Requests, IsNewOnceCome}
 use Rattle.world_laws.specs.Multipart.{AreCopiedParts, IsCopiedInParts}
 use Rattle.world_laws.specs.SmallTransfers.{AsksCopy, AsksDelete, AreAll, IsCopied}
@@ -122,7 +122,7 @@ module _ (Shows : Ask → ℕ → Talk → Class → List ℕ → Type 0) where
       → IsDeleted trace bucket key × ((object_at (state_after start part) bucket key ≡ None) ⊎ IsWritten trace bucket key)
   gone_after limits start trace part journal dispatched bucket key runs fits ours whole c known may come succeeded = (deleted, gone)
     where
-      sent : Request
+      sent : SentRequest
       sent = request_at c succeeded.place
 
       answer : (same : Reply) × IsSameReply succeeded.reply same × Has (events_of part) (Serve sent (Replied same succeeded.bytes))

@@ -17,11 +17,12 @@ use Rattle.s3_model.specs.Replies.{IsSameReply}
 use Rattle.s3_model.specs.Lists.{Reserved}
 use Rattle.s3_model.specs.Talks.{Talk}
 use Rattle.s3_service.specs.ServiceState.{State, Object, Upload, StoredPart, Ended, CompletedBy, Aborted, object_at}
-use Rattle.s3_service.specs.Serves.{Replied, Succeeds, Assembles, Completes, Gains, IsOpen, MayChange, ExternalWrite, after_external}
+use Rattle.s3_service.specs.Serves.{Replied, Succeeds, Assembles, Completes, StoresObject, IsOpen, MayChange, ExternalWrite, after_external}
 use Rattle.run_promise.specs.Dispatches.{Dispatched}
 use Rattle.run_promise.specs.Traces.{Step, TraceEvent, Serve, External, Steps, state_after, states, events_of, event_of}
 use Rattle.run_promise.specs.Fits.{request_at}
-use Rattle.world_laws.specs.Premises.{Run, IsFitting, IsPlace, HasCome}
+use Rattle.world_laws.specs.Premises.{IsPlace, HasCome}
+use Rattle.run_promise.specs.Runs.{Run, IsFitting}
 use Rattle.world_laws.specs.Destinations.{AllThatChange}
 use Rattle.world_laws.specs.Multipart.{IsCreated, CompletesHere}
 use Rattle.shared_lemmas.proofs.Maps.{found_after_insert, found_after_remove, found_in_empty, get-insert_same, not_both, nothing_is, text_exact}
@@ -198,7 +199,7 @@ module _ (Shows : Ask → ℕ → Talk → Class → List ℕ → Type 0) (limit
 
     -- a Complete that finds its upload open stores the pieces
     first_completes : (old new : State) (id : List ℕ) (etags : Reserved (List ℕ)) (upload : Upload) (whole : List ℕ) (mid : State) → Has (states start trace) old → get start.uploads id ≡ None
-        → length etags.items ≡ count → IsOpen old id bucket key upload → Completes limits upload etags.items whole → Gains old bucket key whole mid
+        → length etags.items ≡ count → IsOpen old id bucket key upload → Completes limits upload etags.items whole → StoresObject old bucket key whole mid
         → object_at new bucket key ≡ object_at mid bucket key → IsNew (object_at new bucket key)
     first_completes old new id etags upload whole mid among fresh counted is_open is_whole gains same =
         let are = assembled IsPiece upload (all_pieces old among id upload fresh is_open) 1 etags.items is_whole.0 is_whole.1 in

@@ -26,7 +26,7 @@ use Rattle.s3_service.specs.Serves.{Replied, Succeeds, IsOpen, IsVacant, bytes_w
 use Rattle.run_promise.specs.Dispatches.{Dispatched, IsSuccessLast, last_of, op_number}
 use Rattle.run_promise.specs.Fits.{request_at}
 use Rattle.run_promise.specs.Schedule.{Setting, AreETags, Gained, HasReply, IsTaskAsk, IsUpload, Known, Target, asked_range, gained_before, is_small, job_of, source_bytes}
-use Rattle.run_promise.specs.Traces.{Request, Step, TraceEvent, Serve, Steps, state_after, states, events_of, event_of}
+use Rattle.run_promise.specs.Traces.{SentRequest, Step, TraceEvent, Serve, Steps, state_after, states, events_of, event_of}
 use Rattle.run_promise.specs.Truthful.{IsAlone}
 use Rattle.shared_lemmas.proofs.Clashes.{some_is}
 use Rattle.shared_lemmas.proofs.Lists.{head_is, tail_is}
@@ -55,7 +55,7 @@ same_middle : {X : Type 0} (front : List X) (x y : X) (back back' : List X) → 
 same_middle [] x y back back' e = head_is x y back back' e
 same_middle (z ∷ front) x y back back' e = same_middle front x y back back' (tail_is z z (front ++ x ∷ back) (front ++ y ∷ back') e)
 
-same_request : (a b : Request) (x y : _) → Serve a x ≡ Serve b y → a ≡ b
+same_request : (a b : SentRequest) (x y : _) → Serve a x ≡ Serve b y → a ≡ b
 same_request a b x y e = cc
 
 same_task : (m n : ℕ) → ◌≡◌ {A = Option ℕ} (Some m) (Some n) → m ≡ n
@@ -273,7 +273,7 @@ module _ (Shows : Ask → ℕ → Talk → Class → List ℕ → Type 0) (s : S
     the_answer c known of_task said h =
         let at = (served_in trace [] (sym (append-nil trace)) c known (come_in_all c known) said h).0 in
         let found = fitting.success_at Shows s.limits start trace dispatched journal p.runs p.fits at.before at.step at.after (request_at c at.place) at.answered at.bytes at.is at.is_event in
-        let same_job : c.dispatch.job ≡ found.0.dispatch.job = ap (λ (q : Request). q.job) found.2.is_sent in
+        let same_job : c.dispatch.job ≡ found.0.dispatch.job = ap (λ (q : SentRequest). q.job) found.2.is_sent in
         let last = lasts found.0 (state_after start at.before) at.answered at.bytes at.step.state found.1 (ap (λ (j : JobId). j.task) (sym same_job) ∙ of_task) in
         let is : found.0 ≡ c = one_success found.0 c found.1.known known (sym same_job) last.succeeded (marks.replied_last Shows c (last_of c.dispatch.attempts) said h) in
         (at.answered, (subst (λ (d : Dispatched). IsLast d at.answered) is last).says)
@@ -305,7 +305,7 @@ module _ (Shows : Ask → ℕ → Talk → Class → List ℕ → Type 0) (s : S
         let same : x.0.step ≡ y.0.step = same_middle x.0.before x.0.step y.0.step x.0.after y.0.after
         (sym x.0.is ∙ y.0.is ∙ ap (λ (f : List Step). f ++ y.0.step ∷ y.0.after) (sym level)) in
         let request : request_at a.1.0 x.0.place ≡ request_at b.0 y.0.place = same_request _ _ _ _ (sym x_event ∙ ap (λ (t : Step). t.event) same ∙ y_event) in
-        same_task m n (sym (ap (λ (j : JobId). j.task) b.2) ∙ ap (λ (q : Request). q.job.task) (sym request) ∙ ap (λ (j : JobId). j.task) a.1.2)
+        same_task m n (sym (ap (λ (j : JobId). j.task) b.2) ∙ ap (λ (q : SentRequest). q.job.task) (sym request) ∙ ap (λ (j : JobId). j.task) a.1.2)
 
     -- what ends it is the task's Complete or its Abort
     abbrev pub Ends : Dispatched → Type 0

@@ -15,7 +15,7 @@ use Rattle.s3_model.specs.declared.tries.Mark.{Mark}
 use Rattle.s3_model.specs.Talks.{Talk}
 use Rattle.s3_service.specs.ServiceState.{State}
 use Rattle.run_promise.specs.Dispatches.{Dispatched, is_job}
-use Rattle.run_promise.specs.Traces.{Request, Step, TraceEvent, Given, Begin, Serve, External, Came, IsTrace, events_of, event_of, is_begin_of, marks_come}
+use Rattle.run_promise.specs.Traces.{SentRequest, Step, TraceEvent, Given, Begin, Serve, External, Came, IsTrace, events_of, event_of, is_begin_of, marks_come}
 use Rattle.run_promise.specs.Fits.{Fits}
 use Rattle.run_promise.specs.Schedule.{IsBefore}
 use Rattle.world_laws.specs.Premises.{AreGiven, HasCome}
@@ -49,11 +49,11 @@ given_decided job (Came other l t) = inr (λ lane e. clash e)
     clash e = cc
 given_decided job (Begin l sent) = inr (λ lane e. clash e)
   where
-    clash : {s : Request} {k : JobId} {l m : ℕ} → Begin l s ≡ Given k m → ⊥
+    clash : {s : SentRequest} {k : JobId} {l m : ℕ} → Begin l s ≡ Given k m → ⊥
     clash e = cc
 given_decided job (Serve sent answer) = inr (λ lane e. clash e)
   where
-    clash : {s : Request} {a : _} {k : JobId} {m : ℕ} → Serve s a ≡ Given k m → ⊥
+    clash : {s : SentRequest} {a : _} {k : JobId} {m : ℕ} → Serve s a ≡ Given k m → ⊥
     clash e = cc
 given_decided job (External write) = inr (λ lane e. clash e)
   where
@@ -64,7 +64,7 @@ given_decided job (External write) = inr (λ lane e. clash e)
 abbrev NotGiven : JobId → List TraceEvent → Type 0
 NotGiven job events = (lane : ℕ) → Has events (Given job lane) → ⊥
 
-clash_begin : (s : Request) (k : JobId) (l m : ℕ) → Begin l s ≡ Given k m → ⊥
+clash_begin : (s : SentRequest) (k : JobId) (l m : ℕ) → Begin l s ≡ Given k m → ⊥
 clash_begin s k l m e = cc
 
 module _ (job : JobId) where
@@ -75,7 +75,7 @@ module _ (job : JobId) where
   one_more : (event : TraceEvent) (events : List TraceEvent) → count_by (is_begin_of job) (event ∷ events) ≡ cond (is_begin_of job event) 1 0 + count_by (is_begin_of job) events
   one_more event events = sum_by-cons (λ (x : TraceEvent). cond (is_begin_of job x) 1 0) event events
 
-  count_some : (events : List TraceEvent) (lane : ℕ) (sent : Request) → sent.job ≡ job → Has events (Begin lane sent) → 1 ≤ count_by (is_begin_of job) events
+  count_some : (events : List TraceEvent) (lane : ℕ) (sent : SentRequest) → sent.job ≡ job → Has events (Begin lane sent) → 1 ≤ count_by (is_begin_of job) events
   count_some [] lane sent same h = absurd h
   count_some (event ∷ events) lane sent same (inl e) =
       let test : is_begin_of job event ≡ true = ap (is_begin_of job) e ∙ ap (is_job job) same ∙ job_itself job in
@@ -148,7 +148,7 @@ module _ (Shows : Ask → ℕ → Talk → Class → List ℕ → Type 0) (limit
     ]
 
     -- a job whose request has begun and that was not given is never given
-    never_given : (rest front : List TraceEvent) (lane : ℕ) (sent : Request) → events_of trace ≡ front ++ rest → NotGiven job front → sent.job ≡ job → Has front (Begin lane sent) → (other : ℕ) → Has rest (Given job other) → ⊥
+    never_given : (rest front : List TraceEvent) (lane : ℕ) (sent : SentRequest) → events_of trace ≡ front ++ rest → NotGiven job front → sent.job ≡ job → Has front (Begin lane sent) → (other : ℕ) → Has rest (Given job other) → ⊥
     never_given [] front lane sent is never same begun other h = h
     never_given (event ∷ rest) front lane sent is never same begun other h = elim (given_decided job event) [
       | inl here ↦
@@ -169,7 +169,7 @@ module _ (Shows : Ask → ℕ → Talk → Class → List ℕ → Type 0) (limit
         later one all l apart (inr g) = g
 
     -- a request that begins is of a job that was given before
-    begun_was_given : (front : List Step) (step : Step) (back : List Step) (lane : ℕ) (sent : Request) → trace ≡ front ++ step ∷ back → step.event ≡ Begin lane sent → sent.job ≡ job
+    begun_was_given : (front : List Step) (step : Step) (back : List Step) (lane : ℕ) (sent : SentRequest) → trace ≡ front ++ step ∷ back → step.event ≡ Begin lane sent → sent.job ≡ job
         → (other : ℕ) × Has (events_of front) (Given job other)
     begun_was_given front step back lane sent is is_event same =
         elim (any_decided (λ (event : TraceEvent). (other : ℕ) × (event ≡ Given job other)) (λ event. decided event) (events_of front)) [
@@ -195,7 +195,7 @@ module _ (Shows : Ask → ℕ → Talk → Class → List ℕ → Type 0) (limit
             let in_events : events_of trace ≡ events_of front ++ step.event ∷ events_of back = ap events_of is ∙ map-append (λ (s : Step). s.event) front (step ∷ back) in
             let begins : Has (events_of trace) (Begin lane sent) = subst (λ (event : TraceEvent). Has (events_of trace) event) is_event (subst (λ (t : List Step). Has (events_of t) step.event) (sym is) (event_within front step back)) in
             let of = begin_is_dispatched Shows limits start trace dispatched journal runs fits lane sent begins in
-            let of_job : of.0.dispatch.job ≡ job = sym (ap (λ (r : Request). r.job) of.2.is_sent) ∙ same in
+            let of_job : of.0.dispatch.job ≡ job = sym (ap (λ (r : SentRequest). r.job) of.2.is_sent) ∙ same in
             let at = given.given of.0 of.1 in
             let all : length journal ≡ length (filter_map event_of (events_of trace)) = ap length (sym fits.moves) in
             let inside = slice_get_within journal of.0.dispatch.given_at (entry.Given of.0.dispatch.job of.0.dispatch.lane) at in
@@ -208,7 +208,7 @@ module _ (Shows : Ask → ℕ → Talk → Class → List ℕ → Type 0) (limit
             ]
 
   -- so its dispatch was given at a place that the journal has reached
-  pub begun_is_after : (front : List Step) (step : Step) (back : List Step) (lane : ℕ) (sent : Request) → trace ≡ front ++ step ∷ back → step.event ≡ Begin lane sent
+  pub begun_is_after : (front : List Step) (step : Step) (back : List Step) (lane : ℕ) (sent : SentRequest) → trace ≡ front ++ step ∷ back → step.event ≡ Begin lane sent
       → (c : Dispatched) × Contains dispatched c × (c.dispatch.job ≡ sent.job) × (c.dispatch.given_at < length (filter_map event_of (events_of front)))
   begun_is_after front step back lane sent is is_event =
       let was = begun_was_given sent.job front step back lane sent is is_event refl in
@@ -226,7 +226,7 @@ module _ (Shows : Ask → ℕ → Talk → Class → List ℕ → Type 0) (limit
 
   -- a request of a job that is given only after another came begins only after that
   pub begins_after : (c : Dispatched) (job : JobId) → HasCome journal c → ((d : Dispatched) → Contains dispatched d → d.dispatch.job ≡ job → IsBefore c.dispatch.came_at d.dispatch.given_at)
-      → (front : List Step) (step : Step) (back : List Step) (lane : ℕ) (sent : Request) → trace ≡ front ++ step ∷ back → step.event ≡ Begin lane sent → sent.job ≡ job
+      → (front : List Step) (step : Step) (back : List Step) (lane : ℕ) (sent : SentRequest) → trace ≡ front ++ step ∷ back → step.event ≡ Begin lane sent → sent.job ≡ job
       → HasCome (filter_map event_of (events_of front)) c
   begins_after c job come waits front step back lane sent is is_event same =
       let of = begun_is_after front step back lane sent is is_event in

@@ -34,7 +34,7 @@ use Rattle.shared_lemmas.proofs.Clashes.{false_true, some_is}
 use Rattle.shared_lemmas.proofs.Members.{Has, has}
 use Rattle.world_laws.specs.ExampleTasks.{upload, moved_copy, removal}
 use Rattle.world_laws.specs.Completeness.{AreSourcesThere}
-use Rattle.world_laws.specs.Premises.{IsFitting}
+use Rattle.run_promise.specs.Runs.{IsFitting, moments}
 use Rattle.world_laws.specs.Promises.{IsByRequests, IsOrderly, ShowsOneClass}
 use Rattle.world_laws.specs.Rounds.{AreNone, AreServed, NeverFailed, Round, Told, ToldStatus, attempt_of, class_by, dispatch_at, ending_by, dispatched_from, journal_of, mark_by, no_text, steps_from}
 use Rattle.world_laws.specs.Tasks.{AreApart, HasSource, MayBeNew}
@@ -95,10 +95,10 @@ module _ (held : MapOf HeldFile) (task : Task) (how : Outcome) (rounds : List Ro
     questions = λ c known none. absurd (planned c known none);
     tasks = λ n other is_task. subst (λ (t : Task). IsByRequests t) (sym (one_task task n other is_task).1) by_requests;
     apart = tasks_apart;
-    sources = λ first trace traced n other ended is_task at_how may.
+    sources = λ over same fitting n other ended is_task at_how may.
         let one = one_task task n other is_task in
         let level : how ≡ ended = some_is how ended (ap (slice_get (how ∷ [])) (sym one.0) ∙ at_how) in
-        subst (λ (t : Task). HasSource (setting_with held task).held (states first trace) t t.kind (is_small (setting_with held task) t)) (sym one.1) (sourced (states first trace) (subst MayBeNew (sym level) may));
+        subst (λ (t : Task). HasSource (setting_with held task).held (moments over) t t.kind (is_small (setting_with held task) t)) (sym one.1) (sourced (moments over) (subst MayBeNew (sym level) may));
     files = λ n other ended path is_task at_how moves is_source.
         let one = one_task task n other is_task in
         absurd (no_file path (ap (λ (t : Task). t.moves) (sym one.1) ∙ moves) (ap (λ (t : Task). t.source) (sym one.1) ∙ is_source));
@@ -119,8 +119,8 @@ module _ (held : MapOf HeldFile) (task : Task) (how : Outcome) (rounds : List Ro
 -- ---- what a willing service owes
 
 module _ (rounds : List Round) (start : State) where
-  pub certain_at : (port : ℕ) → AreCertain Told ToldStatus no_text [] port AreNone NeverFailed (dispatched_from 0 rounds)
-  certain_at port c at attempt why bytes known slot told =
+  pub certain_at : AreCertain Told (dispatched_from 0 rounds)
+  certain_at c at attempt why bytes known slot told =
       let found = round_of rounds 0 c (has (dispatched_from 0 rounds) c known) in
       let here : slice_get (attempt_of found.0 ∷ []) at ≡ Some attempt = subst (λ (d : Dispatched). slice_get d.dispatch.attempts at ≡ Some attempt) (sym found.3) slot in
       let only : attempt_of found.0 ≡ attempt = some_is (attempt_of found.0) attempt (ap (slice_get (attempt_of found.0 ∷ [])) (sym (first_attempt found.0 at attempt here)) ∙ here) in
@@ -220,7 +220,7 @@ module _ (bucket key from_bucket from_key etag : List ℕ) (apart : (from_bucket
       met = done_met;
       counted = λ n why ended never. absurd never;
       willing = willing_trace;
-      certain = certain_at rounds start 0;
+      certain = certain_at rounds start;
       alone = alone_trace rounds start;
       buckets = bucket_of start copy_task bucket key refl (bucket_is_there the_limits bucket key from_bucket from_key etag);
       sources = sources_there;

@@ -10,6 +10,7 @@ use Rattle.s3_model.specs.declared.requests.Op.TheVariants as op
 use Rattle.s3_model.specs.declared.answers.Class.{Class}
 use Rattle.s3_model.specs.declared.answers.Reply.{Reply}
 use Rattle.s3_model.specs.declared.answers.Reply.TheVariants as reply
+use Rattle.s3_model.specs.declared.outcomes.Event.{Event}
 use Rattle.s3_model.specs.declared.outcomes.Event.TheVariants as entry
 use Rattle.s3_model.specs.declared.outcomes.JobId.{JobId}
 use Rattle.s3_model.specs.declared.outcomes.Cause.{Cause}
@@ -30,8 +31,8 @@ use Rattle.run_promise.specs.Fits.{Fits}
 use Rattle.run_promise.specs.Outcomes.{HasDeciding, HasOutcome, IsDecidedAt, IsDecidedByRequest, IsObjectPlace, IsTakenLast, IsSkippedByFile, IsSkippedByRequest, deciding}
 use Rattle.run_promise.specs.Schedule.{Setting, Gained, IsDecidedBy, IsTaskAsk, gained_before, is_planning, is_small, job_of, planning_of, source_bytes}
 use Rattle.run_promise.specs.Traces.{Step, IsHonest, IsTrace, events_of, state_after, states}
-use Rattle.run_promise.specs.Truthful.{Shown, AbortsLast, AllEnded, HasJournal, IsDest, MovesAfter, NoneChanged, OthersStay}
-use Rattle.world_laws.specs.Premises.{Run}
+use Rattle.run_promise.specs.Truthful.{Shown, AbortsLast, AllEnded, FitsShown, IsDest, MovesAfter, NoneChanged, OthersStay}
+use Rattle.run_promise.specs.Runs.{HasEndedBy, HasJournal, Run}
 use Rattle.world_laws.specs.Promises.{run_of, CarriedIsGiven, IsByRequests, IsCarriedOut, IsFileLeft, IsOrderly, PromiseHolds}
 use Rattle.world_laws.specs.Tasks.{AreQuestions, HasSource, IsDecidedIn, IsRefusedIn, IsRunOf, IsScheduled, IsShown, IsSourceGone, IsTakenIn, IsTraceOf, IsConditional, MayBeNew}
 use Rattle.world_laws.proofs.Carried.{are_given, has_come, is_scheduled}
@@ -55,6 +56,28 @@ decided_by kind.Upload small n count gained by h = absurd h
 decided_by kind.RemoveObject small n count gained by h = absurd h
 decided_by kind.Download small n count gained by h = absurd by
 decided_by kind.RemoveFile small n count gained by h = absurd by
+
+-- ---- a run that is shown
+
+abbrev with_journal : Run → List Event → Run
+with_journal run journal = record { start = run.start; trace = run.trace; journal = journal; dispatched = run.dispatched }
+
+-- it is the one of its start and its trace
+pub run_is : (shown : Shown) (dispatched : List Dispatched) (run : Run) → run.dispatched ≡ dispatched → run.journal ≡ shown.journal → run ≡ run_of shown dispatched run.start run.trace
+run_is shown dispatched run same is = ap (with_journal run) is ∙ ap (λ (all : List Dispatched). run_of shown all run.start run.trace) same
+
+abbrev pub IsAllTrue : Shown → Run → List Step → Type 0
+IsAllTrue shown run part = AllEnded shown run part × NoneChanged shown run part × OthersStay shown run part × MovesAfter shown run × AbortsLast run.trace
+
+-- so what holds of that one holds of it
+pub as_shown : (Shows : Ask → ℕ → Talk → Class → List ℕ → Type 0) (shown : Shown) (dispatched : List Dispatched) (run : Run) (part : List Step)
+    → run.dispatched ≡ dispatched → FitsShown Shows shown run → HasEndedBy run part
+    → (IsTraceOf Shows shown.setting (run_of shown dispatched run.start run.trace) → HasJournal shown.journal run.trace part → IsAllTrue shown (run_of shown dispatched run.start run.trace) part)
+    → IsAllTrue shown run part
+as_shown Shows shown dispatched run part same of_shown whole holds =
+    let is = run_is shown dispatched run same of_shown.of_journal in
+    subst (λ (r : Run). IsAllTrue shown r part) (sym is)
+    (holds (subst (λ (r : Run). IsTraceOf Shows shown.setting r) is of_shown.fitting) (subst (λ (r : Run). HasEndedBy r part) is whole))
 
 -- ---- what is carried
 
@@ -296,12 +319,12 @@ module _ (Shows : Ask → ℕ → Talk → Class → List ℕ → Type 0) (HasSt
     -- a task that requests decide, with its source as planned
     pub task_ended : (n : ℕ) (task : Task) (how : Outcome) (is_task : slice_get s.tasks n ≡ Some task) (by : IsByRequests task) → slice_get shown.outcomes n ≡ Some how → FileIsLeft n task is_task by how
         → (MayBeNew how → HasSource s.held (states start trace) task task.kind (is_small s task))
-        → IsEnded shown.excused shown.journal start trace (record { state = start; held = s.held; others = s.others }) (record { state = state_after start part; held = shown.held_after; others = s.others }) n task how
+        → IsEnded shown.excused run (record { state = start; held = s.held; others = s.others }) (record { state = state_after start part; held = shown.held_after; others = s.others }) n task how
     task_ended n task how is_task by at_how left source =
         task_ends Shows s shown.excused shown.held_after run part of_plan whole n task by.bucket by.key is_task by.is_dest how source
         (shown_by n task is_task by how left (o.causes n task how is_task at_how) start part)
 
-    pub none_changed : NoneChanged shown start trace part
+    pub none_changed : NoneChanged shown run part
     none_changed bucket key none = elim (others_stay Shows s.limits start trace dispatched shown.journal runs fits bucket key part whole.0 whole.1) [
       | inr rest ↦ rest
       | inl asked ↦ elim (found_or_not asked.0.dispatch.job.task) [
@@ -310,13 +333,13 @@ module _ (Shows : Ask → ℕ → Talk → Class → List ℕ → Type 0) (HasSt
       ]
     ]
 
-    pub others : OthersStay shown start trace part
+    pub others : OthersStay shown run part
     others bucket key = other_objects_stay Shows s run part bucket key of_plan (whole.0, whole.1)
 
     -- where its copies are by requests, with their sources as planned
     pub moves_after : ((n : ℕ) (task : Task) → slice_get s.tasks n ≡ Some task → task.kind ≡ kind.Copy → IsByRequests task)
         → ((n : ℕ) (task : Task) (how : Outcome) → slice_get s.tasks n ≡ Some task → task.kind ≡ kind.Copy → slice_get shown.outcomes n ≡ Some how → MayBeNew how
-        → HasSource s.held (states start trace) task task.kind (is_small s task)) → MovesAfter shown start trace
+        → HasSource s.held (states start trace) task task.kind (is_small s task)) → MovesAfter shown run
     moves_after by_each sources n task front later step lane sent is_task is_copy split is_event is_delete =
         let by = by_each n task is_task is_copy in
         let begun = begun_is_after Shows s.limits start trace dispatched shown.journal runs fits scheduled.given front step later lane sent split is_event in
@@ -352,24 +375,31 @@ module _ (Shows : Ask → ℕ → Talk → Class → List ℕ → Type 0) (HasSt
 
   module _ (start : State) (trace part : List Step) (runs : IsTrace shown.setting.limits [] start trace) (honest : IsHonest start trace (IsDest shown.setting.tasks)) (fits : Fits Shows (events_of trace) shown.journal dispatched)
       (whole : HasJournal shown.journal trace part) where
-    pub all_ended : AllEnded shown start trace part
+    abbrev shown_run : Run
+    shown_run = run_of shown dispatched start trace
+
+    of_shown : FitsShown Shows shown shown_run
+    of_shown = record { of_journal = refl; fitting = record { runs = runs; honest = honest; fits = fits } }
+
+    pub all_ended : AllEnded shown shown_run part
     all_ended n task how is_task at_how =
         task_ended Shows HasStatus Plans CallFailed request_text host port shown dispatched coming carried_out start trace part runs honest fits whole n task how is_task (o.tasks n task is_task) at_how
         (λ path moves is_source. o.files n task how path is_task at_how moves is_source)
-        (λ may. o.sources start trace (record { runs = runs; honest = honest; fits = fits }) n task how is_task at_how may)
+        (λ may. o.sources shown_run refl of_shown n task how is_task at_how may)
 
-    all_true : AllEnded shown start trace part × NoneChanged shown start trace part × OthersStay shown start trace part × MovesAfter shown start trace × AbortsLast trace
+    pub all_true : IsAllTrue shown shown_run part
     all_true = (
       all_ended,
       none_changed Shows HasStatus Plans CallFailed request_text host port shown dispatched coming carried_out start trace part runs honest fits whole,
       others Shows HasStatus Plans CallFailed request_text host port shown dispatched coming carried_out start trace part runs honest fits whole,
       moves_after Shows HasStatus Plans CallFailed request_text host port shown dispatched coming carried_out start trace part runs honest fits whole
           (λ n task is_task is_copy. o.tasks n task is_task)
-          (λ n task how is_task is_copy at_how may. o.sources start trace (record { runs = runs; honest = honest; fits = fits }) n task how is_task at_how may),
+          (λ n task how is_task is_copy at_how may. o.sources shown_run refl of_shown n task how is_task at_how may),
       aborts_are_final shown.setting.limits start trace runs,
     )
 
 module _ (Shows : Ask → ℕ → Talk → Class → List ℕ → Type 0) (HasStatus : Ask → ℕ → Talk → ℕ → Type 0) (Plans : List Dispatched → Type 0) (CallFailed : ℕ → Cause → Type 0) where
   pub promise_holds : PromiseHolds Shows HasStatus Plans CallFailed
-  promise_holds request_text host port shown dispatched coming o start trace part runs honest fits whole =
-      all_true Shows HasStatus Plans CallFailed request_text host port shown dispatched coming o start trace part runs honest fits whole
+  promise_holds request_text host port shown dispatched coming o run part same of_shown whole =
+      as_shown Shows shown dispatched run part same of_shown whole
+      (λ fitting ended. all_true Shows HasStatus Plans CallFailed request_text host port shown dispatched coming o run.start run.trace part fitting.runs fitting.honest fitting.fits ended)

@@ -156,7 +156,7 @@ same_answer a b x y e = cc
 module _ (Shows : Ask → ℕ → Talk → Class → List ℕ → Type 0) (HasStatus : Ask → ℕ → Talk → ℕ → Type 0) (Plans : List Dispatched → Type 0) (CallFailed : ℕ → Cause → Type 0)
     (request_text : Ask → List ℕ → ℕ → List ℕ) (host : List ℕ) (port : ℕ) (shown : Shown) (dispatched coming : List Dispatched)
     (o : IsOrderly Shows HasStatus Plans CallFailed request_text host port shown dispatched coming)
-    (certain : AreCertain Shows HasStatus request_text host port Plans CallFailed dispatched) (not_cancelled : shown.setting.cancelled_at ≡ None)
+    (certain : AreCertain Shows dispatched) (not_cancelled : shown.setting.cancelled_at ≡ None)
     (start : State) (trace : List Step) (p : IsTraceOf Shows shown.setting (run_of shown dispatched start trace)) (willing : IsWilling shown.setting.limits start trace) (alone : IsAlone trace)
     (buckets : HasDestBuckets shown.setting.tasks start) (sources : AreSourcesThere shown.setting.held shown.setting.tasks start) where
   abbrev pub s : Setting

@@ -7,7 +7,7 @@ use Rattle.s3_model.specs.declared.answers.Reply.TheVariants as reply
 use Rattle.s3_model.specs.declared.settings.Limits.{Limits}
 use Rattle.s3_service.specs.ServiceState.{State, object_at, with_object, without_object}
 use Rattle.s3_service.specs.Listing.{Name, Remembers}
-use Rattle.s3_service.specs.Serves.{Succeeds, MayChange, Gains, ExternalWrite, Writes, Removes, after_external}
+use Rattle.s3_service.specs.Serves.{Succeeds, MayChange, StoresObject, ExternalWrite, Writes, Removes, after_external}
 use Rattle.world_laws.proofs.Objects.{object_at-with_object_other, object_at-without_object_other, place_decided}
 
 -- an external write is of this place
@@ -34,7 +34,7 @@ module _ (bucket key : List ℕ) where
   unchanged : (old new : State) → new ≡ old → object_at new bucket key ≡ object_at old bucket key
   unchanged old new same = ap (λ (t : State). object_at t bucket key) same
 
-  gained_elsewhere : (old : State) (b k bytes : List ℕ) (new : State) → Gains old b k bytes new → ((b ≡ bucket) × (k ≡ key) → ⊥) → object_at new bucket key ≡ object_at old bucket key
+  gained_elsewhere : (old : State) (b k bytes : List ℕ) (new : State) → StoresObject old b k bytes new → ((b ≡ bucket) × (k ≡ key) → ⊥) → object_at new bucket key ≡ object_at old bucket key
   gained_elsewhere old b k bytes new gains apart = unchanged (with_object old b k gains.0) new gains.2 ∙ object_at-with_object_other old b k gains.0 bucket key apart
 
   listing_leaves : (old : State) (page rest : List Name) (more : Bool) (token : Option (List ℕ)) (new : State) → Remembers old page rest more token new → object_at new bucket key ≡ object_at old bucket key

@@ -19,7 +19,7 @@ use Rattle.s3_model.specs.declared.tries.Mark.{Mark}
 use Rattle.s3_service.specs.ServiceState.{State}
 use Rattle.s3_service.specs.Serves.{Answer}
 use Rattle.run_promise.specs.Dispatches.{Attempt, Dispatched, is_job}
-use Rattle.run_promise.specs.Traces.{Request, TraceEvent, Given, Begin, Serve, Came, IsTrace, IsSameAttempt, events_of, event_of, begun_in, served_in, is_begin_of, marks_come}
+use Rattle.run_promise.specs.Traces.{SentRequest, TraceEvent, Given, Begin, Serve, Came, IsTrace, IsSameAttempt, events_of, event_of, begun_in, served_in, is_begin_of, marks_come}
 use Rattle.run_promise.specs.Fits.{Fits, Names, request_at, requests_of}
 use Rattle.shared_lemmas.proofs.Clashes.{some_is}
 use Rattle.shared_lemmas.proofs.Lists.{head_is, tail_is}
@@ -33,19 +33,19 @@ use Rattle.world_laws.proofs.Jobs.{job_itself}
 given_came : {j k : JobId} {l m : ℕ} {t : List Mark} → Given j l ≡ Came k m t → ⊥
 given_came e = cc
 
-begin_came : {s : Request} {k : JobId} {l m : ℕ} {t : List Mark} → Begin l s ≡ Came k m t → ⊥
+begin_came : {s : SentRequest} {k : JobId} {l m : ℕ} {t : List Mark} → Begin l s ≡ Came k m t → ⊥
 begin_came e = cc
 
-serve_came : {s : Request} {a : Answer} {k : JobId} {m : ℕ} {t : List Mark} → Serve s a ≡ Came k m t → ⊥
+serve_came : {s : SentRequest} {a : Answer} {k : JobId} {m : ℕ} {t : List Mark} → Serve s a ≡ Came k m t → ⊥
 serve_came e = cc
 
-begin_given : {s : Request} {k : JobId} {l m : ℕ} → Begin l s ≡ Given k m → ⊥
+begin_given : {s : SentRequest} {k : JobId} {l m : ℕ} → Begin l s ≡ Given k m → ⊥
 begin_given e = cc
 
-serve_given : {s : Request} {a : Answer} {k : JobId} {m : ℕ} → Serve s a ≡ Given k m → ⊥
+serve_given : {s : SentRequest} {a : Answer} {k : JobId} {m : ℕ} → Serve s a ≡ Given k m → ⊥
 serve_given e = cc
 
-begin_serve : {s u : Request} {a : Answer} {l : ℕ} → Begin l s ≡ Serve u a → ⊥
+begin_serve : {s u : SentRequest} {a : Answer} {l : ℕ} → Begin l s ≡ Serve u a → ⊥
 begin_serve e = cc
 
 came_job : {j k : JobId} {l m : ℕ} {t u : List Mark} → Came j l t ≡ Came k m u → j ≡ k
@@ -54,10 +54,10 @@ came_job e = cc
 came_tries : {j k : JobId} {l m : ℕ} {t u : List Mark} → Came j l t ≡ Came k m u → t ≡ u
 came_tries e = cc
 
-serve_sent : {s t : Request} {a b : Answer} → Serve s a ≡ Serve t b → s ≡ t
+serve_sent : {s t : SentRequest} {a b : Answer} → Serve s a ≡ Serve t b → s ≡ t
 serve_sent e = cc
 
-serve_answer : {s t : Request} {a b : Answer} → Serve s a ≡ Serve t b → a ≡ b
+serve_answer : {s t : SentRequest} {a b : Answer} → Serve s a ≡ Serve t b → a ≡ b
 serve_answer e = cc
 
 empty_is : (front : List TraceEvent) (x : TraceEvent) (back : List TraceEvent) → [] ≡ front ++ x ∷ back → ⊥
@@ -78,7 +78,7 @@ round_of (r ∷ rounds) place c (inr h) = let rest = round_of rounds (place + 2)
 
 -- ---- the trace
 
-pub rounds_trace : (limits : Limits) (rounds : List Round) (place : ℕ) (begun : List Request) (old : State) → AreServed limits old rounds → IsTrace limits begun old (steps_from place old rounds)
+pub rounds_trace : (limits : Limits) (rounds : List Round) (place : ℕ) (begun : List SentRequest) (old : State) → AreServed limits old rounds → IsTrace limits begun old (steps_from place old rounds)
 rounds_trace limits [] place begun old served = tt
 rounds_trace limits (r ∷ rounds) place begun old served =
     (refl, (refl, (((0, omega arith, refl), served.0), (refl, rounds_trace limits rounds (place + 2) (request_at (dispatch_at place r) 0 ∷ begun) r.after served.1))))
@@ -90,7 +90,7 @@ moves (r ∷ rounds) place old = ap (λ (j : List Event). entry.Given r.job 0 �
 begins : (lane : ℕ) (rounds : List Round) (place : ℕ) (old : State)
     → filter_map (begun_in lane) (events_of (steps_from place old rounds)) ≡ flat_map requests_of (filter (λ (c : Dispatched). c.dispatch.lane == lane) (dispatched_from place rounds))
 begins lane [] place old = refl
-begins zero (r ∷ rounds) place old = ap (λ (all : List Request). request_at (dispatch_at place r) 0 ∷ all) (begins zero rounds (place + 2) r.after)
+begins zero (r ∷ rounds) place old = ap (λ (all : List SentRequest). request_at (dispatch_at place r) 0 ∷ all) (begins zero rounds (place + 2) r.after)
 begins (suc lane) (r ∷ rounds) place old =
     let a : (suc lane == 0) ≡ false = grind arith in
     let b : (0 == suc lane) ≡ false = grind arith in
@@ -174,7 +174,7 @@ until_came (r ∷ rounds) place old (a ∷ b ∷ c ∷ d ∷ front) back job lan
 -- ---- what is served
 
 -- each served request is that of a round, with its answer
-pub record IsOfRound (rounds : List Round) (place : ℕ) (sent : Request) (answer : Answer) : Type 0 where
+pub record IsOfRound (rounds : List Round) (place : ℕ) (sent : SentRequest) (answer : Answer) : Type 0 where
   pub round : Round
   pub among : Has rounds round
   pub at : ℕ
@@ -182,7 +182,7 @@ pub record IsOfRound (rounds : List Round) (place : ℕ) (sent : Request) (answe
   pub is_sent : sent ≡ request_at (dispatch_at at round) 0
   pub is_answer : answer ≡ answer_by round.refused round.ask round.got round.size
 
-served_is : (rounds : List Round) (place : ℕ) (old : State) (sent : Request) (answer : Answer) → Has (events_of (steps_from place old rounds)) (Serve sent answer) → IsOfRound rounds place sent answer
+served_is : (rounds : List Round) (place : ℕ) (old : State) (sent : SentRequest) (answer : Answer) → Has (events_of (steps_from place old rounds)) (Serve sent answer) → IsOfRound rounds place sent answer
 served_is [] place old sent answer h = absurd h
 served_is (r ∷ rounds) place old sent answer (inl e) = absurd (serve_given (sym e))
 served_is (r ∷ rounds) place old sent answer (inr (inl e)) = absurd (begin_serve e)
@@ -207,12 +207,12 @@ names_answer false asked got size shown bytes answer told is = rw (told.0, told.
 
 -- ---- each is served once
 
-sent_by : (rounds : List Round) (place : ℕ) (old : State) (sent : Request) → Has (filter_map served_in (events_of (steps_from place old rounds))) sent → (r : Round) × Has rounds r × (sent.job ≡ r.job)
+sent_by : (rounds : List Round) (place : ℕ) (old : State) (sent : SentRequest) → Has (filter_map served_in (events_of (steps_from place old rounds))) sent → (r : Round) × Has rounds r × (sent.job ≡ r.job)
 sent_by [] place old sent h = absurd h
-sent_by (r ∷ rounds) place old sent (inl e) = (r, inl refl, sym (ap (λ (s : Request). s.job) e))
+sent_by (r ∷ rounds) place old sent (inl e) = (r, inl refl, sym (ap (λ (s : SentRequest). s.job) e))
 sent_by (r ∷ rounds) place old sent (inr h) = let rest = sent_by rounds (place + 2) r.after sent h in (rest.0, inr rest.1, rest.2)
 
-abbrev IsOther : Request → Request → Type 0
+abbrev IsOther : SentRequest → SentRequest → Type 0
 IsOther a b = IsSameAttempt a b → ⊥
 
 once : (rounds : List Round) (place : ℕ) (old : State) → AreApart rounds → AllPairs IsOther (filter_map served_in (events_of (steps_from place old rounds)))
@@ -276,7 +276,7 @@ served_before (r ∷ rounds) place old (a ∷ b ∷ d ∷ []) back job lane trie
       round = r;
       at = place;
       is = here;
-      served = inr (inr (inl (sym third ∙ ap (λ (s : Request). Serve s (answer_by r.refused r.ask r.got r.size)) sent)));
+      served = inr (inr (inl (sym third ∙ ap (λ (s : SentRequest). Serve s (answer_by r.refused r.ask r.got r.size)) sent)));
     }
 served_before (r ∷ rounds) place old (a ∷ b ∷ d ∷ []) back job lane tries c apart e (inr later) same k attempt slot =
     let found = round_of rounds (place + 2) c later in

@@ -29,7 +29,8 @@ use Rattle.s3_model.specs.Files.{HeldFile}
 use Rattle.shared_lemmas.proofs.Clashes.{false_true, some_is}
 use Rattle.shared_lemmas.proofs.Members.{contains_of, Has, has, has_at, has_middle, kept, passes}
 use Rattle.world_laws.specs.ExampleTasks.{moved_copy, removal}
-use Rattle.world_laws.specs.Premises.{IsFitting, AllRefused}
+use Rattle.world_laws.specs.Premises.{AllRefused}
+use Rattle.run_promise.specs.Runs.{IsFitting}
 use Rattle.world_laws.specs.Rounds.{AreServed, Told, Round, mark_by, dispatch_at, dispatched_from, journal_of, steps_from}
 use Rattle.world_laws.specs.Tasks.{AreApart, AreQuestions, HasSource, IsScheduled}
 use Rattle.world_laws.specs.Witnesses.{IsTaskMet, IsMovedCopy, IsRefusedTask, TaskIsMet, RefusedTaskIsMet}

@@ -12,7 +12,8 @@ use Rattle.s3_service.specs.ServiceState.{State, Object, object_at, HasBytes}
 use Rattle.s3_service.specs.Serves.{Succeeds, IsThere}
 use Rattle.run_promise.specs.Dispatches.{Dispatched}
 use Rattle.run_promise.specs.Traces.{Step, event_of, events_of, states}
-use Rattle.world_laws.specs.Premises.{moments, HasCome, HasSuccess, IsPlace}
+use Rattle.world_laws.specs.Premises.{HasCome, HasSuccess, IsPlace}
+use Rattle.run_promise.specs.Runs.{moments}
 use Rattle.world_laws.specs.Destinations.{AllThatChange, Making, Requests, IsNewOnceCome, IsNewAfterSuccess, IsOldOrNew, IsOldAfterRefusals}
 use Rattle.world_laws.specs.SmallTransfers.{AsksPut, AsksCopy, AsksDelete, AreAll, HadContent, IsStored, IsCopied, IsRemoved, UploadStores, UploadIsWhole, CopyStores, CopyIsWhole, DeleteRemoves, DeleteIsWhole}
 use Rattle.shared_lemmas.proofs.Members.{contains_of}

@@ -16,7 +16,7 @@ use Rattle.s3_service.specs.Serves.{IsThere, Replied, Succeeds}
 use Rattle.run_promise.specs.Fits.{request_at}
 use Rattle.run_promise.specs.Traces.{Step, Serve, TraceEvent, Steps, state_after, states}
 use Rattle.run_promise.specs.Truthful.{IsDest}
-use Rattle.world_laws.specs.Premises.{moments}
+use Rattle.run_promise.specs.Runs.{moments}
 use Rattle.world_laws.specs.Sources.{TellsOf, FoundHasSize, FoundIsSource}
 use Rattle.world_laws.proofs.Listings.{entry_is_there}
 use Rattle.world_laws.proofs.Fitting as fitting

@@ -26,7 +26,8 @@ use Rattle.run_promise.specs.Outcomes.{deciding}
 use Rattle.run_promise.specs.Endings.{Excused, Scene, LeavesAs, IsAsBefore, IsThereIn, IsGone}
 use Rattle.shared_lemmas.proofs.Clashes.{true_is_false}
 use Rattle.shared_lemmas.proofs.Members.{Has}
-use Rattle.world_laws.specs.Premises.{Run, moments, HasEndedBy, IsOldAfter}
+use Rattle.run_promise.specs.Truthful.{IsOldAfter}
+use Rattle.run_promise.specs.Runs.{Run, moments, HasEndedBy}
 use Rattle.world_laws.specs.Tasks.{MayBeNew, HasSource, IsRunOf, IsObjectTask, scene_after, scene_before, IsRefusedIn, IsTakenIn, IsSourceGone, IsShown, TaskEnds}
 use Rattle.world_laws.proofs.Traces.{begun_through, step_of}
 use Rattle.world_laws.proofs.Fitting as fitting

@@ -21,8 +21,9 @@ use Rattle.run_promise.specs.Dispatches.{Dispatched}
 use Rattle.run_promise.specs.Traces.{Step, state_after, events_of, event_of}
 use Rattle.run_promise.specs.Schedule.{Setting, IsTaskAsk, is_small, job_of, source_bytes, bytes_of, gained_before, asked_range}
 use Rattle.run_promise.specs.Endings.{Excused, Scene, HasContent, Holds, IsAbsent, IsNew}
-use Rattle.run_promise.specs.Truthful.{IsDest}
-use Rattle.world_laws.specs.Premises.{Run, moments, BeginsWith, IsOldAfter, IsFitting, IsPlace, HasCome, HasSucceeded}
+use Rattle.run_promise.specs.Truthful.{IsDest, IsOldAfter}
+use Rattle.world_laws.specs.Premises.{BeginsWith, IsPlace, HasCome, HasSucceeded}
+use Rattle.run_promise.specs.Runs.{Run, moments, IsFitting}
 use Rattle.world_laws.specs.Destinations.{AllThatChange, Making, Requests, IsNewOnceCome, IsOldOrNew}
 use Rattle.world_laws.specs.SmallTransfers.{AsksPut, AsksCopy, AsksDelete, HadContent, IsStored, IsCopied, IsRemoved}
 use Rattle.world_laws.specs.Multipart.{AreParts, AreCopiedParts, IsCopiedInParts, joined}

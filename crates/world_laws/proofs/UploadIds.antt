@@ -12,7 +12,7 @@ use Rattle.s3_model.specs.declared.settings.Limits.{Limits}
 use Rattle.s3_model.specs.Talks.{Talk}
 use Rattle.s3_service.specs.ServiceState.{State, Ended, CompletedBy, Aborted}
 use Rattle.s3_service.specs.Serves.{Replied, Succeeds}
-use Rattle.run_promise.specs.Traces.{Request, Step, TraceEvent, Serve, IsTrace, Steps, begun_after, state_after}
+use Rattle.run_promise.specs.Traces.{SentRequest, Step, TraceEvent, Serve, IsTrace, Steps, begun_after, state_after}
 use Rattle.world_laws.specs.Uploads.{IsFree, NamesUpload, IsSameUpload, OtherUploadsStay, IdsAreCreatedOnce}
 use Rattle.shared_lemmas.proofs.Maps.{get-insert_other, get-insert_same, get-remove_other, not_both, nothing_is, text_exact}
 use Rattle.shared_lemmas.proofs.Members.{ordered}
@@ -82,7 +82,7 @@ created_here limits old (ask.Create b k content) body id bytes new h = (
 created_here limits old asked body id bytes new h = absurd h
 
 module _ (limits : Limits) (start : State) (trace : List Step) (id : List ℕ) (runs : IsTrace limits [] start trace) where
-  created_at : (front : List Step) (step : Step) (back : List Step) (sent : Request) (bytes : List ℕ) → trace ≡ front ++ step ∷ back → step.event ≡ Serve sent (Replied (reply.Created id) bytes)
+  created_at : (front : List Step) (step : Step) (back : List Step) (sent : SentRequest) (bytes : List ℕ) → trace ≡ front ++ step ∷ back → step.event ≡ Serve sent (Replied (reply.Created id) bytes)
       → IsFree (state_after start front) id × (IsFree step.state id → ⊥)
   created_at front step back sent bytes is is_event =
       let steps = subst (λ (event : TraceEvent). Steps limits (begun_through [] front) (state_after start front) event step.state) is_event
@@ -97,7 +97,7 @@ module _ (limits : Limits) (start : State) (trace : List Step) (id : List ℕ) (
       taken (stable_along limits (λ (t : State). IsFree t id → IsFree step.state id) (free_is_stable limits id step.state) rest (begun_after (begun_through [] front) step.event) step.state on.0 (λ f. f)
       (subst (λ (t : State). IsFree t id) (state_after-append front (step ∷ rest) start) free))
 
-  once : (front : List Step) (step : Step) (back : List Step) (sent : Request) (bytes : List ℕ) (front' : List Step) (step' : Step) (back' : List Step) (sent' : Request) (bytes' : List ℕ)
+  once : (front : List Step) (step : Step) (back : List Step) (sent : SentRequest) (bytes : List ℕ) (front' : List Step) (step' : Step) (back' : List Step) (sent' : SentRequest) (bytes' : List ℕ)
       → trace ≡ front ++ step ∷ back → trace ≡ front' ++ step' ∷ back' → step.event ≡ Serve sent (Replied (reply.Created id) bytes) → step'.event ≡ Serve sent' (Replied (reply.Created id) bytes')
       → (rest : List Step) × (front' ≡ front ++ rest)
   once front step back sent bytes front' step' back' sent' bytes' is is' is_event is_event' = elim (ordered front step back front' step' back' (sym is ∙ is')) [

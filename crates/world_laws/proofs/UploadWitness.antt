@@ -25,7 +25,7 @@ use Rattle.shared_lemmas.proofs.Maps.{get-insert_same, text_exact}
 use Rattle.shared_lemmas.proofs.Members.{Has, has}
 use Rattle.world_laws.specs.ExampleTasks.{upload}
 use Rattle.world_laws.specs.Completeness.{AreSourcesThere}
-use Rattle.world_laws.specs.Premises.{IsFitting}
+use Rattle.run_promise.specs.Runs.{IsFitting}
 use Rattle.world_laws.specs.Promises.{IsByRequests}
 use Rattle.world_laws.specs.Rounds.{AreNone, AreServed, NeverFailed, Round, Told, ToldStatus, attempt_of, dispatch_at, dispatched_from, steps_from}
 use Rattle.world_laws.specs.Tasks.{AreApart, HasSourceFile}
@@ -277,7 +277,7 @@ module _ (bucket key path : List ℕ) where
       met = promise;
       counted = λ n why ended never. absurd never;
       willing = willing;
-      certain = certain_at rounds start 2;
+      certain = certain_at rounds start;
       alone = alone_trace rounds start;
       buckets = bucket_of start task bucket key refl (bare_has bucket []);
       sources = sources;

@@ -13,9 +13,10 @@ use Rattle.run_promise.specs.Schedule.{job_of, IsBefore}
 use Rattle.run_promise.specs.Fits.{request_at}
 use Rattle.shared_lemmas.proofs.Clashes.{false_true}
 use Rattle.shared_lemmas.proofs.Members.{contains_of, Has, has}
-use Rattle.run_promise.specs.Traces.{Begin, Request, events_of}
+use Rattle.run_promise.specs.Traces.{SentRequest, Begin, events_of}
 use Rattle.world_laws.specs.Moves.{IsGivenAfter}
-use Rattle.world_laws.specs.Premises.{Run, HasSucceeded, IsPlace, AllRefused}
+use Rattle.world_laws.specs.Premises.{HasSucceeded, IsPlace, AllRefused}
+use Rattle.run_promise.specs.Runs.{Run}
 use Rattle.world_laws.specs.Destinations.{AllThatChange, Requests}
 use Rattle.world_laws.specs.Frame.{IsAskedOf}
 use Rattle.world_laws.specs.SmallTransfers.{AsksPut, AsksCopy, AsksDelete}
@@ -184,7 +185,7 @@ frame_is_met limits bucket key other apart = record {
 -- ---- a move
 
 -- a run with a success for an object, and a later Delete of another that begins
-pub moved_by : (limits : Limits) (bucket key from_bucket from_key : List ℕ) (AreOurs : Requests) (done : IsDestMet limits bucket key AreOurs) (sent : Request)
+pub moved_by : (limits : Limits) (bucket key from_bucket from_key : List ℕ) (AreOurs : Requests) (done : IsDestMet limits bucket key AreOurs) (sent : SentRequest)
     → IsGivenAfter done.such.success.request (job_of 0 op.Delete 0) done.run.dispatched → Contains (events_of done.run.trace) (Begin 0 sent) → sent.job ≡ job_of 0 op.Delete 0
     → sent.ask ≡ ask.Delete from_bucket from_key → IsMoveMet limits bucket key from_bucket from_key AreOurs
 moved_by limits bucket key from_bucket from_key AreOurs done sent waits begins of_job deletes = record {

@@ -15,13 +15,13 @@ use Rattle.s3_service.specs.ServiceState.{State, Object}
 use Rattle.s3_service.specs.Serves.{IsThere}
 use Rattle.run_promise.specs.Carried.{IsCarried}
 use Rattle.run_promise.specs.Dispatches.{Dispatched}
-use Rattle.run_promise.specs.Fits.{Fits}
+use Rattle.run_promise.specs.Runs.{Run}
 use Rattle.run_promise.specs.Schedule.{IsObject, IsSource, IsSchedule}
-use Rattle.run_promise.specs.Traces.{Step, IsTrace, IsHonest, IsWilling, events_of}
-use Rattle.run_promise.specs.Truthful.{Shown, AreCertain, IsAlone, HasDestBuckets, IsDest, IsDoneWhereWilling}
+use Rattle.run_promise.specs.Traces.{IsWilling}
+use Rattle.run_promise.specs.Truthful.{Shown, AreCertain, FitsShown, HasDestBuckets, IsAlone, IsDoneWhereWilling}
 use Rattle.run_promise.specs.Truthful.{IsFinished, MayBeFresh, WasTaken}
-use Rattle.world_laws.specs.Promises.{IsOrderly, run_of}
-use Rattle.world_laws.specs.Tasks.{HasSourceFile, IsTraceOf}
+use Rattle.world_laws.specs.Promises.{IsOrderly}
+use Rattle.world_laws.specs.Tasks.{HasSourceFile}
 
 -- What planning made sure of: the source of each copy is there when the run begins, under the planned ETag and with the
 -- planned size, is no destination of the run, and goes only by its own copy's move; and each uploaded file has the
@@ -62,15 +62,15 @@ module _ (Shows : Ask → ℕ → Talk → Class → List ℕ → Type 0) (HasSt
   -- cancel, an orderly run owes nothing.
   abbrev pub WillingIsDone : Type 0
   WillingIsDone = (request_text : Ask → List ℕ → ℕ → List ℕ) (host : List ℕ) (port : ℕ) (shown : Shown)
-      (dispatched coming : List Dispatched) (start : State) (trace : List Step)
-      → IsOrderly Shows HasStatus Plans CallFailed request_text host port shown dispatched coming
+      (run : Run) (coming : List Dispatched)
+      → IsOrderly Shows HasStatus Plans CallFailed request_text host port shown run.dispatched coming
       → AreCallsCounted shown → AreFreshByKind shown.setting.tasks
-      → IsTraceOf Shows shown.setting (run_of shown dispatched start trace)
-      → IsWilling shown.setting.limits start trace
-      → AreCertain Shows HasStatus request_text host port Plans CallFailed dispatched → IsAlone trace
-      → HasDestBuckets shown.setting.tasks start → AreSourcesThere shown.setting.held shown.setting.tasks start
+      → FitsShown Shows shown run → IsWilling shown.setting.limits run.start run.trace
+      → AreCertain Shows run.dispatched → IsAlone run.trace
+      → HasDestBuckets shown.setting.tasks run.start
+      → AreSourcesThere shown.setting.held shown.setting.tasks run.start
       → shown.setting.cancelled_at ≡ None
-      → (n : ℕ) (how : Outcome) → slice_get shown.outcomes n ≡ Some how → IsOwed shown start n how
+      → (n : ℕ) (how : Outcome) → slice_get shown.outcomes n ≡ Some how → IsOwed shown run.start n how
 
   -- So a run that is orderly however its jobs are read is done where the service is willing. That the sources were
   -- there is asked only where nobody else writes, since there what planning found was so from the start.
@@ -80,11 +80,8 @@ module _ (Shows : Ask → ℕ → Talk → Class → List ℕ → Type 0) (HasSt
       → ((dispatched coming : List Dispatched) → IsSchedule Shows shown.setting Plans dispatched coming
       → IsCarried Shows request_text host port shown.setting shown.journal shown.logs shown.notes dispatched coming
       → IsOrderly Shows HasStatus Plans CallFailed request_text host port shown dispatched coming)
-      → ((dispatched coming : List Dispatched) (start : State) (trace : List Step)
-      → IsSchedule Shows shown.setting Plans dispatched coming
-      → IsCarried Shows request_text host port shown.setting shown.journal shown.logs shown.notes dispatched coming
-      → IsTrace shown.setting.limits [] start trace → IsHonest start trace (IsDest shown.setting.tasks)
-      → IsWilling shown.setting.limits start trace → IsAlone trace
-      → Fits Shows (events_of trace) shown.journal dispatched
-      → AreSourcesThere shown.setting.held shown.setting.tasks start)
-      → IsDoneWhereWilling Shows HasStatus request_text host port Plans CallFailed shown
+      → ((run : Run) (coming : List Dispatched) → IsSchedule Shows shown.setting Plans run.dispatched coming
+      → IsCarried Shows request_text host port shown.setting shown.journal shown.logs shown.notes run.dispatched coming
+      → FitsShown Shows shown run → IsWilling shown.setting.limits run.start run.trace → IsAlone run.trace
+      → AreSourcesThere shown.setting.held shown.setting.tasks run.start)
+      → IsDoneWhereWilling Shows request_text host port Plans shown

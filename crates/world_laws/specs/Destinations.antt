@@ -9,7 +9,9 @@ use Rattle.s3_service.specs.ServiceState.{State}
 use Rattle.s3_service.specs.Serves.{MayChange}
 use Rattle.run_promise.specs.Dispatches.{Dispatched}
 use Rattle.run_promise.specs.Traces.{Step, state_after, events_of, event_of}
-use Rattle.world_laws.specs.Premises.{Run, BeginsWith, HasEndedBy, IsOldAfter, moments, IsFitting, IsPlace, HasSuccess}
+use Rattle.world_laws.specs.Premises.{BeginsWith, IsPlace, HasSuccess}
+use Rattle.run_promise.specs.Truthful.{IsOldAfter}
+use Rattle.run_promise.specs.Runs.{Run, HasEndedBy, moments, IsFitting}
 use Rattle.world_laws.specs.Premises.{AllRefused}
 
 -- each dispatched request that may change the object is such a one

@@ -11,7 +11,8 @@ use Rattle.s3_model.specs.Talks.{Talk}
 use Rattle.run_promise.specs.Dispatches.{Dispatched}
 use Rattle.s3_model.specs.Parts.{piece_count}
 use Rattle.run_promise.specs.Schedule.{asked_range}
-use Rattle.world_laws.specs.Premises.{Run, moments, IsFitting, IsNoPlace, HasCome, HasSucceeded}
+use Rattle.world_laws.specs.Premises.{IsNoPlace, HasCome, HasSucceeded}
+use Rattle.run_promise.specs.Runs.{Run, moments, IsFitting}
 use Rattle.world_laws.specs.SmallTransfers.{HadContent, HasSize}
 use Rattle.world_laws.specs.Multipart.{joined}
 

@@ -7,8 +7,9 @@ use Rattle.s3_model.specs.Talks.{Talk}
 use Rattle.s3_service.specs.Serves.{MayChange}
 use Rattle.run_promise.specs.Dispatches.{Dispatched}
 use Rattle.run_promise.specs.Traces.{Step}
-use Rattle.run_promise.specs.Truthful.{IsExternal}
-use Rattle.world_laws.specs.Premises.{Run, BeginsWith, HasTrace, IsOldAfter}
+use Rattle.run_promise.specs.Truthful.{IsExternal, IsOldAfter}
+use Rattle.world_laws.specs.Premises.{BeginsWith, HasTrace}
+use Rattle.run_promise.specs.Runs.{Run}
 
 -- some dispatched request may change the object
 abbrev pub IsAskedOf : List Dispatched → List ℕ → List ℕ → Type 0
@@ -17,7 +18,7 @@ IsAskedOf dispatched bucket key = (c : Dispatched) × Contains dispatched c × M
 -- `Shows ask limit talk class bytes`: the talk has that class for the ask, and its answer that body
 module _ (Shows : Ask → ℕ → Talk → Class → List ℕ → Type 0) where
   -- Some request may change the object, somebody else wrote it, or it is as it was, after each beginning of a trace.
-  abbrev pub OthersStay : Type 0
-  OthersStay = (limits : Limits) (run : Run) (part : List Step) (bucket key : List ℕ) → HasTrace Shows limits run
+  abbrev pub FrameHolds : Type 0
+  FrameHolds = (limits : Limits) (run : Run) (part : List Step) (bucket key : List ℕ) → HasTrace Shows limits run
       → BeginsWith run part
       → IsAskedOf run.dispatched bucket key ⊎ IsExternal run.trace bucket key ⊎ IsOldAfter run part bucket key

@@ -11,7 +11,8 @@ use Rattle.run_promise.specs.Dispatches.{Dispatched}
 use Rattle.run_promise.specs.Traces.{Step, External, state_after, events_of}
 use Rattle.run_promise.specs.Schedule.{IsBefore}
 use Rattle.run_promise.specs.Endings.{IsDeleted}
-use Rattle.world_laws.specs.Premises.{Run, moments, BeginsWith, HasBegun, HasEndedBy, HasTrace, IsFitting, IsPlace}
+use Rattle.world_laws.specs.Premises.{BeginsWith, HasBegun, HasTrace, IsPlace}
+use Rattle.run_promise.specs.Runs.{Run, moments, HasEndedBy, IsFitting}
 use Rattle.world_laws.specs.Premises.{AreGiven, HasSuccess}
 use Rattle.world_laws.specs.Destinations.{AllThatChange, Making, Requests}
 use Rattle.world_laws.specs.SmallTransfers.{AsksCopy, AsksDelete, AreAll, IsCopied}

@@ -1,5 +1,4 @@
--- A run with a trace of a service, and what laws take from it: which of its dispatches came, and how their attempts
--- went.
+-- What laws take from a run: which of its dispatches came, and how their attempts went.
 use Rattle.std.specs.Prelude.{◌≡◌, ◌<◌, ◌++◌, ℕ, List, [], Some, slice_get, Contains}
 use Rattle.s3_model.specs.declared.requests.Ask.{Ask}
 use Rattle.s3_model.specs.declared.answers.Reply.{Reply}
@@ -11,42 +10,21 @@ use Rattle.s3_model.specs.declared.outcomes.Event.TheVariants as entry
 use Rattle.s3_model.specs.declared.settings.Limits.{Limits}
 use Rattle.s3_model.specs.declared.tries.Mark.{Mark}
 use Rattle.s3_model.specs.Talks.{Talk}
-use Rattle.s3_service.specs.ServiceState.{State, object_at}
 use Rattle.s3_service.specs.Serves.{MayChange}
 use Rattle.run_promise.specs.Dispatches.{Attempt, Dispatched}
-use Rattle.run_promise.specs.Traces.{Request, Step, Begin, IsTrace, IsHonest, events_of, state_after, states}
+use Rattle.run_promise.specs.Traces.{SentRequest, Step, Begin, IsTrace, events_of}
 use Rattle.run_promise.specs.Fits.{Fits}
-use Rattle.run_promise.specs.Truthful.{HasJournal}
+use Rattle.run_promise.specs.Runs.{Run}
 
 -- ---- a run
-
--- A run: its journal and its dispatched requests, with a trace of a service, the state that this starts from and its
--- steps.
-pub record Run : Type 0 where
-  pub start : State
-  pub trace : List Step
-  pub journal : List Event
-  pub dispatched : List Dispatched
-
--- the states of the service, at the start and after each step
-abbrev pub moments : Run → List State
-moments run = states run.start run.trace
 
 -- the trace begins so
 abbrev pub BeginsWith : Run → List Step → Type 0
 BeginsWith run part = (late : List Step) × (run.trace ≡ part ++ late)
 
--- the trace begins so, and all of the journal happened by then
-abbrev pub HasEndedBy : Run → List Step → Type 0
-HasEndedBy run part = HasJournal run.journal run.trace part
-
--- the object is then as it was at the start
-abbrev pub IsOldAfter : Run → List Step → List ℕ → List ℕ → Type 0
-IsOldAfter run part bucket key = object_at (state_after run.start part) bucket key ≡ object_at run.start bucket key
-
 -- a request of the job begins there
 abbrev pub HasBegun : List Step → JobId → Type 0
-HasBegun part job = (lane : ℕ) × (sent : Request) × Contains (events_of part) (Begin lane sent) × (sent.job ≡ job)
+HasBegun part job = (lane : ℕ) × (sent : SentRequest) × Contains (events_of part) (Begin lane sent) × (sent.job ≡ job)
 
 -- ---- its jobs
 
@@ -81,12 +59,6 @@ module _ (Shows : Ask → ℕ → Talk → Class → List ℕ → Type 0) where
   -- the trace is one of a service, and it fits
   pub record HasTrace (limits : Limits) (run : Run) : Type 0 where
     pub runs : IsTrace limits [] run.start run.trace
-    pub fits : Fits Shows (events_of run.trace) run.journal run.dispatched
-
-  -- an honest trace that fits, in which nobody else writes the kept places
-  pub record IsFitting (limits : Limits) (run : Run) (IsKept : List ℕ → List ℕ → Type 0) : Type 0 where
-    pub runs : IsTrace limits [] run.start run.trace
-    pub honest : IsHonest run.start run.trace IsKept
     pub fits : Fits Shows (events_of run.trace) run.journal run.dispatched
 
   -- some attempt was answered with success, and with this reply

@@ -13,15 +13,16 @@ use Rattle.s3_model.specs.declared.tasks.Task.{Task}
 use Rattle.s3_model.specs.Replies.{IsSameClass}
 use Rattle.s3_model.specs.Talks.{Talk, Note}
 use Rattle.s3_model.specs.Validity.{IsValidConfig, IsValidLimits}
-use Rattle.s3_service.specs.ServiceState.{State}
 use Rattle.run_promise.specs.Carried.{IsCarried}
 use Rattle.run_promise.specs.Dispatches.{Dispatched}
 use Rattle.run_promise.specs.Outcomes.{HasOutcome, IsDecidedByRequest}
+use Rattle.s3_service.specs.ServiceState.{State}
+use Rattle.run_promise.specs.Traces.{Step}
 use Rattle.run_promise.specs.Schedule.{Setting, IsSchedule, is_small}
-use Rattle.run_promise.specs.Traces.{Step, states}
-use Rattle.run_promise.specs.Truthful.{Shown, HasOutcomes, HoldsOver}
-use Rattle.world_laws.specs.Premises.{Run, AreGiven, HasCome}
-use Rattle.world_laws.specs.Tasks.{AreApart, HasSource, IsPlanning, IsTraceOf, MayBeNew}
+use Rattle.run_promise.specs.Truthful.{Shown, FitsShown, HasOutcomes, HoldsOver}
+use Rattle.world_laws.specs.Premises.{AreGiven, HasCome}
+use Rattle.run_promise.specs.Runs.{Run, moments}
+use Rattle.world_laws.specs.Tasks.{AreApart, HasSource, IsPlanning, MayBeNew}
 
 -- a task that requests decide: its destination is an object, and a removal moves nothing
 pub record IsByRequests (task : Task) : Type 0 where
@@ -63,11 +64,10 @@ module _ (Shows : Ask → ℕ → Talk → Class → List ℕ → Type 0) where
 
   -- over every honest trace that fits, a task's source is as planned where its destination may be new
   abbrev pub AreSourced : Shown → List Dispatched → Type 0
-  AreSourced shown dispatched = (start : State) (trace : List Step)
-      → IsTraceOf Shows shown.setting (run_of shown dispatched start trace)
+  AreSourced shown dispatched = (run : Run) → run.dispatched ≡ dispatched → FitsShown Shows shown run
       → (n : ℕ) (task : Task) (how : Outcome) → slice_get shown.setting.tasks n ≡ Some task
       → slice_get shown.outcomes n ≡ Some how → MayBeNew how
-      → HasSource shown.setting.held (states start trace) task task.kind (is_small shown.setting task)
+      → HasSource shown.setting.held (moments run) task task.kind (is_small shown.setting task)
 
   -- `HasStatus ask limit talk status`: the talk's answer has that HTTP status;
   -- `Plans`: the planning jobs, in order, are those that the command needs;
@@ -120,4 +120,4 @@ module _ (Shows : Ask → ℕ → Talk → Class → List ℕ → Type 0) where
     abbrev pub PromiseHolds : Type 0
     PromiseHolds = (request_text : Ask → List ℕ → ℕ → List ℕ) (host : List ℕ) (port : ℕ) (shown : Shown)
         (dispatched coming : List Dispatched) → IsOrderly request_text host port shown dispatched coming
-        → HoldsOver Shows HasStatus request_text host port Plans CallFailed shown dispatched
+        → HoldsOver Shows shown dispatched

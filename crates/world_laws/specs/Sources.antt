@@ -13,7 +13,8 @@ use Rattle.s3_model.specs.declared.tasks.Task.{Task}
 use Rattle.s3_model.specs.Talks.{Talk}
 use Rattle.run_promise.specs.Dispatches.{Dispatched}
 use Rattle.run_promise.specs.Schedule.{Setting}
-use Rattle.world_laws.specs.Premises.{Run, moments, HasCome, HasSucceeded}
+use Rattle.world_laws.specs.Premises.{HasCome, HasSucceeded}
+use Rattle.run_promise.specs.Runs.{Run, moments}
 use Rattle.world_laws.specs.SmallTransfers.{HasSize}
 use Rattle.world_laws.specs.Tasks.{HasSourceObject, IsTraceOf}
 

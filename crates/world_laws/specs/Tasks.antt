@@ -23,12 +23,13 @@ use Rattle.s3_model.specs.Files.{HeldFile, is_listed}
 use Rattle.s3_service.specs.ServiceState.{State}
 use Rattle.s3_service.specs.Serves.{taken_codes}
 use Rattle.run_promise.specs.Dispatches.{Attempt, Dispatched}
-use Rattle.run_promise.specs.Traces.{Request, Step, Begin, state_after}
+use Rattle.run_promise.specs.Traces.{SentRequest, Step, Begin, state_after}
 use Rattle.run_promise.specs.Schedule.{Setting, IsObject, IsSource, IsSchedule, is_small, job_of}
 use Rattle.run_promise.specs.Outcomes.{deciding}
 use Rattle.run_promise.specs.Endings.{Excused, Scene, IsNew, IsGone, IsGoneOrThere, IsSpared, IsEnded}
-use Rattle.run_promise.specs.Truthful.{IsDest, IsMovedSource, IsExternal}
-use Rattle.world_laws.specs.Premises.{Run, moments, BeginsWith, HasEndedBy, IsOldAfter, IsFitting, AreGiven, HasCome}
+use Rattle.run_promise.specs.Truthful.{IsDest, IsMovedSource, IsExternal, IsOldAfter}
+use Rattle.world_laws.specs.Premises.{BeginsWith, AreGiven, HasCome}
+use Rattle.run_promise.specs.Runs.{Run, moments, HasEndedBy, IsFitting}
 use Rattle.world_laws.specs.Premises.{HasSucceeded, AllRefused}
 use Rattle.world_laws.specs.SmallTransfers.{HasSize}
 
@@ -202,7 +203,7 @@ module _ (Shows : Ask → ℕ → Talk → Class → List ℕ → Type 0) where
       (step : Step) → IsRunOf s run → run.trace ≡ front ++ step ∷ later
       → (n : ℕ) (task : Task) (bucket key : List ℕ) → IsObjectTask s (moments run) n task bucket key
       → task.kind ≡ kind.Copy
-      → (lane : ℕ) (sent : Request) → step.event ≡ Begin lane sent → sent.job ≡ job_of n op.Delete 0
+      → (lane : ℕ) (sent : SentRequest) → step.event ≡ Begin lane sent → sent.job ≡ job_of n op.Delete 0
       → IsTaskNew s excused held (moments run) task step.state
 
   -- After the Delete of a moved source came with success the source is gone, at the end and at every later moment.
@@ -240,4 +241,4 @@ module _ (Shows : Ask → ℕ → Talk → Class → List ℕ → Type 0) where
       → task.dest ≡ place.Object bucket key
       → (how : Outcome) → (MayBeNew how → HasSource s.held (moments run) task task.kind (is_small s task))
       → IsShownIn s held run part n task how
-      → IsEnded excused run.journal run.start run.trace (scene_before s run) (scene_after s held run part) n task how
+      → IsEnded excused run (scene_before s run) (scene_after s held run part) n task how

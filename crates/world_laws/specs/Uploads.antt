@@ -10,8 +10,9 @@ use Rattle.s3_model.specs.Talks.{Talk}
 use Rattle.s3_service.specs.ServiceState.{State}
 use Rattle.s3_service.specs.Serves.{Replied}
 use Rattle.run_promise.specs.Dispatches.{Dispatched}
-use Rattle.run_promise.specs.Traces.{Request, Step, Serve, IsTrace, state_after}
-use Rattle.world_laws.specs.Premises.{Run, BeginsWith, HasTrace}
+use Rattle.run_promise.specs.Traces.{SentRequest, Step, Serve, IsTrace, state_after}
+use Rattle.world_laws.specs.Premises.{BeginsWith, HasTrace}
+use Rattle.run_promise.specs.Runs.{Run}
 
 -- the id is neither open nor ended
 pub record IsFree (t : State) (id : List ℕ) : Type 0 where
@@ -41,7 +42,8 @@ module _ (Shows : Ask → ℕ → Talk → Class → List ℕ → Type 0) where
 
 -- that step answers a Create with the id
 abbrev pub IsCreatedBy : Step → List ℕ → Type 0
-IsCreatedBy step id = (sent : Request) × (bytes : List ℕ) × (step.event ≡ Serve sent (Replied (reply.Created id) bytes))
+IsCreatedBy step id =
+    (sent : SentRequest) × (bytes : List ℕ) × (step.event ≡ Serve sent (Replied (reply.Created id) bytes))
 
 -- An id is named by one Create alone.
 abbrev pub IdsAreCreatedOnce : Type 0

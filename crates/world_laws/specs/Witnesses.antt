@@ -15,12 +15,13 @@ use Rattle.s3_model.specs.declared.tasks.Task.{Task}
 use Rattle.s3_service.specs.ServiceState.{State}
 use Rattle.s3_service.specs.Serves.{Replied, LiesWithin, bytes_within}
 use Rattle.run_promise.specs.Dispatches.{Dispatched}
-use Rattle.run_promise.specs.Traces.{Request, Step, Begin, Serve, IsTrace, IsWilling, state_after, events_of}
+use Rattle.run_promise.specs.Traces.{SentRequest, Step, Begin, Serve, IsTrace, IsWilling, state_after, events_of}
 use Rattle.run_promise.specs.Schedule.{Setting, is_small, job_of}
-use Rattle.run_promise.specs.Truthful.{Shown, AreCertain, HasDestBuckets, HasJournal, IsAlone, IsDest, IsExternal}
+use Rattle.run_promise.specs.Truthful.{Shown, AreCertain, HasDestBuckets, IsAlone, IsDest, IsExternal}
+use Rattle.run_promise.specs.Runs.{HasJournal, Run, moments, HasEndedBy, IsFitting}
 use Rattle.s3_model.specs.Parts.{HasPieces}
 use Rattle.world_laws.specs.ExampleTasks.{moved_copy, removal, upload}
-use Rattle.world_laws.specs.Premises.{Run, moments, HasBegun, HasEndedBy, HasTrace, IsFitting, IsPlace, IsNoPlace}
+use Rattle.world_laws.specs.Premises.{HasBegun, HasTrace, IsPlace, IsNoPlace}
 use Rattle.world_laws.specs.Premises.{AreGiven, HasSuccess, AllRefused}
 use Rattle.world_laws.specs.Completeness.{AreCallsCounted, AreFreshByKind, AreSourcesThere}
 use Rattle.world_laws.specs.Destinations.{AllThatChange, Requests}
@@ -104,7 +105,7 @@ pub record IsMoved (bucket key from_bucket from_key : List ℕ) (AreOurs : Reque
   pub job : JobId
   pub waits : IsGivenAfter copy.success.request job run.dispatched
   pub lane : ℕ
-  pub sent : Request
+  pub sent : SentRequest
   pub begins : Contains (events_of run.trace) (Begin lane sent)
   pub of_job : sent.job ≡ job
   pub deletes : sent.ask ≡ ask.Delete from_bucket from_key
@@ -129,7 +130,7 @@ CopiedMoveIsMet = (limits : Limits) (bucket key from_bucket from_key etag : List
 
 -- an Abort that is served with success
 abbrev pub AbortIsMet : Type 0
-AbortIsMet = (limits : Limits) (bucket key id : List ℕ) → (start : State) × (trace : List Step) × (sent : Request)
+AbortIsMet = (limits : Limits) (bucket key id : List ℕ) → (start : State) × (trace : List Step) × (sent : SentRequest)
     × IsTrace limits [] start trace × (sent.ask ≡ ask.Abort bucket key id)
     × Contains (events_of trace) (Serve sent (Replied reply.Gone []))
 
@@ -242,7 +243,7 @@ pub record IsCompleteMet (task : Task) (how : Outcome) : Type 0 where
   pub met : IsPromiseMet task how
   pub counted : AreCallsCounted Told ToldStatus AreNone NeverFailed met.shown
   pub willing : IsWilling met.shown.setting.limits met.start met.trace
-  pub certain : AreCertain Told ToldStatus no_text [] task.size AreNone NeverFailed met.dispatched
+  pub certain : AreCertain Told met.dispatched
   pub alone : IsAlone met.trace
   pub buckets : HasDestBuckets met.shown.setting.tasks met.start
   pub sources : AreSourcesThere met.shown.setting.held met.shown.setting.tasks met.start

@@ -9,16 +9,23 @@ ghost use Rattle.std.specs.Prelude.{List, ℕ};
 ghost use Rattle.world_laws.specs.Completeness.{OrderlyIsDone, WillingIsDone};
 ghost use Rattle.world_laws.specs.Destinations.{IsOldAfterRefusals};
 ghost use Rattle.world_laws.specs.Downloads.{GetTells, RangesTell};
-ghost use Rattle.world_laws.specs.Frame.{OthersStay};
+ghost use Rattle.world_laws.specs.Frame.{FrameHolds};
 ghost use Rattle.world_laws.specs.Moves.{CopiedPartsComeFirst, CopyComesFirst, SourceIsGone};
-ghost use Rattle.world_laws.specs.Multipart.{AbortsAreFinal, CopiedPartsAreStored, CopiedPartsAreWhole, PartsAreStored, PartsAreWhole};
+ghost use Rattle.world_laws.specs.Multipart.{AbortsAreFinal, CopiedPartsAreStored, CopiedPartsAreWhole, PartsAreStored};
+ghost use Rattle.world_laws.specs.Multipart.{PartsAreWhole};
 ghost use Rattle.world_laws.specs.Promises.{CarriedIsGiven, PromiseHolds};
 ghost use Rattle.world_laws.specs.Rounds.{AreNone, NeverFailed, Told, ToldStatus};
-ghost use Rattle.world_laws.specs.SmallTransfers.{CopyIsWhole, CopyStores, DeleteIsWhole, DeleteRemoves, UploadIsWhole, UploadStores};
+ghost use Rattle.world_laws.specs.SmallTransfers.{CopyIsWhole, CopyStores, DeleteIsWhole, DeleteRemoves, UploadIsWhole};
+ghost use Rattle.world_laws.specs.SmallTransfers.{UploadStores};
 ghost use Rattle.world_laws.specs.Sources.{FoundHasSize, FoundIsSource};
-ghost use Rattle.world_laws.specs.Tasks.{MovedSourceIsGone, MovedTaskIsNew, OtherObjectsStay, TaskEnds, TaskIsNew, TaskIsOld, TaskIsWhole};
+ghost use Rattle.world_laws.specs.Tasks.{MovedSourceIsGone, MovedTaskIsNew, OtherObjectsStay, TaskEnds, TaskIsNew};
+ghost use Rattle.world_laws.specs.Tasks.{TaskIsOld, TaskIsWhole};
 ghost use Rattle.world_laws.specs.Uploads.{IdsAreCreatedOnce, OtherUploadsStay};
-ghost use Rattle.world_laws.specs.Witnesses.{AbortIsMet, CompleteIsMet, CopiedMoveIsMet, CopiedPartsAreMet, CopyIsMet, DeleteIsMet, DoneIsMet, FailedIsMet, FrameIsMet, GetIsMet, HeadIsMet, MoveIsMet, OtherUploadIsMet, PageIsMet, PartsAreMet, RangesAreMet, RefusalIsMet, RefusedTaskIsMet, SkippedIsMet, TaskIsMet, UploadIsComplete, UploadIsMet};
+ghost use Rattle.world_laws.specs.Witnesses.{AbortIsMet, CompleteIsMet, CopiedMoveIsMet, CopiedPartsAreMet, CopyIsMet};
+ghost use Rattle.world_laws.specs.Witnesses.{DeleteIsMet, DoneIsMet, FailedIsMet, FrameIsMet, GetIsMet, HeadIsMet};
+ghost use Rattle.world_laws.specs.Witnesses.{MoveIsMet, OtherUploadIsMet, PageIsMet, PartsAreMet, RangesAreMet};
+ghost use Rattle.world_laws.specs.Witnesses.{RefusalIsMet, RefusedTaskIsMet, SkippedIsMet, TaskIsMet, UploadIsComplete};
+ghost use Rattle.world_laws.specs.Witnesses.{UploadIsMet};
 
 /// How talks are read: `shows ask limit talk class bytes` says that the talk has that class for the ask, and its
 /// answer that body.
@@ -40,7 +47,7 @@ pub trait Command: Reading {
 /// An object that no request of a run may change, and that nobody else writes, is as it was after each beginning of
 /// the trace, and so at every later moment.
 pub fn others_stay<R: Reading>()
-    ensures stay { OthersStay R.shows }
+    ensures stay { FrameHolds R.shows }
     ensures met { FrameIsMet }
 {}
 
@@ -124,8 +131,9 @@ pub fn download<R: Reading>()
     ensures met_in_ranges { RangesAreMet }
 {}
 
-/// What a Head, or an entry of a page of a listing, told of an object is so at every moment of the run, whoever rewrites
-/// the object: whatever it had under that ETag has that size. So a copy that is planned from it has its source.
+/// What a Head, or an entry of a page of a listing, told of an object is so at every moment of the run, whoever
+/// rewrites the object: whatever it had under that ETag has that size. So a copy that is planned from it has its
+/// source.
 pub fn found_source<R: Reading>()
     ensures size { FoundHasSize R.shows }
     ensures source { FoundIsSource R.shows }
@@ -135,10 +143,10 @@ pub fn found_source<R: Reading>()
 
 /// What the clauses on given and on carried jobs make of the objects, over every honest trace that fits. A task whose
 /// destination is an object ends as its outcome says, where that outcome is what its deciding request and the source of
-/// its move show. Its destination is new once the request that decides it came with success, as before where each attempt
-/// of that request was refused or none was made, and else one or the other. Of a copy that is moved the Delete of the
-/// source begins only once the destination is new, and after that Delete came with success the source is gone. Every
-/// object that is no destination and no moved source, and that nobody else wrote, is as before.
+/// its move show. Its destination is new once the request that decides it came with success, as before where each
+/// attempt of that request was refused or none was made, and else one or the other. Of a copy that is moved the Delete
+/// of the source begins only once the destination is new, and after that Delete came with success the source is gone.
+/// Every object that is no destination and no moved source, and that nobody else wrote, is as before.
 pub fn task<R: Reading>()
     ensures ends { TaskEnds R.shows }
     ensures new { TaskIsNew R.shows }

@@ -1,4 +1,4 @@
-//! Laws over every honest trace of a service: what a run's requests leave there, whatever is lost, refused or served late.
+//! Laws over every honest trace of a service: what a run leaves there, whatever is lost, refused or served late.
 #![tactic(auto)]
 
 mod laws;

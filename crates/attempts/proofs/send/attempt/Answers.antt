@@ -1,14 +1,14 @@
 use Rattle.std.proofs.Common.{subst}
 use Rattle.s3_model.specs.declared.places.Endpoint.{Endpoint}
 use Rattle.s3_model.specs.declared.settings.Keys.{Keys}
-use Rattle.attempts.specs.Attempts.{Request}
+use Rattle.attempts.specs.Attempts.{SignedRequest}
 use Rattle.attempts.specs.Steps.{IsAnsweredBy}
 use Rattle.attempts.proofs.AttemptLemmas.{attempted_once}
 use Rattle.attempts.proofs.send.attempt.Goals as goal
 
 pub returns-in-Ok-clause-gained : goal.returns-in-Ok-clause-gained
 returns-in-Ok-clause-gained g c =
-    let request : Endpoint → Keys → Request = λ endpoint keys. record { endpoint = endpoint; keys = keys; asked = c.args.ask.now; body = c.args.payload.now; limit = c.args.limit } in
+    let request : Endpoint → Keys → SignedRequest = λ endpoint keys. record { endpoint = endpoint; keys = keys; asked = c.args.ask.now; body = c.args.payload.now; limit = c.args.limit } in
     let Answered : Endpoint → Keys → Type 0 = λ endpoint keys. IsAnsweredBy (request endpoint keys) c.args.keep c.in-Ok.head (g.W.Wire.seen c.sign.new.wire) (g.W.Wire.seen c.send.new.wire)
     (g.W.Wire.alive c.send.new.wire) (g.W.Wire.faults c.sign.new.wire) (g.W.Wire.faults c.send.new.wire) c.args.into.now c.send.new.into c.send.result in
     let client = c.args.client.now in

@@ -1,5 +1,5 @@
 use Rattle.std.proofs.Common.{◌≡◌, ◌+◌, ◌*◌, ◌≤◌, false, length}
-use Rattle.attempts.specs.Attempts.{Gains}
+use Rattle.run_promise.specs.Gains.{Gains}
 use Rattle.list_walk.specs.Pages.{IsSound, total_of}
 use Rattle.listings.proofs.PageLemmas.{IsUnderway}
 use Rattle.listings.proofs.pages.list_pages.Given as goal

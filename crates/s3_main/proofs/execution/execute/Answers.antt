@@ -1,7 +1,7 @@
 use Rattle.std.proofs.Common.{◌∙◌, Global, map, string_bytes, subst, sym, inr}
 use Rattle.s3_model.specs.declared.settings.Limits.{Limits}
-use Rattle.upload_promise.specs.Gains.{Gains}
-use Rattle.upload_promise.proofs.GainLemmas.{gains_as}
+use Rattle.run_promise.specs.Gains.{Gains}
+use Rattle.run_promise.proofs.GainLemmas.{gains_as}
 use Rattle.s3_main.specs.Runs.{GoesAs}
 use Rattle.s3_main.specs.Urls.{IsPresigned}
 use Rattle.s3_main.proofs.BeginLemmas as lemma

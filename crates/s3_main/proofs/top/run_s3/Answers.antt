@@ -1,7 +1,7 @@
 use Rattle.std.proofs.Common.{Global, map, string_bytes, arith, subst}
 use Rattle.s3_main.proofs.PromiseLemmas.{all_true}
 use Rattle.s3_main.proofs.TopLemmas as lemma
-use Rattle.upload_promise.proofs.GainLemmas.{gains_as}
+use Rattle.run_promise.proofs.GainLemmas.{gains_as}
 use Rattle.s3_main.proofs.top.run_s3.Goals as goal
 
 pub returns-clause-went : goal.returns-clause-went

@@ -2,7 +2,7 @@ use Rattle.std.proofs.Common.{List, ℕ, Err, sym, ap, subst, arith}
 use Rattle.s3_model.specs.declared.outcomes.Outcome.{Outcome}
 use Rattle.s3_model.specs.declared.outcomes.Outcome.TheVariants as outcome
 use Rattle.s3_model.specs.declared.outcomes.Cause.{Cause}
-use Rattle.upload_promise.specs.Gains.{Gains}
+use Rattle.run_promise.specs.Gains.{Gains}
 use Rattle.upload_promise.specs.Uploads.{WantsJournal}
 use Rattle.small_uploads.specs.Uploading.{Carried, Uploads}
 use Rattle.small_uploads.proofs.UploadLemmas as lemma
@@ -26,7 +26,7 @@ returns-clause-went g c =
     subst how (sym c.outcome_of.ensures)
     (lemma.given c.args.client.now.endpoint c.args.client.now.signer c.args.ask.now (g.F.Files.seen c.read_whole.new.files) c.args.path.now c.args.size _ _ c.push-2.new.self.items first last c.carry-attempted.result
     c.in-Ok.bytes.items (subst (λ (bytes : List ℕ). Gains first last (Carried c.args.client.now.endpoint c.args.client.now.signer c.args.ask.now bytes c.carry-attempted.result)) c.deref.ensures.value c.carry-attempted.ensures.carried)
-    (lemma.journal_of c.args.journal.now.items c.push.new.self.items c.push-2.new.self.items c.tries.result c.carry-attempted.result c.requires.empty c.push.ensures.items c.push-2.ensures.items c.tries.ensures)
+    (lemma.journal_of c.args.journal.now.items c.push.new.self.items c.push-2.new.self.items c.tries_of.result c.carry-attempted.result c.requires.empty c.push.ensures.items c.push-2.ensures.items c.tries_of.ensures.marks)
     (omega (arith, c.in-Ok.ensures.length, c.in-Ok.bytes.ok.0)) c.in-Ok.ensures.bytes)
 
 pub returns-in-Err-clause-wants : goal.returns-in-Err-clause-wants
@@ -42,4 +42,4 @@ returns-clause-wants g c =
     let after = g.F.Files.faults c.read_whole.new.files in
     subst (λ (how : Outcome). WantsJournal before after how c.push-2.new.self.items) (sym c.outcome_of.ensures)
     (lemma.attempt_wants before after c.carry-attempted.result c.push-2.new.self.items
-    (lemma.journal_of c.args.journal.now.items c.push.new.self.items c.push-2.new.self.items c.tries.result c.carry-attempted.result c.requires.empty c.push.ensures.items c.push-2.ensures.items c.tries.ensures))
+    (lemma.journal_of c.args.journal.now.items c.push.new.self.items c.push-2.new.self.items c.tries_of.result c.carry-attempted.result c.requires.empty c.push.ensures.items c.push-2.ensures.items c.tries_of.ensures.marks))

@@ -2,7 +2,7 @@
 use Rattle.std.specs.Prelude.{◌≡◌, ◌++◌, List, Option, Some, None}
 use Rattle.s3_model.specs.Talks.{Talk, Note, WireLog}
 
--- talks and notes behind those before, as far as the wire is still seen
+-- P of the talks and notes behind those before, as far as the wire is still seen
 abbrev pub Gains : Option WireLog → Option WireLog → (List Talk → List Note → Type 0) → Type 0
 Gains before None P = Unit {0}
 Gains None (Some after) P = ⊥

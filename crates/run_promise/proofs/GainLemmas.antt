@@ -1,30 +1,26 @@
 -- What a wire gains in one call after the other.
 use Rattle.shared_lemmas.proofs.Clashes.{none_is_some, some_is}
-use Rattle.std.proofs.Common.{◌≡◌, ◌∙◌, ◌++◌, ℕ, List, [], ◌∷◌, Option, Some, None, refl, sym, ap, inl, inr, append_assoc, append-nil}
-use Rattle.s3_model.specs.Talks.{Talk, Note, Began, WireLog}
-use Rattle.s3_outside.specs.Seen.{IsSeenAfter}
-use Rattle.http_exchange.specs.Seen.{with_talk}
-use Rattle.attempts.specs.Attempts.{Gains}
+use Rattle.std.proofs.Common.{◌≡◌, ◌∙◌, ◌++◌, ◌⊎◌, ℕ, List, [], Option, Some, None, refl, sym, ap, inl, inr, append_assoc, append-nil}
+use Rattle.std.specs.Option.{option_map}
+use Rattle.s3_model.specs.Counts.{Rose}
+use Rattle.s3_model.specs.Talks.{Talk, Note, WireLog}
+use Rattle.run_promise.specs.Gains.{Gains}
 
 -- nothing was called
 pub gains_nothing : (P : List Talk → List Note → Type 0) (seen : Option WireLog) → P [] [] → Gains seen seen P
 gains_nothing P None p = tt
 gains_nothing P (Some log) p = ([], [], sym (append-nil log.talks), sym (append-nil log.notes), p)
 
--- one call, whose step adds these talks and notes
-gains_step : (P : List Talk → List Note → Type 0) (step : WireLog → WireLog) (talks : List Talk) (notes : List Note)
+-- One call, whose step adds these talks and notes. Of a wire that is seen no more nothing holds.
+pub gains_step : (P : List Talk → List Note → Type 0) (step : WireLog → WireLog) (talks : List Talk) (notes : List Note)
     → ((log : WireLog) → ((step log).talks ≡ log.talks ++ talks) × ((step log).notes ≡ log.notes ++ notes))
-    → (before after : Option WireLog) (b a : ℕ) → IsSeenAfter step before after b a → P talks notes → Gains before after P
+    → (before after : Option WireLog) (b a : ℕ) → ((after ≡ option_map step before) ⊎ ((after ≡ None) × Rose b a)) → P talks notes → Gains before after P
 gains_step P step talks notes adds before None b a seen p = tt
 gains_step P step talks notes adds None (Some after) b a (inl e) p = absurd (none_is_some after (sym e))
 gains_step P step talks notes adds (Some before) (Some after) b a (inl e) p =
     let same = some_is _ _ e in
     (talks, notes, ap (λ (log : WireLog). log.talks) same ∙ (adds before).0, ap (λ (log : WireLog). log.notes) same ∙ (adds before).1, p)
 gains_step P step talks notes adds before (Some after) b a (inr stops) p = absurd (none_is_some after (sym stops.0))
-
-pub gains_talk : (P : List Talk → List Note → Type 0) (talk : Talk) (before after : Option WireLog) (b a : ℕ) → IsSeenAfter (with_talk talk) before after b a
-    → P (talk ∷ []) (Began ∷ []) → Gains before after P
-gains_talk P talk = gains_step P (with_talk talk) (talk ∷ []) (Began ∷ []) (λ log. (refl, refl))
 
 -- one and then the other
 pub gains_both : (P Q R : List Talk → List Note → Type 0) → ((talks more : List Talk) (notes others : List Note) → P talks notes → Q more others → R (talks ++ more) (notes ++ others))
