@@ -1,7 +1,7 @@
 -- Runs of the small upload, and plannings in two pages, that break one clause of the schedule alone.
 use Rattle.std.proofs.Common.{◌≡◌, ◌<◌, ◌≤◌, ◌==◌, ℕ, zero, suc, true, false, List, [], ◌∷◌, Some, None, refl, ap, inl, inr, arith}
 use Rattle.std.specs.Prelude.{◌≢◌, map}
-use Rattle.std.proofs.lemmas.List.Sorted.{IsPermutation-refl}
+use Rattle.std.proofs.lemmas.List.Sorted.{IsPermutation-append_comm, IsPermutation-refl}
 use Rattle.s3_model.specs.declared.answers.Listed.{Listed}
 use Rattle.s3_model.specs.declared.outcomes.Event.{Event}
 use Rattle.s3_model.specs.declared.requests.Ask.{Ask}
@@ -22,7 +22,7 @@ use Rattle.promise_examples.specs.Plannings.{both_notes, talk_with_body}
 use Rattle.promise_examples.specs.Reading.{Reads, signed_body}
 use Rattle.promise_examples.specs.Refused as refused
 use Rattle.promise_examples.specs.Refused.{a_talk, lost_at, once, path, setting, stored_at, task}
-use Rattle.promise_examples.specs.Rules.{Rule, Asks, Plans, Planned, Numbered, OneByOne, Dry, Twice, NoThird, MayRepeat, HasFailed, JobsBreakAlone, PlanningsBreakAlone, EachJobBreaksAlone, EachPlanningBreaksAlone, IsListing}
+use Rattle.promise_examples.specs.Rules.{Rule, InOrder, Asks, Plans, Planned, Numbered, OneByOne, Dry, Twice, NoThird, MayRepeat, HasFailed, JobsBreakAlone, PlanningsBreakAlone, EachJobBreaksAlone, EachPlanningBreaksAlone, IsListing}
 use Rattle.promise_examples.specs.Runs.{Example}
 use Rattle.promise_examples.proofs.Carrying as carrying
 use Rattle.promise_examples.proofs.Concrete.{Each, Slots, at, some_is}
@@ -419,50 +419,82 @@ module _ (limits : Limits) (spare : ℕ) where
     abbrev last_page : wires.Numbered
     last_page = noting.nth 1 (last number 0 given (6 ∷ body) body) (record { mark = mark.Success; talk = answer (6 ∷ body) })
 
-    in_first_lane : came < 3 → carrying.IsLane page_of s here (in_first (talk_of 5 token ∷ answer (6 ∷ body) ∷ [])) (in_first both_notes) here 0
-    in_first_lane before = record {
-      in_turn = (((λ place come. let is : 3 ≡ place = some_is 3 place come in omega arith), tt), (tt, tt));
-      gained = refl;
-      noted = noting.first page_of _ 5 (last_page ∷ []) _ refl (refl, refl, refl) (noting.first page_of last_page 6 [] [] refl (refl, refl, refl) (noting.done page_of));
-    }
+    -- read in that order
+    module _ (coming : List Dispatched) where
+      in_first_lane : came < 3 → carrying.IsLane page_of s coming (in_first (talk_of 5 token ∷ answer (6 ∷ body) ∷ [])) (in_first both_notes) here 0
+      in_first_lane before = record {
+        in_turn = (((λ place come. let is : 3 ≡ place = some_is 3 place come in omega arith), tt), (tt, tt));
+        gained = refl;
+        noted = noting.first page_of _ 5 (last_page ∷ []) _ refl (refl, refl, refl) (noting.first page_of last_page 6 [] [] refl (refl, refl, refl) (noting.done page_of));
+      }
 
-    written_here : came < 3 → map (λ (c : Dispatched). c.dispatch) here ≡ dispatches journal (in_first (talk_of 5 token ∷ answer (6 ∷ body) ∷ []))
-        → Each (carrying.ComesOf page_of s here here journal) here → Slots (carrying.IsKnown page_of s here here) journal → Repeats (λ (a b : Dispatched). carrying.GoesFurther page_of s here a) here
-        → carrying.IsWritten page_of s here journal (in_first (talk_of 5 token ∷ answer (6 ∷ body) ∷ [])) (in_first both_notes) here
-    written_here before shown comes known once_each = record {
-      shown = shown;
-      comes = comes;
-      inside = (omega arith, (omega arith, tt));
-      unused = λ lane beyond. unused _ _ lane beyond;
-      known = known;
-      lanes = one_lane page_of s here _ _ here 1 refl (in_first_lane before);
-      marks = ((refl, tt), ((refl, tt), tt));
-      again = (((λ more. absurd (omega arith)), tt), (((λ more. absurd (omega arith)), tt), tt));
-      given_again = once_each;
-      at_most = (omega arith, (omega arith, tt));
-      ends = ((λ goes. absurd (never goes)), ((λ goes. absurd (never goes)), tt));
-    }
+      written_here : came < 3 → map (λ (c : Dispatched). c.dispatch) here ≡ dispatches journal (in_first (talk_of 5 token ∷ answer (6 ∷ body) ∷ []))
+          → Each (carrying.ComesOf page_of s coming here journal) here → Slots (carrying.IsKnown page_of s coming here) journal → Repeats (λ (a b : Dispatched). carrying.GoesFurther page_of s coming a) here
+          → carrying.IsWritten page_of s coming journal (in_first (talk_of 5 token ∷ answer (6 ∷ body) ∷ [])) (in_first both_notes) here
+      written_here before shown comes known once_each = record {
+        shown = shown;
+        comes = comes;
+        inside = (omega arith, (omega arith, tt));
+        unused = λ lane beyond. unused _ _ lane beyond;
+        known = known;
+        lanes = one_lane page_of s coming _ _ here 1 refl (in_first_lane before);
+        marks = ((refl, tt), ((refl, tt), tt));
+        again = (((λ more. absurd (omega arith)), tt), (((λ more. absurd (omega arith)), tt), tt));
+        given_again = once_each;
+        at_most = (omega arith, (omega arith, tt));
+        ends = ((λ goes. absurd (never goes)), ((λ goes. absurd (never goes)), tt));
+      }
 
   abbrev early : List Dispatched
   early = here 2 1 1 (plannings.early_page limits).journal []
 
   early_written : carrying.IsWritten page_of s early (plannings.early_page limits).journal (plannings.early_page limits).logs (plannings.early_page limits).notes early
-  early_written = written_here 2 1 1 (plannings.early_page limits).journal [] (omega arith) refl ((2, mark.Success ∷ [], refl, refl, refl), ((3, mark.Success ∷ [], refl, refl, refl), tt))
+  early_written = written_here 2 1 1 (plannings.early_page limits).journal [] early (omega arith) refl ((2, mark.Success ∷ [], refl, refl, refl), ((3, mark.Success ∷ [], refl, refl, refl), tt))
       (tt, (tt, ((first 2, at early 0 (first 2) refl, refl), ((last 1 0 1 (6 ∷ []) [], at early 1 (last 1 0 1 (6 ∷ []) []) refl, refl), tt)))) (tt, (tt, tt))
 
   abbrev skipped : List Dispatched
   skipped = here 1 2 2 (plannings.skipped_number limits).journal []
 
   skipped_written : carrying.IsWritten page_of s skipped (plannings.skipped_number limits).journal (plannings.skipped_number limits).logs (plannings.skipped_number limits).notes skipped
-  skipped_written = written_here 1 2 2 (plannings.skipped_number limits).journal [] (omega arith) refl ((1, mark.Success ∷ [], refl, refl, refl), ((3, mark.Success ∷ [], refl, refl, refl), tt))
+  skipped_written = written_here 1 2 2 (plannings.skipped_number limits).journal [] skipped (omega arith) refl ((1, mark.Success ∷ [], refl, refl, refl), ((3, mark.Success ∷ [], refl, refl, refl), tt))
       (tt, ((first 1, at skipped 0 (first 1) refl, refl), (tt, ((last 2 0 2 (6 ∷ []) [], at skipped 1 (last 2 0 2 (6 ∷ []) []) refl, refl), tt)))) (tt, (tt, tt))
 
   abbrev bodied : List Dispatched
   bodied = here 1 1 2 (plannings.page_with_body limits).journal (1 ∷ [])
 
   bodied_written : carrying.IsWritten page_of s bodied (plannings.page_with_body limits).journal (plannings.page_with_body limits).logs (plannings.page_with_body limits).notes bodied
-  bodied_written = written_here 1 1 2 (plannings.page_with_body limits).journal (1 ∷ []) (omega arith) refl ((1, mark.Success ∷ [], refl, refl, refl), ((3, mark.Success ∷ [], refl, refl, refl), tt))
+  bodied_written = written_here 1 1 2 (plannings.page_with_body limits).journal (1 ∷ []) bodied (omega arith) refl ((1, mark.Success ∷ [], refl, refl, refl), ((3, mark.Success ∷ [], refl, refl, refl), tt))
       (tt, ((first 1, at bodied 0 (first 1) refl, refl), (tt, ((last 1 0 2 (6 ∷ 1 ∷ []) (1 ∷ []), at bodied 1 (last 1 0 2 (6 ∷ 1 ∷ []) (1 ∷ [])) refl, refl), tt)))) (tt, (tt, tt))
+
+  -- both pages, read in the other order
+  abbrev whole : List Dispatched
+  whole = here 1 1 2 (plannings.both_pages limits).journal []
+
+  abbrev turned : List Dispatched
+  turned = last 1 0 2 (6 ∷ []) [] ∷ first 1 ∷ []
+
+  turned_written : carrying.IsWritten page_of s turned (plannings.both_pages limits).journal (plannings.both_pages limits).logs (plannings.both_pages limits).notes whole
+  turned_written = written_here 1 1 2 (plannings.both_pages limits).journal [] turned (omega arith) refl ((1, mark.Success ∷ [], refl, refl, refl), ((3, mark.Success ∷ [], refl, refl, refl), tt))
+      (tt, ((first 1, at whole 0 (first 1) refl, refl), (tt, ((last 1 0 2 (6 ∷ []) [], at whole 1 (last 1 0 2 (6 ∷ []) []) refl, refl), tt)))) (tt, (tt, tt))
+
+  turned_parts : ruling.Parts page_of Needed (plannings.both_pages limits) whole turned InOrder
+  turned_parts = record {
+    is_coming = λ other. IsPermutation-append_comm (first 1 ∷ []) (last 1 0 2 (6 ∷ []) [] ∷ []);
+    in_order = λ other. absurd (other refl);
+    asks = λ other. (tt, (tt, tt));
+    plans = λ other. are_needed 1 1 0 2 (6 ∷ []) [];
+    planned = λ other. ((refl, refl), ((refl, refl), tt));
+    numbered = λ other. ((refl, refl), ((refl, refl), tt));
+    one_by_one = λ other. ((omega arith, tt), (tt, tt));
+    dry = λ other. refl;
+    twice = λ other. (tt, (tt, tt));
+    no_third = λ other. (omega arith, (omega arith, tt));
+    stops = λ other. ruling.none_stops page_of Needed (plannings.both_pages limits) whole turned (inr (inl (refl, λ shown b shows. tt)), (inr (inl (refl, λ shown b shows. tt)), tt));
+    abort_last = λ other. ruling.no_abort_last page_of Needed (plannings.both_pages limits) whole turned (refl, (refl, tt));
+    aborts = λ other. ruling.none_created page_of Needed (plannings.both_pages limits) whole turned (refl, (refl, tt));
+    completed_stays = λ other. ruling.none_completed page_of Needed (plannings.both_pages limits) whole turned (refl, (refl, tt));
+    moves_last = λ other. ruling.none_deletes page_of Needed (plannings.both_pages limits) whole turned (refl, (refl, tt));
+  }
 
   -- the last page in the second lane
   abbrev parted : List Dispatched
@@ -510,6 +542,7 @@ module _ (limits : Limits) (spare : ℕ) where
         (parts e_parted refl 1 1 1 2 (6 ∷ []) [] (omega arith) Numbered (λ other. refl) (λ other. absurd (other refl)) (λ other. omega arith) (tt, (tt, tt)) (omega arith, (omega arith, tt)));
     page_with_body = ruling.alone page_of Needed (plannings.page_with_body limits) bodied bodied Planned (carrying.carried page_of s bodied _ _ _ bodied bodied_written)
         (parts (plannings.page_with_body limits) refl 1 1 0 2 (6 ∷ 1 ∷ []) (1 ∷ []) (omega arith) Planned (λ other. absurd (other refl)) (λ other. (refl, refl)) (λ other. omega arith) (tt, (tt, tt)) (omega arith, (omega arith, tt)));
+    last_came_first = ruling.alone page_of Needed (plannings.both_pages limits) whole turned InOrder (carrying.carried page_of s turned _ _ _ whole turned_written) turned_parts;
   }
 
 pub each_job_breaks_alone : EachJobBreaksAlone

@@ -279,9 +279,6 @@ module _ (page_of : List ℕ → Listed) where
     ends = ((λ goes. absurd (never goes)), ((λ goes. absurd (never goes)), ((λ goes. absurd (never goes)), ((λ goes. absurd (never goes)), tt))));
   }
 
-  after_failure_failure : (failed : Dispatched) → HasFailed page_of NoPlans orders.after_failure after_failure_jobs after_failure_coming failed → after_failure_denied ≡ failed
-  after_failure_failure failed is_failed = failures (Reads page_of) orders.after_failure.setting (λ (c : Dispatched). after_failure_denied ≡ c) after_failure_coming (inr (inl (refl, λ shown b shows. tt)), (inr (inr refl), (inr (inl (refl, λ shown b shows. tt)), (inr (inl (refl, λ shown b shows. tt)), tt)))) failed is_failed
-
   after_failure_abort_last : ruling.Holds page_of NoPlans orders.after_failure after_failure_jobs after_failure_coming AbortLast
   after_failure_abort_last a c known_a known is_abort same other =
       subst (λ (d : Dispatched). IsBefore c.dispatch.came_at d.dispatch.given_at)

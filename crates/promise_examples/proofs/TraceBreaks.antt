@@ -1,14 +1,20 @@
 -- Traces of the small upload that break one clause alone.
-use Rattle.std.proofs.Common.{◌≡◌, ◌∙◌, ◌==◌, ℕ, zero, suc, false, List, [], ◌∷◌, Some, refl, sym, filter, filter_map, length, take, slice_get, arith}
+use Rattle.std.proofs.Common.{◌≡◌, ◌∙◌, ◌==◌, ◌<◌, ℕ, zero, suc, false, List, [], ◌∷◌, Some, refl, sym, inl, filter, filter_map, length, take, slice_get, arith}
 use Rattle.std.specs.Prelude.{◌≢◌, flat_map}
 use Rattle.s3_model.specs.declared.answers.Listed.{Listed}
+use Rattle.s3_model.specs.declared.answers.Class.TheVariants as class
+use Rattle.s3_model.specs.declared.answers.Reply.{Reply}
 use Rattle.s3_model.specs.declared.answers.Reply.TheVariants as reply
+use Rattle.s3_model.specs.declared.answers.Why.TheVariants as why
+use Rattle.s3_model.specs.declared.outcomes.Event.{Event}
+use Rattle.s3_model.specs.declared.tries.Mark.TheVariants as mark
+use Rattle.s3_model.specs.Talks.{Talk, Note}
 use Rattle.s3_model.specs.declared.places.Place.TheVariants as place
 use Rattle.s3_model.specs.declared.tasks.Task.{Task}
 use Rattle.s3_service.specs.ServiceState.{HasBucket, objects_in}
 use Rattle.std.specs.FinMap.{insert}
 use Rattle.s3_service.specs.Serves.{Replied, Removes, Writes}
-use Rattle.run_promise.specs.Dispatches.{Dispatched}
+use Rattle.run_promise.specs.Dispatches.{Attempt, Dispatched}
 use Rattle.run_promise.specs.Fits.{requests_of}
 use Rattle.run_promise.specs.Traces.{External, IsSameAttempt, Serve, Step, TraceEvent, Came, Given, begun_in, event_of, events_of, served_in, states}
 use Rattle.run_promise.specs.Truthful.{IsDest}
@@ -17,16 +23,26 @@ use Rattle.shared_lemmas.proofs.Lists.{head_is}
 use Rattle.promise_examples.specs.GivenAgain.{bytes}
 use Rattle.promise_examples.specs.Misfits as misfits
 use Rattle.promise_examples.specs.Misfits.{before, bucket, key, other_key, request, stored, written_again, with_byte, first_content}
-use Rattle.promise_examples.specs.Refused.{setting, task, whole_run}
+use Rattle.promise_examples.specs.Lies.{lost_twice}
+use Rattle.promise_examples.specs.Refused.{lost_at, run, setting, task, whole_run}
+use Rattle.promise_examples.specs.Runs.{Example}
 use Rattle.promise_examples.specs.Services.{object_of}
 use Rattle.promise_examples.specs.TraceBreaks.{TraceClause, Moves, Begins, SinceGiven, UntilCame, Once, Answers, Served, Runs, OneContent, NotWritten, NotRemoved, SaysOfTrace, Shows, IsFit, TraceClausesAreAll, BreaksTraceAlone, TracesBreakAlone, EachTraceBreaksAlone}
+use Rattle.promise_examples.proofs.Answers.{answers_follow}
 use Rattle.promise_examples.proofs.Carrying as carrying
 use Rattle.promise_examples.proofs.Concrete.{Each, each, each_passing, Slots, slot, Pairs, pairs, Cuts, cut, at}
 use Rattle.promise_examples.proofs.Fitting as fitting
 use Rattle.promise_examples.proofs.Honest.{has_bucket}
+use Rattle.promise_examples.proofs.Noting as noting
 use Rattle.promise_examples.proofs.SmallPut as small
 use Rattle.promise_examples.proofs.WholePut as whole
 use Rattle.world_laws.proofs.Faithful.{IsFaithful, faithful_with, faithful_without}
+
+lost_success : (said : Reply) → class.Uncertain why.WireFailed ≡ class.Success said → ⊥
+lost_success said e = cc
+
+lost_refusal : (code message : List ℕ) → class.Uncertain why.WireFailed ≡ class.Refusal code message → ⊥
+lost_refusal code message e = cc
 
 bucket_stays : HasBucket stored bucket
 bucket_stays = has_bucket before bucket (insert (objects_in before bucket) key (object_of bytes))
@@ -58,21 +74,21 @@ elsewhere dest = each (λ (t : Task). t.dest ≡ place.Object bucket other_key �
 module _ (page_of : List ℕ → Listed) where
   -- ---- the clauses are all
 
-  says_of : (dispatched : List Dispatched) (trace : List Step) → IsFit page_of dispatched trace → (rule : TraceClause) → SaysOfTrace page_of dispatched trace rule
-  says_of dispatched trace fit Moves = fit.fits.moves
-  says_of dispatched trace fit Begins = fit.fits.begins
-  says_of dispatched trace fit SinceGiven = fit.fits.since_given
-  says_of dispatched trace fit UntilCame = fit.fits.until_came
-  says_of dispatched trace fit Once = fit.fits.once
-  says_of dispatched trace fit Answers = fit.fits.answers
-  says_of dispatched trace fit Served = fit.fits.served
-  says_of dispatched trace fit Runs = fit.runs
-  says_of dispatched trace fit OneContent = fit.honest.one_content
-  says_of dispatched trace fit NotWritten = fit.honest.not_written
-  says_of dispatched trace fit NotRemoved = fit.honest.not_removed
+  says_of : (e : Example) (dispatched : List Dispatched) (trace : List Step) → IsFit page_of e dispatched trace → (rule : TraceClause) → SaysOfTrace page_of e dispatched trace rule
+  says_of e dispatched trace fit Moves = fit.fits.moves
+  says_of e dispatched trace fit Begins = fit.fits.begins
+  says_of e dispatched trace fit SinceGiven = fit.fits.since_given
+  says_of e dispatched trace fit UntilCame = fit.fits.until_came
+  says_of e dispatched trace fit Once = fit.fits.once
+  says_of e dispatched trace fit Answers = fit.fits.answers
+  says_of e dispatched trace fit Served = fit.fits.served
+  says_of e dispatched trace fit Runs = fit.runs
+  says_of e dispatched trace fit OneContent = fit.honest.one_content
+  says_of e dispatched trace fit NotWritten = fit.honest.not_written
+  says_of e dispatched trace fit NotRemoved = fit.honest.not_removed
 
-  fit_of : (dispatched : List Dispatched) (trace : List Step) → ((rule : TraceClause) → SaysOfTrace page_of dispatched trace rule) → IsFit page_of dispatched trace
-  fit_of dispatched trace all = record {
+  fit_of : (e : Example) (dispatched : List Dispatched) (trace : List Step) → ((rule : TraceClause) → SaysOfTrace page_of e dispatched trace rule) → IsFit page_of e dispatched trace
+  fit_of e dispatched trace all = record {
     runs = all Runs;
     honest = record { one_content = all OneContent; not_written = all NotWritten; not_removed = all NotRemoved };
     fits = record {
@@ -87,19 +103,14 @@ module _ (page_of : List ℕ → Listed) where
   }
 
   all_clauses : TraceClausesAreAll page_of
-  all_clauses dispatched trace = (fit_of dispatched trace, says_of dispatched trace)
+  all_clauses e dispatched trace = (fit_of e dispatched trace, says_of e dispatched trace)
 
   -- ---- by what is written out
 
-  abbrev jobs : List Dispatched
-  jobs = whole.jobs page_of
-
-  abbrev sent : Dispatched
-  sent = whole.sent page_of
-
-  module _ (trace : List Step) where
+  -- a run of the small upload with this journal, these talks and these notes
+  module _ (journal : List Event) (logs : ℕ → List Talk) (notes : ℕ → List Note) (jobs : List Dispatched) (trace : List Step) where
     abbrev Holds : TraceClause → Type 0
-    Holds rule = SaysOfTrace page_of jobs trace rule
+    Holds rule = SaysOfTrace page_of (run journal logs notes) jobs trace rule
 
     -- what is to be shown of each clause but the broken one
     record Parts (broken : TraceClause) : Type 0 where
@@ -133,8 +144,25 @@ module _ (page_of : List ℕ → Listed) where
     holds broken parts NotWritten other = λ b k object happened. each WriteRule (events_of trace) (parts.not_written other) (External (Writes b k object)) happened
     holds broken parts NotRemoved other = λ b k happened. each RemoveRule (events_of trace) (parts.not_removed other) (External (Removes b k)) happened
 
-    alone : (broken : TraceClause) → Parts broken → BreaksTraceAlone page_of broken trace
-    alone broken parts = (jobs, jobs, small.scheduled (Shows page_of) (whole.well page_of ∷ []), carrying.carried page_of setting jobs _ _ _ jobs (whole.written page_of), holds broken parts)
+  -- ---- the upload that was stored
+
+  abbrev jobs : List Dispatched
+  jobs = whole.jobs page_of
+
+  abbrev sent : Dispatched
+  sent = whole.sent page_of
+
+  abbrev Stored : List Step → TraceClause → Type 0
+  Stored trace broken = Parts whole_run.journal whole_run.logs whole_run.notes jobs trace broken
+
+  alone : (trace : List Step) (broken : TraceClause) → Stored trace broken → BreaksTraceAlone page_of whole_run broken trace
+  alone trace broken parts = (
+    jobs,
+    jobs,
+    small.scheduled (Shows page_of) (whole.well page_of ∷ []),
+    carrying.carried page_of setting jobs _ _ _ jobs (whole.written page_of),
+    holds whole_run.journal whole_run.logs whole_run.notes jobs trace broken parts,
+  )
 
   -- ---- what is in each trace
 
@@ -157,7 +185,7 @@ module _ (page_of : List ℕ → Listed) where
   again : IsFaithful written_again
   again = faithful_with stored bucket key bytes now
 
-  never_given : Parts misfits.never_given Moves
+  never_given : Stored misfits.never_given Moves
   never_given = record {
     moves = λ other. absurd (other refl);
     begins = λ other. begins_first;
@@ -172,7 +200,7 @@ module _ (page_of : List ℕ → Listed) where
     not_removed = λ other. (tt, (tt, (tt, tt)));
   }
 
-  other_lane : Parts misfits.other_lane Begins
+  other_lane : Stored misfits.other_lane Begins
   other_lane = record {
     moves = λ other. refl;
     begins = λ other. absurd (other refl);
@@ -187,7 +215,7 @@ module _ (page_of : List ℕ → Listed) where
     not_removed = λ other. (tt, (tt, (tt, (tt, tt))));
   }
 
-  begun_before_given : Parts misfits.begun_before_given SinceGiven
+  begun_before_given : Stored misfits.begun_before_given SinceGiven
   begun_before_given = record {
     moves = λ other. refl;
     begins = λ other. begins_first;
@@ -202,7 +230,7 @@ module _ (page_of : List ℕ → Listed) where
     not_removed = λ other. (tt, (tt, (tt, (tt, tt))));
   }
 
-  served_twice : Parts misfits.served_twice Once
+  served_twice : Stored misfits.served_twice Once
   served_twice = record {
     moves = λ other. refl;
     begins = λ other. begins_first;
@@ -217,7 +245,7 @@ module _ (page_of : List ℕ → Listed) where
     not_removed = λ other. (tt, (tt, (tt, (tt, (tt, tt)))));
   }
 
-  never_served : Parts misfits.never_served Served
+  never_served : Stored misfits.never_served Served
   never_served = record {
     moves = λ other. refl;
     begins = λ other. begins_first;
@@ -232,7 +260,7 @@ module _ (page_of : List ℕ → Listed) where
     not_removed = λ other. (tt, (tt, (tt, tt)));
   }
 
-  served_after_came : Parts misfits.served_after_came Served
+  served_after_came : Stored misfits.served_after_came Served
   served_after_came = record {
     moves = λ other. refl;
     begins = λ other. begins_first;
@@ -247,7 +275,7 @@ module _ (page_of : List ℕ → Listed) where
     not_removed = λ other. (tt, (tt, (tt, (tt, tt))));
   }
 
-  served_before_begun : Parts misfits.served_before_begun Runs
+  served_before_begun : Stored misfits.served_before_begun Runs
   served_before_begun = record {
     moves = λ other. refl;
     begins = λ other. begins_first;
@@ -262,7 +290,7 @@ module _ (page_of : List ℕ → Listed) where
     not_removed = λ other. (tt, (tt, (tt, (tt, tt))));
   }
 
-  two_contents : Parts misfits.two_contents OneContent
+  two_contents : Stored misfits.two_contents OneContent
   two_contents = record {
     moves = λ other. refl;
     begins = λ other. begins_first;
@@ -277,7 +305,7 @@ module _ (page_of : List ℕ → Listed) where
     not_removed = λ other. (tt, (tt, (tt, (tt, (tt, (tt, tt))))));
   }
 
-  overwritten : Parts misfits.overwritten NotWritten
+  overwritten : Stored misfits.overwritten NotWritten
   overwritten = record {
     moves = λ other. refl;
     begins = λ other. begins_first;
@@ -292,7 +320,7 @@ module _ (page_of : List ℕ → Listed) where
     not_removed = λ other. (tt, (tt, (tt, (tt, (tt, tt)))));
   }
 
-  removed : Parts misfits.removed NotRemoved
+  removed : Stored misfits.removed NotRemoved
   removed = record {
     moves = λ other. refl;
     begins = λ other. begins_first;
@@ -307,9 +335,83 @@ module _ (page_of : List ℕ → Listed) where
     not_removed = λ other. absurd (other refl);
   }
 
+  -- ---- an upload that was lost twice, and began again after it came
+
+  abbrev lost : ℕ → Attempt
+  lost moment = record { mark = mark.Uncertain; talk = lost_at moment }
+
+  abbrev put_lost : Dispatched
+  put_lost = small.put_with (lost 5 ∷ lost 6 ∷ [])
+
+  abbrev lost_jobs : List Dispatched
+  lost_jobs = put_lost ∷ []
+
+  lost_lane : (lane : ℕ) → lane < 1 → carrying.IsLane page_of setting lost_jobs lost_twice.logs lost_twice.notes lost_jobs lane
+  lost_lane zero used = record {
+    in_turn = (tt, tt);
+    gained = refl;
+    noted = noting.first page_of (noting.nth 1 put_lost (lost 5)) 5 (noting.nth 2 put_lost (lost 6) ∷ []) _ refl (refl, refl, refl)
+        (noting.second page_of (noting.nth 2 put_lost (lost 6)) 6 [] _ refl (refl, refl, refl) (noting.done page_of));
+  }
+  lost_lane (suc lane) used = absurd (omega arith)
+
+  lost_written : carrying.IsWritten page_of setting lost_jobs lost_twice.journal lost_twice.logs lost_twice.notes lost_jobs
+  lost_written = record {
+    shown = refl;
+    comes = ((1, mark.Uncertain ∷ mark.Uncertain ∷ [], refl, refl, refl), tt);
+    inside = (omega arith, tt);
+    unused = λ lane beyond. (carrying.none_in _ lane beyond, carrying.none_in _ lane beyond);
+    known = (tt, ((put_lost, at lost_jobs 0 put_lost refl, refl), tt));
+    lanes = lost_lane;
+    marks = ((refl, (refl, tt)), tt);
+    again = (((λ more. refl), ((λ more. absurd (omega arith)), tt)), tt);
+    given_again = (tt, tt);
+    at_most = (omega arith, tt);
+    ends = ((λ goes. inl refl), tt);
+  }
+
+  begins_lost : (lane : ℕ) → filter_map (begun_in lane) (events_of misfits.begun_late) ≡ flat_map requests_of (filter (λ (c : Dispatched). c.dispatch.lane == lane) lost_jobs)
+  begins_lost zero = refl
+  begins_lost (suc lane) =
+      let a : (suc lane == 0) ≡ false = grind arith in
+      let b : (0 == suc lane) ≡ false = grind arith in
+      rw (a, b) refl
+
+  -- of a lost talk nothing is certain
+  none_certain : (place : ℕ) (moment : ℕ) → fitting.IsServed (Shows page_of) lost_jobs (take 2 (events_of misfits.begun_late)) put_lost place (lost moment)
+  none_certain place moment (class.Success said) b shows certain = absurd (lost_success said shows.0)
+  none_certain place moment (class.Refusal code message) b shows certain = absurd (lost_refusal code message shows.0)
+  none_certain place moment (class.Uncertain why) b shows certain = absurd certain
+
+  begun_late : Parts lost_twice.journal lost_twice.logs lost_twice.notes lost_jobs misfits.begun_late UntilCame
+  begun_late = record {
+    moves = λ other. refl;
+    begins = λ other. begins_lost;
+    since_given = λ other. (refl, (tt, (tt, (tt, tt))));
+    until_came = λ other. absurd (other refl);
+    once = λ other. tt;
+    answers = λ other. (tt, (tt, (tt, (tt, tt))));
+    served = λ other. (tt, (tt, (((none_certain 0 5, (none_certain 1 6, tt)), tt), (tt, tt))));
+    runs = λ other. (refl, (refl, (refl, (refl, tt))));
+    one_content = λ other. (still, (still, (still, (still, (still, tt)))));
+    not_written = λ other. (tt, (tt, (tt, (tt, tt))));
+    not_removed = λ other. (tt, (tt, (tt, (tt, tt))));
+  }
+
+  late_alone : BreaksTraceAlone page_of lost_twice UntilCame misfits.begun_late
+  late_alone = (
+    lost_jobs,
+    lost_jobs,
+    small.scheduled (Shows page_of) (lost 5 ∷ lost 6 ∷ []),
+    carrying.carried page_of setting lost_jobs _ _ _ lost_jobs lost_written,
+    holds lost_twice.journal lost_twice.logs lost_twice.notes lost_jobs misfits.begun_late UntilCame begun_late,
+  )
+
   pub trace_breaks : TracesBreakAlone page_of
   trace_breaks = record {
     all_clauses = all_clauses;
+    answers_follow = answers_follow page_of;
+    begun_late = late_alone;
     never_given = alone misfits.never_given Moves never_given;
     other_lane = alone misfits.other_lane Begins other_lane;
     begun_before_given = alone misfits.begun_before_given SinceGiven begun_before_given;

@@ -55,9 +55,6 @@ module _ (page_of : List ℕ → Listed) where
     size = 2;
   }
 
-  abbrev IsSilent : Dispatched → Type 0
-  IsSilent c = c.dispatch.attempts ≡ []
-
   module _ (e : Example) (jobs coming : List Dispatched) where
     silent_gained : Each (λ (c : Dispatched). talks_of c ≡ []) jobs → (lane : ℕ) → in_first [] lane ≡ flat_map talks_of (in_lane lane jobs)
     silent_gained none lane = nowhere lane ∙ sym (wiring.none_of_kept talks_of (λ (c : Dispatched). c.dispatch.lane == lane) jobs none)

@@ -81,6 +81,12 @@ begun_before_given = begun 0 1 before ∷ given ∷ answered 1 ∷ came stored �
 abbrev pub begun_after_came : List Step
 begun_after_came = given ∷ came before ∷ begun 0 1 before ∷ answered 1 ∷ []
 
+-- of an upload that was lost twice, the second attempt begins after it came
+abbrev pub begun_late : List Step
+begun_late = given ∷ begun 0 1 before
+    ∷ record { event = Came put_job 0 (mark.Uncertain ∷ mark.Uncertain ∷ []); state = before }
+    ∷ begun 0 2 before ∷ []
+
 abbrev pub other_number : List Step
 other_number = given ∷ begun 0 2 before ∷ answered 2 ∷ came stored ∷ []
 

@@ -35,6 +35,10 @@ module _ (limits : Limits) where
   abbrev pub setting : Setting
   setting = (listing_run limits).setting
 
+  -- nothing is changed
+  abbrev pub both_pages : Example
+  both_pages = run setting (listing_run limits).journal (in_first both_talks) (in_first both_notes)
+
   -- the last page is asked for while the first one is out
   abbrev pub early_page : Example
   early_page = run setting

@@ -168,6 +168,8 @@ module _ (limits : Limits) (spare : ℕ) where
     pub skipped_number : PlanningBreaks Numbered (plannings.skipped_number limits)
     pub second_lane : PlanningBreaks Numbered (plannings.second_lane limits)
     pub page_with_body : PlanningBreaks Planned (plannings.page_with_body limits)
+    -- where its jobs are read as if the last page had come first
+    pub last_came_first : PlanningBreaks InOrder (plannings.both_pages limits)
 
 abbrev pub EachJobBreaksAlone : Type 0
 EachJobBreaksAlone = (page_of : List ℕ → Listed) → JobsBreakAlone page_of

@@ -20,7 +20,9 @@ use Rattle.run_promise.specs.Truthful.{IsDest}
 use Rattle.promise_examples.specs.Misfits as misfits
 use Rattle.promise_examples.specs.Misfits.{before}
 use Rattle.promise_examples.specs.Reading.{Reads, signed_body}
+use Rattle.promise_examples.specs.Lies.{lost_twice}
 use Rattle.promise_examples.specs.Refused.{whole_run}
+use Rattle.promise_examples.specs.Runs.{Example}
 
 -- the clauses of `Fits`, by their names there; that a service does each step (`IsTrace`); and those of `IsHonest`
 pub data TraceClause : Type 0 where
@@ -40,13 +42,13 @@ module _ (page_of : List ℕ → Listed) where
   abbrev pub Shows : Ask → ℕ → Talk → Class → List ℕ → Type 0
   Shows = Reads page_of
 
-  module _ (dispatched : List Dispatched) (trace : List Step) where
+  module _ (e : Example) (dispatched : List Dispatched) (trace : List Step) where
     abbrev pub events : List TraceEvent
     events = events_of trace
 
-    -- what a clause says of this trace of the small upload
+    -- what a clause says of this trace of a run of the small upload
     abbrev pub SaysOfTrace : TraceClause → Type 0
-    SaysOfTrace Moves = filter_map event_of events ≡ whole_run.journal
+    SaysOfTrace Moves = filter_map event_of events ≡ e.journal
     SaysOfTrace Begins = (lane : ℕ) → filter_map (begun_in lane) events
         ≡ flat_map requests_of (filter (λ (c : Dispatched). c.dispatch.lane == lane) dispatched)
     SaysOfTrace SinceGiven = (front back : List TraceEvent) (job : JobId) (lane : ℕ)
@@ -65,48 +67,58 @@ module _ (page_of : List ℕ → Listed) where
         → slice_get c.dispatch.attempts place ≡ Some attempt → Shows c.ask c.limit attempt.talk shown bytes
         → IsCertain shown
         → (answer : Answer) × Contains front (Serve (request_at c place) answer) × Names shown bytes answer
-    SaysOfTrace Runs = IsTrace whole_run.setting.limits [] before trace
+    SaysOfTrace Runs = IsTrace e.setting.limits [] before trace
     SaysOfTrace OneContent = (t u : State) (bucket key : List ℕ) (a b : Object) → Contains (states before trace) t
         → Contains (states before trace) u → object_at t bucket key ≡ Some a → object_at u bucket key ≡ Some b
         → a.etag ≡ b.etag → a.bytes ≡ b.bytes
     SaysOfTrace NotWritten = (bucket key : List ℕ) (object : Object)
         → Contains events (External (Writes bucket key object))
-        → ¬ (IsDest whole_run.setting.tasks bucket key)
+        → ¬ (IsDest e.setting.tasks bucket key)
     SaysOfTrace NotRemoved = (bucket key : List ℕ) → Contains events (External (Removes bucket key))
-        → ¬ (IsDest whole_run.setting.tasks bucket key)
+        → ¬ (IsDest e.setting.tasks bucket key)
 
     -- the trace is one of an honest service, and it fits
     pub record IsFit : Type 0 where
-      pub runs : IsTrace whole_run.setting.limits [] before trace
-      pub honest : IsHonest before trace (IsDest whole_run.setting.tasks)
-      pub fits : Fits Shows events whole_run.journal dispatched
+      pub runs : IsTrace e.setting.limits [] before trace
+      pub honest : IsHonest before trace (IsDest e.setting.tasks)
+      pub fits : Fits Shows events e.journal dispatched
 
   -- the clauses together say that, no more and no less
   abbrev pub TraceClausesAreAll : Type 0
-  TraceClausesAreAll = (dispatched : List Dispatched) (trace : List Step)
-      → (((rule : TraceClause) → SaysOfTrace dispatched trace rule) → IsFit dispatched trace)
-      × (IsFit dispatched trace → (rule : TraceClause) → SaysOfTrace dispatched trace rule)
+  TraceClausesAreAll = (e : Example) (dispatched : List Dispatched) (trace : List Step)
+      → (((rule : TraceClause) → SaysOfTrace e dispatched trace rule) → IsFit e dispatched trace)
+      × (IsFit e dispatched trace → (rule : TraceClause) → SaysOfTrace e dispatched trace rule)
+
+  abbrev pub Carries : Example → List Dispatched → List Dispatched → Type 0
+  Carries e dispatched coming = IsCarried Shows signed_body [] 80 e.setting e.journal e.logs e.notes dispatched coming
+
+  -- No trace breaks the clause on answers alone: of jobs that are carried it follows from the others.
+  abbrev pub AnswersFollow : Type 0
+  AnswersFollow = (e : Example) (dispatched coming : List Dispatched) (trace : List Step)
+      → Carries e dispatched coming → ((rule : TraceClause) → rule ≢ Answers → SaysOfTrace e dispatched trace rule)
+      → SaysOfTrace e dispatched trace Answers
 
   -- With one reading of the upload, whose jobs keep to the schedule and are carried, every clause holds but this one.
-  abbrev pub BreaksTraceAlone : TraceClause → List Step → Type 0
-  BreaksTraceAlone broken trace = (dispatched : List Dispatched) × (coming : List Dispatched)
-      × IsSchedule Shows whole_run.setting (λ planning. planning ≡ []) dispatched coming
-      × IsCarried Shows signed_body [] 80 whole_run.setting whole_run.journal whole_run.logs whole_run.notes
-      dispatched coming
-      × ((rule : TraceClause) → rule ≢ broken → SaysOfTrace dispatched trace rule)
+  abbrev pub BreaksTraceAlone : Example → TraceClause → List Step → Type 0
+  BreaksTraceAlone e broken trace = (dispatched : List Dispatched) × (coming : List Dispatched)
+      × IsSchedule Shows e.setting (λ planning. planning ≡ []) dispatched coming × Carries e dispatched coming
+      × ((rule : TraceClause) → rule ≢ broken → SaysOfTrace e dispatched trace rule)
 
   pub record TracesBreakAlone : Type 0 where
     pub all_clauses : TraceClausesAreAll
-    pub never_given : BreaksTraceAlone Moves misfits.never_given
-    pub other_lane : BreaksTraceAlone Begins misfits.other_lane
-    pub begun_before_given : BreaksTraceAlone SinceGiven misfits.begun_before_given
-    pub served_twice : BreaksTraceAlone Once misfits.served_twice
-    pub never_served : BreaksTraceAlone Served misfits.never_served
-    pub served_after_came : BreaksTraceAlone Served misfits.served_after_came
-    pub served_before_begun : BreaksTraceAlone Runs misfits.served_before_begun
-    pub two_contents : BreaksTraceAlone OneContent misfits.two_contents
-    pub overwritten : BreaksTraceAlone NotWritten misfits.overwritten
-    pub removed : BreaksTraceAlone NotRemoved misfits.removed
+    pub answers_follow : AnswersFollow
+    pub never_given : BreaksTraceAlone whole_run Moves misfits.never_given
+    pub other_lane : BreaksTraceAlone whole_run Begins misfits.other_lane
+    pub begun_before_given : BreaksTraceAlone whole_run SinceGiven misfits.begun_before_given
+    -- of an upload that was lost twice
+    pub begun_late : BreaksTraceAlone lost_twice UntilCame misfits.begun_late
+    pub served_twice : BreaksTraceAlone whole_run Once misfits.served_twice
+    pub never_served : BreaksTraceAlone whole_run Served misfits.never_served
+    pub served_after_came : BreaksTraceAlone whole_run Served misfits.served_after_came
+    pub served_before_begun : BreaksTraceAlone whole_run Runs misfits.served_before_begun
+    pub two_contents : BreaksTraceAlone whole_run OneContent misfits.two_contents
+    pub overwritten : BreaksTraceAlone whole_run NotWritten misfits.overwritten
+    pub removed : BreaksTraceAlone whole_run NotRemoved misfits.removed
 
 abbrev pub EachTraceBreaksAlone : Type 0
 EachTraceBreaksAlone = (page_of : List ℕ → Listed) → TracesBreakAlone page_of
