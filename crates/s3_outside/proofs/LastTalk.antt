@@ -1,7 +1,7 @@
 -- The last of a list of talks, read and written.
 use Rattle.std.proofs.Common.{◌≡◌, ℕ, zero, suc, ◌+◌, List, [], ◌∷◌, map, length, slice_index_or, slice_set, refl, ap, arith}
 use Rattle.s3_model.specs.Talks.{Talk}
-use Rattle.s3_outside.specs.Wire.{change_last, last_went_well, went_well}
+use Rattle.s3_outside.specs.Wire.{change_last, is_last_service, last_went_well, leads_to, went_well}
 use Rattle.s3_outside.specs.TalkLog.{talk_of, ending_of}
 use Rattle.s3_outside.specs.declared.talk_log.TalkRecord.{TalkRecord}
 
@@ -18,3 +18,10 @@ last_goes_well (talk ∷ []) zero default last = refl
 last_goes_well (talk ∷ []) (suc i) default last = absurd (omega arith)
 last_goes_well (talk ∷ next ∷ talks) zero default last = absurd (omega arith)
 last_goes_well (talk ∷ next ∷ talks) (suc i) default last = last_goes_well (next ∷ talks) i default (omega arith)
+
+pub last_leads : (host : List ℕ) (port : ℕ) (talks : List TalkRecord) (i : ℕ) (default : TalkRecord) → i + 1 ≡ length talks → leads_to host port (talk_of (slice_index_or talks i default)) ≡ is_last_service host port (map talk_of talks)
+last_leads host port [] i default last = absurd (omega arith)
+last_leads host port (talk ∷ []) zero default last = refl
+last_leads host port (talk ∷ []) (suc i) default last = absurd (omega arith)
+last_leads host port (talk ∷ next ∷ talks) zero default last = absurd (omega arith)
+last_leads host port (talk ∷ next ∷ talks) (suc i) default last = last_leads host port (next ∷ talks) i default (omega arith)

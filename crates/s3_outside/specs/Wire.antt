@@ -1,5 +1,6 @@
 -- What the calls of a wire add to its log.
-use Rattle.std.specs.Prelude.{◌++◌, ◌==◌, ◌&&◌, ℕ, Bool, true, false, List, [], ◌∷◌, Result, Ok, Err, is_ok, length, take, not, if◌then◌else◌}
+use Rattle.std.specs.Prelude.{◌++◌, ◌==◌, ◌&&◌, ◌+◌, ◌-◌, ◌^◌, ℕ, Bool, true, false, List, [], ◌∷◌, Result, Ok, Err, is_ok, length, take, min, not, Option, Some, None, if◌then◌else◌}
+use Rattle.std.specs.Str.{bytes_eq}
 use Rattle.s3_model.specs.Talks.{Talk, Ending, Failed, Closed, Finished, Note, Began, WireLog}
 
 abbrev pub noted : Note → WireLog → WireLog
@@ -67,3 +68,25 @@ stays_alive result alive = is_ok result && alive
 -- the connection is kept where that was asked for and no call failed in the talk
 abbrev pub is_kept : Bool → WireLog → Bool
 is_kept keep log = keep && last_went_well log.talks
+
+abbrev pub leads_to : List ℕ → ℕ → Talk → Bool
+leads_to host port talk = bytes_eq talk.host host && talk.port == port
+
+-- whether there is a talk, and the last went to that host and port
+abbrev pub is_last_service : List ℕ → ℕ → List Talk → Bool
+is_last_service host port [] = false
+is_last_service host port (talk ∷ []) = leads_to host port talk
+is_last_service host port (talk ∷ next ∷ talks) = is_last_service host port (next ∷ talks)
+
+-- a talk that begins opens a connection, unless the last one is kept and leads to the same host and port
+abbrev pub opens : List ℕ → ℕ → (begun alive : Bool) → List Talk → Bool
+opens host port begun alive talks = begun && not (alive && is_last_service host port talks)
+
+-- one more, up to the last number
+abbrev pub count_opening : Bool → ℕ → ℕ
+count_opening true count = min (count + 1) (2 ^ 32 - 1)
+count_opening false count = count
+
+abbrev pub opened_after : List ℕ → ℕ → Bool → Option WireLog → Option Bool → Option ℕ → Option ℕ
+opened_after host port begun (Some log) (Some alive) (Some count) = Some (count_opening (opens host port begun alive log.talks) count)
+opened_after host port begun log alive count = None

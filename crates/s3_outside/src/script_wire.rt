@@ -38,7 +38,7 @@ impl ScriptWire {
     ghost use Rattle.std.specs.Option.{option_map};
     ghost use Rattle.s3_model.specs.Counts.{Rose};
     ghost use Rattle.s3_outside.specs.TalkLog.{talk_of, note_of};
-    ghost use Rattle.s3_outside.specs.Wire.{last_talk, fails};
+    ghost use Rattle.s3_outside.specs.Wire.{last_talk, fails, opens, count_opening};
 
     /// A wire with an empty log. `moment` is in seconds since 1970, before the year 10,000.
     pub fn make(
@@ -50,6 +50,7 @@ impl ScriptWire {
         requires { moment < 253402300800 }
         ensures seen { ⟦<ScriptWire as Wire>⟧.seen result ≡ Some (record { talks = []; notes = [] }) }
         ensures alive { ⟦<ScriptWire as Wire>⟧.alive result ≡ Some false }
+        ensures opened { ⟦<ScriptWire as Wire>⟧.opened result ≡ Some 0 }
         ensures faults { ⟦<ScriptWire as Wire>⟧.faults result ≡ 0 }
     {
         ScriptWire {
@@ -73,6 +74,7 @@ impl ScriptWire {
         requires { 1 ≤ most }
         ensures seen { ⟦<ScriptWire as Wire>⟧.seen self.new ≡ ⟦<ScriptWire as Wire>⟧.seen self.old }
         ensures alive { ⟦<ScriptWire as Wire>⟧.alive self.new ≡ ⟦<ScriptWire as Wire>⟧.alive self.old }
+        ensures opened { ⟦<ScriptWire as Wire>⟧.opened self.new ≡ ⟦<ScriptWire as Wire>⟧.opened self.old }
         ensures faults { ⟦<ScriptWire as Wire>⟧.faults self.new ≡ ⟦<ScriptWire as Wire>⟧.faults self.old }
     {
         self.most = most;
@@ -99,17 +101,12 @@ impl ScriptWire {
         self.is_alive
     }
 
-    /// How many connections were opened: one for each talk that did not go over a kept one to the same host and port.
-    pub fn opened(&self) -> u32 {
+    /// How many connections were opened: one for each talk that began and found none kept for its host and port. The
+    /// count stops at 2^32 - 1.
+    pub fn opened(&self) -> u32
+        ensures { IfSome (⟦<ScriptWire as Wire>⟧.opened self.now) (λ opened. opened ≡ result) }
+    {
         self.opened
-    }
-
-    // Whether the last talk went to that host and port.
-    fn is_last_service(&self, host: &str, port: u16) -> bool {
-        match self.log.talks().last() {
-            Some(talk) => talk.host.as_str() == host && talk.port == port,
-            None => false,
-        }
     }
 
     // Counts a connection that was opened, which is none where the last one is kept for that service.
@@ -117,8 +114,10 @@ impl ScriptWire {
         ensures log { self.new.log ≡ self.old.log }
         ensures alive { self.new.is_alive ≡ self.old.is_alive }
         ensures faults { self.new.faults ≡ self.old.faults }
+        ensures opened { IfSome self.old.log (λ log.
+            self.new.opened ≡ count_opening (opens host.now port begun self.old.is_alive log.talks) self.old.opened) }
     {
-        if begun && !(self.is_alive && self.is_last_service(host, port)) {
+        if begun && !(self.is_alive && self.log.is_last_service(host, port)) {
             self.opened = self.opened.saturating_add(1);
         }
     }
@@ -142,6 +141,7 @@ impl ScriptWire {
     fn fail(&mut self) -> Failed
         ensures log { self.new.log ≡ option_map (last_talk fails) self.old.log }
         ensures alive { self.new.is_alive ≡ false }
+        ensures opened { self.new.opened ≡ self.old.opened }
         ensures counted { Rose self.old.faults self.new.faults }
         ensures later { self.old.faults ≤ self.new.faults }
     {
@@ -158,14 +158,16 @@ impl Wire for ScriptWire {
 
     ghost alive = { λ w. option_map (λ _. w.is_alive) w.log };
 
+    ghost opened = { λ w. option_map (λ _. w.opened) w.log };
+
     ghost faults = { λ w. w.faults };
 
     fn begin(&mut self, host: &str, port: u16) -> Result<(), Failed> {
         let begun = !self.is_failing(WireCall::Begin, self.begins);
         self.begins = self.begins.saturating_add(1);
         self.place = 0;
-        self.is_alive = begun && self.is_alive;
         self.count_opening(begun, host, port);
+        self.is_alive = begun && self.is_alive;
         if self.log.begin(host, port, begun).is_err() {
             count_fault(&mut self.faults);
         }

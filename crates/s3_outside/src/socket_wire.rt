@@ -205,6 +205,8 @@ impl<R: Net + Clock> Wire for SocketWire<R> {
 
     ghost alive = { λ _. None };
 
+    ghost opened = { λ _. None };
+
     ghost faults = { λ w. w.faults };
 
     fn begin(&mut self, host: &str, port: u16) -> Result<(), Failed> {

@@ -2,7 +2,7 @@
 
 ghost use Rattle.std.specs.Prelude.{◌≡◌, [], ◌∷◌, ◌++◌, map, OnOk, OnErr, IfSome, IsTrue, is_ok};
 ghost use Rattle.std.specs.Option.{option_map};
-ghost use Rattle.s3_outside.specs.Wire.{begun, noted, change_last, last_talk, last_went_well, sends, gets, fails, closes};
+ghost use Rattle.s3_outside.specs.Wire.{begun, noted, change_last, last_talk, last_went_well, is_last_service, sends, gets, fails, closes};
 
 use s3_model::{OutOfMemory, Text};
 use std::alloc::Global;
@@ -49,6 +49,16 @@ pub struct TalkRecord {
     pub sent: Vec<u8>,
     pub got: Vec<u8>,
     pub ending: TalkEnding,
+}
+
+impl TalkRecord {
+    ghost use Rattle.s3_outside.specs.Wire.{leads_to};
+
+    fn leads_to(&self, host: &str, port: u16) -> bool
+        ensures { result ≡ leads_to host.now port (talk_of self.now) }
+    {
+        self.host.as_str() == host && self.port == port
+    }
 }
 
 /// What a wire noted, in order. Numbers are seconds.
@@ -153,6 +163,15 @@ fn last_went_well(talks: &[TalkRecord]) -> bool
     }
 }
 
+fn is_last_service(talks: &[TalkRecord], host: &str, port: u16) -> bool
+    ensures { result ≡ is_last_service host.now port (map talk_of talks.now) }
+{
+    match talks {
+        [.., last] => last.leads_to(host, port),
+        [] => false,
+    }
+}
+
 impl TalkLog {
     /// An empty log, which takes no memory.
     pub fn make(alloc: Global) -> TalkLog
@@ -233,6 +252,13 @@ impl TalkLog {
         ensures { IfSome self.now (λ log. result ≡ last_went_well log.talks) }
     {
         last_went_well(&self.talks)
+    }
+
+    /// Whether there is a talk, and the last went to that host and port.
+    pub fn is_last_service(&self, host: &str, port: u16) -> bool
+        ensures { IfSome self.now (λ log. result ≡ is_last_service host.now port log.talks) }
+    {
+        is_last_service(&self.talks, host, port)
     }
 
     /// The talks so far.

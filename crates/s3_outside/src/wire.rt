@@ -5,7 +5,7 @@ ghost use Rattle.std.specs.Option.{option_and, option_map};
 ghost use Rattle.s3_model.specs.Counts.{HasCause, Rose};
 ghost use Rattle.s3_model.specs.Talks.{WireLog, Moment, Pause};
 ghost use Rattle.s3_outside.specs.Seen.{IsSeenAfter};
-ghost use Rattle.s3_outside.specs.Wire.{begun, after_send, after_take, noted, is_kept, stays_alive};
+ghost use Rattle.s3_outside.specs.Wire.{begun, after_send, after_take, noted, is_kept, stays_alive, opened_after};
 
 /// A call outside failed.
 #[derive(Clone, Copy, Debug, PartialEq, Eq)]
@@ -21,6 +21,10 @@ pub trait Wire {
     /// Whether the connection is kept for the next talk, where the talks are seen.
     ghost alive: { Self → Option Bool };
 
+    /// How many connections were opened, where the talks are seen: one for each talk that began and found none kept for
+    /// its host and port. The count stops at 2^32 - 1.
+    ghost opened: { Self → Option ℕ };
+
     /// How often a call failed. The count stops at 2^64 - 1.
     ghost faults: { Self → ℕ };
 
@@ -29,6 +33,8 @@ pub trait Wire {
         ensures log { IsSeenAfter (begun host.now port (is_ok result)) (seen self.old) (seen self.new) (faults self.old)
             (faults self.new) }
         ensures alive { alive self.new ≡ option_and (seen self.new) (option_map (stays_alive result) (alive self.old)) }
+        ensures opened { opened self.new ≡ option_and (seen self.new)
+            (opened_after host.now port (is_ok result) (seen self.old) (alive self.old) (opened self.old)) }
         ensures cause { HasCause (faults self.old) (faults self.new) result };
 
     /// Sends a first part of the bytes and answers how many it took: at least one, unless there are none.
@@ -37,6 +43,7 @@ pub trait Wire {
         ensures progress { IfOk result (λ count. (0 < count) ⊎ (bytes.now ≡ [])) }
         ensures log { seen self.new ≡ option_map (after_send bytes.now result) (seen self.old) }
         ensures alive { alive self.new ≡ option_map (stays_alive result) (alive self.old) }
+        ensures opened { opened self.new ≡ opened self.old }
         ensures cause { HasCause (faults self.old) (faults self.new) result };
 
     /// Takes what came back to the front of `into`; 0 is the end of the connection, unless `into` is empty.
@@ -45,12 +52,14 @@ pub trait Wire {
         ensures length { length into.new ≡ length into.old }
         ensures log { seen self.new ≡ option_map (after_take into.new result) (seen self.old) }
         ensures alive { alive self.new ≡ option_map (stays_alive result) (alive self.old) }
+        ensures opened { opened self.new ≡ opened self.old }
         ensures cause { HasCause (faults self.old) (faults self.new) result };
 
     /// Ends the talk. The connection is kept only where `keep` is true and no call failed in the talk.
     fn finish(&mut self, keep: bool)
         ensures log { seen self.new ≡ seen self.old }
         ensures alive { alive self.new ≡ option_map (is_kept keep) (seen self.old) }
+        ensures opened { opened self.new ≡ opened self.old }
         ensures later { faults self.old ≤ faults self.new };
 
     /// The time now, in seconds since 1970, before the year 10,000.
@@ -59,6 +68,7 @@ pub trait Wire {
         ensures log { IsSeenAfter (noted (Moment result)) (seen self.old) (seen self.new) (faults self.old)
             (faults self.new) }
         ensures alive { alive self.new ≡ option_and (seen self.new) (alive self.old) }
+        ensures opened { opened self.new ≡ option_and (seen self.new) (opened self.old) }
         ensures later { faults self.old ≤ faults self.new };
 
     /// Waits for so many seconds.
@@ -66,6 +76,7 @@ pub trait Wire {
         ensures log { IsSeenAfter (noted (Pause seconds)) (seen self.old) (seen self.new) (faults self.old)
             (faults self.new) }
         ensures alive { alive self.new ≡ option_and (seen self.new) (alive self.old) }
+        ensures opened { opened self.new ≡ option_and (seen self.new) (opened self.old) }
         ensures later { faults self.old ≤ faults self.new };
 }
 
