@@ -55,7 +55,7 @@ fn outcome_of(attempted: Attempted) -> Outcome
     }
 }
 
-/// Carries the Put of these bytes, in one attempt.
+/// Carries the Put of these bytes, in one attempt. The connection is kept for the next request where the answer allows it.
 fn carry<W: Wire>(
     alloc: Global,
     wire: &mut W,
@@ -72,7 +72,7 @@ fn carry<W: Wire>(
         return Attempted::Memory;
     };
     match Payload::of(alloc, ask, bytes) {
-        Ok(payload) => attempt(alloc, wire, client, ask, &payload, None, &mut place, false),
+        Ok(payload) => attempt(alloc, wire, client, ask, &payload, None, &mut place, true),
         Err(_) => Attempted::Memory,
     }
 }

@@ -17,16 +17,13 @@ pub(crate) struct Seen {
     pub(crate) stopped: bool,
     pub(crate) out: MemSink,
     pub(crate) err: MemSink,
-    pub(crate) wires: Vec<ScriptWire>,
 }
 
-impl Seen {
-    /// What the first talk sent; nothing where there was none.
-    pub(crate) fn sent(&self) -> &[u8] {
-        match self.wires.first().and_then(|wire| wire.talks().first()) {
-            Some(talk) => talk.sent.as_slice(),
-            None => &[],
-        }
+/// What the first talk of the first wire sent; nothing where there was none.
+pub(crate) fn first_sent(wires: &[ScriptWire]) -> &[u8] {
+    match wires.first().and_then(|wire| wire.talks().first()) {
+        Some(talk) => talk.sent.as_slice(),
+        None => &[],
     }
 }
 
@@ -72,30 +69,41 @@ fn files(alloc: Global) -> Result<MemFiles, Fail> {
     Ok(MemFiles::make(alloc, table, Vec::new(alloc), Vec::new(alloc)))
 }
 
-fn wire(alloc: Global, answer: &str) -> Result<ScriptWire, Fail> {
-    let answers = vec![in alloc; answer.as_bytes().to_vec(alloc)?]?;
-    Ok(ScriptWire::make(alloc, answers, Vec::new(alloc), MOMENT))
+/// One wire whose talks get these answers.
+pub(crate) fn one_wire(alloc: Global, answers: &[&str]) -> Result<Vec<ScriptWire>, Fail> {
+    let mut listed = Vec::new(alloc);
+    for answer in answers {
+        listed.push(answer.as_bytes().to_vec(alloc)?)?;
+    }
+    let wire = ScriptWire::make(alloc, listed, Vec::new(alloc), MOMENT);
+    Ok(vec![in alloc; wire]?)
 }
 
-/// Runs a row.
-pub(crate) fn play<R>(rt: &R, alloc: Global, row: &Row) -> Result<Seen, Fail>
+/// Runs a row over these wires.
+pub(crate) fn play<R>(
+    rt: &R,
+    alloc: Global,
+    row: &Row,
+    wires: &mut Vec<ScriptWire>,
+) -> Result<Seen, Fail>
 where
     R: Threads + Wait + Clone + Send + Sync + Drop + 'static,
 {
+    if wires.is_empty() || wires.len() > 1 {
+        return Err("one wire is wanted".into());
+    }
     let words = words(alloc, row.words)?;
     let mut env = environment(alloc, row)?;
     let mut files = files(alloc)?;
-    let mut wires = vec![in alloc; wire(alloc, row.answer)?]?;
     let mut out = MemSink::make_failing(alloc, Vec::new(alloc), row.room);
     let mut err = MemSink::make_failing(alloc, Vec::new(alloc), row.room);
     let run = run_s3(
-        rt, alloc, &words, &mut env, &mut files, &mut wires, &mut out, &mut err,
+        rt, alloc, &words, &mut env, &mut files, wires, &mut out, &mut err,
     );
     Ok(Seen {
         status: run.status,
         stopped: run.fatal.is_some(),
         out,
         err,
-        wires,
     })
 }

@@ -1,7 +1,8 @@
 //! Each row comes out as it is written.
 
-use crate::play::{Seen, play};
-use crate::rows::{ROWS, Row, nth_row, request};
+use crate::play::{Seen, first_sent, one_wire, play};
+use crate::rows::{KEPT, OTHER_UPLOAD, ROWS, Row, STORED, nth_row, request};
+use s3_outside::ScriptWire;
 use std::process::Abort;
 use std::test::Fail;
 
@@ -12,18 +13,35 @@ fn check(rt: &impl Abort, row: &Row, seen: &Seen) {
     assert_eq!(rt; seen.err.got(), row.err.as_bytes(), "{}", row.err);
 }
 
-fn check_sent(rt: &impl Abort, row: &Row, seen: &Seen) {
+fn check_sent(rt: &impl Abort, row: &Row, wires: &[ScriptWire]) {
     let want = if row.sends { request() } else { "" };
-    assert_eq!(rt; seen.sent(), want.as_bytes(), "{}", row.err);
+    assert_eq!(rt; first_sent(wires), want.as_bytes(), "{}", row.err);
 }
 
 #[test]
 fn rows_come_out(rt: HostRuntime) -> Result<(), Fail> {
     for n in 0..ROWS {
         let row = nth_row(n);
-        let seen = play(&rt, rt.alloc(), &row)?;
+        let mut wires = one_wire(rt.alloc(), &[row.answer])?;
+        let seen = play(&rt, rt.alloc(), &row, &mut wires)?;
         check(&rt, &row, &seen);
-        check_sent(&rt, &row, &seen);
+        check_sent(&rt, &row, &wires);
+    }
+    Ok(())
+}
+
+// Two files go up one after the other: the connection of the first is taken up where its answer lets it be kept.
+#[test]
+fn two_uploads_share_a_connection(rt: HostRuntime) -> Result<(), Fail> {
+    for (first, opened) in KEPT.iter() {
+        let mut wires = one_wire(rt.alloc(), &[*first, STORED])?;
+        for n in [0, OTHER_UPLOAD] {
+            let row = nth_row(n);
+            let seen = play(&rt, rt.alloc(), &row, &mut wires)?;
+            check(&rt, &row, &seen);
+        }
+        let connections = wires.first().map(|wire| wire.opened());
+        assert_eq!(rt; connections, Some(*opened), "{first}");
     }
     Ok(())
 }
