@@ -1,5 +1,5 @@
 -- A signed request and its exchange make an attempt, of one talk.
-use Rattle.std.proofs.Common.{◌≡◌, ◌≤◌, ◌++◌, ℕ, Bool, List, [], ◌∷◌, Option, refl, ap, subst}
+use Rattle.std.proofs.Common.{◌≡◌, ◌≤◌, ◌++◌, ◌⊎◌, ℕ, Bool, List, [], ◌∷◌, Option, refl, ap, subst, inl, inr}
 use Rattle.std.specs.Prelude.{IfSome}
 use Rattle.s3_model.specs.declared.answers.Class.{Class}
 use Rattle.s3_model.specs.declared.answers.Talked.{Talked}
@@ -8,7 +8,7 @@ use Rattle.s3_model.specs.Talks.{Talk, Note, Began, WireLog}
 use Rattle.answer_grammar.specs.Answer.{Begins, IsOfTalk}
 use Rattle.http_exchange.specs.Exchange as exchange
 use Rattle.attempts.specs.declared.send.Attempted.TheVariants as attempted
-use Rattle.attempts.specs.Attempts.{IsGet, IsOneTalk, Makes, SignedRequest}
+use Rattle.attempts.specs.Attempts.{HasClass, IsGet, IsOfSomeTalk, IsOneTalk, Makes, SignedRequest}
 use Rattle.run_promise.specs.Gains.{Gains}
 use Rattle.attempts.specs.Steps.{IsAnsweredBy, IsJudged, IsSigned, exchange_of}
 use Rattle.attempts.proofs.ClassLemmas.{has_class}
@@ -47,3 +47,14 @@ module _ (r : SignedRequest) (keep : Bool) (head : List ℕ) (shown : Class) whe
       let whole = one_talk before after answered.result talk kept talks notes has_room is_signed e answered.own answered.judged in
       rw (one.0, one.1) whole)
       first second third signed (gains_talk (λ talks notes. (talks ≡ talk ∷ []) × (notes ≡ Began ∷ [])) talk second third b a tells (refl, refl))
+
+  of_some_talk : (talk : Talk) (place : List ℕ) → HasClass r talk shown place → IsOfSomeTalk r.asked r.limit shown place
+  of_some_talk talk place (inl memory) = inl memory
+  of_some_talk talk place (inr h) = inr (talk, h.0, h.1, h.2)
+
+  -- the class of a request that was sent and judged is that of a talk, whatever the wire shows
+  pub classed : (before after : Buffer) (first last : Option WireLog) (alive : Option Bool) (b a : ℕ) → IfSome r.limit (λ most. IsGet r.asked × (most ≤ before.room))
+      → IsAnsweredBy r keep head first last alive b a before after shown → IsOfSomeTalk r.asked r.limit shown after.bytes
+  classed before after first last alive b a has_room answered =
+      let (talk, kept, tells, lives, e) = answered.exchanged in
+      of_some_talk talk after.bytes (has_class r keep head before after talk kept answered.result shown has_room answered.own e answered.judged)

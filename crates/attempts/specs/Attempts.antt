@@ -54,6 +54,13 @@ HasClass r talk shown place =
     (shown ≡ class.Uncertain why.Memory)
     ⊎ ((body : List ℕ) × Shows r.asked (most_of r) talk shown body × IsInPlace r.limit shown body place)
 
+-- the class is that of a talk, also where the wire shows none
+abbrev pub IsOfSomeTalk : Ask → (limit : Option ℕ) → Class → (place : List ℕ) → Type 0
+IsOfSomeTalk asked limit shown place =
+    (shown ≡ class.Uncertain why.Memory)
+    ⊎ ((talk : Talk) × (body : List ℕ) × Shows asked (unwrap_or limit 8_388_608) talk shown body
+    × IsInPlace limit shown body place)
+
 -- ---- the attempt
 
 -- One talk, with the endpoint. It says the request, signed at the moment that was noted before it, or begins to say it

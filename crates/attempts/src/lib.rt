@@ -7,6 +7,6 @@ mod payload;
 mod send;
 
 pub use client::Client;
-pub use marks::tries_of;
+pub use marks::{mark_of, tries_of};
 pub use payload::Payload;
 pub use send::{Attempted, attempt};

@@ -7,7 +7,8 @@ ghost use Rattle.run_promise.specs.Carried.{mark_of};
 use crate::send::Attempted;
 use s3_model::{Class, Mark, Tries};
 
-fn mark_of(class: &Class) -> Mark
+/// The mark of an attempt whose answer has that class.
+pub fn mark_of(class: &Class) -> Mark
     ensures { result ≡ mark_of class.now }
 {
     match class {

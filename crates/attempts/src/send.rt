@@ -2,7 +2,7 @@
 
 ghost use Rattle.std.specs.Prelude.{◌≡◌, ◌≢◌, ◌≤◌, false, true, Some, None, IfSome, IfOk, OnErr};
 ghost use Rattle.s3_model.specs.Counts.{Rose};
-ghost use Rattle.attempts.specs.Attempts.{IfMade, IsGet, IsSilent, Makes, SignedRequest};
+ghost use Rattle.attempts.specs.Attempts.{IfMade, IsGet, IsOfSomeTalk, IsSilent, Makes, SignedRequest};
 ghost use Rattle.run_promise.specs.Gains.{Gains};
 ghost use Rattle.attempts.specs.Steps.{IsAnsweredBy, IsSigned};
 ghost use Rattle.answer_classes.specs.Showing.{is_head};
@@ -129,6 +129,7 @@ pub fn attempt<W: Wire>(
       body = payload.now;
       limit = limit;
     } in Gains (W.seen wire.old) (W.seen wire.new) (Makes request result into.new.bytes) }
+    ensures classed { IfMade result (λ shown. IsOfSomeTalk ask.now limit shown into.new.bytes) }
     ensures kept { IfMade result (λ shown. keep ≡ false → W.alive wire.new ≢ Some true) }
     ensures failed { result ≡ Attempted.Made (Class.Uncertain Why.WireFailed)
         → Rose (W.faults wire.old) (W.faults wire.new) }

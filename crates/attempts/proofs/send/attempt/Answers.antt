@@ -3,7 +3,7 @@ use Rattle.s3_model.specs.declared.places.Endpoint.{Endpoint}
 use Rattle.s3_model.specs.declared.settings.Keys.{Keys}
 use Rattle.attempts.specs.Attempts.{SignedRequest}
 use Rattle.attempts.specs.Steps.{IsAnsweredBy}
-use Rattle.attempts.proofs.AttemptLemmas.{attempted_once}
+use Rattle.attempts.proofs.AttemptLemmas.{attempted_once, classed}
 use Rattle.attempts.proofs.send.attempt.Goals as goal
 
 pub returns-in-Ok-clause-gained : goal.returns-in-Ok-clause-gained
@@ -15,3 +15,8 @@ returns-in-Ok-clause-gained g c =
     let answered = subst (λ (endpoint : Endpoint). Answered endpoint client.signer) c.sign.ensures.endpoint
     (subst (λ (keys : Keys). Answered c.sign.new.client.endpoint keys) c.sign.ensures.keys c.send.ensures.answered) in
     attempted_once (request client.endpoint client.signer) c.args.keep c.in-Ok.head c.send.result _ _ _ _ _ _ _ _ c.requires.limit c.in-Ok.ensures.signed answered
+
+pub returns-in-Ok-clause-classed : goal.returns-in-Ok-clause-classed
+returns-in-Ok-clause-classed g c =
+    let request : SignedRequest = record { endpoint = c.sign.new.client.endpoint; keys = c.sign.new.client.signer; asked = c.args.ask.now; body = c.args.payload.now; limit = c.args.limit } in
+    classed request c.args.keep c.in-Ok.head c.send.result _ _ _ _ _ _ _ c.requires.limit c.send.ensures.answered
