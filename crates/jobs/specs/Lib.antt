@@ -1,2 +1,4 @@
 pub mod Cells
+pub mod Endings
 pub mod Holders
+pub mod Jobs

@@ -1,0 +1,5 @@
+use Rattle.jobs.proofs.AskLemmas as asks
+use Rattle.jobs.proofs.ask.create.Goals as goal
+
+pub returns : goal.returns
+returns c = asks.create _ _ _ c.in_ok-bucket.ensures _ c.in_ok-content_of.ensures

@@ -1,0 +1,5 @@
+use Rattle.jobs.proofs.AskLemmas as asks
+use Rattle.jobs.proofs.ask.put.Goals as goal
+
+pub returns : goal.returns
+returns c = asks.put _ _ _ c.in_ok-bucket.ensures _ c.in_ok-copy_of.ensures
