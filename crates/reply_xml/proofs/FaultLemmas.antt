@@ -5,7 +5,7 @@ use Rattle.reply_xml.specs.declared.faults.DocFault.{DocFault}
 use Rattle.reply_xml.specs.declared.faults.DocFault.TheVariants as fault
 use Rattle.reply_xml.specs.declared.texts.TextFault.{TextFault}
 use Rattle.reply_xml.specs.declared.texts.TextFault.TheVariants as text_fault
-use Rattle.reply_xml.specs.Faults.{Tells, IfRefused, TextTells}
+use Rattle.reply_xml.specs.Faults.{Tells, IfRefused, IsFault, IsSameFault, TextTells}
 
 pub Tells-map : {P Q : Type 0} (e : DocFault) → (P → Q) → Tells e P → Tells e Q
 Tells-map fault.Memory f h = tt
@@ -84,3 +84,31 @@ not_err x e same = cc
 pub err_past : {U : Type 0} (r : Result U DocFault) (e f : DocFault) → IsErrAnd r (λ d. d ≡ e) → e ≡ f → r ≡ Err f
 err_past (Ok x) e f h same = absurd h
 err_past (Err d) e f h same = ap Err (h ∙ same)
+
+-- a fault that cannot be told is memory that ran out
+pub untold : (e f : DocFault) → Tells e ⊥ → IsSameFault f e
+untold fault.Memory f h = tt
+untold (fault.NotADocument n) f h = absurd h
+untold (fault.Missing element) f h = absurd h
+untold (fault.Twice element) f h = absurd h
+untold fault.BadNumber f h = absurd h
+untold fault.BadTime f h = absurd h
+untold fault.BadEscape f h = absurd h
+untold fault.TooDeep f h = absurd h
+untold (fault.BadText element) f h = absurd h
+
+pub same_fault : (e f : DocFault) → e ≡ f → IsSameFault f e
+same_fault fault.Memory f h = tt
+same_fault (fault.NotADocument n) f h = h
+same_fault (fault.Missing element) f h = h
+same_fault (fault.Twice element) f h = h
+same_fault fault.BadNumber f h = h
+same_fault fault.BadTime f h = h
+same_fault fault.BadEscape f h = h
+same_fault fault.TooDeep f h = h
+same_fault (fault.BadText element) f h = h
+
+-- the same of a fault that is handed on
+pub fault_past : {U : Type 0} (r : Result U DocFault) (e f : DocFault) → IsErrAnd r (λ d. d ≡ e) → IsSameFault f e → IsFault r f
+fault_past (Ok x) e f h same = absurd h
+fault_past (Err d) e f h same = subst (λ (k : DocFault). IsSameFault f k) (sym h) same

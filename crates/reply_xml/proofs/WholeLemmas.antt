@@ -3,6 +3,7 @@ use Rattle.std.proofs.Common.{◌≡◌, ℕ, Bool, List, [], sym, refl, subst}
 use Rattle.reply_xml.specs.declared.reader.Tag.{Tag}
 use Rattle.reply_xml.specs.Contents.{Content}
 use Rattle.reply_xml.specs.Documents.{IsOf, IsDocument, BeginsDocument, ReadsSpace}
+use Rattle.reply_xml.specs.Places.{HasBytesBehind}
 use Rattle.reply_xml.specs.Reading.{HoldsAs, HoldsNone}
 use Rattle.reply_xml.proofs.OpenLemmas.{inner_at, ReadsInner-same}
 use Rattle.reply_xml.proofs.LeafLemmas.{HoldsAs-same}
@@ -49,6 +50,38 @@ pub no_whole : {V : Type 0} (Means : Content → V → Type 0) (root doc from re
 no_whole Means root doc from rest tag found begins room name r none value d =
     let inside = inside_root Means root doc from tag value begins room name d in
     none (subst (λ (b : List ℕ). ReadsSpace b []) (HoldsAs-same Means Means tag from rest inside.0 found value r inside.1).1 inside.2)
+
+-- what stands behind the root of a document
+pub behind_root : {V : Type 0} (Means : Content → V → Type 0) (root doc from : List ℕ) (place : ℕ) (tag : Tag) → BeginsDocument root doc tag.closed from → tag.room ≡ 15 → tag.name.now ≡ root
+    → (b : HasBytesBehind root Means doc place) → HoldsAs Means tag from b.at_end b.value
+behind_root Means root doc from place tag begins room name b =
+    let same = BeginsDocument-same root doc from b.at_content tag.closed b.closed begins b.begins in
+    (b.content, inner_at tag.closed b.closed b.content tag.room 15 tag.name.now root from b.at_content b.at_end same.0 (sym room) (sym name) same.1 b.inside, b.means)
+
+pub behind_there : {V : Type 0} (Means : Content → V → Type 0) (root doc from rest : List ℕ) (place : ℕ) (tag : Tag) (found : V) → BeginsDocument root doc tag.closed from → tag.room ≡ 15 → tag.name.now ≡ root
+    → HoldsAs Means tag from rest found → (b : HasBytesBehind root Means doc place) → ReadsSpace rest b.more
+behind_there Means root doc from rest place tag found begins room name r b =
+    subst (λ (t : List ℕ). ReadsSpace t b.more) (HoldsAs-same Means Means tag from rest b.at_end found b.value r (behind_root Means root doc from place tag begins room name b)).1 b.space
+
+-- the same bytes, where another sense gives a value too
+pub behind_map : {V W : Type 0} (Means : Content → V → Type 0) (Other : Content → W → Type 0) (root doc : List ℕ) (place : ℕ) → ((content : Content) (value : V) → Means content value → (w : W) × Other content w)
+    → HasBytesBehind root Means doc place → HasBytesBehind root Other doc place
+behind_map Means Other root doc place also b =
+    let other = also b.content b.value b.means in
+    record {
+      closed = b.closed;
+      at_content = b.at_content;
+      begins = b.begins;
+      content = b.content;
+      at_end = b.at_end;
+      inside = b.inside;
+      value = other.0;
+      means = other.1;
+      more = b.more;
+      space = b.space;
+      some = b.some;
+      at = b.at;
+    }
 
 -- A document has one content, and so one value.
 pub IsDocument-same : (root doc : List ℕ) (c d : Content) → IsDocument root doc c → IsDocument root doc d → d ≡ c

@@ -1,5 +1,5 @@
 -- What a fault says of a document.
-use Rattle.std.specs.Prelude.{◌≤◌, ⊤, ℕ, Result, Ok, Err}
+use Rattle.std.specs.Prelude.{◌≡◌, ◌≤◌, ⊤, ℕ, Result, Ok, Err}
 use Rattle.reply_xml.specs.declared.texts.TextFault.{TextFault}
 use Rattle.reply_xml.specs.declared.texts.TextFault.TheVariants as text_fault
 use Rattle.reply_xml.specs.declared.faults.DocFault.{DocFault}
@@ -14,6 +14,16 @@ Tells other P = P
 abbrev pub IfRefused : {T : Type 0} → Result T DocFault → Type 0 → Type 0
 IfRefused (Ok value) P = ⊤
 IfRefused (Err reason) P = Tells reason P
+
+-- the fault is this one, or memory ran out
+abbrev pub IsSameFault : (wanted found : DocFault) → Type 0
+IsSameFault wanted fault.Memory = ⊤
+IsSameFault wanted other = other ≡ wanted
+
+-- the answer is this fault, or memory ran out
+abbrev pub IsFault : {T : Type 0} → Result T DocFault → DocFault → Type 0
+IsFault (Ok value) wanted = ⊥
+IsFault (Err found) wanted = IsSameFault wanted found
 
 -- a text cannot go on behind a place of its own
 abbrev pub EndsIn : TextFault → ℕ → Type 0

@@ -1,6 +1,7 @@
 -- Where the first fault of bytes stands.
-use Rattle.std.specs.Prelude.{◌≡◌, ◌≢◌, ◌-◌, ℕ, List, length}
-use Rattle.reply_xml.specs.Documents.{NamesRoot}
+use Rattle.std.specs.Prelude.{◌≡◌, ◌≢◌, ◌-◌, ℕ, Bool, List, [], length}
+use Rattle.reply_xml.specs.Contents.{Content, ReadsInner}
+use Rattle.reply_xml.specs.Documents.{BeginsDocument, NamesRoot, ReadsSpace}
 use Rattle.reply_xml.specs.Tags.{NameEnds}
 
 -- The bytes begin as a document with another root than this one. The fault stands at the end of its name.
@@ -11,3 +12,18 @@ pub record HasOtherRoot (root bytes : List ℕ) (place : ℕ) : Type 0 where
   pub ends : NameEnds rest
   pub differs : name ≢ root
   pub at : place ≡ length bytes - length rest
+
+-- A whole root with a value stands in the bytes, and behind it white space and then more. The fault stands where more begins.
+pub record HasBytesBehind {V : Type 0} (root : List ℕ) (Means : Content → V → Type 0) (bytes : List ℕ) (place : ℕ) : Type 0 where
+  pub closed : Bool
+  pub at_content : List ℕ
+  pub begins : BeginsDocument root bytes closed at_content
+  pub content : Content
+  pub at_end : List ℕ
+  pub inside : ReadsInner closed content 15 root at_content at_end
+  pub value : V
+  pub means : Means content value
+  pub more : List ℕ
+  pub space : ReadsSpace at_end more
+  pub some : more ≢ []
+  pub at : place ≡ length bytes - length more

@@ -1,6 +1,6 @@
 //! The front and the end of a document.
 
-ghost use Rattle.std.specs.Prelude.{◌≡◌, ◌++◌, ◌<◌, ◌≤◌, ◌+◌, ℕ, Bool, List, [], IfOk, OnOk, IfErr, OnErr, MatchOption, codes, length, drop, take};
+ghost use Rattle.std.specs.Prelude.{◌≡◌, ◌≢◌, ◌++◌, ◌<◌, ◌≤◌, ◌+◌, ◌-◌, ℕ, Bool, List, [], Err, IfOk, OnOk, IfErr, OnErr, MatchOption, codes, length, drop, take};
 ghost use Rattle.reply_xml.specs.Contents.{Content};
 ghost use Rattle.reply_xml.specs.Documents.{BeginsDocument, EndsAt, IsDocument, MayDeclare, NamesRoot, ReadsSpace};
 ghost use Rattle.reply_xml.specs.Faults.{IfRefused};
@@ -98,6 +98,7 @@ impl<'a> Reader<'a> {
         ensures begins { IfOk result (λ parts. BeginsDocument root.now doc.now parts.1.closed parts.0.rest.now) }
         ensures room { IfOk result (λ parts. parts.1.room ≡ 15) }
         ensures named { IfOk result (λ parts. parts.1.name.now ≡ root.now) }
+        ensures shorter { IfOk result (λ parts. length parts.0.rest.now ≤ length doc.now) }
         ensures refused { IfRefused result ((closed : Bool) (rest : List ℕ) →
             ¬ (BeginsDocument root.now doc.now closed rest)) }
         ensures other { (place : ℕ) → HasOtherRoot root.now doc.now place →
@@ -125,14 +126,17 @@ impl<'a> Reader<'a> {
         Ok((reader, tag))
     }
 
-    /// White space up to the end of the document.
-    pub fn close(&self) -> Result<(), DocFault>
+    /// White space up to the end of a document of so many bytes.
+    pub fn close(&self, size: usize) -> Result<(), DocFault>
+        requires { length self.now.rest.now ≤ size }
         ensures value { OnOk result (ReadsSpace self.now.rest.now []) }
         ensures refused { IfRefused result (¬ (ReadsSpace self.now.rest.now [])) }
+        ensures behind { (more : List ℕ) → ReadsSpace self.now.rest.now more → more ≢ [] →
+            result ≡ Err (DocFault.NotADocument (size - length more)) }
     {
         let (_, rest) = split_run(Sort::Space, self.rest);
         if !rest.is_empty() {
-            return Err(DocFault::NotADocument(self.place(rest.len())));
+            return Err(DocFault::NotADocument(size - rest.len()));
         }
         Ok(())
     }

@@ -3,8 +3,8 @@
 ghost use Rattle.std.specs.Prelude.{◌≡◌, ◌≤◌, ℕ, List, IfOk, OnOk, length};
 ghost use Rattle.reply_xml.specs.Contents.{Content, Only};
 ghost use Rattle.reply_xml.specs.Documents.{IsOf};
-ghost use Rattle.reply_xml.specs.Faults.{IfRefused};
-ghost use Rattle.reply_xml.specs.Places.{HasOtherRoot};
+ghost use Rattle.reply_xml.specs.Faults.{IfRefused, IsFault};
+ghost use Rattle.reply_xml.specs.Places.{HasBytesBehind, HasOtherRoot};
 ghost use Rattle.reply_xml.specs.Reading.{Advances, HoldsAs, HoldsNone, ReadsAs, ReadsNone, Stops};
 
 use crate::faults::DocFault;
@@ -70,12 +70,14 @@ pub fn read_document<P: Parts>(
     ensures refused { IfRefused result ((whole : P.Whole) → ¬ (IsOf root.now (P.left parts) doc.now whole)) }
     ensures other_root { (place : ℕ) → HasOtherRoot root.now doc.now place →
         result ≡ Err (DocFault.NotADocument place) }
+    ensures behind { (place : ℕ) → HasBytesBehind root.now (P.left parts) doc.now place →
+        IsFault result (DocFault.NotADocument place) }
 {
     let (mut reader, tag) = match Reader::open(alloc, doc, root) {
         Ok(parts) => parts,
         Err(fault) => return Err(fault),
     };
     let whole = reader.inside(&tag, parts)?;
-    reader.close()?;
+    reader.close(doc.len())?;
     Ok(whole)
 }

@@ -6,7 +6,9 @@ use Rattle.reply_xml.specs.declared.reader.Child.{Child}
 use Rattle.reply_xml.specs.Contents.{Content, Only, is_the}
 use Rattle.reply_xml.specs.Documents.{IsOf}
 use Rattle.reply_xml.specs.Children.{IsFormed, IsLeafOf}
-use Rattle.s3_replies.specs.Errors.{ErrorLeft, IsError}
+use Rattle.reply_xml.specs.Places.{HasBytesBehind}
+use Rattle.reply_xml.proofs.WholeLemmas.{behind_map}
+use Rattle.s3_replies.specs.Errors.{ErrorLeft, HasError, IsError}
 use Rattle.reply_xml.specs.Reading.{Advances, Stops, ReadsSome, OnceLeft, AtMostOnceLeft, LeafLeft, AtMostLeft}
 use Rattle.reply_xml.proofs.ChildLemmas.{is_other, once_missing}
 use Rattle.reply_xml.proofs.TakeLemmas.{Passes, first_advanced, other_advanced, first_stopped, other_stopped, both_pass, part_advanced, part_stopped, skipped, named_passes, at_most_advanced, at_most_stopped}
@@ -59,6 +61,9 @@ error_skipped code message child bytes rest c m s =
 -- an error, by what is left to be found of it at first
 pub error_found : (doc : List ℕ) (error : List ℕ × List ℕ) → IsError doc error → (message : Option (List ℕ)) × IsOf (codes "Error") (ErrorLeft None None) doc (error.0, message) × (error.1 ≡ unwrap_or message [])
 error_found doc error r = (r.2.1.0, (r.0, r.1, (r.2.0, r.2.1.1)), r.2.1.2)
+
+pub error_behind : (doc : List ℕ) (place : ℕ) → HasBytesBehind (codes "Error") HasError doc place → HasBytesBehind (codes "Error") (ErrorLeft None None) doc place
+error_behind doc place b = behind_map HasError (ErrorLeft None None) (codes "Error") doc place (λ content value m. ((value.0, m.1.0), (m.0, m.1.1))) b
 
 pub error_told : (doc code text : List ℕ) (message : Option (List ℕ)) → text ≡ unwrap_or message [] → IsOf (codes "Error") (ErrorLeft None None) doc (code, message) → IsError doc (code, text)
 error_told doc code text message e r = (r.0, r.1, (r.2.0, (message, r.2.1, e)))

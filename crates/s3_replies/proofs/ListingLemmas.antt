@@ -6,14 +6,18 @@ use Rattle.s3_model.specs.declared.places.Entry.{Entry}
 use Rattle.reply_xml.specs.declared.elements.Element.TheVariants as element
 use Rattle.reply_xml.specs.Contents.{Content, named}
 use Rattle.reply_xml.specs.Children.{AtMostOnce, HasLeaf, IsFormed, IsLeafOf}
-use Rattle.s3_replies.specs.Listing.{MeansPage, HasEncoding, HasObject, HasPage, IsListing, IsWritten, MeansEntry, MeansText, Page}
+use Rattle.s3_replies.specs.Listing.{MeansPage, HasEncoding, HasListing, HasObject, HasPage, IsListing, IsWritten, MeansEntry, MeansText, Page}
 use Rattle.reply_values.specs.Numbers.{SpellsTruth}
 use Rattle.reply_xml.proofs.ChildLemmas.{nothing_there, leaf_same, Once-same, IsLeafOf-same, IsFormed-same}
 use Rattle.s3_replies.proofs.EachLemmas.{Each-same}
 use Rattle.reply_values.proofs.NumberLemmas.{SpellsTruth-same}
 use Rattle.s3_replies.proofs.ObjectLemmas.{HasObject-same}
 use Rattle.s3_replies.proofs.PageLemmas.{HasLeaf-same}
-use Rattle.reply_xml.proofs.WholeLemmas.{IsOf-same}
+use Rattle.reply_xml.specs.declared.reader.Tag.{Tag}
+use Rattle.reply_xml.specs.Documents.{BeginsDocument}
+use Rattle.reply_xml.specs.Reading.{HoldsAs}
+use Rattle.reply_xml.proofs.LeafLemmas.{HoldsAs-same}
+use Rattle.reply_xml.proofs.WholeLemmas.{IsOf-same, inside_root}
 
 page_of : Bool → Option (List ℕ) → Bool → List Entry → List (List ℕ) → Page
 page_of more token url entries prefixes = record { more = more; token = token; url = url; entries = entries; prefixes = prefixes }
@@ -55,6 +59,16 @@ pub IsWritten-same : (doc : List ℕ) (p q : Page) → IsWritten doc p → IsWri
 IsWritten-same doc p q r s = IsOf-same HasPage (codes "ListBucketResult") doc HasPage-same p q r s
 
 -- what a page's entries and prefixes cannot mean, no listing says
-pub no_listing : (doc : List ℕ) (page : Page) → IsWritten doc page → ((listed : Listed) → ¬ (MeansPage page listed)) → (listed : Listed) → ¬ (IsListing doc listed)
-no_listing doc page written none listed l =
-    none listed (subst (λ (p : Page). MeansPage p listed) (IsWritten-same doc page l.0 written l.1) l.2)
+pub no_listing : (doc from rest : List ℕ) (tag : Tag) (page : Page) → BeginsDocument (codes "ListBucketResult") doc tag.closed from → tag.room ≡ 15 → tag.name.now ≡ codes "ListBucketResult"
+    → HoldsAs HasPage tag from rest page → ((listed : Listed) → ¬ (MeansPage page listed)) → (listed : Listed) → ¬ (IsListing doc listed)
+no_listing doc from rest tag page begins room name holds none listed l =
+    let inside = inside_root HasPage (codes "ListBucketResult") doc from tag l.0 begins room name l.1 in
+    let there = HoldsAs-same HasPage HasPage tag from rest inside.0 page l.0 holds inside.1 in
+    none listed (subst (λ (p : Page). MeansPage p listed) (HasPage-same holds.0 page l.0 holds.2 there.0) l.2)
+
+-- what a page that is found says, and where it ends
+pub said_there : (from rest left : List ℕ) (tag : Tag) (page : Page) (listed : Listed) → HoldsAs HasPage tag from rest page → HoldsAs HasListing tag from left listed
+    → MeansPage page listed × (left ≡ rest)
+said_there from rest left tag page listed holds says =
+    let there = HoldsAs-same HasPage HasListing tag from rest left page listed holds says in
+    (subst (λ (p : Page). MeansPage p listed) (HasPage-same holds.0 page there.0.0 holds.2 there.0.1) there.0.2, there.1)

@@ -64,6 +64,10 @@ pub record MeansPage (page : Page) (listed : Listed) : Type 0 where
   pub entries : AllZip (MeansEntry page.url) page.entries listed.entries.items
   pub prefixes : AllZip (MeansText page.url) page.prefixes listed.prefixes.items
 
+-- what stands in the root is a page that says this
+abbrev pub HasListing : Content → Listed → Type 0
+HasListing content listed = (page : Page) × HasPage content page × MeansPage page listed
+
 -- the document is a page that says this
 abbrev pub IsListing : List ℕ → Listed → Type 0
 IsListing bytes listed = (page : Page) × IsWritten bytes page × MeansPage page listed

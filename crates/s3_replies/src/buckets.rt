@@ -4,8 +4,8 @@ ghost use Rattle.std.specs.Prelude.{◌≡◌, ◌≤◌, ℕ, List, None, Optio
 ghost use Rattle.s3_model.specs.declared.places.Entry.{Entry};
 ghost use Rattle.s3_replies.specs.Buckets.{BucketLeft, BucketsLeft, HasBucket, HasBuckets, HasEachBucket, IsBucketList, ListLeft};
 ghost use Rattle.reply_xml.specs.Contents.{Content};
-ghost use Rattle.reply_xml.specs.Faults.{IfRefused};
-ghost use Rattle.reply_xml.specs.Places.{HasOtherRoot};
+ghost use Rattle.reply_xml.specs.Faults.{IfRefused, IsFault};
+ghost use Rattle.reply_xml.specs.Places.{HasBytesBehind, HasOtherRoot};
 
 use reply_xml::{Child, DocFault, Element, FormedText, Parts, Reader, Time, is_the, read_document};
 use s3_model::{Entries, Entry, Text};
@@ -124,6 +124,8 @@ pub fn read_buckets(alloc: Global, doc: &[u8]) -> Result<Entries, DocFault>
     ensures refused { IfRefused result ((entries : List Entry) → ¬ (IsBucketList doc.now entries)) }
     ensures other_root { (place : ℕ) → HasOtherRoot (codes "ListAllMyBucketsResult") doc.now place →
         result ≡ Err (DocFault.NotADocument place) }
+    ensures behind { (place : ℕ) → HasBytesBehind (codes "ListAllMyBucketsResult") HasBuckets doc.now place →
+        IsFault result (DocFault.NotADocument place) }
 {
     read_document(
         alloc,

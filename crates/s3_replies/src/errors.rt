@@ -1,10 +1,10 @@
 //! The document of an error.
 
 ghost use Rattle.std.specs.Prelude.{◌≡◌, ◌≤◌, ℕ, List, None, Option, Err, IfOk, OnOk, codes, length};
-ghost use Rattle.s3_replies.specs.Errors.{ErrorLeft, IsError};
+ghost use Rattle.s3_replies.specs.Errors.{ErrorLeft, HasError, IsError};
 ghost use Rattle.reply_xml.specs.Contents.{Content};
-ghost use Rattle.reply_xml.specs.Faults.{IfRefused};
-ghost use Rattle.reply_xml.specs.Places.{HasOtherRoot};
+ghost use Rattle.reply_xml.specs.Faults.{IfRefused, IsFault};
+ghost use Rattle.reply_xml.specs.Places.{HasBytesBehind, HasOtherRoot};
 
 use reply_xml::{Child, DocFault, Element, FormedText, Parts, Reader, is_the, read_document};
 use s3_model::Text;
@@ -47,6 +47,8 @@ pub fn read_error(alloc: Global, doc: &[u8]) -> Result<(Text, Text), DocFault>
     ensures refused { IfRefused result ((error : List ℕ × List ℕ) → ¬ (IsError doc.now error)) }
     ensures other_root { (place : ℕ) → HasOtherRoot (codes "Error") doc.now place →
         result ≡ Err (DocFault.NotADocument place) }
+    ensures behind { (place : ℕ) → HasBytesBehind (codes "Error") HasError doc.now place →
+        IsFault result (DocFault.NotADocument place) }
 {
     let fields = ErrorFields {
         code: None,

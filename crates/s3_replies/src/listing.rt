@@ -2,10 +2,9 @@
 
 ghost use Rattle.std.specs.Prelude.{◌≡◌, ◌≤◌, ℕ, List, [], None, Option, IfOk, OnOk, length, codes, true, refl};
 ghost use Rattle.reply_xml.specs.Contents.{Content, is_the};
-ghost use Rattle.reply_xml.specs.Documents.{ReadsSpace};
 ghost use Rattle.reply_xml.specs.declared.elements.Element.TheVariants as element;
 ghost use Rattle.reply_xml.specs.Faults.{IfRefused};
-ghost use Rattle.reply_xml.specs.Reading.{Advances, HoldsAs, Stops};
+ghost use Rattle.reply_xml.specs.Reading.{Advances, HoldsAs, HoldsNone, Stops};
 ghost use Rattle.s3_replies.specs.Listing.{EncodingLeft, HasPage, ObjectLeft, ObjectsLeft, Page, PageLeft, PrefixesLeft};
 
 use reply_xml::{
@@ -243,12 +242,11 @@ impl Parts for PageFields {
     }
 }
 
-/// The page inside the root of a document, as it is written, up to the end of the document.
+/// The page inside the root of a document, as it is written.
 pub(crate) fn written_page<'a>(reader: &mut Reader<'a>, root: &Tag<'a>) -> Result<Written, DocFault>
-    ensures value { IfOk result (λ page. (rest : List ℕ) ×
-        HoldsAs HasPage root.now reader.old.rest.now rest page × ReadsSpace rest []) }
-    ensures refused { IfRefused result ((page : Page) (rest : List ℕ) →
-        HoldsAs HasPage root.now reader.old.rest.now rest page → ¬ (ReadsSpace rest [])) }
+    ensures value { IfOk result (HoldsAs HasPage root.now reader.old.rest.now reader.new.rest.now) }
+    ensures no_longer { length reader.new.rest.now ≤ length reader.old.rest.now }
+    ensures refused { IfRefused result (HoldsNone HasPage root.now reader.old.rest.now) }
 {
     let fields = PageFields {
         more: None,
@@ -257,7 +255,5 @@ pub(crate) fn written_page<'a>(reader: &mut Reader<'a>, root: &Tag<'a>) -> Resul
         entries: Vec::new(reader.alloc),
         prefixes: Vec::new(reader.alloc),
     };
-    let page = reader.inside(root, fields)?;
-    reader.close()?;
-    Ok(page)
+    reader.inside(root, fields)
 }

@@ -1,12 +1,12 @@
 //! A page of a listing, with its keys unescaped.
 
-ghost use Rattle.std.specs.Prelude.{◌≡◌, ℕ, List, Err, IfOk, codes};
+ghost use Rattle.std.specs.Prelude.{◌≡◌, ◌≤◌, ℕ, List, Err, IfOk, codes, length};
 ghost use Rattle.std.specs.List.{AllZip};
 ghost use Rattle.s3_model.specs.declared.answers.Listed.{Listed};
 ghost use Rattle.s3_model.specs.declared.places.Entry.{Entry};
-ghost use Rattle.reply_xml.specs.Faults.{IfRefused};
-ghost use Rattle.reply_xml.specs.Places.{HasOtherRoot};
-ghost use Rattle.s3_replies.specs.Listing.{IsListing, MeansEntry, MeansPage, MeansText};
+ghost use Rattle.reply_xml.specs.Faults.{IfRefused, IsFault};
+ghost use Rattle.reply_xml.specs.Places.{HasBytesBehind, HasOtherRoot};
+ghost use Rattle.s3_replies.specs.Listing.{HasListing, IsListing, MeansEntry, MeansPage, MeansText};
 
 use crate::keys::first_fault;
 use crate::listing::{Written, written_page};
@@ -132,6 +132,8 @@ pub fn read_list(alloc: Global, doc: &[u8]) -> Result<Listed, DocFault>
     ensures refused { IfRefused result ((listed : Listed) → ¬ (IsListing doc.now listed)) }
     ensures other_root { (place : ℕ) → HasOtherRoot (codes "ListBucketResult") doc.now place →
         result ≡ Err (DocFault.NotADocument place) }
+    ensures behind { (place : ℕ) → HasBytesBehind (codes "ListBucketResult") HasListing doc.now place →
+        IsFault result (DocFault.NotADocument place) }
 {
     let (mut reader, root) = match Reader::open(alloc, doc, "ListBucketResult") {
         Ok(parts) => parts,
@@ -141,8 +143,10 @@ pub fn read_list(alloc: Global, doc: &[u8]) -> Result<Listed, DocFault>
         Ok(page) => page,
         Err(fault) => return Err(first_fault(alloc, doc, reader.rest.len(), fault)),
     };
-    match listed(alloc, page) {
-        Ok(listed) => Ok(listed),
-        Err(fault) => Err(first_fault(alloc, doc, 0, fault)),
-    }
+    let page = match listed(alloc, page) {
+        Ok(page) => page,
+        Err(fault) => return Err(first_fault(alloc, doc, 0, fault)),
+    };
+    reader.close(doc.len())?;
+    Ok(page)
 }

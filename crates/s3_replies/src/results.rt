@@ -1,10 +1,11 @@
 //! The answers that have one value: an id of an upload or an entity tag.
 
 ghost use Rattle.std.specs.Prelude.{◌≡◌, ℕ, List, Err, IfOk, OnOk, codes};
-ghost use Rattle.reply_xml.specs.Children.{HasLeaf, HasOnly};
+ghost use Rattle.reply_xml.specs.Children.{HasLeaf, HasOnly, IsPlain};
+ghost use Rattle.reply_xml.specs.declared.elements.Element.TheVariants as elements;
 ghost use Rattle.reply_xml.specs.Documents.{IsOf};
-ghost use Rattle.reply_xml.specs.Faults.{IfRefused};
-ghost use Rattle.reply_xml.specs.Places.{HasOtherRoot};
+ghost use Rattle.reply_xml.specs.Faults.{IfRefused, IsFault};
+ghost use Rattle.reply_xml.specs.Places.{HasBytesBehind, HasOtherRoot};
 ghost use Rattle.s3_replies.specs.Results.{copy_root, IsCompleted, IsCopied, IsCreated};
 
 use reply_xml::{DocFault, Element, FormedText, Leaf, Only, PlainText, read_document};
@@ -23,6 +24,8 @@ fn only_leaf<L: Leaf>(
         ¬ (IsOf root.now (HasOnly (L.spells element) element) doc.now value)) }
     ensures other_root { (place : ℕ) → HasOtherRoot root.now doc.now place →
         result ≡ Err (DocFault.NotADocument place) }
+    ensures behind { (place : ℕ) → HasBytesBehind root.now (HasOnly (L.spells element) element) doc.now place →
+        IsFault result (DocFault.NotADocument place) }
 {
     let only: Only<L> = Only {
         element,
@@ -37,6 +40,9 @@ pub fn read_created(alloc: Global, doc: &[u8]) -> Result<Text, DocFault>
     ensures refused { IfRefused result ((id : List ℕ) → ¬ (IsCreated doc.now id)) }
     ensures other_root { (place : ℕ) → HasOtherRoot (codes "InitiateMultipartUploadResult") doc.now place →
         result ≡ Err (DocFault.NotADocument place) }
+    ensures behind { (place : ℕ) →
+        HasBytesBehind (codes "InitiateMultipartUploadResult") (HasLeaf elements.UploadId) doc.now place →
+        IsFault result (DocFault.NotADocument place) }
 {
     only_leaf::<FormedText>(
         alloc,
@@ -52,6 +58,9 @@ pub fn read_completed(alloc: Global, doc: &[u8]) -> Result<(), DocFault>
     ensures refused { IfRefused result ((etag : List ℕ) → ¬ (IsCompleted doc.now etag)) }
     ensures other_root { (place : ℕ) → HasOtherRoot (codes "CompleteMultipartUploadResult") doc.now place →
         result ≡ Err (DocFault.NotADocument place) }
+    ensures behind { (place : ℕ) →
+        HasBytesBehind (codes "CompleteMultipartUploadResult") (HasOnly IsPlain elements.ETag) doc.now place →
+        IsFault result (DocFault.NotADocument place) }
 {
     let _etag = only_leaf::<PlainText>(alloc, doc, "CompleteMultipartUploadResult", Element::ETag)?;
     Ok(())
@@ -63,6 +72,8 @@ pub fn read_copied(alloc: Global, doc: &[u8], part: bool) -> Result<Text, DocFau
     ensures refused { IfRefused result ((etag : List ℕ) → ¬ (IsCopied part doc.now etag)) }
     ensures other_root { (place : ℕ) → HasOtherRoot (copy_root part) doc.now place →
         result ≡ Err (DocFault.NotADocument place) }
+    ensures behind { (place : ℕ) → HasBytesBehind (copy_root part) (HasLeaf elements.ETag) doc.now place →
+        IsFault result (DocFault.NotADocument place) }
 {
     if part {
         return only_leaf::<FormedText>(alloc, doc, "CopyPartResult", Element::ETag);

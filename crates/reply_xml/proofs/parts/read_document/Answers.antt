@@ -1,6 +1,7 @@
-use Rattle.std.proofs.Common.{Err, ap}
-use Rattle.reply_xml.proofs.FaultLemmas.{Tells-map, err_same, not_err, refused_past}
-use Rattle.reply_xml.proofs.WholeLemmas.{no_root, no_inside, no_whole, whole}
+use Rattle.std.proofs.Common.{◌∙◌, Err, ap, sym}
+use Rattle.reply_xml.proofs.FaultLemmas.{Tells-map, err_same, fault_past, not_err, refused_past, same_fault, untold}
+use Rattle.reply_xml.proofs.WholeLemmas.{behind_root, behind_there, no_root, no_inside, no_whole, whole}
+use Rattle.reply_xml.specs.declared.faults.DocFault.TheVariants as fault
 use Rattle.reply_xml.proofs.parts.read_document.Goals as goal
 
 pub returns-in-Err-clause-refused : goal.returns-in-Err-clause-refused
@@ -33,3 +34,30 @@ returns-in_err-close-clause-other_root g c place o = absurd (not_err _ _ (c.in-O
 
 pub returns-clause-other_root : goal.returns-clause-other_root
 returns-clause-other_root g c place o = absurd (not_err _ _ (c.in-Ok.ensures.other place o))
+
+pub returns-in-Err-clause-behind : goal.returns-in-Err-clause-behind
+returns-in-Err-clause-behind g c place b =
+    untold c.in-Err.fault (fault.NotADocument place) (Tells-map c.in-Err.fault (λ none. none b.closed b.at_content b.begins) c.in-Err.ensures.refused)
+
+pub returns-in_err-whole-clause-behind : goal.returns-in_err-whole-clause-behind
+returns-in_err-whole-clause-behind g c place b =
+    fault_past c.from_residual.result c.in_err-whole.field-0.0 (fault.NotADocument place) c.from_residual.ensures.1
+    (
+    untold c.in_err-whole.field-0.0 (fault.NotADocument place)
+    (
+    Tells-map c.in_err-whole.field-0.0
+    (λ none. none b.at_end b.value (behind_root (g.P.Parts.left c.args.parts) c.args.root.now c.args.doc.now _ place c.in-Ok.parts.1 c.in-Ok.ensures.begins c.in-Ok.ensures.room c.in-Ok.ensures.named b))
+    c.in_err-whole.ensures.refused
+    )
+    )
+
+pub returns-in_err-close-clause-behind : goal.returns-in_err-close-clause-behind
+returns-in_err-close-clause-behind g c place b =
+    let space = behind_there (g.P.Parts.left c.args.parts) c.args.root.now c.args.doc.now _ _ place c.in-Ok.parts.1 _ c.in-Ok.ensures.begins c.in-Ok.ensures.room c.in-Ok.ensures.named c.in_ok-whole.ensures.value b in
+    fault_past c.from_residual-in_err-close.result c.in_err-close.field-0.0 (fault.NotADocument place) c.from_residual-in_err-close.ensures.1
+    (same_fault c.in_err-close.field-0.0 (fault.NotADocument place) (err_same _ _ (c.in_err-close.ensures.behind b.more space b.some) ∙ ap (λ n. fault.NotADocument n) (sym b.at)))
+
+pub returns-clause-behind : goal.returns-clause-behind
+returns-clause-behind g c place b =
+    let space = behind_there (g.P.Parts.left c.args.parts) c.args.root.now c.args.doc.now _ _ place c.in-Ok.parts.1 _ c.in-Ok.ensures.begins c.in-Ok.ensures.room c.in-Ok.ensures.named c.in_ok-whole.ensures.value b in
+    absurd (not_err _ _ (c.in_ok-close.ensures.behind b.more space b.some))

@@ -1,6 +1,7 @@
 use Rattle.std.proofs.Common.{◌∙◌, [], ap, sym, unwrap_or}
-use Rattle.reply_xml.proofs.FaultLemmas.{err_past, err_same, not_err, refused_past}
-use Rattle.s3_replies.proofs.ErrorLemmas.{error_found, error_told}
+use Rattle.reply_xml.proofs.FaultLemmas.{err_past, err_same, fault_past, not_err, refused_past}
+use Rattle.s3_replies.proofs.ErrorLemmas.{error_behind, error_found, error_told}
+use Rattle.reply_xml.specs.declared.faults.DocFault.TheVariants as fault
 use Rattle.s3_replies.proofs.errors.read_error.Goals as goal
 
 pub returns-in_err-code-clause-refused : goal.returns-in_err-code-clause-refused
@@ -23,3 +24,13 @@ returns-in-Some-clause-other_root c place o = absurd (not_err _ _ (c.in_ok-code.
 
 pub returns-in-None-clause-other_root : goal.returns-in-None-clause-other_root
 returns-in-None-clause-other_root c place o = absurd (not_err _ _ (c.in_ok-code.ensures.other_root place o))
+
+pub returns-in_err-code-clause-behind : goal.returns-in_err-code-clause-behind
+returns-in_err-code-clause-behind c place b =
+    fault_past c.from_residual.result c.in_err-code.field-0.0 (fault.NotADocument place) c.from_residual.ensures.1 (c.in_err-code.ensures.behind place (error_behind c.args.doc.now place b))
+
+pub returns-in-Some-clause-behind : goal.returns-in-Some-clause-behind
+returns-in-Some-clause-behind c place b = absurd (c.in_ok-code.ensures.behind place (error_behind c.args.doc.now place b))
+
+pub returns-in-None-clause-behind : goal.returns-in-None-clause-behind
+returns-in-None-clause-behind c place b = absurd (c.in_ok-code.ensures.behind place (error_behind c.args.doc.now place b))

@@ -1,8 +1,10 @@
-use Rattle.std.proofs.Common.{Err, ap, codes}
-use Rattle.s3_replies.specs.Listing.{HasPage}
-use Rattle.reply_xml.proofs.FaultLemmas.{Tells-map, err_same, not_err, told_instead}
-use Rattle.reply_xml.proofs.WholeLemmas.{no_root, inside_root, whole}
-use Rattle.s3_replies.proofs.ListingLemmas.{no_listing}
+use Rattle.std.proofs.Common.{◌∙◌, Err, List, ap, codes, subst, sym, ℕ}
+use Rattle.reply_xml.specs.Documents.{ReadsSpace}
+use Rattle.reply_xml.specs.declared.faults.DocFault.TheVariants as fault
+use Rattle.s3_replies.specs.Listing.{HasListing, HasPage}
+use Rattle.reply_xml.proofs.FaultLemmas.{Tells-map, err_same, fault_past, not_err, refused_past, same_fault, told_instead, untold}
+use Rattle.reply_xml.proofs.WholeLemmas.{behind_root, inside_root, no_root, no_whole, whole}
+use Rattle.s3_replies.proofs.ListingLemmas.{no_listing, said_there}
 use Rattle.s3_replies.proofs.pages.read_list.Goals as goal
 
 pub returns-in-Err-clause-refused : goal.returns-in-Err-clause-refused
@@ -16,22 +18,34 @@ returns-in-Err-written_page-clause-refused c =
     (
     λ none listed l.
     let inside = inside_root HasPage (codes "ListBucketResult") c.args.doc.now _ c.in-Ok.parts.1 l.0 c.in-Ok.ensures.begins c.in-Ok.ensures.room c.in-Ok.ensures.named l.1 in
-    none l.0 inside.0 inside.1 inside.2
+    none inside.0 l.0 inside.1
     )
     c.in-Err-written_page.ensures.refused
     )
 
 pub returns-in-Err-listed-clause-refused : goal.returns-in-Err-listed-clause-refused
 returns-in-Err-listed-clause-refused c =
-    let found = c.in-Ok-written_page.ensures.value in
-    let written = whole HasPage (codes "ListBucketResult") c.args.doc.now _ found.0 c.in-Ok.parts.1 c.in-Ok-written_page.page c.in-Ok.ensures.begins c.in-Ok.ensures.room c.in-Ok.ensures.named found.1 found.2 in
     told_instead _ c.in-Err-listed.fault c.first_fault-in-Err-listed.result c.first_fault-in-Err-listed.ensures
-    (Tells-map c.in-Err-listed.fault (no_listing c.args.doc.now c.in-Ok-written_page.page written) c.in-Err-listed.ensures.refused)
+    (
+    Tells-map c.in-Err-listed.fault
+    (no_listing c.args.doc.now _ _ c.in-Ok.parts.1 c.in-Ok-written_page.page c.in-Ok.ensures.begins c.in-Ok.ensures.room c.in-Ok.ensures.named c.in-Ok-written_page.ensures.value)
+    c.in-Err-listed.ensures.refused
+    )
 
-pub returns-in-Ok-listed-clause-value : goal.returns-in-Ok-listed-clause-value
-returns-in-Ok-listed-clause-value c =
-    let found = c.in-Ok-written_page.ensures.value in
-    let written = whole HasPage (codes "ListBucketResult") c.args.doc.now _ found.0 c.in-Ok.parts.1 c.in-Ok-written_page.page c.in-Ok.ensures.begins c.in-Ok.ensures.room c.in-Ok.ensures.named found.1 found.2 in
+pub returns-in_err-close-clause-refused : goal.returns-in_err-close-clause-refused
+returns-in_err-close-clause-refused c =
+    refused_past c.from_residual.result c.in_err-close.field-0.0 c.from_residual.ensures.1
+    (
+    λ none listed l.
+    no_whole HasPage (codes "ListBucketResult") c.args.doc.now _ _ c.in-Ok.parts.1 c.in-Ok-written_page.page c.in-Ok.ensures.begins c.in-Ok.ensures.room c.in-Ok.ensures.named
+        c.in-Ok-written_page.ensures.value none l.0 l.1
+    )
+    c.in_err-close.ensures.refused
+
+pub returns-clause-value : goal.returns-clause-value
+returns-clause-value c =
+    let written = whole HasPage (codes "ListBucketResult") c.args.doc.now _ _ c.in-Ok.parts.1 c.in-Ok-written_page.page c.in-Ok.ensures.begins c.in-Ok.ensures.room c.in-Ok.ensures.named
+        c.in-Ok-written_page.ensures.value c.in_ok-close.ensures.value in
     (c.in-Ok-written_page.page, written, c.in-Ok-listed.ensures.value)
 
 pub returns-in-Err-clause-other_root : goal.returns-in-Err-clause-other_root
@@ -43,5 +57,46 @@ returns-in-Err-written_page-clause-other_root c place o = absurd (not_err _ _ (c
 pub returns-in-Err-listed-clause-other_root : goal.returns-in-Err-listed-clause-other_root
 returns-in-Err-listed-clause-other_root c place o = absurd (not_err _ _ (c.in-Ok.ensures.other place o))
 
-pub returns-in-Ok-listed-clause-other_root : goal.returns-in-Ok-listed-clause-other_root
-returns-in-Ok-listed-clause-other_root c place o = absurd (not_err _ _ (c.in-Ok.ensures.other place o))
+pub returns-in_err-close-clause-other_root : goal.returns-in_err-close-clause-other_root
+returns-in_err-close-clause-other_root c place o = absurd (not_err _ _ (c.in-Ok.ensures.other place o))
+
+pub returns-clause-other_root : goal.returns-clause-other_root
+returns-clause-other_root c place o = absurd (not_err _ _ (c.in-Ok.ensures.other place o))
+
+pub returns-in-Err-clause-behind : goal.returns-in-Err-clause-behind
+returns-in-Err-clause-behind c place b =
+    untold c.in-Err.fault (fault.NotADocument place) (Tells-map c.in-Err.fault (λ none. none b.closed b.at_content b.begins) c.in-Err.ensures.refused)
+
+pub returns-in-Err-written_page-clause-behind : goal.returns-in-Err-written_page-clause-behind
+returns-in-Err-written_page-clause-behind c place b =
+    let there = behind_root HasListing (codes "ListBucketResult") c.args.doc.now _ place c.in-Ok.parts.1 c.in-Ok.ensures.begins c.in-Ok.ensures.room c.in-Ok.ensures.named b in
+    untold c.first_fault.result (fault.NotADocument place)
+    (
+    told_instead ⊥ c.in-Err-written_page.fault c.first_fault.result c.first_fault.ensures
+    (Tells-map c.in-Err-written_page.fault (λ none. none b.at_end there.2.0 (there.0, there.1, there.2.1)) c.in-Err-written_page.ensures.refused)
+    )
+
+pub returns-in-Err-listed-clause-behind : goal.returns-in-Err-listed-clause-behind
+returns-in-Err-listed-clause-behind c place b =
+    let there = behind_root HasListing (codes "ListBucketResult") c.args.doc.now _ place c.in-Ok.parts.1 c.in-Ok.ensures.begins c.in-Ok.ensures.room c.in-Ok.ensures.named b in
+    let says = (said_there _ _ b.at_end c.in-Ok.parts.1 c.in-Ok-written_page.page b.value c.in-Ok-written_page.ensures.value there).0 in
+    untold c.first_fault-in-Err-listed.result (fault.NotADocument place)
+    (
+    told_instead ⊥ c.in-Err-listed.fault c.first_fault-in-Err-listed.result c.first_fault-in-Err-listed.ensures
+    (Tells-map c.in-Err-listed.fault (λ none. none b.value says) c.in-Err-listed.ensures.refused)
+    )
+
+pub returns-in_err-close-clause-behind : goal.returns-in_err-close-clause-behind
+returns-in_err-close-clause-behind c place b =
+    let there = behind_root HasListing (codes "ListBucketResult") c.args.doc.now _ place c.in-Ok.parts.1 c.in-Ok.ensures.begins c.in-Ok.ensures.room c.in-Ok.ensures.named b in
+    let ends = (said_there _ _ b.at_end c.in-Ok.parts.1 c.in-Ok-written_page.page b.value c.in-Ok-written_page.ensures.value there).1 in
+    let space = subst (λ (t : List ℕ). ReadsSpace t b.more) ends b.space in
+    fault_past c.from_residual.result c.in_err-close.field-0.0 (fault.NotADocument place) c.from_residual.ensures.1
+    (same_fault c.in_err-close.field-0.0 (fault.NotADocument place) (err_same _ _ (c.in_err-close.ensures.behind b.more space b.some) ∙ ap (λ n. fault.NotADocument n) (sym b.at)))
+
+pub returns-clause-behind : goal.returns-clause-behind
+returns-clause-behind c place b =
+    let there = behind_root HasListing (codes "ListBucketResult") c.args.doc.now _ place c.in-Ok.parts.1 c.in-Ok.ensures.begins c.in-Ok.ensures.room c.in-Ok.ensures.named b in
+    let ends = (said_there _ _ b.at_end c.in-Ok.parts.1 c.in-Ok-written_page.page b.value c.in-Ok-written_page.ensures.value there).1 in
+    let space = subst (λ (t : List ℕ). ReadsSpace t b.more) ends b.space in
+    absurd (not_err _ _ (c.in_ok-close.ensures.behind b.more space b.some))

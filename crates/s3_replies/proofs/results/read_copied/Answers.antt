@@ -1,6 +1,8 @@
 use Rattle.std.proofs.Common.{Bool, List, ℕ, IfOk, sym, subst}
 use Rattle.reply_xml.specs.Faults.{IfRefused}
-use Rattle.reply_xml.specs.Places.{HasOtherRoot}
+use Rattle.reply_xml.specs.Places.{HasBytesBehind, HasOtherRoot}
+use Rattle.reply_xml.specs.Children.{HasLeaf}
+use Rattle.reply_xml.specs.declared.elements.Element.TheVariants as element
 use Rattle.s3_replies.specs.Results.{IsCopied, copy_root}
 use Rattle.s3_replies.proofs.results.read_copied.Goals as goal
 
@@ -25,3 +27,11 @@ returns-then-part-clause-other_root c place o =
 pub returns-clause-other_root : goal.returns-clause-other_root
 returns-clause-other_root c place o =
     c.only_leaf-2.ensures.other_root place (subst (λ (part : Bool). HasOtherRoot (copy_root part) c.args.doc.now place) c.if-part.false o)
+
+pub returns-then-part-clause-behind : goal.returns-then-part-clause-behind
+returns-then-part-clause-behind c place b =
+    c.only_leaf.ensures.behind place (subst (λ (part : Bool). HasBytesBehind (copy_root part) (HasLeaf element.ETag) c.args.doc.now place) c.if-part.true b)
+
+pub returns-clause-behind : goal.returns-clause-behind
+returns-clause-behind c place b =
+    c.only_leaf-2.ensures.behind place (subst (λ (part : Bool). HasBytesBehind (copy_root part) (HasLeaf element.ETag) c.args.doc.now place) c.if-part.false b)
