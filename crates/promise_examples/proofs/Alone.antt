@@ -24,6 +24,7 @@ use Rattle.promise_examples.proofs.Readings.{never_memory, reads, says_whole, sh
 use Rattle.promise_examples.proofs.Repeats.{all_repeats}
 use Rattle.promise_examples.proofs.SmallPut.{put_with, scheduled}
 use Rattle.promise_examples.proofs.WireBreaks as breaks
+use Rattle.promise_examples.proofs.Noting.{only_pause}
 
 -- ---- lanes
 
@@ -34,12 +35,6 @@ beyond given lane = carrying.none_in given (suc lane) (omega arith)
 by_lane : (P : ℕ → List Dispatched → Type 0) (attempts : List Attempt) → P 0 (put_with attempts ∷ []) → ((lane : ℕ) → P (suc lane) []) → (lane : ℕ) → P lane (in_lane lane (put_with attempts ∷ []))
 by_lane P attempts here there zero = here
 by_lane P attempts here there (suc lane) = subst (P (suc lane)) (sym (carrying.none_beyond 1 (suc lane) (put_with attempts ∷ []) (omega arith, tt) (omega arith))) (there lane)
-
-only_pause : (seconds : ℕ) → ¬ (Contains (Pause seconds ∷ []) Began)
-only_pause seconds h = each (λ (note : Note). note ≡ Began → ⊥) (Pause seconds ∷ []) (other, tt) Began h refl
-  where
-    other : Pause seconds ≡ Began → ⊥
-    other same = cc
 
 module _ (page_of : List ℕ → Listed) where
   abbrev Shows : Ask → ℕ → Talk → Class → List ℕ → Type 0

@@ -52,6 +52,9 @@ one_answer (x ∷ xs) once sent a b (inl e) (inr g) = absurd (not_again sent a b
 one_answer (x ∷ xs) once sent a b (inr h) (inl f) = absurd (not_again sent b a x xs f once h)
 one_answer (x ∷ xs) once sent a b (inr h) (inr g) = one_answer xs (served_behind x xs once) sent a b h g
 
+named_as : (shown : Class) (bytes : List ℕ) (a b : Answer) → a ≡ b → Names shown bytes a → Names shown bytes b
+named_as shown bytes a b e named = subst (λ (said : Answer). Names shown bytes said) e named
+
 -- ---- what began is an attempt of a dispatch
 
 record IsAttemptOf (c : Dispatched) (k : ℕ) (attempts : List Attempt) (sent : SentRequest) : Type 0 where
@@ -130,7 +133,7 @@ module _ (page_of : List ℕ → Listed) (e : Example) (dispatched coming : List
         let mine = subst (λ (r : SentRequest). Has events (Serve r answer)) is_sent (has events (Serve sent answer) happened) in
         let told = subst (λ (t : List TraceEvent). Has t (Serve (request_at c found.2.place) served.0)) (sym here)
         (has-append_left split.front (Came c.dispatch.job c.dispatch.lane came.1 ∷ split.back) (Serve (request_at c found.2.place) served.0) (has split.front (Serve (request_at c found.2.place) served.0) served.1)) in
-        subst (λ (said : Answer). Names shown bytes said) (one_answer events (all Once once_answers) (request_at c found.2.place) served.0 answer told mine) served.2
+        named_as shown bytes served.0 answer (one_answer events (all Once once_answers) (request_at c found.2.place) served.0 answer told mine) served.2
 
     names : (shown : Class) (bytes : List ℕ) → Shows page_of found.0.ask found.0.limit found.2.attempt.talk shown bytes → Names shown bytes answer
     names (class.Success said) bytes shows = certain (class.Success said) bytes shows tt

@@ -36,9 +36,10 @@ use Rattle.promise_examples.proofs.Carrying as carrying
 use Rattle.promise_examples.proofs.Fitting as fitting
 use Rattle.promise_examples.proofs.Honest.{one_bucket_is_faithful, has_bucket, honest}
 use Rattle.world_laws.proofs.Faithful.{IsFaithful, faithful_with}
-use Rattle.promise_examples.proofs.Readings.{names, says_whole}
+use Rattle.promise_examples.proofs.Readings.{names, says_whole, refusal_success}
 use Rattle.promise_examples.proofs.Scheduling as scheduling
 use Rattle.promise_examples.proofs.SmallPut as small
+use Rattle.promise_examples.proofs.Noting.{only_pause}
 
 module _ (limits : Limits) (page_of : List ℕ → Listed) (bucket key path : List ℕ) where
   abbrev e : Example
@@ -131,12 +132,6 @@ module _ (limits : Limits) (page_of : List ℕ → Listed) (bucket key path : Li
 
   -- ---- its wires
 
-  only_pause : ¬ (Contains (Pause 1 ∷ []) Began)
-  only_pause h = each (λ (note : Note). note ≡ Began → ⊥) (Pause 1 ∷ []) (other, tt) Began h refl
-    where
-      other : Pause 1 ≡ Began → ⊥
-      other same = cc
-
   first_said : IsSaid Shows signed_body [] 80 (record { of = first; number = 1; attempt = refused }) 5
   first_said = record { to_host = refl; to_port = refl; text = λ shown b shows. says_whole page_of Shows signed_body [] 80 shown (5 ∷ bytes); beginning = ([], refl) }
 
@@ -147,7 +142,7 @@ module _ (limits : Limits) (page_of : List ℕ → Listed) (bucket key path : Li
   lane_is zero used = record {
     in_turn = (((λ place come. let is : 3 ≡ place = some_is 3 place come in omega arith), tt), (tt, tt));
     gained = refl;
-    noted = ([], 5, Pause 1 ∷ Moment 7 ∷ Began ∷ [], [], refl, carrying.nothing_begins, refl, inl refl, first_said, (Pause 1 ∷ [], 7, [], [], refl, only_pause, refl, inl refl, last_said, (carrying.nothing_begins, inl refl)));
+    noted = ([], 5, Pause 1 ∷ Moment 7 ∷ Began ∷ [], [], refl, carrying.nothing_begins, refl, inl refl, first_said, (Pause 1 ∷ [], 7, [], [], refl, only_pause 1, refl, inl refl, last_said, (carrying.nothing_begins, inl refl)));
   }
   lane_is (suc lane) used = absurd (omega arith)
 
@@ -180,9 +175,6 @@ module _ (limits : Limits) (page_of : List ℕ → Listed) (bucket key path : Li
   no_failure : (failed : Dispatched) → IsFailed Shows e.setting jobs failed → ⊥
   no_failure failed is_failed = scheduling.failures Shows e.setting (λ c. ⊥) jobs (inl (inl (last, at (last ∷ []) 0 last refl, refl)), (inr (inl well_done), tt)) failed is_failed
 
-  no_success : mark.Refusal ≡ mark.Success → ⊥
-  no_success same = cc
-
   scheduled : IsSchedule Shows e.setting (λ planning. planning ≡ []) jobs jobs
   scheduled = scheduling.scheduled Shows e.setting (λ planning. planning ≡ []) jobs jobs (record {
     is_coming = IsPermutation-refl jobs;
@@ -192,7 +184,7 @@ module _ (limits : Limits) (page_of : List ℕ → Listed) (bucket key path : Li
     numbered = tt;
     one_by_one = tt;
     carried_out = refl;
-    twice = (((omega arith, no_success, tt, (λ failed is_failed same. absurd (no_failure failed is_failed)), refl, scheduling.other_op op.Put op.Abort refl), tt), (tt, tt));
+    twice = (((omega arith, refusal_success, tt, (λ failed is_failed same. absurd (no_failure failed is_failed)), refl, scheduling.other_op op.Put op.Abort refl), tt), (tt, tt));
     seconds = (omega arith, (omega arith, tt));
     stops = λ failed c is_failed of_task no_abort known same late. absurd (no_failure failed is_failed);
     no_abort = (refl, (refl, tt));

@@ -13,6 +13,7 @@ use Rattle.s3_model.specs.Talks.{Talk, Note, Began}
 use Rattle.run_promise.specs.Dispatches.{Attempt, Dispatched, dispatches, last_of}
 use Rattle.run_promise.specs.Schedule.{Setting, IsBefore}
 use Rattle.run_promise.specs.Carried.{IsCarried, AreNoted, WouldGoOn, MayStop, IsWanting, in_lane, numbered_from, talks_of, mark_of}
+use Rattle.promise_examples.specs.Everything.{in_two}
 use Rattle.promise_examples.specs.Pages.{in_first}
 use Rattle.promise_examples.specs.Reading.{Reads, body_by, signed_body}
 use Rattle.promise_examples.proofs.Concrete.{Each, each, has, Slots, slot, Pairs, pairs, none_is_some, some_is}
@@ -43,6 +44,15 @@ none_beyond n other xs all beyond = filter_none (λ (c : Dispatched). c.dispatch
 pub none_in : {X : Type 0} (given : List X) (lane : ℕ) → 1 ≤ lane → in_first given lane ≡ []
 none_in given zero beyond = absurd (omega arith)
 none_in given (suc lane) beyond = let other : (suc lane == 0) ≡ false = grind arith in rw other refl
+
+-- what stands in the first two lanes stands in no other
+pub none_in_two : {A : Type 0} (first second : List A) (lane : ℕ) → 2 ≤ lane → in_two first second lane ≡ []
+none_in_two first second zero beyond = absurd (omega arith)
+none_in_two first second (suc zero) beyond = absurd (omega arith)
+none_in_two first second (suc (suc lane)) beyond =
+    let a : (suc (suc lane) == 0) ≡ false = grind arith in
+    let b : (suc (suc lane) == 1) ≡ false = grind arith in
+    rw (a, b) refl
 
 -- ---- classes that are the same
 

@@ -38,6 +38,7 @@ use Rattle.promise_examples.proofs.EventfulWires.{carried}
 use Rattle.promise_examples.proofs.Scheduling as scheduling
 use Rattle.promise_examples.proofs.Scheduling.{other_op}
 use Rattle.promise_examples.proofs.Repeats.{other_job}
+use Rattle.promise_examples.proofs.Readings.{uncertain_success}
 
 abbrev e : Example
 e = eventful_run
@@ -50,9 +51,6 @@ zero_one same = numbers (some_is 0 1 same)
 
 one_zero : ◌≡◌ {A = Option ℕ} (Some 1) (Some 0) → ⊥
 one_zero same = zero_one (sym same)
-
-no_success : mark.Uncertain ≡ mark.Success → ⊥
-no_success same = cc
 
 -- ---- pieces
 
@@ -159,12 +157,12 @@ module _ (page_of : List ℕ → Listed) where
   uncut WasStopped (inr stopped) = let open_ended = stopped.3 in let left : 2 < 2 = open_ended.4 in omega arith
 
   delete_failed : IsFailed Shows e.setting coming delete_sent
-  delete_failed = (create_sent ∷ copy_sent ∷ part_sent ∷ other_sent ∷ [], behind, refl, uncut _, (λ well. no_success well.0))
+  delete_failed = (create_sent ∷ copy_sent ∷ part_sent ∷ other_sent ∷ [], behind, refl, uncut _, (λ well. uncertain_success well.0))
 
   -- ---- the schedule
 
   part_twice : scheduling.TwiceRule Shows e.setting Plans jobs coming part_sent part_again
-  part_twice = (omega arith, no_success, tt, (λ failed is_failed same. absurd (one_zero (sym (failed_task failed is_failed) ∙ same))), refl, other_op op.Part op.Abort refl)
+  part_twice = (omega arith, uncertain_success, tt, (λ failed is_failed same. absurd (one_zero (sym (failed_task failed is_failed) ∙ same))), refl, other_op op.Part op.Abort refl)
 
   moves_delete : scheduling.MoveRule Shows e.setting Plans jobs coming delete_sent
   moves_delete n task of_task at_n moves deletes =
@@ -225,7 +223,7 @@ module _ (page_of : List ℕ → Listed) where
   first_failure = ((delete_failed, refl), (λ other failing. inl (sym (ap (λ (c : Dispatched). c.dispatch) (failure other failing.0)))))
 
   not_deleted : (c : Dispatched) (said : Reply) → Contains jobs c → c.dispatch.job ≡ delete_job → HasReply Shows c (last_of c.dispatch.attempts) said → ⊥
-  not_deleted c said known is = each (λ (d : Dispatched). d.dispatch.job ≡ delete_job → HasReply Shows d (last_of d.dispatch.attempts) said → ⊥) jobs ((λ same said_so. other_job create_job delete_job refl same), ((λ same said_so. other_job copy_job delete_job refl same), ((λ same said_so. other_job (part_job 1) delete_job refl same), ((λ same said_so. other_job (part_job 2) delete_job refl same), ((λ same said_so. other_job (part_job 1) delete_job refl same), ((λ same said_so. no_success said_so.0), ((λ same said_so. other_job complete_job delete_job refl same), tt))))))) c known is
+  not_deleted c said known is = each (λ (d : Dispatched). d.dispatch.job ≡ delete_job → HasReply Shows d (last_of d.dispatch.attempts) said → ⊥) jobs ((λ same said_so. other_job create_job delete_job refl same), ((λ same said_so. other_job copy_job delete_job refl same), ((λ same said_so. other_job (part_job 1) delete_job refl same), ((λ same said_so. other_job (part_job 2) delete_job refl same), ((λ same said_so. other_job (part_job 1) delete_job refl same), ((λ same said_so. uncertain_success said_so.0), ((λ same said_so. other_job complete_job delete_job refl same), tt))))))) c known is
 
   not_memory : why.WireFailed ≡ why.Memory → ⊥
   not_memory same = cc

@@ -17,15 +17,10 @@ use Rattle.promise_examples.proofs.Concrete.{has, at, each, some_is}
 use Rattle.promise_examples.proofs.EventfulJobs.{lost, well, create_sent, copy_sent, part_sent, other_sent, part_again, delete_sent, complete_sent, jobs, coming}
 use Rattle.promise_examples.proofs.Readings.{says_whole}
 use Rattle.promise_examples.proofs.Scheduling.{other_op}
+use Rattle.promise_examples.proofs.Noting.{only_pause}
 
 no_note : ¬ (Contains [] Began)
 no_note h = has [] Began h
-
-only_pause : ¬ (Contains (Pause 1 ∷ []) Began)
-only_pause h = each (λ (note : Note). note ≡ Began → ⊥) (Pause 1 ∷ []) (other, tt) Began h refl
-  where
-    other : Pause 1 ≡ Began → ⊥
-    other same = cc
 
 abbrev e : Example
 e = eventful_run
@@ -92,7 +87,7 @@ module _ (page_of : List ℕ → Listed) where
         Moment 3 ∷ Began ∷ Pause 1 ∷ Moment 4 ∷ Began ∷ Moment 5 ∷ Began ∷ Pause 1 ∷ Moment 6 ∷ Began ∷ [],
         [],
         refl,
-        only_pause,
+        only_pause 1,
         refl,
         inl refl,
         said_0_1,
@@ -112,7 +107,7 @@ module _ (page_of : List ℕ → Listed) where
             Moment 5 ∷ Began ∷ Pause 1 ∷ Moment 6 ∷ Began ∷ [],
             [],
             refl,
-            only_pause,
+            only_pause 1,
             refl,
             inl refl,
             said_0_3,
@@ -132,7 +127,7 @@ module _ (page_of : List ℕ → Listed) where
                 [],
                 [],
                 refl,
-                only_pause,
+                only_pause 1,
                 refl,
                 inl refl,
                 said_0_5,
@@ -183,7 +178,7 @@ module _ (page_of : List ℕ → Listed) where
             [],
             [],
             refl,
-            only_pause,
+            only_pause 1,
             refl,
             inl refl,
             said_1_3,

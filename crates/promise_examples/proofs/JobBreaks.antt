@@ -27,14 +27,11 @@ use Rattle.promise_examples.specs.Runs.{Example}
 use Rattle.promise_examples.proofs.Carrying as carrying
 use Rattle.promise_examples.proofs.Concrete.{Each, Slots, at, some_is}
 use Rattle.promise_examples.proofs.Noting as noting
-use Rattle.promise_examples.proofs.Readings.{reads}
+use Rattle.promise_examples.proofs.Readings.{reads, uncertain_success}
 use Rattle.promise_examples.proofs.Repeats.{Repeats, Seconds}
 use Rattle.promise_examples.proofs.Ruling as ruling
 use Rattle.promise_examples.proofs.Scheduling as scheduling
 use Rattle.promise_examples.proofs.SmallPut as small
-
-uncertain_success : mark.Uncertain ≡ mark.Success → ⊥
-uncertain_success same = cc
 
 -- what stands in the first lane alone
 abbrev Unused : List Talk → List Note → Type 0
@@ -508,20 +505,12 @@ module _ (limits : Limits) (spare : ℕ) where
   parted_lanes (suc zero) used = record { in_turn = (tt, tt); gained = refl; noted = noting.first page_of _ 6 [] [] refl (refl, refl, refl) (noting.done page_of) }
   parted_lanes (suc (suc lane)) used = absurd (omega arith)
 
-  unused_two : (lane : ℕ) → 2 ≤ lane → (e_parted.logs lane ≡ []) × (e_parted.notes lane ≡ [])
-  unused_two zero beyond = absurd (omega arith)
-  unused_two (suc zero) beyond = absurd (omega arith)
-  unused_two (suc (suc lane)) beyond =
-      let a : (suc (suc lane) == 0) ≡ false = grind arith in
-      let b : (suc (suc lane) == 1) ≡ false = grind arith in
-      rw (a, b) (refl, refl)
-
   parted_written : carrying.IsWritten page_of e_parted.setting parted e_parted.journal e_parted.logs e_parted.notes parted
   parted_written = record {
     shown = refl;
     comes = ((1, mark.Success ∷ [], refl, refl, refl), ((3, mark.Success ∷ [], refl, refl, refl), tt));
     inside = (omega arith, (omega arith, tt));
-    unused = unused_two;
+    unused = λ lane beyond. (carrying.none_in_two _ _ lane beyond, carrying.none_in_two _ _ lane beyond);
     known = (tt, ((first 1, at parted 0 (first 1) refl, refl), (tt, ((last 1 1 2 (6 ∷ []) [], at parted 1 (last 1 1 2 (6 ∷ []) []) refl, refl), tt))));
     lanes = parted_lanes;
     marks = ((refl, tt), ((refl, tt), tt));

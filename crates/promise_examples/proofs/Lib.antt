@@ -1,5 +1,6 @@
 pub mod Alone
 pub mod Answers
+pub mod BothKinds
 pub mod BusyPut
 pub mod Carrying
 pub mod Concrete
@@ -14,6 +15,7 @@ pub mod Honest
 pub mod IdleRun
 pub mod JobBreaks
 pub mod Lies
+pub mod ManyCalls
 pub mod Misfits
 pub mod Noting
 pub mod OrderBreaks

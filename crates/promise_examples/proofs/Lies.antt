@@ -33,12 +33,7 @@ use Rattle.promise_examples.proofs.Concrete.{at, contains_of, each, has_middle, 
 use Rattle.promise_examples.proofs.Repeats.{other_job}
 use Rattle.promise_examples.proofs.Scheduling as scheduling
 use Rattle.promise_examples.proofs.Shown.{made, Whatever, of_shown}
-
-uncertain_success : mark.Uncertain ≡ mark.Success → ⊥
-uncertain_success e = cc
-
-refusal_success : mark.Refusal ≡ mark.Success → ⊥
-refusal_success e = cc
+use Rattle.promise_examples.proofs.Readings.{uncertain_success, refusal_success}
 
 messages : (a b c d : List ℕ) → class.Refusal a b ≡ class.Refusal c d → b ≡ d
 messages a b c d e = cc

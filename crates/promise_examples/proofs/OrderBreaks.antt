@@ -32,14 +32,6 @@ denied = record { mark = mark.Refusal; talk = part_denied }
 abbrev abort : Ask
 abort = ask.Abort bucket uploaded id
 
-unused_two : {A : Type 0} (first second : List A) (lane : ℕ) → 2 ≤ lane → in_two first second lane ≡ []
-unused_two first second zero beyond = absurd (omega arith)
-unused_two first second (suc zero) beyond = absurd (omega arith)
-unused_two first second (suc (suc lane)) beyond =
-    let a : (suc (suc lane) == 0) ≡ false = grind arith in
-    let b : (suc (suc lane) == 1) ≡ false = grind arith in
-    rw (a, b) refl
-
 zero_of : (job : JobId) (n : ℕ) → job.task ≡ Some 0 → job.task ≡ Some n → 0 ≡ n
 zero_of job n is also = some_is 0 n (sym is ∙ also)
 
@@ -71,7 +63,7 @@ module _ (page_of : List ℕ → Listed) where
     shown = refl;
     comes = ((1, mark.Success ∷ [], refl, refl, refl), ((3, mark.Refusal ∷ [], refl, refl, refl), tt));
     inside = (omega arith, (omega arith, tt));
-    unused = λ lane beyond. (unused_two _ _ lane beyond, unused_two _ _ lane beyond);
+    unused = λ lane beyond. (carrying.none_in_two _ _ lane beyond, carrying.none_in_two _ _ lane beyond);
     known = (tt, ((no_abort_create, at no_abort_jobs 0 no_abort_create refl, refl), (tt, ((no_abort_denied, at no_abort_jobs 1 no_abort_denied refl, refl), tt))));
     lanes = no_abort_lanes;
     marks = ((refl, tt), ((refl, tt), tt));
@@ -136,7 +128,7 @@ module _ (page_of : List ℕ → Listed) where
     shown = refl;
     comes = ((1, mark.Success ∷ [], refl, refl, refl), ((5, mark.Refusal ∷ [], refl, refl, refl), ((4, mark.Success ∷ [], refl, refl, refl), tt)));
     inside = (omega arith, (omega arith, (omega arith, tt)));
-    unused = λ lane beyond. (unused_two _ _ lane beyond, unused_two _ _ lane beyond);
+    unused = λ lane beyond. (carrying.none_in_two _ _ lane beyond, carrying.none_in_two _ _ lane beyond);
     known = (tt, ((early_abort_create, at early_abort_jobs 0 early_abort_create refl, refl), (tt, (tt, ((early_abort_abort, at early_abort_jobs 2 early_abort_abort refl, refl), ((early_abort_denied, at early_abort_jobs 1 early_abort_denied refl, refl), tt))))));
     lanes = early_abort_lanes;
     marks = ((refl, tt), ((refl, tt), ((refl, tt), tt)));
@@ -206,7 +198,7 @@ module _ (page_of : List ℕ → Listed) where
     shown = refl;
     comes = ((2, mark.Success ∷ [], refl, refl, refl), ((3, mark.Success ∷ [], refl, refl, refl), tt));
     inside = (omega arith, (omega arith, tt));
-    unused = λ lane beyond. (unused_two _ _ lane beyond, unused_two _ _ lane beyond);
+    unused = λ lane beyond. (carrying.none_in_two _ _ lane beyond, carrying.none_in_two _ _ lane beyond);
     known = (tt, (tt, ((early_delete_copy, at early_delete_jobs 0 early_delete_copy refl, refl), ((early_delete_delete, at early_delete_jobs 1 early_delete_delete refl, refl), tt))));
     lanes = early_delete_lanes;
     marks = ((refl, tt), ((refl, tt), tt));
@@ -269,7 +261,7 @@ module _ (page_of : List ℕ → Listed) where
     shown = refl;
     comes = ((1, mark.Success ∷ [], refl, refl, refl), ((3, mark.Refusal ∷ [], refl, refl, refl), ((5, mark.Success ∷ [], refl, refl, refl), ((7, mark.Success ∷ [], refl, refl, refl), tt))));
     inside = (omega arith, (omega arith, (omega arith, (omega arith, tt))));
-    unused = λ lane beyond. (unused_two _ _ lane beyond, unused_two _ _ lane beyond);
+    unused = λ lane beyond. (carrying.none_in_two _ _ lane beyond, carrying.none_in_two _ _ lane beyond);
     known = (tt, ((after_failure_create, at after_failure_jobs 0 after_failure_create refl, refl), (tt, ((after_failure_denied, at after_failure_jobs 1 after_failure_denied refl, refl), (tt, ((after_failure_part2, at after_failure_jobs 2 after_failure_part2 refl, refl), (tt, ((after_failure_abort, at after_failure_jobs 3 after_failure_abort refl, refl), tt))))))));
     lanes = after_failure_lanes;
     marks = ((refl, tt), ((refl, tt), ((refl, tt), ((refl, tt), tt))));
@@ -387,7 +379,7 @@ module _ (page_of : List ℕ → Listed) where
     shown = refl;
     comes = ((1, mark.Success ∷ [], refl, refl, refl), ((3, mark.Success ∷ [], refl, refl, refl), ((5, mark.Success ∷ [], refl, refl, refl), ((7, mark.Success ∷ [], refl, refl, refl), ((9, mark.Success ∷ [], refl, refl, refl), tt)))));
     inside = (omega arith, (omega arith, (omega arith, (omega arith, (omega arith, tt)))));
-    unused = λ lane beyond. (unused_two _ _ lane beyond, unused_two _ _ lane beyond);
+    unused = λ lane beyond. (carrying.none_in_two _ _ lane beyond, carrying.none_in_two _ _ lane beyond);
     known = (tt, ((abort_after_complete_create, at abort_after_complete_jobs 0 abort_after_complete_create refl, refl), (tt, ((abort_after_complete_part1, at abort_after_complete_jobs 1 abort_after_complete_part1 refl, refl), (tt, ((abort_after_complete_part2, at abort_after_complete_jobs 2 abort_after_complete_part2 refl, refl), (tt, ((abort_after_complete_complete, at abort_after_complete_jobs 3 abort_after_complete_complete refl, refl), (tt, ((abort_after_complete_abort, at abort_after_complete_jobs 4 abort_after_complete_abort refl, refl), tt))))))))));
     lanes = abort_after_complete_lanes;
     marks = ((refl, tt), ((refl, tt), ((refl, tt), ((refl, tt), ((refl, tt), tt)))));
@@ -465,7 +457,7 @@ module _ (page_of : List ℕ → Listed) where
     shown = refl;
     comes = ((1, mark.Success ∷ [], refl, refl, refl), ((3, mark.Success ∷ [], refl, refl, refl), ((5, mark.Success ∷ [], refl, refl, refl), tt)));
     inside = (omega arith, (omega arith, (omega arith, tt)));
-    unused = λ lane beyond. (unused_two _ _ lane beyond, unused_two _ _ lane beyond);
+    unused = λ lane beyond. (carrying.none_in_two _ _ lane beyond, carrying.none_in_two _ _ lane beyond);
     known = (tt, ((early_complete_create, at early_complete_jobs 0 early_complete_create refl, refl), (tt, ((early_complete_part1, at early_complete_jobs 1 early_complete_part1 refl, refl), (tt, ((early_complete_complete, at early_complete_jobs 2 early_complete_complete refl, refl), tt))))));
     lanes = early_complete_lanes;
     marks = ((refl, tt), ((refl, tt), ((refl, tt), tt)));

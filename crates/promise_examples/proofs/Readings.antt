@@ -12,6 +12,7 @@ use Rattle.s3_model.specs.declared.answers.Why.TheVariants as why
 use Rattle.s3_model.specs.Replies.{IsSameReply, IsSameClass, IsSamePage}
 use Rattle.s3_model.specs.Talks.{Talk, Ending, Failed, Closed, Finished}
 use Rattle.s3_service.specs.Serves.{Answer}
+use Rattle.s3_model.specs.declared.tries.Mark.TheVariants as mark
 use Rattle.run_promise.specs.Carried.{mark_of, SaysAll}
 use Rattle.run_promise.specs.Fits.{Names, IsCertain}
 use Rattle.promise_examples.specs.Reading.{Reads, reply_to, class_by, body_by}
@@ -51,6 +52,12 @@ class_itself a = refl
 
 pub same_uncertain : (why : Why) (shown : Class) → IsSameClass (class.Uncertain why) shown → IsCertain shown → ⊥
 same_uncertain why shown h certain = subst IsCertain (sym h) certain
+
+pub refusal_success : mark.Refusal ≡ mark.Success → ⊥
+refusal_success e = cc
+
+pub uncertain_success : mark.Uncertain ≡ mark.Success → ⊥
+uncertain_success e = cc
 
 success_memory : (said : Reply) → class.Success said ≡ class.Uncertain why.Memory → ⊥
 success_memory said e = cc

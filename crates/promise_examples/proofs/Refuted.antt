@@ -30,7 +30,7 @@ use Rattle.promise_examples.specs.Refused as specs
 use Rattle.promise_examples.specs.Refused.{IsRefused, IsRefusedWith, WiresAreRefused, JobsAreRefused, setting, task, path, stored_at, lost_at, denied_at}
 use Rattle.promise_examples.proofs.Carrying.{same_again}
 use Rattle.promise_examples.proofs.Concrete.{has, contains_of, each, none_is_some, some_is}
-use Rattle.promise_examples.proofs.Readings.{reads, shown_by, same_mark}
+use Rattle.promise_examples.proofs.Readings.{reads, shown_by, same_mark, refusal_success}
 use Rattle.promise_examples.proofs.Shown.{made, Whatever, of_shown, alone}
 
 -- ---- lists and notes
@@ -76,9 +76,6 @@ other_bytes e = numbers (head_is _ _ _ _ (tail_is _ _ _ _ e))
   where
     numbers : ◌≡◌ {A = ℕ} 3 2 → ⊥
     numbers is = omega arith
-
-refusal_success : mark.Refusal ≡ mark.Success → ⊥
-refusal_success e = cc
 
 refusal_uncertain : mark.Refusal ≡ mark.Uncertain → ⊥
 refusal_uncertain e = cc

@@ -28,14 +28,12 @@ use Rattle.promise_examples.proofs.Noting as noting
 use Rattle.promise_examples.proofs.Scheduling as scheduling
 use Rattle.promise_examples.proofs.SmallPut as small
 use Rattle.promise_examples.proofs.Wiring as wiring
+use Rattle.promise_examples.proofs.Readings.{refusal_success}
 
 -- what stands nowhere
 nowhere : {A : Type 0} (lane : ℕ) → in_first {A = A} [] lane ≡ []
 nowhere zero = refl
 nowhere (suc lane) = carrying.none_in [] (suc lane) (omega arith)
-
-refusal_success : mark.Refusal ≡ mark.Success → ⊥
-refusal_success same = cc
 
 module _ (page_of : List ℕ → Listed) where
   abbrev Shows : Ask → ℕ → Talk → Class → List ℕ → Type 0

@@ -1,4 +1,5 @@
 pub mod Alone
+pub mod BothKinds
 pub mod Everything
 pub mod FailedUpload
 pub mod GivenAgain

@@ -23,8 +23,8 @@ pub fn refused()
 
 /// Twenty of those changes on the wires break one clause of what is carried and no other: with one reading of its jobs
 /// such a run keeps to the schedule, and all other clauses hold of it. Others break one clause of the schedule and no
-/// other: with one reading of its jobs such a run is carried. And ten of those traces break one clause of fitting, of
-/// what a service does or of honesty, and no other.
+/// other: with one reading of its jobs such a run is carried. And traces break one clause of fitting, of what a
+/// service does or of honesty, and no other.
 pub fn single_breaks()
     ensures wires { EachWireBreaksAlone }
     ensures jobs { EachJobBreaksAlone }

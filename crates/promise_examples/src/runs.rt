@@ -1,5 +1,6 @@
 //! Runs that meet the definitions, and their neighbours that do not.
 
+ghost use Rattle.promise_examples.specs.BothKinds.{BothKindsAreMet};
 ghost use Rattle.promise_examples.specs.Everything.{EverythingIsMet};
 ghost use Rattle.promise_examples.specs.FailedUpload.{FailedUploadIsMet};
 ghost use Rattle.promise_examples.specs.GivenAgain.{BusyIsGivenAgain, DeniedIsNotGivenAgain, RefusedForGood};
@@ -43,4 +44,11 @@ pub fn everything()
 /// though the service stored it, and the upload aborted.
 pub fn failed_upload()
     ensures { FailedUploadIsMet }
+{}
+
+/// A plan of both kinds of task is carried out, over wires and files: an upload that was stored; a download that was
+/// written to its temporary file, renamed and given its time; one whose Get was refused and whose temporary file could
+/// not be dropped, with a warning; and a file that was removed.
+pub fn both_kinds()
+    ensures { BothKindsAreMet }
 {}
