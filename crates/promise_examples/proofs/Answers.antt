@@ -1,5 +1,5 @@
 -- Of jobs that are carried, that each answer is one that a talk names follows from the other clauses of a trace.
-use Rattle.std.proofs.Common.{◌≡◌, ◌∙◌, ◌+◌, ◌++◌, ◌==◌, ℕ, zero, suc, true, cond, List, [], ◌∷◌, Some, None, refl, sym, ap, subst, inl, inr, AllPairs, Contains, filter, filter_map, length, slice_get, arith}
+use Rattle.std.proofs.Common.{◌≡◌, ◌∙◌, ◌+◌, ◌++◌, ◌==◌, ℕ, suc, true, cond, List, [], ◌∷◌, Some, None, refl, sym, ap, subst, inl, inr, AllPairs, Contains, filter, filter_map, slice_get, arith}
 use Rattle.s3_model.specs.declared.answers.Class.{Class}
 use Rattle.s3_model.specs.declared.answers.Class.TheVariants as class
 use Rattle.s3_model.specs.declared.answers.Listed.{Listed}

@@ -14,11 +14,9 @@ use Rattle.s3_model.specs.declared.outcomes.Cause.TheVariants as cause
 use Rattle.s3_model.specs.declared.outcomes.JobId.{JobId}
 use Rattle.s3_model.specs.declared.outcomes.Outcome.{Outcome}
 use Rattle.s3_model.specs.declared.outcomes.Outcome.TheVariants as outcome
-use Rattle.s3_model.specs.declared.places.Place.{Place}
 use Rattle.s3_model.specs.declared.places.Place.TheVariants as place
 use Rattle.s3_model.specs.declared.requests.Ask.{Ask}
 use Rattle.s3_model.specs.declared.requests.Op.TheVariants as op
-use Rattle.s3_model.specs.declared.tasks.Kind.{Kind}
 use Rattle.s3_model.specs.declared.tasks.Kind.TheVariants as kind
 use Rattle.s3_model.specs.declared.tasks.Task.{Task}
 use Rattle.s3_model.specs.declared.tries.Mark.TheVariants as mark
@@ -27,41 +25,39 @@ use Rattle.s3_model.specs.Maps.{MapOf}
 use Rattle.s3_model.specs.Parts.{HasPieces}
 use Rattle.s3_model.specs.Talks.{Talk}
 use Rattle.s3_model.specs.TempNames.{is_temp_name}
-use Rattle.s3_model.specs.Validity.{IsValidConfig, IsValidLimits}
-use Rattle.s3_service.specs.ServiceState.{HasBucket, Object, objects_in}
+use Rattle.s3_model.specs.Validity.{IsValidConfig}
+use Rattle.s3_service.specs.ServiceState.{HasBucket, objects_in}
 use Rattle.s3_service.specs.Serves.{Answer, IsThere, Refused, Replied}
 use Rattle.run_promise.specs.Carried.{IsCarried}
-use Rattle.run_promise.specs.Dispatches.{Attempt, Dispatched, FitsAsk, IsCompletedWell, IsCut, last_of}
+use Rattle.run_promise.specs.Dispatches.{Attempt, Dispatched, FitsAsk, IsCut}
 use Rattle.run_promise.specs.Fits.{Fits, IsAnswered, Names, request_at, requests_of}
 use Rattle.run_promise.specs.Outcomes.{HasOutcome, IsFirstFailure, SaysChanged, came_with}
 use Rattle.run_promise.specs.Runs.{IsFitting, Run, moments}
-use Rattle.run_promise.specs.Schedule.{IsBefore, IsDecided, IsFailed, IsObject, IsSchedule, Origin, Setting, Target, bytes_of, gained_before, job_of, most_body}
+use Rattle.run_promise.specs.Schedule.{IsBefore, IsDecided, IsFailed, IsObject, IsSchedule, Origin, Setting, Target, bytes_of, job_of, most_body}
 use Rattle.run_promise.specs.Traces.{IsTrace, Serve, TraceEvent, begun_in, events_of}
 use Rattle.run_promise.specs.Truthful.{FitsShown, IsDest}
 use Rattle.local_files.specs.Calls.{DropTemp, IsCallRun, IsTempFor, MakeTemp, Rename, WriteAt}
 use Rattle.shared_lemmas.proofs.Clashes.{false_true as never}
 use Rattle.shared_lemmas.proofs.Lists.{head_is}
-use Rattle.shared_lemmas.proofs.Maps.{get-insert_other, get-insert_same, get-remove_other, get-remove_same, text_exact}
+use Rattle.shared_lemmas.proofs.Maps.{get-insert_other, get-insert_same, get-remove_other, text_exact}
 use Rattle.world_laws.specs.SmallTransfers.{HadContent, HasSize}
 use Rattle.world_laws.specs.Promises.{IsByRequests, IsCarriedOut, run_of}
-use Rattle.world_laws.specs.Tasks.{HasSourceObject, IsPlanning, MayBeNew}
+use Rattle.world_laws.specs.Tasks.{HasSourceObject, MayBeNew}
 use Rattle.world_laws.proofs.Downloads.{whole_tells}
 use Rattle.world_laws.proofs.Faithful.{IsFaithful, faithful_with}
 use Rattle.world_laws.proofs.Objects.{object_at-with_object, object_at-with_object_other}
 use Rattle.world_laws.proofs.Promises.{run_is}
 use Rattle.world_laws.proofs.ScheduleWitness.{limits_are_valid}
 use Rattle.file_laws.specs.FileEnds.{HasFailedAct, HasFailedCall, IsByFiles, IsDestChanged, IsFailedAct, IsShownByCalls}
-use Rattle.file_laws.specs.FileLaws.{AreCalls}
-use Rattle.file_laws.specs.FileTasks.{AreFilesApart, AreWritten, HasFailedBefore, HasFailedDrop, IsBody, IsMade, IsRangeIn, IsRenamed, IsTaskTo, TaskCall, steps_of}
+use Rattle.file_laws.specs.FileTasks.{AreFilesApart, AreWritten, HasFailedBefore, HasFailedDrop, IsBody, IsMade, IsRenamed, TaskCall, steps_of}
 use Rattle.file_laws.specs.FileWitnesses.{file_removal}
-use Rattle.file_laws.specs.PlanEnds.{HasPlannedSource, IsCountedByCalls, IsPlanCarriedOut}
+use Rattle.file_laws.specs.PlanEnds.{HasPlannedSource, IsPlanCarriedOut}
 use Rattle.file_laws.proofs.Keeping.{removal_downloads, same_path, some_is_there, upload_downloads, upload_removes}
-use Rattle.promise_examples.specs.BothKinds as plan
-use Rattle.promise_examples.specs.BothKinds.{BothKindsAreMet, IsMetByBoth, bucket, stored_key, first_key, second_key, source_path, first_path, first_temp, second_path, second_temp, removed_path, bytes, content, upload, first_load, second_load, limits, config, put_job, get_job, put, first_get, second_get, denied, put_talk, first_talk, second_talk, journal, talks, notes, with_bytes, held, after_removal, with_temp, written, filled, renamed, stamped, left_over, removes, makes_first, writes_first, renames_first, stamps_first, makes_second, drops_second, calls, shown, start, stored, sent, trace}
+use Rattle.promise_examples.specs.BothKinds.{BothKindsAreMet, IsMetByBoth, bucket, stored_key, first_key, second_key, source_path, first_path, first_temp, second_path, second_temp, removed_path, bytes, content, upload, first_load, second_load, limits, config, put_job, get_job, put, first_get, second_get, denied, put_talk, first_talk, second_talk, journal, with_bytes, held, after_removal, with_temp, written, filled, renamed, stamped, removes, makes_first, writes_first, renames_first, stamps_first, makes_second, drops_second, calls, shown, start, stored, trace}
 use Rattle.promise_examples.specs.Reading.{Reads, HasNoStatus, signed_body}
 use Rattle.promise_examples.specs.Services.{object_of, one_bucket}
 use Rattle.promise_examples.proofs.Carrying as carrying
-use Rattle.promise_examples.proofs.Concrete.{at, each, none_is_some, slot, some_is}
+use Rattle.promise_examples.proofs.Concrete.{at, each, slot, some_is}
 use Rattle.promise_examples.proofs.Fitting as fitting
 use Rattle.promise_examples.proofs.Honest.{has_bucket, honest, one_bucket_is_faithful}
 use Rattle.promise_examples.proofs.ManyCalls as many

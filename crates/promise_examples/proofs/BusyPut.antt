@@ -15,7 +15,7 @@ use Rattle.s3_model.specs.declared.outcomes.Outcome.TheVariants as outcome
 use Rattle.s3_model.specs.declared.settings.Limits.{Limits}
 use Rattle.s3_model.specs.declared.tasks.Task.{Task}
 use Rattle.s3_model.specs.declared.tries.Mark.TheVariants as mark
-use Rattle.s3_model.specs.Talks.{Talk, Note, Moment, Pause, Began, Closed, Finished}
+use Rattle.s3_model.specs.Talks.{Talk, Moment, Pause, Began, Closed, Finished}
 use Rattle.s3_service.specs.ServiceState.{State, HasBucket}
 use Rattle.s3_service.specs.Serves.{Replied, Refused}
 use Rattle.run_promise.specs.Buffers.{KeepsBuffers, buffers_out}

@@ -18,7 +18,6 @@ use Rattle.s3_model.specs.declared.outcomes.Outcome.{Outcome}
 use Rattle.s3_model.specs.declared.outcomes.Outcome.TheVariants as outcome
 use Rattle.s3_model.specs.declared.tasks.Kind.TheVariants as kind
 use Rattle.s3_model.specs.declared.tasks.Task.{Task}
-use Rattle.s3_model.specs.declared.tries.Mark.TheVariants as mark
 use Rattle.s3_model.specs.Parts.{HasPieces, IsFirstFitting, piece_of}
 use Rattle.s3_model.specs.Talks.{Talk}
 use Rattle.run_promise.specs.Buffers.{KeepsBuffers, buffers_out}

@@ -6,14 +6,14 @@ use Rattle.s3_model.specs.declared.requests.Op.TheVariants as op
 use Rattle.s3_model.specs.declared.answers.Class.{Class}
 use Rattle.s3_model.specs.declared.answers.Listed.{Listed}
 use Rattle.s3_model.specs.declared.tries.Mark.TheVariants as mark
-use Rattle.s3_model.specs.Talks.{Talk, Note, Moment, Pause, Began}
+use Rattle.s3_model.specs.Talks.{Talk, Moment, Pause, Began}
 use Rattle.run_promise.specs.Carried.{IsCarried, IsSaid, MayStop}
 use Rattle.shared_lemmas.proofs.Clashes.{false_true as never}
 use Rattle.promise_examples.specs.Reading.{Reads, signed_body}
 use Rattle.promise_examples.specs.Runs.{Example}
 use Rattle.promise_examples.specs.Everything.{document, create_lost, create_answered, copy_answered, part_lost, part_stored, other_stored, delete_lost, delete_again, complete_lost, complete_again, events, eventful_run}
 use Rattle.promise_examples.proofs.Carrying as carrying
-use Rattle.promise_examples.proofs.Concrete.{has, at, each, some_is}
+use Rattle.promise_examples.proofs.Concrete.{has, at, some_is}
 use Rattle.promise_examples.proofs.EventfulJobs.{lost, well, create_sent, copy_sent, part_sent, other_sent, part_again, delete_sent, complete_sent, jobs, coming}
 use Rattle.promise_examples.proofs.Readings.{says_whole}
 use Rattle.promise_examples.proofs.Scheduling.{other_op}

@@ -1,5 +1,5 @@
 -- Runs of the small upload, and plannings in two pages, that break one clause of the schedule alone.
-use Rattle.std.proofs.Common.{◌≡◌, ◌<◌, ◌≤◌, ◌==◌, ℕ, zero, suc, true, false, List, [], ◌∷◌, Some, None, refl, ap, inl, inr, arith}
+use Rattle.std.proofs.Common.{◌≡◌, ◌<◌, ◌≤◌, ℕ, zero, suc, true, false, List, [], ◌∷◌, Some, None, refl, ap, inl, inr, arith}
 use Rattle.std.specs.Prelude.{◌≢◌, map}
 use Rattle.std.proofs.lemmas.List.Sorted.{IsPermutation-append_comm, IsPermutation-refl}
 use Rattle.s3_model.specs.declared.answers.Listed.{Listed}

@@ -1,5 +1,5 @@
 -- Runs of an upload in parts, and of a move, that break one clause of the schedule alone.
-use Rattle.std.proofs.Common.{◌≡◌, ◌+◌, ◌<◌, ◌≤◌, ◌==◌, ℕ, zero, suc, false, List, [], ◌∷◌, Some, refl, sym, ap, subst, inl, inr, ◌++◌, ◌∙◌, arith}
+use Rattle.std.proofs.Common.{◌≡◌, ◌+◌, ◌<◌, ℕ, zero, suc, false, List, [], ◌∷◌, Some, refl, sym, ap, subst, inl, inr, ◌++◌, ◌∙◌, arith}
 use Rattle.std.specs.Prelude.{IsPermutation}
 use Rattle.std.proofs.lemmas.List.Sorted.{IsPermutation-refl, IsPermutation-append_right, IsPermutation-append_comm}
 use Rattle.s3_model.specs.declared.answers.Listed.{Listed}
@@ -13,7 +13,7 @@ use Rattle.s3_model.specs.Parts.{piece_of}
 use Rattle.run_promise.specs.Dispatches.{Attempt, Dispatched}
 use Rattle.run_promise.specs.Schedule.{IsBefore, AreETags, gained_before, job_of}
 use Rattle.shared_lemmas.proofs.Clashes.{false_true as never}
-use Rattle.promise_examples.specs.Everything.{bucket, uploaded, id, first_etag, second_etag, upload, copy, create, complete, copy_ask, delete, part, document, create_job, part_job, complete_job, copy_job, delete_job, create_answered, copy_answered, in_two}
+use Rattle.promise_examples.specs.Everything.{bucket, uploaded, id, first_etag, second_etag, upload, copy, create, complete, copy_ask, delete, part, document, create_job, part_job, complete_job, copy_job, delete_job, create_answered, copy_answered}
 use Rattle.promise_examples.specs.Orders as orders
 use Rattle.promise_examples.specs.Orders.{abort_job, part_denied, first_stored, second_stored, complete_answered, abort_answered, delete_answered}
 use Rattle.promise_examples.specs.Reading.{Reads}
