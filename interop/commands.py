@@ -1,6 +1,8 @@
 """Command lines, settings files and presigned URLs, tried with the built program as a person or a script would."""
 
 import os
+import shutil
+import subprocess
 import time
 import urllib.error
 import urllib.parse
@@ -156,6 +158,13 @@ def fetched(url):
         return error.code, error.read()
 
 
+def fetched_by_curl(url):
+    """The same, by curl, given the URL as a person would paste it."""
+    words = ["curl", "--silent", "--show-error", "--max-time", "30", "--write-out", "\n%{http_code}", url]
+    body, _, status = subprocess.run(words, capture_output=True).stdout.rpartition(b"\n")
+    return int(status), body
+
+
 def changed(url):
     """The URL with another last digit of its signature."""
     return url[:-1] + ("0" if url[-1] != "0" else "1")
@@ -176,13 +185,20 @@ def presigned(checks, runs, service, client):
     names = [name for name, _ in urllib.parse.parse_qsl(urllib.parse.urlsplit(hour).query)]
     checks.check("presign: the query in order", names == sorted(names[:-1]) + ["X-Amz-Signature"], " ".join(names))
     checks.check("presign: an hour", "X-Amz-Expires=3600&" in hour)
-    checks.check("presign: the URL is fetched", fetched(hour) == (200, content))
+    clients = {"urllib": fetched}
+    if shutil.which("curl"):
+        clients["curl"] = fetched_by_curl
+    else:
+        print("skipped: curl is not on this machine")
+    for name, fetch in clients.items():
+        checks.check(f"presign: {name} fetches the URL", fetch(hour) == (200, content))
     if service.name == "moto":
         return  # which looks at no signature
-    checks.check("presign: another signature is refused", fetched(changed(hour))[0] == 403)
     short = url("--expires-in", "1")
     time.sleep(3)
-    checks.check("presign: an expired URL is refused", fetched(short)[0] == 403)
+    for name, fetch in clients.items():
+        checks.check(f"presign: {name} is refused with another signature", fetch(changed(hour))[0] == 403)
+        checks.check(f"presign: {name} is refused with an expired URL", fetch(short)[0] == 403)
 
 
 def try_commands(checks, runs, service, client):

@@ -55,8 +55,11 @@ def free_ports(count):
 def program(root, crate="s3", words=("--", "--version"), progress=None):
     """The path of a built program of this repository; it is built first, and run with these words.
 
-    `progress` is called with each line that the toolchain prints.
+    `progress` is called with each line that the toolchain prints. Where the variable S3_PROGRAM names a file, that one is
+    taken in place of `s3`, and nothing is built.
     """
+    if crate == "s3" and os.environ.get("S3_PROGRAM"):
+        return os.path.abspath(os.environ["S3_PROGRAM"])
     folder = os.path.join(root, "crates", crate)
     if shutil.which("rt") is None:
         sys.exit(NO_TOOLCHAIN)
