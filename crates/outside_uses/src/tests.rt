@@ -383,3 +383,87 @@ fn a_socket_without_a_connection_fails(rt: HostRuntime) -> Result<(), Fail> {
     assert!(rt; wire.moment() > MOMENT);
     Ok(())
 }
+
+// What a service says before it has read the request, and closes, and whether the rest of the request counts as sent.
+static EARLY: [(&str, bool); 14] = [
+    ("HTTP/1.1 403 Forbidden\r\n", true),
+    ("HTTP/1.1 300", true),
+    ("HTTP/1.1 499", true),
+    ("HTTP/1.0 413", true),
+    ("HTTP/1.1 299", false),
+    ("HTTP/1.1 200 OK\r\n\r\n", false),
+    ("HTTP/1.1 100", false),
+    ("HTTP/1.1 500", false),
+    ("HTTP/1.1 503", false),
+    ("HTTP/1.1 40", false),
+    ("HTTP/1.1 4x3", false),
+    ("HTTP/1.2 403", false),
+    ("HTTP/2.0 403", false),
+    ("", false),
+];
+
+// Whether bytes count as sent, after the service has said this and closed with bytes unread, which resets the connection.
+fn is_heard<W: Wire>(wire: &mut W, listener: &TcpListener, said: &str) -> Result<bool, Fail> {
+    wire.begin("127.0.0.1", listener.local_addr()?.port())?;
+    wire.send(b"ping")?;
+    let (mut peer, _) = listener.accept()?;
+    peer.write_all(said.as_bytes())?;
+    drop(peer);
+    let sent = wire.send(b"pong");
+    let mut into = [0u8; 12];
+    let got = wire.take(&mut into);
+    wire.finish(true);
+    Ok(sent == Ok(4) && got == Ok(12) && said.as_bytes().starts_with(&into))
+}
+
+#[test]
+fn early_refusals_are_heard(rt: HostRuntime) -> Result<(), Fail> {
+    let listener = TcpListener::bind(&rt, "127.0.0.1:0")?;
+    let mut wire = SocketWire::new(rt.clone()?);
+    for (said, heard) in EARLY.iter() {
+        if is_heard(&mut wire, &listener, said)? != *heard {
+            return Err(Fail::from(*said));
+        }
+    }
+    Ok(())
+}
+
+// Whether a talk goes over a kept connection: the peer of the one before gets its bytes.
+fn is_taken_up<W: Wire, P: Read>(wire: &mut W, port: u16, peer: &mut P) -> Result<bool, Fail> {
+    wire.finish(true);
+    wire.begin("127.0.0.1", port)?;
+    wire.send(b"more")?;
+    let mut into = [0u8; 8];
+    Ok(peer.read(&mut into)? == 4 && into == *b"more\0\0\0\0")
+}
+
+// Whether a talk after the peer has closed the kept connection goes over another one.
+fn is_replaced<W: Wire>(wire: &mut W, listener: &TcpListener, port: u16) -> Result<bool, Fail> {
+    wire.finish(true);
+    wire.begin("127.0.0.1", port)?;
+    wire.send(b"ping")?;
+    Ok(serve_once(listener, b"pong")? == 4)
+}
+
+#[test]
+fn a_socket_is_kept_until_it_is_closed(rt: HostRuntime) -> Result<(), Fail> {
+    let listener = TcpListener::bind(&rt, "127.0.0.1:0")?;
+    let port = listener.local_addr()?.port();
+    let mut wire = SocketWire::new(rt.clone()?);
+    wire.begin("127.0.0.1", port)?;
+    let (mut peer, _) = listener.accept()?;
+    assert!(rt; is_taken_up(&mut wire, port, &mut peer)?);
+    drop(peer);
+    assert!(rt; is_replaced(&mut wire, &listener, port)?);
+    Ok(())
+}
+
+#[test]
+fn a_silent_peer_is_given_up(rt: HostRuntime) -> Result<(), Fail> {
+    let listener = TcpListener::bind(&rt, "127.0.0.1:0")?;
+    let mut wire = SocketWire::with_limit(rt.clone()?, 1);
+    wire.begin("127.0.0.1", listener.local_addr()?.port())?;
+    wire.send(b"ping")?;
+    assert!(rt; wire.take(&mut [0u8; 8]).is_err());
+    Ok(())
+}
