@@ -1,11 +1,12 @@
 -- Bytes begin with one document's root.
-use Rattle.std.proofs.Common.{◌≡◌, ◌<◌, ◌+◌, ◌∙◌, ℕ, Bool, List, sym, subst, ap, drop, codes, ⊎_elim, arith}
+use Rattle.std.proofs.Common.{◌≡◌, ◌<◌, ◌+◌, ◌∙◌, ℕ, Bool, List, ◌∷◌, ◌-◌, length, refl, sym, subst, ap, drop, codes, inl, inr, ⊎_elim, arith}
 use Rattle.std.proofs.lemmas.List.{append_cancel_left}
 use Rattle.reply_xml.specs.declared.runs.Sort.TheVariants as sort
 use Rattle.reply_xml.specs.Documents.{EndsAt, ReadsDeclaration, MayDeclare, BeginsDocument, NamesRoot}
+use Rattle.reply_xml.specs.Places.{BeginsOtherwise, HasOtherRoot, LacksName, LacksRoot}
 use Rattle.reply_xml.specs.Runs.{ReadsRun}
 use Rattle.reply_xml.specs.Tags.{NamesTag, ReadsTag, ReadsTagEnd}
-use Rattle.reply_xml.proofs.RunLemmas.{ReadsRun-same}
+use Rattle.reply_xml.proofs.RunLemmas.{ReadsRun-same, no_run}
 use Rattle.reply_xml.proofs.TagLemmas.{ReadsTag-same, tag_end_of}
 
 place_same : (bytes : List ℕ) (i j : ℕ) → EndsAt bytes i → ((k : ℕ) → k < i → ¬ (EndsAt bytes k)) → EndsAt bytes j → ((k : ℕ) → k < j → ¬ (EndsAt bytes k)) → j ≡ i
@@ -79,3 +80,24 @@ NamesRoot-tag name bytes space at at_space between at_root rest run declared gap
     let there = MayDeclare-same at at_space n.at_space declared (NamesRoot-declared name bytes space at rest run n) in
     let root_is = ReadsRun-same sort.Space between n.between.0 at_space at_root n.at_root gap (subst (λ (t : List ℕ). ReadsRun sort.Space n.between.0 t n.at_root) there n.between.1) in
     subst (λ (t : List ℕ). NamesTag name t rest) root_is.1 n.names
+
+-- where no declaration opens, none is read
+pub undeclared : (at rest : List ℕ) → ((more : List ℕ) → ¬ (at ≡ 60 ∷ 63 ∷ more)) → MayDeclare at rest → rest ≡ at
+undeclared at rest none d = ⊎_elim (λ r. absurd (none _ r.opens)) (λ r. r.0) d
+
+pub may_be_undeclared : (at : List ℕ) → ((more : List ℕ) → ¬ (at ≡ 60 ∷ 63 ∷ more)) → MayDeclare at at
+may_be_undeclared at none = inr (refl, λ after e. none _ e)
+
+-- and the root has to begin behind the white space in front
+pub root_there : (bytes space at at_space between at_root : List ℕ) → ReadsRun sort.Space space bytes at → MayDeclare at at_space → ReadsRun sort.Space between at_space at_root
+    → ((more : List ℕ) → ¬ (at ≡ 60 ∷ 63 ∷ more)) → at_root ≡ at
+root_there bytes space at at_space between at_root run declared gap none =
+    let same = undeclared at at_space none declared in
+    (no_run sort.Space at between at_root run.ends (subst (λ (b : List ℕ). ReadsRun sort.Space between b at_root) same gap)).1
+
+-- the place at which bytes begin otherwise, by what is left there
+pub otherwise_at : (root doc : List ℕ) (place left : ℕ) → BeginsOtherwise root doc place → ((o : HasOtherRoot root doc place) → left ≡ length o.rest) → ((l : LacksRoot doc place) → left ≡ length l.rest)
+    → ((l : LacksName doc place) → left ≡ length l.rest) → length doc - left ≡ place
+otherwise_at root doc place left (inl o) f g h = ap (λ n. length doc - n) (f o) ∙ sym o.at
+otherwise_at root doc place left (inr (inl l)) f g h = ap (λ n. length doc - n) (g l) ∙ sym l.at
+otherwise_at root doc place left (inr (inr l)) f g h = ap (λ n. length doc - n) (h l) ∙ sym l.at

@@ -1,9 +1,9 @@
 -- Bytes begin with one run of a sort.
-use Rattle.std.proofs.Common.{◌≡◌, ◌<◌, ◌≤◌, ◌++◌, ◌∙◌, ℕ, Bool, true, false, List, [], ◌∷◌, refl, sym, ap, subst, length, get_or, drop, take, drop-cons}
+use Rattle.std.proofs.Common.{◌≡◌, ◌<◌, ◌≤◌, ◌++◌, ◌∙◌, ℕ, Bool, true, false, List, [], ◌∷◌, refl, sym, ap, subst, length, get_or, drop, take, drop-cons, arith}
 use Rattle.std.specs.List.{AllPass}
 use Rattle.std.proofs.lemmas.Bool.{false≢true}
 use Rattle.std.proofs.lemmas.List.{take-append-drop, append-nil, take_all}
-use Rattle.std.proofs.lemmas.List.Elements.{All-head, All-tail}
+use Rattle.std.proofs.lemmas.List.Elements.{All-from_get_or, All-head, All-tail}
 use Rattle.reply_xml.specs.declared.runs.Sort.{Sort}
 use Rattle.reply_xml.specs.Runs.{is_of, BeginsOutside, ReadsRun}
 
@@ -48,3 +48,8 @@ ReadsRun-whole of bytes i h inside = record {
   inside = subst (AllPass (is_of of)) (take_all i bytes h) inside;
   ends = tt;
 }
+
+-- where the first byte is of another sort, the run is empty
+pub no_run : (of : Sort) (bytes run rest : List ℕ) → BeginsOutside (is_of of) bytes → ReadsRun of run bytes rest → (run ≡ []) × (rest ≡ bytes)
+no_run of bytes run rest ends r =
+    ReadsRun-same of [] run bytes bytes rest (record { split = refl; inside = All-from_get_or (λ b. is_of of b ≡ true) [] 0 (λ i h. absurd (omega (arith, h))); ends = ends }) r

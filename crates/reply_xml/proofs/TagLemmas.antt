@@ -1,7 +1,7 @@
 -- Bytes begin with one tag, and in one way.
 use Rattle.std.proofs.Common.{◌≡◌, ◌≢◌, ◌==◌, ◌||◌, ◌++◌, ◌∙◌, ◌⊎◌, ℕ, zero, suc, Bool, true, false, List, [], ◌∷◌, refl, sym, ap, subst, length, inl, inr, ⊎_elim, Result, Ok, Err, Some, None, slice_get}
 use Rattle.reply_xml.specs.declared.runs.Sort.TheVariants as sort
-use Rattle.std.specs.Result.{OnErr}
+use Rattle.std.specs.Result.{IsErrAnd, OnErr}
 use Rattle.std.proofs.lemmas.List.{nil_from_length}
 use Rattle.std.specs.List.{AllPass}
 use Rattle.std.proofs.lemmas.Bool.{eqb-false, eqb-true, eq-eqb, false≢true}
@@ -270,3 +270,8 @@ no_name_end-none bytes e n = nothing n.0 n.1 (sym n.2 ∙ e)
 
 pub no_name_end-first : (bytes more : List ℕ) (byte : ℕ) → bytes ≡ byte ∷ more → ends_name byte ≡ false → NameEnds bytes → ⊥
 no_name_end-first bytes more byte e other n = false≢true (sym other ∙ ap ends_name (parts_same byte n.0 more n.1 (sym e ∙ n.2)).0 ∙ n.3)
+
+-- an answer that is this error
+pub err_given : {U : Type 0} (r : Result U ℕ) (e f : ℕ) → IsErrAnd r (λ d. d ≡ e) → e ≡ f → r ≡ Err f
+err_given (Ok x) e f h same = absurd h
+err_given (Err d) e f h same = ap Err (h ∙ same)

@@ -1,7 +1,8 @@
 -- Where the first fault of bytes stands.
-use Rattle.std.specs.Prelude.{◌≡◌, ◌≢◌, ◌-◌, ℕ, Bool, List, [], length}
+use Rattle.std.specs.Prelude.{◌≡◌, ◌≢◌, ◌-◌, ◌⊎◌, ℕ, Bool, List, [], ◌∷◌, length}
 use Rattle.reply_xml.specs.Contents.{Content, ReadsInner}
 use Rattle.reply_xml.specs.Documents.{BeginsDocument, NamesRoot, ReadsSpace}
+use Rattle.reply_xml.specs.Runs.{BeginsOutside, is_name_byte}
 use Rattle.reply_xml.specs.Tags.{NameEnds}
 
 -- The bytes begin as a document with another root than this one. The fault stands at the end of its name.
@@ -12,6 +13,25 @@ pub record HasOtherRoot (root bytes : List ℕ) (place : ℕ) : Type 0 where
   pub ends : NameEnds rest
   pub differs : name ≢ root
   pub at : place ≡ length bytes - length rest
+
+-- Behind white space in front stands something else than `<`, or nothing. The fault stands there.
+pub record LacksRoot (bytes : List ℕ) (place : ℕ) : Type 0 where
+  pub rest : List ℕ
+  pub before : ReadsSpace bytes rest
+  pub none : (more : List ℕ) → ¬ (rest ≡ 60 ∷ more)
+  pub at : place ≡ length bytes - length rest
+
+-- Behind white space in front stands `<` with no name and no `?` behind it. The fault stands behind the `<`.
+pub record LacksName (bytes : List ℕ) (place : ℕ) : Type 0 where
+  pub rest : List ℕ
+  pub before : ReadsSpace bytes (60 ∷ rest)
+  pub unnamed : BeginsOutside is_name_byte rest
+  pub undeclared : (more : List ℕ) → ¬ (rest ≡ 63 ∷ more)
+  pub at : place ≡ length bytes - length rest
+
+-- the bytes begin with another root than this one, or with none
+abbrev pub BeginsOtherwise : (root bytes : List ℕ) → ℕ → Type 0
+BeginsOtherwise root bytes place = HasOtherRoot root bytes place ⊎ LacksRoot bytes place ⊎ LacksName bytes place
 
 -- A whole root with a value stands in the bytes, and behind it white space and then more. The fault stands where more begins.
 pub record HasBytesBehind {V : Type 0} (root : List ℕ) (Means : Content → V → Type 0) (bytes : List ℕ) (place : ℕ) : Type 0 where

@@ -1,10 +1,10 @@
 //! The front and the end of a document.
 
-ghost use Rattle.std.specs.Prelude.{◌≡◌, ◌≢◌, ◌++◌, ◌<◌, ◌≤◌, ◌+◌, ◌-◌, ℕ, Bool, List, [], Err, IfOk, OnOk, IfErr, OnErr, MatchOption, codes, length, drop, take};
+ghost use Rattle.std.specs.Prelude.{◌≡◌, ◌≢◌, ◌++◌, ◌<◌, ◌≤◌, ◌+◌, ◌-◌, ◌∷◌, ℕ, Bool, List, [], Err, IfOk, OnOk, IfErr, OnErr, MatchOption, codes, length, drop, take};
 ghost use Rattle.reply_xml.specs.Contents.{Content};
 ghost use Rattle.reply_xml.specs.Documents.{BeginsDocument, EndsAt, IsDocument, MayDeclare, NamesRoot, ReadsSpace};
 ghost use Rattle.reply_xml.specs.Faults.{IfRefused};
-ghost use Rattle.reply_xml.specs.Places.{HasOtherRoot};
+ghost use Rattle.reply_xml.specs.Places.{BeginsOtherwise, HasOtherRoot, LacksName, LacksRoot};
 ghost use Rattle.reply_xml.specs.Tags.{ReadsTag};
 
 use crate::elements::element_named;
@@ -65,9 +65,15 @@ fn after_declaration(bytes: &[u8]) -> Result<&[u8], usize>
 /// How many bytes are left where no root begins, if so many are left of its tag: those behind `<?`, `<?x`, `<?xm` or
 /// `<?xml` may be more of a declaration.
 fn root_left(at_declaration: &[u8], left: usize) -> usize
-    ensures { result ≤ left }
+    ensures most { result ≤ left }
+    ensures undeclared { ((more : List ℕ) → ¬ (at_declaration.now ≡ 60 ∷ 63 ∷ more)) → result ≡ left }
 {
-    left.min(at_declaration.len() - common_front(at_declaration, b"<?xml"))
+    match at_declaration {
+        [b'<', b'?', ..] => {
+            left.min(at_declaration.len() - common_front(at_declaration, b"<?xml"))
+        }
+        _ => left,
+    }
 }
 
 /// The name of the root and what follows it. An error is the number of bytes that are left where the grammar fails.
@@ -78,6 +84,8 @@ fn split_root<'a>(doc: &'a [u8], root: &str) -> Result<(&'a [u8], &'a [u8]), usi
     ensures left { IfErr result (λ left. left ≤ length doc.now) }
     ensures refused { OnErr result ((closed : Bool) (rest : List ℕ) → ¬ (BeginsDocument root.now doc.now closed rest)) }
     ensures other { (place : ℕ) → (o : HasOtherRoot root.now doc.now place) → result ≡ Err (length o.rest) }
+    ensures bare { (place : ℕ) → (l : LacksRoot doc.now place) → result ≡ Err (length l.rest) }
+    ensures nameless { (place : ℕ) → (l : LacksName doc.now place) → result ≡ Err (length l.rest) }
 {
     let (_, at_declaration) = split_run(Sort::Space, doc);
     let at_space = after_declaration(at_declaration)?;
@@ -101,7 +109,7 @@ impl<'a> Reader<'a> {
         ensures shorter { IfOk result (λ parts. length parts.0.rest.now ≤ length doc.now) }
         ensures refused { IfRefused result ((closed : Bool) (rest : List ℕ) →
             ¬ (BeginsDocument root.now doc.now closed rest)) }
-        ensures other { (place : ℕ) → HasOtherRoot root.now doc.now place →
+        ensures other { (place : ℕ) → BeginsOtherwise root.now doc.now place →
             result ≡ Err (DocFault.NotADocument place) }
     {
         let (name, at_attributes) = match split_root(doc, root) {

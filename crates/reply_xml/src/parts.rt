@@ -4,7 +4,7 @@ ghost use Rattle.std.specs.Prelude.{◌≡◌, ◌≤◌, ℕ, List, IfOk, OnOk,
 ghost use Rattle.reply_xml.specs.Contents.{Content, Only};
 ghost use Rattle.reply_xml.specs.Documents.{IsOf};
 ghost use Rattle.reply_xml.specs.Faults.{IfRefused, IsFault};
-ghost use Rattle.reply_xml.specs.Places.{HasBytesBehind, HasOtherRoot};
+ghost use Rattle.reply_xml.specs.Places.{BeginsOtherwise, HasBytesBehind};
 ghost use Rattle.reply_xml.specs.Reading.{Advances, HoldsAs, HoldsNone, ReadsAs, ReadsNone, Stops};
 
 use crate::faults::DocFault;
@@ -68,7 +68,7 @@ pub fn read_document<P: Parts>(
 ) -> Result<P::Whole, DocFault>
     ensures value { IfOk result (λ whole. IsOf root.now (P.left parts) doc.now whole) }
     ensures refused { IfRefused result ((whole : P.Whole) → ¬ (IsOf root.now (P.left parts) doc.now whole)) }
-    ensures other_root { (place : ℕ) → HasOtherRoot root.now doc.now place →
+    ensures other_root { (place : ℕ) → BeginsOtherwise root.now doc.now place →
         result ≡ Err (DocFault.NotADocument place) }
     ensures behind { (place : ℕ) → HasBytesBehind root.now (P.left parts) doc.now place →
         IsFault result (DocFault.NotADocument place) }

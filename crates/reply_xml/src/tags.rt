@@ -1,7 +1,8 @@
 //! Tags, with their attributes.
 
-ghost use Rattle.std.specs.Prelude.{◌≡◌, ◌<◌, ◌≤◌, ◌∷◌, ℕ, Bool, List, length, IfOk, IfErr, OnErr, IfSome, MatchOption};
+ghost use Rattle.std.specs.Prelude.{◌≡◌, ◌<◌, ◌≤◌, ◌∷◌, ℕ, Bool, Err, List, length, IfOk, IfErr, OnErr, IfSome, MatchOption};
 ghost use Rattle.reply_xml.specs.Tags.{NameEnds, NamesTag, ReadsAttribute, ReadsEndTag, ReadsGap, ReadsName, ReadsTag, ReadsTagEnd, ReadsValue, ends_name};
+ghost use Rattle.reply_xml.specs.Runs.{BeginsOutside, is_name_byte};
 
 use crate::places::{common_front, is_same, utf8_front};
 use crate::runs::{Sort, is_of, split_run};
@@ -24,6 +25,7 @@ pub(crate) fn split_name(bytes: &[u8]) -> Result<(&[u8], &[u8]), usize>
     ensures shorter { IfOk result (λ parts. length parts.1.now < length bytes.now) }
     ensures left { IfErr result (λ left. left ≤ length bytes.now) }
     ensures refused { OnErr result ((name rest : List ℕ) → ¬ (ReadsName name bytes.now rest)) }
+    ensures outside { BeginsOutside is_name_byte bytes.now → result ≡ Err (length bytes.now) }
 {
     let (name, rest) = split_run(Sort::Name, bytes);
     if name.is_empty() {
@@ -111,6 +113,9 @@ pub(crate) fn split_start(bytes: &[u8]) -> Result<(&[u8], &[u8]), usize>
     ensures left { IfErr result (λ left. left ≤ length bytes.now) }
     ensures refused { OnErr result ((closed : Bool) (name rest : List ℕ) → ¬ (ReadsTag closed name bytes.now rest)) }
     ensures unnamed { OnErr result ((name rest : List ℕ) → NamesTag name bytes.now rest → ¬ (NameEnds rest)) }
+    ensures bare { ((more : List ℕ) → ¬ (bytes.now ≡ 60 ∷ more)) → result ≡ Err (length bytes.now) }
+    ensures nameless { (more : List ℕ) → bytes.now ≡ 60 ∷ more → BeginsOutside is_name_byte more →
+        result ≡ Err (length more) }
 {
     let Some(at_name) = after_byte(b'<', bytes) else {
         return Err(bytes.len());

@@ -5,7 +5,7 @@ ghost use Rattle.s3_model.specs.declared.places.Entry.{Entry};
 ghost use Rattle.s3_replies.specs.Buckets.{BucketLeft, BucketsLeft, HasBucket, HasBuckets, HasEachBucket, IsBucketList, ListLeft};
 ghost use Rattle.reply_xml.specs.Contents.{Content};
 ghost use Rattle.reply_xml.specs.Faults.{IfRefused, IsFault};
-ghost use Rattle.reply_xml.specs.Places.{HasBytesBehind, HasOtherRoot};
+ghost use Rattle.reply_xml.specs.Places.{BeginsOtherwise, HasBytesBehind};
 
 use reply_xml::{Child, DocFault, Element, FormedText, Parts, Reader, Time, is_the, read_document};
 use s3_model::{Entries, Entry, Text};
@@ -122,7 +122,7 @@ impl Parts for BucketList {
 pub fn read_buckets(alloc: Global, doc: &[u8]) -> Result<Entries, DocFault>
     ensures value { IfOk result (λ rows. IsBucketList doc.now rows.items) }
     ensures refused { IfRefused result ((entries : List Entry) → ¬ (IsBucketList doc.now entries)) }
-    ensures other_root { (place : ℕ) → HasOtherRoot (codes "ListAllMyBucketsResult") doc.now place →
+    ensures other_root { (place : ℕ) → BeginsOtherwise (codes "ListAllMyBucketsResult") doc.now place →
         result ≡ Err (DocFault.NotADocument place) }
     ensures behind { (place : ℕ) → HasBytesBehind (codes "ListAllMyBucketsResult") HasBuckets doc.now place →
         IsFault result (DocFault.NotADocument place) }

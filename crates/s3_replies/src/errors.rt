@@ -4,7 +4,7 @@ ghost use Rattle.std.specs.Prelude.{◌≡◌, ◌≤◌, ℕ, List, None, Optio
 ghost use Rattle.s3_replies.specs.Errors.{ErrorLeft, HasError, IsError};
 ghost use Rattle.reply_xml.specs.Contents.{Content};
 ghost use Rattle.reply_xml.specs.Faults.{IfRefused, IsFault};
-ghost use Rattle.reply_xml.specs.Places.{HasBytesBehind, HasOtherRoot};
+ghost use Rattle.reply_xml.specs.Places.{BeginsOtherwise, HasBytesBehind};
 
 use reply_xml::{Child, DocFault, Element, FormedText, Parts, Reader, is_the, read_document};
 use s3_model::Text;
@@ -45,7 +45,7 @@ impl Parts for ErrorFields {
 pub fn read_error(alloc: Global, doc: &[u8]) -> Result<(Text, Text), DocFault>
     ensures value { IfOk result (IsError doc.now) }
     ensures refused { IfRefused result ((error : List ℕ × List ℕ) → ¬ (IsError doc.now error)) }
-    ensures other_root { (place : ℕ) → HasOtherRoot (codes "Error") doc.now place →
+    ensures other_root { (place : ℕ) → BeginsOtherwise (codes "Error") doc.now place →
         result ≡ Err (DocFault.NotADocument place) }
     ensures behind { (place : ℕ) → HasBytesBehind (codes "Error") HasError doc.now place →
         IsFault result (DocFault.NotADocument place) }

@@ -5,7 +5,7 @@ ghost use Rattle.std.specs.List.{AllZip};
 ghost use Rattle.s3_model.specs.declared.answers.Listed.{Listed};
 ghost use Rattle.s3_model.specs.declared.places.Entry.{Entry};
 ghost use Rattle.reply_xml.specs.Faults.{IfRefused, IsFault};
-ghost use Rattle.reply_xml.specs.Places.{HasBytesBehind, HasOtherRoot};
+ghost use Rattle.reply_xml.specs.Places.{BeginsOtherwise, HasBytesBehind};
 ghost use Rattle.s3_replies.specs.Listing.{HasListing, IsListing, MeansEntry, MeansPage, MeansText};
 
 use crate::keys::first_fault;
@@ -130,7 +130,7 @@ fn listed(alloc: Global, page: Written) -> Result<Listed, DocFault>
 pub fn read_list(alloc: Global, doc: &[u8]) -> Result<Listed, DocFault>
     ensures value { IfOk result (λ listed. IsListing doc.now listed) }
     ensures refused { IfRefused result ((listed : Listed) → ¬ (IsListing doc.now listed)) }
-    ensures other_root { (place : ℕ) → HasOtherRoot (codes "ListBucketResult") doc.now place →
+    ensures other_root { (place : ℕ) → BeginsOtherwise (codes "ListBucketResult") doc.now place →
         result ≡ Err (DocFault.NotADocument place) }
     ensures behind { (place : ℕ) → HasBytesBehind (codes "ListBucketResult") HasListing doc.now place →
         IsFault result (DocFault.NotADocument place) }

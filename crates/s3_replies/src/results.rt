@@ -5,7 +5,7 @@ ghost use Rattle.reply_xml.specs.Children.{HasLeaf, HasOnly, IsPlain};
 ghost use Rattle.reply_xml.specs.declared.elements.Element.TheVariants as elements;
 ghost use Rattle.reply_xml.specs.Documents.{IsOf};
 ghost use Rattle.reply_xml.specs.Faults.{IfRefused, IsFault};
-ghost use Rattle.reply_xml.specs.Places.{HasBytesBehind, HasOtherRoot};
+ghost use Rattle.reply_xml.specs.Places.{BeginsOtherwise, HasBytesBehind};
 ghost use Rattle.s3_replies.specs.Results.{copy_root, IsCompleted, IsCopied, IsCreated};
 
 use reply_xml::{DocFault, Element, FormedText, Leaf, Only, PlainText, read_document};
@@ -22,7 +22,7 @@ fn only_leaf<L: Leaf>(
     ensures value { IfOk result (IsOf root.now (HasOnly (L.spells element) element) doc.now) }
     ensures refused { IfRefused result ((value : L.Value) →
         ¬ (IsOf root.now (HasOnly (L.spells element) element) doc.now value)) }
-    ensures other_root { (place : ℕ) → HasOtherRoot root.now doc.now place →
+    ensures other_root { (place : ℕ) → BeginsOtherwise root.now doc.now place →
         result ≡ Err (DocFault.NotADocument place) }
     ensures behind { (place : ℕ) → HasBytesBehind root.now (HasOnly (L.spells element) element) doc.now place →
         IsFault result (DocFault.NotADocument place) }
@@ -38,7 +38,7 @@ fn only_leaf<L: Leaf>(
 pub fn read_created(alloc: Global, doc: &[u8]) -> Result<Text, DocFault>
     ensures value { IfOk result (IsCreated doc.now) }
     ensures refused { IfRefused result ((id : List ℕ) → ¬ (IsCreated doc.now id)) }
-    ensures other_root { (place : ℕ) → HasOtherRoot (codes "InitiateMultipartUploadResult") doc.now place →
+    ensures other_root { (place : ℕ) → BeginsOtherwise (codes "InitiateMultipartUploadResult") doc.now place →
         result ≡ Err (DocFault.NotADocument place) }
     ensures behind { (place : ℕ) →
         HasBytesBehind (codes "InitiateMultipartUploadResult") (HasLeaf elements.UploadId) doc.now place →
@@ -56,7 +56,7 @@ pub fn read_created(alloc: Global, doc: &[u8]) -> Result<Text, DocFault>
 pub fn read_completed(alloc: Global, doc: &[u8]) -> Result<(), DocFault>
     ensures value { OnOk result ((etag : List ℕ) × IsCompleted doc.now etag) }
     ensures refused { IfRefused result ((etag : List ℕ) → ¬ (IsCompleted doc.now etag)) }
-    ensures other_root { (place : ℕ) → HasOtherRoot (codes "CompleteMultipartUploadResult") doc.now place →
+    ensures other_root { (place : ℕ) → BeginsOtherwise (codes "CompleteMultipartUploadResult") doc.now place →
         result ≡ Err (DocFault.NotADocument place) }
     ensures behind { (place : ℕ) →
         HasBytesBehind (codes "CompleteMultipartUploadResult") (HasOnly IsPlain elements.ETag) doc.now place →
@@ -70,7 +70,7 @@ pub fn read_completed(alloc: Global, doc: &[u8]) -> Result<(), DocFault>
 pub fn read_copied(alloc: Global, doc: &[u8], part: bool) -> Result<Text, DocFault>
     ensures value { IfOk result (IsCopied part doc.now) }
     ensures refused { IfRefused result ((etag : List ℕ) → ¬ (IsCopied part doc.now etag)) }
-    ensures other_root { (place : ℕ) → HasOtherRoot (copy_root part) doc.now place →
+    ensures other_root { (place : ℕ) → BeginsOtherwise (copy_root part) doc.now place →
         result ≡ Err (DocFault.NotADocument place) }
     ensures behind { (place : ℕ) → HasBytesBehind (copy_root part) (HasLeaf elements.ETag) doc.now place →
         IsFault result (DocFault.NotADocument place) }

@@ -1,7 +1,10 @@
-use Rattle.std.proofs.Common.{sym, ap, length, Err, ◌∙◌, subst, ℕ, List, Bool}
+use Rattle.std.proofs.Common.{sym, ap, length, Err, ◌∷◌, ◌≡◌, ◌∙◌, subst, ℕ, List, Bool}
 use Rattle.reply_xml.proofs.TagLemmas.{OnErr-any, NamesTag-same}
 use Rattle.reply_xml.specs.Documents.{BeginsDocument}
-use Rattle.reply_xml.proofs.DocumentLemmas.{declared_at, root_at, other_root, NamesRoot-declared, NamesRoot-tag}
+use Rattle.reply_xml.proofs.DocumentLemmas.{declared_at, root_at, other_root, NamesRoot-declared, NamesRoot-tag, may_be_undeclared, root_there}
+use Rattle.reply_xml.specs.declared.runs.Sort.TheVariants as sort
+use Rattle.reply_xml.proofs.FaultLemmas.{err_same, not_err}
+use Rattle.reply_xml.proofs.RunLemmas.{ReadsRun-same, parts_same}
 use Rattle.reply_xml.proofs.documents.split_root.Goals as goal
 
 pub returns-in_err-at_space-clause-refused : goal.returns-in_err-at_space-clause-refused
@@ -41,3 +44,57 @@ pub returns-clause-other : goal.returns-clause-other
 returns-clause-other c place o =
     let tag = NamesRoot-tag o.name _ _ _ _ _ _ o.rest c.split_run.ensures.value c.in_ok-at_space.ensures.value c.split_run-2.ensures.value o.names in
     absurd (o.differs ((NamesTag-same _ o.name _ _ o.rest c.in-Ok.ensures.value tag).0 ∙ c.if-not-is_same.ensures ∙ c.as_bytes.ensures.value))
+
+pub returns-in_err-at_space-clause-bare : goal.returns-in_err-at_space-clause-bare
+returns-in_err-at_space-clause-bare c place l =
+    let same = (ReadsRun-same sort.Space _ l.before.0 _ _ l.rest c.split_run.ensures.value l.before.1).1 in
+    let none : (more : List ℕ) → c.split_run.result.1.now ≡ 60 ∷ 63 ∷ more → ⊥ = λ more e. l.none (63 ∷ more) (same ∙ e) in
+    absurd (c.in_err-at_space.ensures.refused _ (may_be_undeclared _ none))
+
+pub returns-in-Err-clause-bare : goal.returns-in-Err-clause-bare
+returns-in-Err-clause-bare c place l =
+    let same = (ReadsRun-same sort.Space _ l.before.0 _ _ l.rest c.split_run.ensures.value l.before.1).1 in
+    let none : (more : List ℕ) → c.split_run.result.1.now ≡ 60 ∷ 63 ∷ more → ⊥ = λ more e. l.none (63 ∷ more) (same ∙ e) in
+    let there = root_there c.args.doc.now _ _ _ _ _ c.split_run.ensures.value c.in_ok-at_space.ensures.value c.split_run-2.ensures.value none in
+    ap Err (c.root_left.ensures.undeclared none ∙ err_same _ _ (c.in-Err.ensures.bare (λ more e. l.none more (same ∙ sym there ∙ e))) ∙ ap length (there ∙ sym same))
+
+pub returns-then-not-is_same-clause-bare : goal.returns-then-not-is_same-clause-bare
+returns-then-not-is_same-clause-bare c place l =
+    let same = (ReadsRun-same sort.Space _ l.before.0 _ _ l.rest c.split_run.ensures.value l.before.1).1 in
+    let none : (more : List ℕ) → c.split_run.result.1.now ≡ 60 ∷ 63 ∷ more → ⊥ = λ more e. l.none (63 ∷ more) (same ∙ e) in
+    let there = root_there c.args.doc.now _ _ _ _ _ c.split_run.ensures.value c.in_ok-at_space.ensures.value c.split_run-2.ensures.value none in
+    absurd (not_err _ _ (c.in-Ok.ensures.bare (λ more e. l.none more (same ∙ sym there ∙ e))))
+
+pub returns-clause-bare : goal.returns-clause-bare
+returns-clause-bare c place l =
+    let same = (ReadsRun-same sort.Space _ l.before.0 _ _ l.rest c.split_run.ensures.value l.before.1).1 in
+    let none : (more : List ℕ) → c.split_run.result.1.now ≡ 60 ∷ 63 ∷ more → ⊥ = λ more e. l.none (63 ∷ more) (same ∙ e) in
+    let there = root_there c.args.doc.now _ _ _ _ _ c.split_run.ensures.value c.in_ok-at_space.ensures.value c.split_run-2.ensures.value none in
+    absurd (not_err _ _ (c.in-Ok.ensures.bare (λ more e. l.none more (same ∙ sym there ∙ e))))
+
+pub returns-in_err-at_space-clause-nameless : goal.returns-in_err-at_space-clause-nameless
+returns-in_err-at_space-clause-nameless c place l =
+    let same = (ReadsRun-same sort.Space _ l.before.0 _ _ (60 ∷ l.rest) c.split_run.ensures.value l.before.1).1 in
+    let none : (more : List ℕ) → c.split_run.result.1.now ≡ 60 ∷ 63 ∷ more → ⊥ = λ more e. l.undeclared more (parts_same 60 60 l.rest (63 ∷ more) (same ∙ e)).1 in
+    absurd (c.in_err-at_space.ensures.refused _ (may_be_undeclared _ none))
+
+pub returns-in-Err-clause-nameless : goal.returns-in-Err-clause-nameless
+returns-in-Err-clause-nameless c place l =
+    let same = (ReadsRun-same sort.Space _ l.before.0 _ _ (60 ∷ l.rest) c.split_run.ensures.value l.before.1).1 in
+    let none : (more : List ℕ) → c.split_run.result.1.now ≡ 60 ∷ 63 ∷ more → ⊥ = λ more e. l.undeclared more (parts_same 60 60 l.rest (63 ∷ more) (same ∙ e)).1 in
+    let there = root_there c.args.doc.now _ _ _ _ _ c.split_run.ensures.value c.in_ok-at_space.ensures.value c.split_run-2.ensures.value none in
+    ap Err (c.root_left.ensures.undeclared none ∙ err_same _ _ (c.in-Err.ensures.nameless l.rest (there ∙ sym same) l.unnamed))
+
+pub returns-then-not-is_same-clause-nameless : goal.returns-then-not-is_same-clause-nameless
+returns-then-not-is_same-clause-nameless c place l =
+    let same = (ReadsRun-same sort.Space _ l.before.0 _ _ (60 ∷ l.rest) c.split_run.ensures.value l.before.1).1 in
+    let none : (more : List ℕ) → c.split_run.result.1.now ≡ 60 ∷ 63 ∷ more → ⊥ = λ more e. l.undeclared more (parts_same 60 60 l.rest (63 ∷ more) (same ∙ e)).1 in
+    let there = root_there c.args.doc.now _ _ _ _ _ c.split_run.ensures.value c.in_ok-at_space.ensures.value c.split_run-2.ensures.value none in
+    absurd (not_err _ _ (c.in-Ok.ensures.nameless l.rest (there ∙ sym same) l.unnamed))
+
+pub returns-clause-nameless : goal.returns-clause-nameless
+returns-clause-nameless c place l =
+    let same = (ReadsRun-same sort.Space _ l.before.0 _ _ (60 ∷ l.rest) c.split_run.ensures.value l.before.1).1 in
+    let none : (more : List ℕ) → c.split_run.result.1.now ≡ 60 ∷ 63 ∷ more → ⊥ = λ more e. l.undeclared more (parts_same 60 60 l.rest (63 ∷ more) (same ∙ e)).1 in
+    let there = root_there c.args.doc.now _ _ _ _ _ c.split_run.ensures.value c.in_ok-at_space.ensures.value c.split_run-2.ensures.value none in
+    absurd (not_err _ _ (c.in-Ok.ensures.nameless l.rest (there ∙ sym same) l.unnamed))

@@ -1,7 +1,13 @@
-use Rattle.std.proofs.Common.{sym, ◌∙◌}
+use Rattle.std.proofs.Common.{◌==◌, ap, length, refl, sym, ◌∙◌}
 use Rattle.std.proofs.lemmas.Bool.{eqb-true}
-use Rattle.reply_xml.proofs.TagLemmas.{no_name}
+use Rattle.reply_xml.specs.declared.runs.Sort.TheVariants as sort
+use Rattle.reply_xml.proofs.RunLemmas.{no_run}
+use Rattle.reply_xml.proofs.TagLemmas.{no_name, some_from_test}
 use Rattle.reply_xml.proofs.tags.split_name.Goals as goal
 
 pub returns-then-is_empty-clause-refused : goal.returns-then-is_empty-clause-refused
 returns-then-is_empty-clause-refused c name rest r = no_name _ _ _ name rest c.split_run.ensures.value (eqb-true _ _ (sym c.is_empty.ensures ∙ c.if-is_empty.true)) r
+
+pub returns-clause-outside : goal.returns-clause-outside
+returns-clause-outside c h =
+    absurd (some_from_test _ (sym c.is_empty.ensures ∙ c.if-is_empty.false) (no_run sort.Name c.args.bytes.now _ _ h c.split_run.ensures.value).0)

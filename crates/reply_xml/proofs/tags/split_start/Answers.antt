@@ -1,7 +1,9 @@
-use Rattle.std.proofs.Common.{Bool, List, ℕ, sym, subst, ◌∙◌}
+use Rattle.std.proofs.Common.{Bool, List, ℕ, ap, length, sym, subst, ◌∙◌}
 use Rattle.reply_xml.proofs.TagLemmas.{first_none, first_of, tag_end_of, no_tag_end-first, no_tag_end-none, NamesTag-of, no_name_end-first, no_name_end-none}
 use Rattle.reply_xml.specs.Tags.{NameEnds, NamesTag, ReadsName}
-use Rattle.reply_xml.proofs.TagLemmas.{OnErr-any}
+use Rattle.reply_xml.proofs.TagLemmas.{OnErr-any, err_given}
+use Rattle.reply_xml.proofs.FaultLemmas.{err_same, not_err}
+use Rattle.reply_xml.specs.Runs.{BeginsOutside, is_name_byte}
 use Rattle.reply_xml.proofs.RunLemmas.{parts_same}
 use Rattle.reply_xml.proofs.tags.split_start.Goals as goal
 
@@ -31,3 +33,39 @@ returns-then-not-ends_name-clause-unnamed c name rest n ends =
     let same = NamesTag-of name _ _ _ rest _ c.in-Some.ensures.value c.in_ok-name.ensures.value n in
     let first = first_of _ _ c.in-Some-first.ensures.value in
     no_name_end-first _ _ _ first.1 (sym c.ends_name.ensures ∙ c.if-not-ends_name.true) (subst NameEnds same.1 ends)
+
+pub returns-in_err-name-clause-bare : goal.returns-in_err-name-clause-bare
+returns-in_err-name-clause-bare c none = absurd (none _ c.in-Some.ensures.value)
+
+pub returns-in_default-first-clause-bare : goal.returns-in_default-first-clause-bare
+returns-in_default-first-clause-bare c none = absurd (none _ c.in-Some.ensures.value)
+
+pub returns-then-not-ends_name-clause-bare : goal.returns-then-not-ends_name-clause-bare
+returns-then-not-ends_name-clause-bare c none = absurd (none _ c.in-Some.ensures.value)
+
+pub returns-clause-bare : goal.returns-clause-bare
+returns-clause-bare c none = absurd (none _ c.in-Some.ensures.value)
+
+pub returns-in_default-clause-nameless : goal.returns-in_default-clause-nameless
+returns-in_default-clause-nameless c more e h = absurd (c.in_default.ensures.value more e)
+
+pub returns-in_err-name-clause-nameless : goal.returns-in_err-name-clause-nameless
+returns-in_err-name-clause-nameless c more e h =
+    let same = (parts_same 60 60 _ more (sym c.in-Some.ensures.value ∙ e)).1 in
+    let outside = subst (BeginsOutside is_name_byte) (sym same) h in
+    err_given c.from_residual.result c.in_err-name.field-0.0 (length more) c.from_residual.ensures.1 (err_same _ _ (c.in_err-name.ensures.outside outside) ∙ ap length same)
+
+pub returns-in_default-first-clause-nameless : goal.returns-in_default-first-clause-nameless
+returns-in_default-first-clause-nameless c more e h =
+    let same = (parts_same 60 60 _ more (sym c.in-Some.ensures.value ∙ e)).1 in
+    absurd (not_err _ _ (c.in_ok-name.ensures.outside (subst (BeginsOutside is_name_byte) (sym same) h)))
+
+pub returns-then-not-ends_name-clause-nameless : goal.returns-then-not-ends_name-clause-nameless
+returns-then-not-ends_name-clause-nameless c more e h =
+    let same = (parts_same 60 60 _ more (sym c.in-Some.ensures.value ∙ e)).1 in
+    absurd (not_err _ _ (c.in_ok-name.ensures.outside (subst (BeginsOutside is_name_byte) (sym same) h)))
+
+pub returns-clause-nameless : goal.returns-clause-nameless
+returns-clause-nameless c more e h =
+    let same = (parts_same 60 60 _ more (sym c.in-Some.ensures.value ∙ e)).1 in
+    absurd (not_err _ _ (c.in_ok-name.ensures.outside (subst (BeginsOutside is_name_byte) (sym same) h)))

@@ -1,6 +1,6 @@
 use Rattle.std.proofs.Common.{Bool, List, ℕ, IfOk, sym, subst}
 use Rattle.reply_xml.specs.Faults.{IfRefused}
-use Rattle.reply_xml.specs.Places.{HasBytesBehind, HasOtherRoot}
+use Rattle.reply_xml.specs.Places.{BeginsOtherwise, HasBytesBehind}
 use Rattle.reply_xml.specs.Children.{HasLeaf}
 use Rattle.reply_xml.specs.declared.elements.Element.TheVariants as element
 use Rattle.s3_replies.specs.Results.{IsCopied, copy_root}
@@ -22,11 +22,11 @@ returns-clause-refused c =
 
 pub returns-then-part-clause-other_root : goal.returns-then-part-clause-other_root
 returns-then-part-clause-other_root c place o =
-    c.only_leaf.ensures.other_root place (subst (λ (part : Bool). HasOtherRoot (copy_root part) c.args.doc.now place) c.if-part.true o)
+    c.only_leaf.ensures.other_root place (subst (λ (part : Bool). BeginsOtherwise (copy_root part) c.args.doc.now place) c.if-part.true o)
 
 pub returns-clause-other_root : goal.returns-clause-other_root
 returns-clause-other_root c place o =
-    c.only_leaf-2.ensures.other_root place (subst (λ (part : Bool). HasOtherRoot (copy_root part) c.args.doc.now place) c.if-part.false o)
+    c.only_leaf-2.ensures.other_root place (subst (λ (part : Bool). BeginsOtherwise (copy_root part) c.args.doc.now place) c.if-part.false o)
 
 pub returns-then-part-clause-behind : goal.returns-then-part-clause-behind
 returns-then-part-clause-behind c place b =

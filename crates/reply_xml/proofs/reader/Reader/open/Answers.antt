@@ -1,7 +1,7 @@
-use Rattle.std.proofs.Common.{sym, ap, length, ◌-◌, Err, ◌∙◌}
+use Rattle.std.proofs.Common.{Err, ap, ⊎_elim}
 use Rattle.reply_xml.specs.declared.faults.DocFault.TheVariants as fault
 use Rattle.reply_xml.proofs.FaultLemmas.{err_same, not_err}
-use Rattle.reply_xml.proofs.DocumentLemmas.{root_begins, root_end}
+use Rattle.reply_xml.proofs.DocumentLemmas.{otherwise_at, root_begins, root_end}
 use Rattle.reply_xml.proofs.reader.Reader.open.Goals as goal
 
 pub returns-in-Err-after_tag_end-clause-refused : goal.returns-in-Err-after_tag_end-clause-refused
@@ -12,10 +12,24 @@ returns-clause-begins c = root_begins c.args.root.now _ _ _ _ c.in-Ok.ensures.va
 
 pub returns-in-Err-clause-other : goal.returns-in-Err-clause-other
 returns-in-Err-clause-other c place o =
-    ap (λ n. Err (fault.NotADocument n)) (ap (λ n. length c.args.doc.now - n) (err_same _ _ (c.in-Err.ensures.other place o)) ∙ sym o.at)
+    ap (λ n. Err (fault.NotADocument n))
+    (
+    otherwise_at c.args.root.now c.args.doc.now place c.in-Err.left o (λ x. err_same _ _ (c.in-Err.ensures.other place x)) (λ x. err_same _ _ (c.in-Err.ensures.bare place x))
+    (λ x. err_same _ _ (c.in-Err.ensures.nameless place x))
+    )
 
 pub returns-in-Err-after_tag_end-clause-other : goal.returns-in-Err-after_tag_end-clause-other
-returns-in-Err-after_tag_end-clause-other c place o = absurd (not_err _ _ (c.in-Ok.ensures.other place o))
+returns-in-Err-after_tag_end-clause-other c place o =
+    absurd
+    (
+    ⊎_elim (λ other. not_err _ _ (c.in-Ok.ensures.other place other))
+    (⊎_elim (λ lacks. not_err _ _ (c.in-Ok.ensures.bare place lacks)) (λ lacks. not_err _ _ (c.in-Ok.ensures.nameless place lacks))) o
+    )
 
 pub returns-clause-other : goal.returns-clause-other
-returns-clause-other c place o = absurd (not_err _ _ (c.in-Ok.ensures.other place o))
+returns-clause-other c place o =
+    absurd
+    (
+    ⊎_elim (λ other. not_err _ _ (c.in-Ok.ensures.other place other))
+    (⊎_elim (λ lacks. not_err _ _ (c.in-Ok.ensures.bare place lacks)) (λ lacks. not_err _ _ (c.in-Ok.ensures.nameless place lacks))) o
+    )
