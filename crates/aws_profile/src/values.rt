@@ -61,15 +61,16 @@ pub(crate) fn read_config<'a>(file: &'a [u8], profile: &str) -> Result<ConfigVal
         Slot::new(Place::S3, "part_buffers"),
     ];
     let has_section = read_file(file, &sought_config(profile), &mut slots)?;
+    let [region, attempts, lanes, queue, threshold, chunk, buffers] = slots;
     Ok(ConfigValues {
         has_section,
-        region: slots[0].found,
-        attempts: slots[1].found,
-        lanes: slots[2].found,
-        queue: slots[3].found,
-        threshold: slots[4].found,
-        chunk: slots[5].found,
-        buffers: slots[6].found,
+        region: region.found,
+        attempts: attempts.found,
+        lanes: lanes.found,
+        queue: queue.found,
+        threshold: threshold.found,
+        chunk: chunk.found,
+        buffers: buffers.found,
     })
 }
 
@@ -88,10 +89,11 @@ pub(crate) fn read_keys<'a>(file: &'a [u8], profile: &str) -> Result<KeyValues<'
     ];
     let sought = Sought { front: "", profile };
     let has_section = read_file(file, &sought, &mut slots)?;
+    let [id, secret, token] = slots;
     Ok(KeyValues {
         has_section,
-        id: slots[0].found,
-        secret: slots[1].found,
-        token: slots[2].found,
+        id: id.found,
+        secret: secret.found,
+        token: token.found,
     })
 }
