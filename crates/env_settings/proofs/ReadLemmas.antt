@@ -58,33 +58,29 @@ unsettled region profile fault.Memory read (Some env) = tt
 pub still : (P : SeenEnv → Type 0) (old middle : Option SeenEnv) → middle ≡ old → IfSome middle P → IfSome old P
 still P old middle same known = subst (λ (o : Option SeenEnv). IfSome o P) same known
 
-region_at : {E : Type 0} (first : Option (List ℕ)) (r : Result (Option (List ℕ)) E) (env : SeenEnv) → first ≡ None → first ≡ usable (get env.variables (codes "AWS_REGION"))
-    → IfOk r (λ word. word ≡ usable (get env.variables (codes "AWS_DEFAULT_REGION"))) → IfOk r (λ word. word ≡ region_of env.variables None)
-region_at first (Err e) env none a b = tt
-region_at first (Ok word) env none a b = b ∙ ap (λ (o : Option (List ℕ)). option_or o (usable (get env.variables (codes "AWS_DEFAULT_REGION")))) (sym none ∙ a)
+either_at : {E : Type 0} (a b : List ℕ) (first : Option (List ℕ)) (r : Result (Option (List ℕ)) E) (env : SeenEnv) → first ≡ None → first ≡ usable (get env.variables a)
+    → IfOk r (λ word. word ≡ usable (get env.variables b)) → IfOk r (λ word. word ≡ option_or (usable (get env.variables a)) (usable (get env.variables b)))
+either_at a b first (Err e) env none p q = tt
+either_at a b first (Ok word) env none p q = q ∙ ap (λ (o : Option (List ℕ)). option_or o (usable (get env.variables b))) (sym none ∙ p)
 
--- without AWS_REGION the region is AWS_DEFAULT_REGION
-pub region_later : {E : Type 0} (first : Option (List ℕ)) (r : Result (Option (List ℕ)) E) (old middle : Option SeenEnv) → first ≡ None → middle ≡ old
-    → IfSome old (λ env. first ≡ usable (get env.variables (codes "AWS_REGION"))) → IfSome middle (λ env. IfOk r (λ word. word ≡ usable (get env.variables (codes "AWS_DEFAULT_REGION"))))
-    → IfSome old (λ env. IfOk r (λ word. word ≡ region_of env.variables None))
-region_later first r None middle none same a b = tt
-region_later first r (Some env) middle none same a b =
-    region_at first r env none a (still (λ env. IfOk r (λ word. word ≡ usable (get env.variables (codes "AWS_DEFAULT_REGION")))) (Some env) middle same b)
+-- where the first variable cannot be used, the value is that of the second
+pub second_read : {E : Type 0} (a b : List ℕ) (first : Option (List ℕ)) (r : Result (Option (List ℕ)) E) (old middle : Option SeenEnv) → first ≡ None → middle ≡ old
+    → IfSome old (λ env. first ≡ usable (get env.variables a)) → IfSome middle (λ env. IfOk r (λ word. word ≡ usable (get env.variables b)))
+    → IfSome old (λ env. IfOk r (λ word. word ≡ option_or (usable (get env.variables a)) (usable (get env.variables b))))
+second_read a b first r None middle none same p q = tt
+second_read a b first r (Some env) middle none same p q =
+    either_at a b first r env none p (still (λ env. IfOk r (λ word. word ≡ usable (get env.variables b))) (Some env) middle same q)
 
-some_copied : (given : Option (Bor (List ℕ))) → is_some given ≡ is_some (option_copied given)
-some_copied None = refl
-some_copied (Some word) = refl
-
-words_at : (id secret token region profile : Option (List ℕ)) (named : Bool) (given_region given_profile : Option (Bor (List ℕ))) (seen : Option SeenEnv) → named ≡ is_some given_profile
+words_at : (id secret token region profile : Option (List ℕ)) (named : Bool) (given_region given_profile : Option (Bor (List ℕ))) (seen : Option SeenEnv) → named ≡ is_some (option_copied given_profile)
     → IfSome seen (λ env. id ≡ get env.variables (codes "AWS_ACCESS_KEY_ID")) → IfSome seen (λ env. secret ≡ get env.variables (codes "AWS_SECRET_ACCESS_KEY"))
     → IfSome seen (λ env. token ≡ get env.variables (codes "AWS_SESSION_TOKEN")) → IfSome seen (λ env. region ≡ region_of env.variables (option_copied given_region))
     → IfSome seen (λ env. profile ≡ option_or (option_copied given_profile) (set_value env.variables (codes "AWS_PROFILE")))
     → IfSome seen (λ env. record { id = id; secret = secret; token = token; region = region; profile = profile; named = named } ≡ words_of env.variables (option_copied given_region) (option_copied given_profile))
 words_at id secret token region profile named given_region given_profile None n a b c d e = tt
-words_at id secret token region profile named given_region given_profile (Some env) n a b c d e = rw (n ∙ some_copied given_profile, a, b, c, d, e) refl
+words_at id secret token region profile named given_region given_profile (Some env) n a b c d e = rw (n, a, b, c, d, e) refl
 
 -- the words, one after the other
-pub words_read : (id secret token region profile : Option (List ℕ)) (named : Bool) (given_region given_profile : Option (Bor (List ℕ))) (first second third fourth fifth : Option SeenEnv) → named ≡ is_some given_profile
+pub words_read : (id secret token region profile : Option (List ℕ)) (named : Bool) (given_region given_profile : Option (Bor (List ℕ))) (first second third fourth fifth : Option SeenEnv) → named ≡ is_some (option_copied given_profile)
     → second ≡ first → third ≡ second → fourth ≡ third → fifth ≡ fourth
     → IfSome first (λ env. id ≡ get env.variables (codes "AWS_ACCESS_KEY_ID")) → IfSome second (λ env. secret ≡ get env.variables (codes "AWS_SECRET_ACCESS_KEY"))
     → IfSome third (λ env. token ≡ get env.variables (codes "AWS_SESSION_TOKEN")) → IfSome fourth (λ env. region ≡ region_of env.variables (option_copied given_region))

@@ -1,6 +1,6 @@
 //! What the variables and the command line say.
 
-ghost use Rattle.std.specs.Prelude.{◌≡◌, ◌≤◌, None, IfOk, IfSome, codes, option_copied};
+ghost use Rattle.std.specs.Prelude.{◌≡◌, ◌≤◌, None, IfOk, IfSome, codes, is_some, option_copied};
 ghost use Rattle.std.specs.FinMap.{get};
 ghost use Rattle.std.specs.Option.{option_or};
 ghost use Rattle.aws_profile.specs.Values.{usable};
@@ -90,6 +90,25 @@ pub(crate) fn read_paths<E: Env>(alloc: Global, env: &mut E) -> Result<Paths, Ou
     })
 }
 
+/// The value of the first variable, else that of the second, of those that can stand in a header.
+fn read_either<E: Env>(
+    alloc: Global,
+    env: &mut E,
+    first: &str,
+    second: &str,
+) -> Result<Option<Text>, OutOfMemory>
+    ensures value { IfSome (E.seen env.old) (λ seen. IfOk result (λ word. word ≡
+        option_or (usable (get seen.variables first.now)) (usable (get seen.variables second.now)))) }
+    ensures same { E.seen env.new ≡ E.seen env.old }
+    ensures limits { E.allows env.new ≡ E.allows env.old }
+    ensures later { E.faults env.old ≤ E.faults env.new }
+{
+    match read_usable(alloc, env, first)? {
+        Some(word) => Ok(Some(word)),
+        None => read_usable(alloc, env, second),
+    }
+}
+
 /// The region of the variables, the first that can be used.
 fn read_set_region<E: Env>(alloc: Global, env: &mut E) -> Result<Option<Text>, OutOfMemory>
     ensures value { IfSome (E.seen env.old) (λ seen. IfOk result (λ word. word ≡ region_of seen.variables None)) }
@@ -97,10 +116,7 @@ fn read_set_region<E: Env>(alloc: Global, env: &mut E) -> Result<Option<Text>, O
     ensures limits { E.allows env.new ≡ E.allows env.old }
     ensures later { E.faults env.old ≤ E.faults env.new }
 {
-    match read_usable(alloc, env, "AWS_REGION")? {
-        Some(region) => Ok(Some(region)),
-        None => read_usable(alloc, env, "AWS_DEFAULT_REGION"),
-    }
+    read_either(alloc, env, "AWS_REGION", "AWS_DEFAULT_REGION")
 }
 
 /// The region of the command line, else that of the variables.
@@ -119,6 +135,13 @@ fn read_region<E: Env>(
         Some(region) if is_visible(region.as_str().as_bytes()) => Ok(Some(region.copy()?)),
         _ => read_set_region(alloc, env),
     }
+}
+
+/// Whether the command line names the profile.
+fn is_named(profile: Option<&Text>) -> bool
+    ensures { result ≡ is_some (option_copied profile.entry) }
+{
+    matches!(profile, Some(_))
 }
 
 /// The profile of the command line, else that of the variables.
@@ -154,7 +177,7 @@ pub(crate) fn read_words<E: Env>(
     let id = env.word(alloc, "AWS_ACCESS_KEY_ID")?;
     let secret = env.word(alloc, "AWS_SECRET_ACCESS_KEY")?;
     let token = env.word(alloc, "AWS_SESSION_TOKEN")?;
-    let named = profile.is_some();
+    let named = is_named(profile);
     let region = read_region(alloc, env, region)?;
     let profile = read_profile(alloc, env, profile)?;
     Ok(EnvWords {
