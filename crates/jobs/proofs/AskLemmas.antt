@@ -46,9 +46,14 @@ module _ (task : Task) (bucket key : List ℕ) where
       pub part_copy : (upload : Option (List ℕ)) (id : List ℕ) → upload ≡ Some id → (number : ℕ) (range ends : ℕ × ℕ) → ends ≡ ends_of range
           → (to : Target task) × (from : Origin task) × (i : List ℕ) × (upload ≡ Some i)
           × (ask.PartCopy bucket key id number from_bucket from_key etag ends ≡ ask.PartCopy to.bucket to.key i number from.bucket from.key task.etag (ends_of range))
-      part_copy upload id known number range ends e =
-          (to, taken, id, known, ap (λ (t : List ℕ). ask.PartCopy bucket key id number from_bucket from_key t ends) same
-          ∙ ap (λ (r : ℕ × ℕ). ask.PartCopy bucket key id number from_bucket from_key task.etag r) e)
+      part_copy upload id known number range ends e = (
+        to,
+        taken,
+        id,
+        known,
+        ap (λ (t : List ℕ). ask.PartCopy bucket key id number from_bucket from_key t ends) same
+            ∙ ap (λ (r : ℕ × ℕ). ask.PartCopy bucket key id number from_bucket from_key task.etag r) e,
+      )
 
   module _ (is : IsSource task.source bucket key) where
     pub get : (etag : List ℕ) (number : ℕ) (range : ℕ × ℕ) (asked : Option (ℕ × ℕ)) → etag ≡ task.etag → asked ≡ asked_range number range

@@ -6,8 +6,17 @@ ghost use Rattle.s3_model.specs.Lists.{Reserved};
 ghost use Rattle.s3_model.specs.declared.requests.Ask.TheVariants as ask;
 ghost use Rattle.s3_model.specs.declared.requests.Op.TheVariants as op;
 ghost use Rattle.run_promise.specs.Schedule.{IsObject, IsSource, Origin, Target};
-ghost use Rattle.jobs.specs.Jobs.{HasBytes, HasRange, IsAskOf, IsDelete, IsPlanning, IsStepAsk, asked_range, ends_of,
-    stated_content};
+ghost use Rattle.jobs.specs.Jobs.{
+  HasBytes,
+  HasRange,
+  IsAskOf,
+  IsDelete,
+  IsPlanning,
+  IsStepAsk,
+  asked_range,
+  ends_of,
+  stated_content,
+};
 
 use crate::job::Job;
 use crate::what::What;
@@ -78,11 +87,7 @@ fn range_of_get(number: u32, range: (u64, u64)) -> Option<(u64, u64)>
     requires { 0 < number → HasBytes range }
     ensures { result ≡ asked_range number range }
 {
-    if number == 0 {
-        None
-    } else {
-        Some(ends(range))
-    }
+    if number == 0 { None } else { Some(ends(range)) }
 }
 
 fn put(task: &Task) -> Result<Ask, OutOfMemory>

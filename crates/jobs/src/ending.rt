@@ -1,7 +1,6 @@
 //! How a job ends.
 
-use s3_model::{Reason, Reply, Why};
-use s3_model::Text;
+use s3_model::{Reason, Reply, Text, Why};
 
 /// What came of a job.
 #[derive(Drop)]

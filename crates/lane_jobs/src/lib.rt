@@ -1,0 +1,9 @@
+//! Lanes: each carries one job after the other over its connection, with its attempts and the pauses between them.
+#![tactic(auto)]
+
+mod attempt;
+mod lane;
+mod tries;
+
+pub use jobs::{CancelCell, Carried, Ending, Job, What, ask_of};
+pub use lane::Lane;

@@ -1,0 +1,98 @@
+//! The attempts of one job.
+
+ghost use Rattle.std.specs.Prelude.{◌≡◌, ◌≤◌, ◌<◌, [], None, IfSome, IsSome};
+ghost use Rattle.attempts.specs.Attempts.{IsGet, Request};
+ghost use Rattle.lane_jobs.specs.Lanes.{Carries, KeepsCell, ending_by, reason_of};
+
+use crate::attempt::{attempt_once, ending_of, look};
+use answer_classes::again;
+use attempts::{Attempted, Client, Payload, mark_of};
+use jobs::{CancelCell, Ending};
+use s3_model::{Ask, Bytes, Class, Reason, Tries};
+use s3_outside::Wire;
+use std::alloc::Global;
+
+/// The marks of a job's attempts, and how it ends.
+#[derive(Drop)]
+pub(crate) struct Went {
+    pub tries: Tries,
+    pub ending: Ending,
+}
+
+/// How a job ends whose cell gave this reason before its next attempt: as its last attempt says, if it made one.
+fn ending_by(reason: Reason, last: Option<Class>) -> Ending
+    ensures { result ≡ ending_by reason last }
+{
+    match last {
+        Some(class) => ending_of(class),
+        None => Ending::Cancelled(reason),
+    }
+}
+
+/// Makes the attempts of a request from number `had + 1` up to number `most`, until one is not tried again. Before each,
+/// and before the pause that precedes it, the cell is looked at, and a reason ends the job.
+pub(crate) fn make_attempts<W: Wire>(
+    alloc: Global,
+    wire: &mut W,
+    client: &mut Client,
+    ask: &Ask,
+    payload: &Payload<'_>,
+    limit: Option<u64>,
+    into: &mut Bytes,
+    cell: &mut Option<CancelCell>,
+    had: u32,
+    most: u32,
+) -> Went
+    requires limit { IfSome limit (λ most. IsGet ask.now × (most ≤ into.old.room)) }
+    requires left { had < most }
+    requires most { most ≤ 10 }
+    ensures carried { let request : Request = record {
+      endpoint = client.old.endpoint;
+      keys = client.old.signer;
+      asked = ask.now;
+      body = payload.now;
+      limit = limit;
+    } in Carries request had most (reason_of cell.new) into.new.bytes (W.seen wire.old) (W.seen wire.new) result.tries
+        result.ending }
+    ensures stopped { IsSome (reason_of cell.old) → result.tries ≡ [] }
+    ensures cell { KeepsCell cell.old cell.new }
+    ensures later { W.faults wire.old ≤ W.faults wire.new }
+    ensures endpoint { client.new.endpoint ≡ client.old.endpoint }
+    ensures keys { client.new.signer ≡ client.old.signer }
+    ensures untouched { limit ≡ None → into.new ≡ into.old }
+    ensures room { into.new.room ≡ into.old.room }
+{
+    let mut tries = Tries::none();
+    let mut last = None;
+    for number in had + 1..most + 1 {
+        if let Some(reason) = look(cell) {
+            return Went {
+                tries,
+                ending: ending_by(reason, last),
+            };
+        }
+        match attempt_once(alloc, wire, client, ask, payload, limit, into, number) {
+            Attempted::Made(class) => {
+                tries.add(mark_of(&class));
+                if !again(&class) {
+                    return Went {
+                        tries,
+                        ending: ending_of(class),
+                    };
+                }
+                last = Some(class);
+            }
+            Attempted::Memory => {
+                return Went {
+                    tries,
+                    ending: Ending::Memory,
+                };
+            }
+        }
+    }
+    let Some(class) = last else { unreachable!() };
+    Went {
+        tries,
+        ending: ending_of(class),
+    }
+}
