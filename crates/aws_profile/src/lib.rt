@@ -10,8 +10,6 @@ mod limits;
 mod lines;
 mod reader;
 mod slots;
-#[cfg(test)]
-mod tests;
 mod texts;
 mod values;
 

@@ -4,8 +4,6 @@
 mod fault;
 mod files;
 mod settings;
-#[cfg(test)]
-mod tests;
 mod variables;
 
 pub use fault::SettingsFault;

@@ -1,6 +1,6 @@
 //! Settings of environments in memory.
 
-use crate::{SettingsFault, read_settings};
+use env_settings::{SettingsFault, read_settings};
 use s3_model::{ProfileFault, Settings, Text};
 use s3_outside::{MemEnv, S3_LIMITS};
 use std::alloc::Global;

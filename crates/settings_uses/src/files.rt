@@ -1,6 +1,6 @@
 //! Settings from variables and files.
 
-use crate::{EnvWords, ProfileFault, Settings, settings};
+use aws_profile::{EnvWords, ProfileFault, Settings, settings};
 use s3_model::{OutOfMemory, Text};
 use std::alloc::{AllocError, Global};
 use std::test::Fail;
@@ -80,7 +80,7 @@ fn answered(alloc: Global, list: &str, config: &[u8], credentials: &[u8]) -> Res
 #[test]
 fn reads_files(rt: HostRuntime) -> Result<(), Fail> {
     let alloc = rt.alloc();
-    for (list, config, credentials, want) in FILES {
+    for (list, config, credentials, want) in &FILES {
         let shown = answered(alloc, list, config.as_bytes(), credentials.as_bytes())?;
         assert_eq!(rt; shown.as_str(), *want, "{list} {config:?} {credentials:?}");
     }
@@ -90,7 +90,7 @@ fn reads_files(rt: HostRuntime) -> Result<(), Fail> {
 }
 
 /// Words, a config file, a credentials file and what they give.
-const FILES: &[(&str, &str, &str, &str)] = &[
+static FILES: [(&str, &str, &str, &str); 29] = [
     (
         "",
         "[default]\nregion = us-east-1\nmax_attempts = 5\ns3 =\n  max_concurrent_requests = 20\n  multipart_threshold = 64MB\n  multipart_chunksize = 16MB\n",
