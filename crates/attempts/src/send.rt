@@ -2,6 +2,7 @@
 
 ghost use Rattle.std.specs.Prelude.{◌≡◌, ◌≢◌, ◌≤◌, false, true, Some, None, IfSome, IfOk, OnErr};
 ghost use Rattle.s3_model.specs.Counts.{Rose};
+ghost use Rattle.answer_dates.specs.Dates.{HasDates};
 ghost use Rattle.attempts.specs.Attempts.{IfMade, IsGet, IsOfSomeTalk, IsSilent, Makes, SignedRequest};
 ghost use Rattle.run_promise.specs.Gains.{Gains};
 ghost use Rattle.attempts.specs.Steps.{IsAnsweredBy, IsSigned};
@@ -78,6 +79,7 @@ fn send<W: Wire>(
       limit = limit;
     } in IsAnsweredBy request keep head.now (W.seen wire.old) (W.seen wire.new) (W.alive wire.new)
         (W.faults wire.old) (W.faults wire.new) into.old into.new result }
+    ensures dated { HasDates result }
     ensures failed { result ≡ Class.Uncertain Why.WireFailed → Rose (W.faults wire.old) (W.faults wire.new) }
     ensures later { W.faults wire.old ≤ W.faults wire.new }
     ensures endpoint { client.new.endpoint ≡ client.old.endpoint }
@@ -104,7 +106,7 @@ fn send<W: Wire>(
 ///
 /// `payload` is what the request sends behind its head. Under `Some(limit)`, for a Get alone, the body of a 2xx answer
 /// goes to `into`, which is cleared first, and has at most `limit` bytes. Under `None` `into` stays as it is, and such
-/// a body has at most 8,388,608 bytes. The connection is kept for the next request only where `keep` is true and the
+/// a body has at most 8,388,608 bytes. What is listed has times before the year 10000. The connection is kept for the next request only where `keep` is true and the
 /// answer allows it. What was not a success leaves any bytes in `into`.
 ///
 /// # Errors
@@ -130,6 +132,7 @@ pub fn attempt<W: Wire>(
       limit = limit;
     } in Gains (W.seen wire.old) (W.seen wire.new) (Makes request result into.new.bytes) }
     ensures classed { IfMade result (λ shown. IsOfSomeTalk ask.now limit shown into.new.bytes) }
+    ensures dated { IfMade result HasDates }
     ensures kept { IfMade result (λ shown. keep ≡ false → W.alive wire.new ≢ Some true) }
     ensures failed { result ≡ Attempted.Made (Class.Uncertain Why.WireFailed)
         → Rose (W.faults wire.old) (W.faults wire.new) }
