@@ -30,7 +30,7 @@ use Rattle.run_promise.specs.Dispatches.{last_of}
 use Rattle.run_promise.specs.Schedule.{op_of}
 use Rattle.answer_classes.specs.Documents.{ReadsError, ReadsReply}
 use Rattle.answer_classes.specs.Showing.{Shows}
-use Rattle.attempts.specs.Attempts.{IsGet, IsOfSomeTalk, Request}
+use Rattle.attempts.specs.Attempts.{IsGet, IsOfSomeTalk, SignedRequest}
 use Rattle.attempts.specs.Payloads.{body_of}
 use Rattle.jobs.specs.Endings.{EndIn, HasBody, HaveNoSuccess, IsEnded, IsReplyTo}
 use Rattle.jobs.specs.Holders.{Holder}
@@ -203,7 +203,7 @@ has_cell : (cell : Option Holder) (reason : Reason) → reason_of cell ≡ Some 
 has_cell None reason is = absurd (none_is_some reason is)
 has_cell (Some cell) reason is = refl
 
-module _ (r : Request) (had most : ℕ) (part : Option Part) (cell : Option Holder) (place : List ℕ) (before after : Option WireLog) (tries : List Mark) (size : ℕ) (placed : IsPlace r.asked part place)
+module _ (r : SignedRequest) (had most : ℕ) (part : Option Part) (cell : Option Holder) (place : List ℕ) (before after : Option WireLog) (tries : List Mark) (size : ℕ) (placed : IsPlace r.asked part place)
     (limited : r.limit ≡ limit_of r.asked size) where
   by_class : (shown : Class) → EndIn (mark_of shown) tries → IsGained r place (ending_of shown) → IsEnded (ending_of shown) (op_of r.asked) part cell tries
   by_class (class.Success said) ends gained = (

@@ -13,10 +13,11 @@ use Rattle.s3_model.specs.Classes.{is_tried_again}
 use Rattle.s3_model.specs.Talks.{Talk, Note, WireLog}
 use Rattle.run_promise.specs.Carried.{mark_of}
 use Rattle.run_promise.specs.Dispatches.{last_of}
-use Rattle.attempts.specs.Attempts.{Gains, IsOfSomeTalk, Request}
+use Rattle.attempts.specs.Attempts.{IsOfSomeTalk, SignedRequest}
+use Rattle.run_promise.specs.Gains.{Gains}
 use Rattle.attempts.specs.declared.send.Attempted.{Attempted}
 use Rattle.attempts.specs.declared.send.Attempted.TheVariants as attempted
-use Rattle.attempts.proofs.GainLemmas.{gains_as, gains_both, gains_nothing}
+use Rattle.run_promise.proofs.GainLemmas.{gains_as, gains_both, gains_nothing}
 use Rattle.jobs.specs.Holders.{Holder}
 use Rattle.jobs.specs.declared.ending.Ending.{Ending}
 use Rattle.jobs.specs.declared.ending.Ending.TheVariants as ending
@@ -55,7 +56,7 @@ to_service first endpoint old keys asked body limit number made place now after 
 pub one_left : (attempts had : ℕ) → had < most_attempts attempts had
 one_left attempts had = grind arith
 
-pub nothing_tried : (r : Request) (had most : ℕ) (gave : Option Reason) (place : List ℕ) (seen : Option WireLog) (tries : List Mark) (ended : Ending) → had < most → tries ≡ [] → ended ≡ ending.Memory
+pub nothing_tried : (r : SignedRequest) (had most : ℕ) (gave : Option Reason) (place : List ℕ) (seen : Option WireLog) (tries : List Mark) (ended : Ending) → had < most → tries ≡ [] → ended ≡ ending.Memory
     → Carries r had most gave place seen seen tries ended
 nothing_tried r had most gave place seen tries ended left none is =
     subst (λ (e : Ending). Carries r had most gave place seen seen tries e) (sym is)
@@ -70,7 +71,7 @@ nothing_tried r had most gave place seen tries ended left none is =
       shared = gains_nothing (IsShare r had place [] ending.Memory) seen ([], [], refl, (refl, refl), inl refl);
     }))
 
-module _ (r : Request) (had : ℕ) where
+module _ (r : SignedRequest) (had : ℕ) where
   -- the attempts below that number, each tried again, and the class of the last
   pub record Underway (number : ℕ) (place : List ℕ) (before now : Option WireLog) (tries : List Mark) (last : Option Class) : Type 0 where
     pub classes : List Class

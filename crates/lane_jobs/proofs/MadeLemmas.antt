@@ -8,7 +8,7 @@ use Rattle.s3_model.specs.Classes.{is_tried_again}
 use Rattle.s3_model.specs.Talks.{Talk, Note}
 use Rattle.run_promise.specs.Carried.{mark_of}
 use Rattle.run_promise.specs.Dispatches.{last_of}
-use Rattle.attempts.specs.Attempts.{HasClass, IsInPlace, IsOneTalk, Request}
+use Rattle.attempts.specs.Attempts.{HasClass, IsInPlace, IsOneTalk, SignedRequest}
 use Rattle.lane_jobs.specs.Lanes.{AreMade, IsMade}
 
 false_is_true : false ≡ true → ⊥
@@ -67,7 +67,7 @@ elsewhere (Some limit) (class.Success said) body place other again h = absurd (f
 elsewhere (Some limit) (class.Refusal code message) body place other again h = tt
 elsewhere (Some limit) (class.Uncertain reason) body place other again h = tt
 
-module _ (r : Request) where
+module _ (r : SignedRequest) where
   class_elsewhere : (talk : Talk) (shown : Class) (place other : List ℕ) → is_tried_again shown ≡ true → HasClass r talk shown place → HasClass r talk shown other
   class_elsewhere talk shown place other again (inl memory) = inl memory
   class_elsewhere talk shown place other again (inr h) = inr (h.0, h.1, elsewhere r.limit shown h.0 place other again h.2)

@@ -15,7 +15,8 @@ use Rattle.s3_model.specs.Classes.{is_tried_again}
 use Rattle.s3_model.specs.Talks.{Talk, Note, Pause, WireLog}
 use Rattle.run_promise.specs.Carried.{mark_of, pauses_before}
 use Rattle.run_promise.specs.Dispatches.{last_of}
-use Rattle.attempts.specs.Attempts.{Gains, IsOfSomeTalk, IsOneTalk, IsSilent, Request}
+use Rattle.attempts.specs.Attempts.{IsOfSomeTalk, IsOneTalk, IsSilent, SignedRequest}
+use Rattle.run_promise.specs.Gains.{Gains}
 use Rattle.attempts.specs.Payloads.{body_of}
 use Rattle.attempts.specs.declared.send.Attempted.{Attempted}
 use Rattle.attempts.specs.declared.send.Attempted.TheVariants as attempted
@@ -44,14 +45,14 @@ abbrev pub IsNotedBefore : (number : ℕ) → List Talk → List Note → Type 0
 IsNotedBefore number talks notes = (talks ≡ []) × (notes ≡ noted_before number)
 
 -- one attempt of that number: its pause, and then one talk that shows this class
-pub record IsMade (r : Request) (number : ℕ) (shown : Class) (place : List ℕ) (talks : List Talk) (notes : List Note)
+pub record IsMade (r : SignedRequest) (number : ℕ) (shown : Class) (place : List ℕ) (talks : List Talk) (notes : List Note)
     : Type 0 where
   pub own : List Note
   pub paused : notes ≡ noted_before number ++ own
   pub made : IsOneTalk r shown place talks own
 
 -- attempts one after the other, numbered from there
-abbrev pub AreMade : Request → (number : ℕ) → (place : List ℕ) → List Class → List Talk → List Note → Type 0
+abbrev pub AreMade : SignedRequest → (number : ℕ) → (place : List ℕ) → List Class → List Talk → List Note → Type 0
 AreMade r number place [] talks notes = (talks ≡ []) × (notes ≡ [])
 AreMade r number place (shown ∷ rest) talks notes =
     (first : List Talk) × (more : List Talk) × (noted : List Note) × (others : List Note)
@@ -63,7 +64,7 @@ abbrev pub IsWithoutTalk : (number : ℕ) → List Talk → List Note → Type 0
 IsWithoutTalk number talks notes = (own : List Note) × (notes ≡ noted_before number ++ own) × IsSilent talks own
 
 -- what the wire gains by the attempt of that number
-abbrev pub Attempts : Request → (number : ℕ) → Attempted → (place : List ℕ) → List Talk → List Note → Type 0
+abbrev pub Attempts : SignedRequest → (number : ℕ) → Attempted → (place : List ℕ) → List Talk → List Note → Type 0
 Attempts r number attempted.Memory place talks notes = IsWithoutTalk number talks notes
 Attempts r number (attempted.Made shown) place talks notes = IsMade r number shown place talks notes
 
@@ -112,18 +113,18 @@ AreBehind ending.Memory number notes = (notes ≡ []) ⊎ IsWithoutTalk number [
 AreBehind ended number notes = notes ≡ []
 
 -- what the wire gains by a job of which `had` attempts were made before
-abbrev pub IsShare : Request → (had : ℕ) → (place : List ℕ) → List Class → Ending → List Talk → List Note → Type 0
+abbrev pub IsShare : SignedRequest → (had : ℕ) → (place : List ℕ) → List Class → Ending → List Talk → List Note → Type 0
 IsShare r had place classes ended talks notes =
     (own : List Note) × (behind : List Note) × (notes ≡ own ++ behind) × AreMade r (had + 1) place classes talks own
     × AreBehind ended (had + length classes + 1) behind
 
 -- a success is that of a talk whose body stands in place, also where the wire shows none
-abbrev pub IsGained : Request → (place : List ℕ) → Ending → Type 0
+abbrev pub IsGained : SignedRequest → (place : List ℕ) → Ending → Type 0
 IsGained r place (ending.Gained said) = IsOfSomeTalk r.asked r.limit (class.Success said) place
 IsGained r place ended = Unit {0}
 
 -- The attempts of one giving of a job, with the classes of their talks, each once, and the ending that they come to.
-pub record Carries (r : Request) (had most : ℕ) (gave : Option Reason) (place : List ℕ) (before after : Option WireLog)
+pub record Carries (r : SignedRequest) (had most : ℕ) (gave : Option Reason) (place : List ℕ) (before after : Option WireLog)
     (tries : List Mark) (ended : Ending) : Type 0 where
   pub classes : List Class
   pub marks : tries ≡ map mark_of classes
@@ -155,12 +156,12 @@ abbrev pub most_attempts : (attempts had : ℕ) → ℕ
 most_attempts attempts had = max attempts (had + 1)
 
 -- a request to the lane's service, with this body
-abbrev pub request_to : {W : Type 0} → SeenLane W → Ask → (body : List ℕ) → (limit : Option ℕ) → Request
+abbrev pub request_to : {W : Type 0} → SeenLane W → Ask → (body : List ℕ) → (limit : Option ℕ) → SignedRequest
 request_to lane asked body limit =
     record { endpoint = lane.endpoint; keys = lane.keys; asked = asked; body = body; limit = limit }
 
 -- a request with the bytes of this part, for a piece of that length
-abbrev pub request_for : {W : Type 0} → SeenLane W → Ask → Option Part → (length : ℕ) → Request
+abbrev pub request_for : {W : Type 0} → SeenLane W → Ask → Option Part → (length : ℕ) → SignedRequest
 request_for lane asked part length =
     request_to lane asked (body_of asked (bytes_of part)) (limit_of asked length)
 

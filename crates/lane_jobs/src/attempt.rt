@@ -3,7 +3,8 @@
 ghost use Rattle.std.specs.Prelude.{◌≡◌, ◌≤◌, ◌+◌, ◌-◌, ◌^◌, [], None, IfSome, map, min};
 ghost use Rattle.s3_model.specs.Talks.{Pause};
 ghost use Rattle.run_promise.specs.Carried.{pauses_before};
-ghost use Rattle.attempts.specs.Attempts.{Gains, IfMade, IsGet, IsOfSomeTalk, Request};
+ghost use Rattle.attempts.specs.Attempts.{IfMade, IsGet, IsOfSomeTalk, SignedRequest};
+ghost use Rattle.run_promise.specs.Gains.{Gains};
 ghost use Rattle.lane_jobs.specs.Lanes.{Attempts, IsNotedBefore, Looks, ending_of, noted_before};
 
 use attempts::{Attempted, Client, Payload, attempt};
@@ -65,7 +66,7 @@ pub(crate) fn attempt_once<W: Wire>(
 ) -> Attempted
     requires limit { IfSome limit (λ most. IsGet ask.now × (most ≤ into.old.room)) }
     requires number { number ≤ 10 }
-    ensures gained { let request : Request = record {
+    ensures gained { let request : SignedRequest = record {
       endpoint = client.old.endpoint;
       keys = client.old.signer;
       asked = ask.now;

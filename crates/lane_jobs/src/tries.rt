@@ -1,7 +1,7 @@
 //! The attempts of one job.
 
 ghost use Rattle.std.specs.Prelude.{◌≡◌, ◌≤◌, ◌<◌, [], None, IfSome, IsSome};
-ghost use Rattle.attempts.specs.Attempts.{IsGet, Request};
+ghost use Rattle.attempts.specs.Attempts.{IsGet, SignedRequest};
 ghost use Rattle.lane_jobs.specs.Lanes.{Carries, KeepsCell, ending_by, reason_of};
 
 use crate::attempt::{attempt_once, ending_of, look};
@@ -46,7 +46,7 @@ pub(crate) fn make_attempts<W: Wire>(
     requires limit { IfSome limit (λ most. IsGet ask.now × (most ≤ into.old.room)) }
     requires left { had < most }
     requires most { most ≤ 10 }
-    ensures carried { let request : Request = record {
+    ensures carried { let request : SignedRequest = record {
       endpoint = client.old.endpoint;
       keys = client.old.signer;
       asked = ask.now;

@@ -1,19 +1,28 @@
 -- A listing goes on by one page, or ends, as its wire gains; and it cannot go on for ever.
-use Rattle.std.proofs.Common.{◌≡◌, ◌∙◌, ◌==◌, ◌+◌, ◌*◌, ◌<◌, ◌≤◌, ℕ, Bool, true, false, List, [], Option, None, refl, sym, ap, subst, inl, arith, length-append}
+use Rattle.std.proofs.Common.{◌≡◌, ◌∙◌, ◌==◌, ◌+◌, ◌*◌, ◌<◌, ◌≤◌, ◌++◌, ℕ, Bool, true, false, List, [], ◌∷◌, Option, Some, None, refl, sym, ap, subst, inl, arith, length-append, append_assoc}
 use Rattle.shared_lemmas.proofs.Clashes.{true_is_false}
 use Rattle.std.specs.Prelude.{◌||◌, not, Result, Ok, Err}
 use Rattle.s3_model.specs.declared.requests.Ask.{Ask}
 use Rattle.s3_model.specs.declared.answers.Class.{Class}
 use Rattle.s3_model.specs.declared.answers.Listed.{Listed}
 use Rattle.s3_model.specs.declared.outcomes.Event.{Event}
+use Rattle.s3_model.specs.declared.outcomes.Event.TheVariants as entry
+use Rattle.s3_model.specs.declared.outcomes.JobId.{JobId}
+use Rattle.s3_model.specs.declared.requests.Op.{Op}
+use Rattle.s3_model.specs.declared.tries.Mark.{Mark}
+use Rattle.run_promise.specs.Carried.{mark_of}
+use Rattle.run_promise.specs.Schedule.{op_of}
 use Rattle.s3_model.specs.declared.places.Endpoint.{Endpoint}
 use Rattle.s3_model.specs.declared.settings.Keys.{Keys}
 use Rattle.s3_model.specs.Talks.{WireLog}
+use Rattle.attempts.specs.Attempts.{IsOneTalk, Makes, tries_of}
 use Rattle.run_promise.specs.Gains.{Gains}
-use Rattle.run_promise.proofs.GainLemmas.{gains_both, gains_nothing}
+use Rattle.attempts.specs.declared.send.Attempted.{Attempted}
+use Rattle.attempts.specs.declared.send.Attempted.TheVariants as attempted_as
+use Rattle.run_promise.proofs.GainLemmas.{gains_as, gains_both, gains_nothing}
 use Rattle.list_walk.specs.Pages.{Gathered, IsSound, Walk, count_of, gathered_with, new_walk, refusal_of, total_of, with_page}
 use Rattle.list_walk.proofs.LawLemmas.{taken_where_sound}
-use Rattle.listings.specs.Asked.{IsGiven}
+use Rattle.listings.specs.Asked.{IsGiven, request_for}
 use Rattle.listings.specs.Pages.{IsNext, Listing, Lists}
 use Rattle.listings.specs.declared.fault.ListingFault.{ListingFault}
 use Rattle.listings.specs.declared.fault.ListingFault.TheVariants as fault
@@ -26,6 +35,24 @@ pub none_given : (endpoint : Endpoint) (keys : Keys) (asked : Ask) (number : ℕ
 none_given endpoint keys asked number before after given seen none same =
     subst (λ (o : Option Class). Gains seen seen (IsGiven endpoint keys asked number before after o)) (sym none)
     (gains_nothing (IsGiven endpoint keys asked number before after None) seen (inl (same, refl, refl)))
+
+-- one request was given, attempted, and came
+pub made_given : (endpoint : Endpoint) (keys : Keys) (asked : Ask) (of_op : Op) (number : ℕ) (before reserved first after : List Event) (tries : List Mark) (attempted : Attempted) (shown : Class) (body place : List ℕ)
+    (was now : Option WireLog) → of_op ≡ op_of asked → reserved ≡ before → first ≡ reserved ++ entry.Given (record { task = None; op = of_op; number = number }) 0 ∷ []
+    → after ≡ first ++ entry.Came (record { task = None; op = of_op; number = number }) 0 tries ∷ [] → tries ≡ tries_of attempted → attempted ≡ attempted_as.Made shown → body ≡ []
+    → Gains was now (Makes (record { endpoint = endpoint; keys = keys; asked = asked; body = body; limit = None }) attempted place)
+    → Gains was now (IsGiven endpoint keys asked number before after (Some shown))
+made_given endpoint keys asked of_op number before reserved first after tries attempted shown body place was now op_is reserved_is first_is after_is tries_are made empty gained =
+    let job : Op → JobId = λ o. record { task = None; op = o; number = number } in
+    let with_none = subst (λ (b : List ℕ). Gains was now (Makes (record { endpoint = endpoint; keys = keys; asked = asked; body = b; limit = None }) attempted place)) empty gained in
+    let with_class = subst (λ (a : Attempted). Gains was now (Makes (request_for endpoint keys asked) a place)) made with_none in
+    let marks : tries ≡ mark_of shown ∷ [] = tries_are ∙ ap tries_of made in
+    let journals : after ≡ before ++ entry.Given (job (op_of asked)) 0 ∷ entry.Came (job (op_of asked)) 0 (mark_of shown ∷ []) ∷ [] =
+    after_is ∙ ap (λ (events : List Event). events ++ entry.Came (job of_op) 0 tries ∷ []) (first_is ∙ ap (λ (events : List Event). events ++ entry.Given (job of_op) 0 ∷ []) reserved_is)
+    ∙ append_assoc before (entry.Given (job of_op) 0 ∷ []) (entry.Came (job of_op) 0 tries ∷ [])
+    ∙ ap (λ (ms : List Mark). before ++ entry.Given (job of_op) 0 ∷ entry.Came (job of_op) 0 ms ∷ []) marks
+    ∙ ap (λ (o : Op). before ++ entry.Given (job o) 0 ∷ entry.Came (job o) 0 (mark_of shown ∷ []) ∷ []) op_is in
+    gains_as (IsOneTalk (request_for endpoint keys asked) shown place) (IsGiven endpoint keys asked number before after (Some shown)) (λ talks notes talk. (place, talk, journals)) was now with_class
 
 pub none_next : (endpoint : Endpoint) (keys : Keys) (number : ℕ) (walk : Walk) (events : List Event) (seen : Option WireLog)
     → Gains seen seen (IsNext endpoint keys number walk walk events events (Err fault.Memory))

@@ -13,3 +13,8 @@ fault_of op (class.Success said) = fault.Answer (cause.BadReply op)
 fault_of op (class.Refusal code message) = fault.Answer (cause.Service op code message)
 fault_of op (class.Uncertain why.Memory) = fault.Memory
 fault_of op (class.Uncertain reason) = fault.Answer (cause.Lost op reason)
+
+-- what ends a listing is no cancel of the run
+abbrev pub IsNoCancel : ListingFault → Type 0
+IsNoCancel (fault.Answer (cause.Cancelled reason)) = ⊥
+IsNoCancel other = Unit {0}

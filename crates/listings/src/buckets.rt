@@ -1,8 +1,10 @@
 //! The list of buckets.
 
-ghost use Rattle.std.specs.Prelude.{◌≡◌, ◌≤◌};
+ghost use Rattle.std.specs.Prelude.{◌≡◌, ◌≤◌, IfErr, IfOk, IfSome};
+ghost use Rattle.answer_dates.specs.Dates.{AreDated, HasDates};
 ghost use Rattle.run_promise.specs.Gains.{Gains};
 ghost use Rattle.listings.specs.Buckets.{ListsBuckets, buckets_of};
+ghost use Rattle.listings.specs.Faults.{IsNoCancel};
 
 use crate::fault::{ListingFault, fault_of};
 use crate::one::give;
@@ -13,7 +15,10 @@ use std::alloc::Global;
 
 /// What an answer comes to, or none where memory ran out before it.
 fn buckets_of(given: Option<Class>) -> Result<Entries, ListingFault>
-    ensures { result ≡ buckets_of given }
+    requires { IfSome given HasDates }
+    ensures is { result ≡ buckets_of given }
+    ensures dated { IfOk result (λ buckets. AreDated buckets.items) }
+    ensures no_cancel { IfErr result IsNoCancel }
 {
     match given {
         Some(Class::Success(Reply::BucketList(buckets))) => Ok(buckets),
@@ -37,6 +42,8 @@ pub fn list_buckets<W: Wire>(
 ) -> Result<Entries, ListingFault>
     ensures listed { Gains (W.seen wire.old) (W.seen wire.new) (ListsBuckets client.old.endpoint client.old.signer
         number journal.old.items journal.new.items result) }
+    ensures dated { IfOk result (λ buckets. AreDated buckets.items) }
+    ensures no_cancel { IfErr result IsNoCancel }
     ensures later { W.faults wire.old ≤ W.faults wire.new }
     ensures endpoint { client.new.endpoint ≡ client.old.endpoint }
     ensures keys { client.new.signer ≡ client.old.signer }

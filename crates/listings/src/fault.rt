@@ -1,7 +1,7 @@
 //! Why a listing ends early.
 
 ghost use Rattle.std.specs.Prelude.{◌≡◌};
-ghost use Rattle.listings.specs.Faults.{fault_of};
+ghost use Rattle.listings.specs.Faults.{IsNoCancel, fault_of};
 
 use s3_model::{BadListing, Cause, Class, Op, Why};
 
@@ -18,7 +18,8 @@ pub enum ListingFault {
 
 /// What a request came to that did not list what was asked.
 pub(crate) fn fault_of(op: Op, class: Class) -> ListingFault
-    ensures { result ≡ fault_of op class }
+    ensures is { result ≡ fault_of op class }
+    ensures no_cancel { IsNoCancel result }
 {
     match class {
         Class::Success(_) => ListingFault::Answer(Cause::BadReply { op }),

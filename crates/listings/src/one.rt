@@ -1,6 +1,7 @@
 //! One request of the planning, given to the first lane.
 
-ghost use Rattle.std.specs.Prelude.{◌≡◌, ◌≤◌, ◌+◌, length};
+ghost use Rattle.std.specs.Prelude.{◌≡◌, ◌≤◌, ◌+◌, IfSome, length};
+ghost use Rattle.answer_dates.specs.Dates.{HasDates};
 ghost use Rattle.run_promise.specs.Schedule.{op_of};
 ghost use Rattle.run_promise.specs.Gains.{Gains};
 ghost use Rattle.listings.specs.Asked.{IsGiven};
@@ -24,6 +25,7 @@ pub(crate) fn give<W: Wire>(
     requires { op ≡ op_of ask.now }
     ensures given { Gains (W.seen wire.old) (W.seen wire.new) (IsGiven client.old.endpoint client.old.signer ask.now
         number journal.old.items journal.new.items result) }
+    ensures dated { IfSome result HasDates }
     ensures few { length journal.new.items ≤ length journal.old.items + 2 }
     ensures later { W.faults wire.old ≤ W.faults wire.new }
     ensures endpoint { client.new.endpoint ≡ client.old.endpoint }

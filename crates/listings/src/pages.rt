@@ -1,7 +1,9 @@
 //! All pages of a listing.
 
-ghost use Rattle.std.specs.Prelude.{◌≡◌, ◌≤◌, ◌+◌, false, IfOk, length};
+ghost use Rattle.std.specs.Prelude.{◌≡◌, ◌≤◌, ◌+◌, false, IfErr, IfOk, length};
+ghost use Rattle.answer_dates.specs.Dates.{AreDated, HasDates};
 ghost use Rattle.run_promise.specs.Gains.{Gains};
+ghost use Rattle.listings.specs.Faults.{IsNoCancel};
 ghost use Rattle.listings.specs.Pages.{IsNext, Listing, Lists, TakesClass, TakesPage, TookPage};
 
 use crate::fault::{ListingFault, fault_of};
@@ -13,8 +15,13 @@ use s3_outside::Wire;
 use std::alloc::Global;
 
 /// Takes a page, and answers whether more follow.
+#[tactic(auto, using(crate::proofs::DatedLemmas::page_dated))]
 fn take_page(pages: &mut Pages, page: &Listed) -> Result<bool, ListingFault>
+    requires before { AreDated pages.old.gathered.entries }
+    requires page { AreDated page.now.entries.items }
     ensures takes { TakesPage pages.old page.now pages.new result }
+    ensures dated { IfOk result (λ _. AreDated pages.new.gathered.entries) }
+    ensures no_cancel { IfErr result IsNoCancel }
 {
     match pages.feed(page) {
         Ok(()) => Ok(page.more),
@@ -25,8 +32,12 @@ fn take_page(pages: &mut Pages, page: &Listed) -> Result<bool, ListingFault>
 
 /// Takes the page that an answer has, and answers whether more follow.
 fn take_class(pages: &mut Pages, class: Class) -> Result<bool, ListingFault>
+    requires before { AreDated pages.old.gathered.entries }
+    requires class { HasDates class }
     ensures takes { TakesClass pages.old class pages.new result }
     ensures took { IfOk result (TookPage pages.old pages.new) }
+    ensures dated { IfOk result (λ _. AreDated pages.new.gathered.entries) }
+    ensures no_cancel { IfErr result IsNoCancel }
 {
     match class {
         Class::Success(Reply::Listed(page)) => take_page(pages, &page),
@@ -43,10 +54,13 @@ fn next_page<W: Wire>(
     number: u32,
     journal: &mut Journal,
 ) -> Result<bool, ListingFault>
-    requires { pages.old.over ≡ false }
+    requires open { pages.old.over ≡ false }
+    requires before { AreDated pages.old.gathered.entries }
     ensures next { Gains (W.seen wire.old) (W.seen wire.new) (IsNext client.old.endpoint client.old.signer number
         pages.old pages.new journal.old.items journal.new.items result) }
     ensures took { IfOk result (TookPage pages.old pages.new) }
+    ensures dated { IfOk result (λ _. AreDated pages.new.gathered.entries) }
+    ensures no_cancel { IfErr result IsNoCancel }
     ensures few { length journal.new.items ≤ length journal.old.items + 2 }
     ensures later { W.faults wire.old ≤ W.faults wire.new }
     ensures endpoint { client.new.endpoint ≡ client.old.endpoint }
@@ -66,7 +80,7 @@ fn next_page<W: Wire>(
 ///
 /// The requests are planning jobs of the first lane, numbered from `first`; the journal has the events of each as it is
 /// given and as it comes. Where `delimited` is true, keys that have a `/` behind the prefix are listed by their first
-/// part alone.
+/// part alone. The times of the objects lie before the year 10000.
 ///
 /// # Errors
 ///
@@ -91,6 +105,8 @@ pub fn list_pages<W: Wire>(
       delimited = delimited;
       first = first;
     } in Gains (W.seen wire.old) (W.seen wire.new) (Lists listing journal.old.items journal.new.items result) }
+    ensures dated { IfOk result (λ walk. AreDated walk.gathered.entries) }
+    ensures no_cancel { IfErr result IsNoCancel }
     ensures few { length journal.new.items ≤ length journal.old.items + 2_000_002_000 }
     ensures later { W.faults wire.old ≤ W.faults wire.new }
     ensures endpoint { client.new.endpoint ≡ client.old.endpoint }

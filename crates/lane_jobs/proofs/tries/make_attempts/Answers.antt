@@ -1,7 +1,7 @@
 use Rattle.std.proofs.Common.{◌≡◌, ◌∙◌, ◌+◌, ◌++◌, ◌∷◌, [], List, Option, Some, None, ap, arith, inr, refl, subst, sym}
 use Rattle.s3_model.specs.declared.answers.Class.{Class}
 use Rattle.s3_model.specs.declared.tries.Mark.{Mark}
-use Rattle.attempts.specs.Attempts.{Request}
+use Rattle.attempts.specs.Attempts.{SignedRequest}
 use Rattle.attempts.specs.declared.send.Attempted.TheVariants as attempted
 use Rattle.run_promise.specs.Carried.{mark_of}
 use Rattle.lane_jobs.proofs.LoopLemmas.{Underway, ends_there, goes_on, looked, none_made, runs_out, stops, to_service, unheard, wants}
@@ -33,7 +33,7 @@ loop-number-preserved g c =
     let one = to_service c.args.client.now.endpoint c.loop-number.client.endpoint c.args.client.now.signer c.loop-number.client.signer c.args.ask.now c.args.payload.now c.args.limit c.loop-number.number
     (attempted.Made c.in-Made.class) c.attempt_once.new.into.bytes (g.W.Wire.seen c.loop-number.wire) (g.W.Wire.seen c.attempt_once.new.wire) is.endpoint is.keys c.in-Made.ensures.gained in
     let heard = unheard _ _ c.in_default.ensures in
-    let request : Request = record { endpoint = c.args.client.now.endpoint; keys = c.args.client.now.signer; asked = c.args.ask.now; body = c.args.payload.now; limit = c.args.limit } in
+    let request : SignedRequest = record { endpoint = c.args.client.now.endpoint; keys = c.args.client.now.signer; asked = c.args.ask.now; body = c.args.payload.now; limit = c.args.limit } in
     let marks : c.add.new.self ≡ c.loop-number.tries ++ mark_of c.in-Made.class ∷ [] = c.add.ensures ∙ ap (λ (m : Mark). c.loop-number.tries ++ m ∷ []) c.mark_of.ensures in
     record {
       underway = subst (λ (ts : List Mark). Underway request c.args.had (c.loop-number.number + 1) c.attempt_once.new.into.bytes (g.W.Wire.seen c.args.wire.now) (g.W.Wire.seen c.attempt_once.new.wire) ts (Some c.in-Made.class))

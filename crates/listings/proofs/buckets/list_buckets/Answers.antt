@@ -19,6 +19,6 @@ returns-clause-listed g c =
     let after = c.give-given.new.journal.items in
     let given = c.give-given.result in
     subst (λ (result : Result (Reserved Entry) ListingFault). Gains (g.W.Wire.seen c.args.wire.now) (g.W.Wire.seen c.give-given.new.wire) (ListsBuckets endpoint keys number before after result))
-    (sym c.buckets_of.ensures)
+    (sym c.buckets_of.ensures.is)
     (gains_as (IsGiven endpoint keys ask.Buckets number before after given) (ListsBuckets endpoint keys number before after (buckets_of given))
     (λ talks notes gives. buckets_listed endpoint keys number before after talks notes given gives) _ _ c.give-given.ensures.given)

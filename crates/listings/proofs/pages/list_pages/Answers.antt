@@ -1,7 +1,9 @@
 use Rattle.std.proofs.Common.{◌≡◌, ◌∙◌, Bool, true, ap, arith, refl, subst, sym}
 use Rattle.std.specs.Prelude.{IfOk, Result, Ok}
+use Rattle.answer_dates.specs.Dates.{AreDated}
 use Rattle.list_walk.specs.Pages.{IsSound, Walk}
 use Rattle.list_walk.proofs.PageLemmas.{nothing_is_sound}
+use Rattle.listings.proofs.DatedLemmas.{none_dated}
 use Rattle.listings.proofs.ListLemmas.{begins, ends, fails, goes_on, none_listed, still_bound, still_open, still_sound}
 use Rattle.listings.specs.Pages.{TookPage}
 use Rattle.listings.specs.declared.fault.ListingFault.{ListingFault}
@@ -15,6 +17,7 @@ loop-number-init g c = record {
   underway = begins _ _ _ _ c.in-Ok.ensures;
   goes_on = ap (λ (w : Walk). w.over) c.in-Ok.ensures;
   sound = subst (λ (w : Walk). IsSound w.prefix w.gathered) (sym c.in-Ok.ensures) (nothing_is_sound c.args.prefix.now);
+  dated = none_dated c.args.bucket.now c.args.prefix.now c.args.delimited _ c.in-Ok.ensures;
   bound = omega arith;
   few = omega arith;
   later = omega arith;
@@ -42,6 +45,7 @@ loop-number-preserved g c =
       underway = goes_on _ _ _ _ _ _ _ _ _ _ _ _ before_is.endpoint before_is.keys c.next_page.result before_is.underway c.next_page.ensures.next is;
       goes_on = still_open before after page is_with before_is.goes_on more;
       sound = still_sound before after page is_with before_is.sound none;
+      dated = subst (λ (r : Result Bool ListingFault). IfOk r (λ more. AreDated after.gathered.entries)) is c.next_page.ensures.dated;
       bound = still_bound before after page is_with c.args.first c.loop-number.number before_is.sound.few_empty before_is.bound;
       few = omega (arith, before_is.few, c.next_page.ensures.few);
       later = omega (arith, before_is.later, c.next_page.ensures.later);

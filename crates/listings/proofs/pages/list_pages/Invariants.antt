@@ -1,4 +1,5 @@
 use Rattle.std.proofs.Common.{◌≡◌, ◌+◌, ◌*◌, ◌≤◌, false, length}
+use Rattle.answer_dates.specs.Dates.{AreDated}
 use Rattle.run_promise.specs.Gains.{Gains}
 use Rattle.list_walk.specs.Pages.{IsSound, total_of}
 use Rattle.listings.proofs.PageLemmas.{IsUnderway}
@@ -11,6 +12,7 @@ invariant-loop-number g l = record {
       l.pages l.number l.initial.journal.items l.journal.items);
   goes_on : l.pages.over ≡ false;
   sound : IsSound l.pages.prefix l.pages.gathered;
+  dated : AreDated l.pages.gathered.entries;
   bound : l.number ≤ l.first + (1000 * total_of l.pages.gathered + l.pages.gathered.empty);
   few : length l.journal.items + 2 * l.first ≤ length l.initial.journal.items + 2 * l.number;
   later : g.W.Wire.faults l.initial.wire ≤ g.W.Wire.faults l.wire;
