@@ -271,13 +271,14 @@ module _ (page_of : List ℕ → Listed) where
 
   -- ---- which failed
 
+  -- the first Get was answered as it asked
+  first_fits : (of_class : Class) (b : List ℕ) → Shows first_get 2 first_talk of_class b → FitsAsk first_sent first_get of_class
+  first_fits (class.Success (reply.Got status range size)) b shows = subst (λ (said : Reply). FitsAsk first_sent first_get (class.Success said)) shows.0 (refl, refl)
+  first_fits of_class b shows = tt
+
   failure : (failed : Dispatched) → IsFailed Shows s jobs failed → second_sent ≡ failed
   failure failed is_failed = scheduling.failures Shows s (λ (c : Dispatched). second_sent ≡ c) jobs
       (inr (inl (refl, λ shown_class b shows. tt)), (inr (inl (refl, first_fits)), (inr (inr refl), tt))) failed is_failed
-    where
-      first_fits : (of_class : Class) (b : List ℕ) → Shows first_get 2 first_talk of_class b → FitsAsk first_sent first_get of_class
-      first_fits (class.Success (reply.Got status range size)) b shows = subst (λ (said : Reply). FitsAsk first_sent first_get (class.Success said)) shows.0 (refl, refl)
-      first_fits of_class b shows = tt
 
   of_second : (failed : Dispatched) → IsFailed Shows s jobs failed → failed.dispatch.job.task ≡ Some 2
   of_second failed is_failed = sym (ap (λ (c : Dispatched). c.dispatch.job.task) (failure failed is_failed))
@@ -389,10 +390,6 @@ module _ (page_of : List ℕ → Listed) where
     shows = (refl, refl);
     range = (2, 1, first_pieces, (refl, refl, refl));
   })
-    where
-      first_fits : (of_class : Class) (b : List ℕ) → Shows first_get 2 first_talk of_class b → FitsAsk first_sent first_get of_class
-      first_fits (class.Success (reply.Got status range size)) b shows = subst (λ (said : Reply). FitsAsk first_sent first_get (class.Success said)) shows.0 (refl, refl)
-      first_fits of_class b shows = tt
 
   first_written : (task : Task) → slice_get s.tasks 1 ≡ Some task → AreWritten s (removes ∷ makes_first ∷ writes_first ∷ []) 1 task first_temp
   first_written task is = subst (λ (t : Task). AreWritten s (removes ∷ makes_first ∷ writes_first ∷ []) 1 t first_temp) (some_is first_load task is) (record {

@@ -166,13 +166,6 @@ module _ (page_of : List ℕ → Listed) where
 
   -- ---- what is in each trace
 
-  begins_first : (lane : ℕ) → filter_map (begun_in lane) (events_of misfits.whole_trace) ≡ flat_map requests_of (filter (λ (c : Dispatched). c.dispatch.lane == lane) jobs)
-  begins_first zero = refl
-  begins_first (suc lane) =
-      let a : (suc lane == 0) ≡ false = grind arith in
-      let b : (0 == suc lane) ≡ false = grind arith in
-      rw (a, b) refl
-
   served_at : (front : List TraceEvent) (k : ℕ) → slice_get front k ≡ Some (Serve (request 1) (Replied reply.Stored [])) → fitting.IsServed (Shows page_of) jobs front sent 0 (whole.well page_of)
   served_at front k is shown b shows certain = (Replied reply.Stored [], at front k _ is, whole.named page_of shown b shows)
 
@@ -188,7 +181,7 @@ module _ (page_of : List ℕ → Listed) where
   never_given : Stored misfits.never_given Moves
   never_given = record {
     moves = λ other. absurd (other refl);
-    begins = λ other. begins_first;
+    begins = λ other. whole.begins page_of;
     since_given = λ other. (tt, (tt, (tt, tt)));
     until_came = λ other. (tt, (tt, (refl, tt)));
     once = λ other. (tt, tt);
@@ -218,7 +211,7 @@ module _ (page_of : List ℕ → Listed) where
   begun_before_given : Stored misfits.begun_before_given SinceGiven
   begun_before_given = record {
     moves = λ other. refl;
-    begins = λ other. begins_first;
+    begins = λ other. whole.begins page_of;
     since_given = λ other. absurd (other refl);
     until_came = λ other. (tt, (tt, (tt, (refl, tt))));
     once = λ other. (tt, tt);
@@ -233,7 +226,7 @@ module _ (page_of : List ℕ → Listed) where
   served_twice : Stored misfits.served_twice Once
   served_twice = record {
     moves = λ other. refl;
-    begins = λ other. begins_first;
+    begins = λ other. whole.begins page_of;
     since_given = λ other. (refl, (tt, (tt, (tt, (tt, tt)))));
     until_came = λ other. (tt, (tt, (tt, (tt, (refl, tt)))));
     once = λ other. absurd (other refl);
@@ -248,7 +241,7 @@ module _ (page_of : List ℕ → Listed) where
   never_served : Stored misfits.never_served Served
   never_served = record {
     moves = λ other. refl;
-    begins = λ other. begins_first;
+    begins = λ other. whole.begins page_of;
     since_given = λ other. (refl, (tt, (tt, tt)));
     until_came = λ other. (tt, (tt, (refl, tt)));
     once = λ other. tt;
@@ -263,7 +256,7 @@ module _ (page_of : List ℕ → Listed) where
   served_after_came : Stored misfits.served_after_came Served
   served_after_came = record {
     moves = λ other. refl;
-    begins = λ other. begins_first;
+    begins = λ other. whole.begins page_of;
     since_given = λ other. (refl, (tt, (tt, (tt, tt))));
     until_came = λ other. (tt, (tt, (refl, (tt, tt))));
     once = λ other. (tt, tt);
@@ -278,7 +271,7 @@ module _ (page_of : List ℕ → Listed) where
   served_before_begun : Stored misfits.served_before_begun Runs
   served_before_begun = record {
     moves = λ other. refl;
-    begins = λ other. begins_first;
+    begins = λ other. whole.begins page_of;
     since_given = λ other. (refl, (tt, (tt, (tt, tt))));
     until_came = λ other. (tt, (tt, (tt, (refl, tt))));
     once = λ other. (tt, tt);
@@ -293,7 +286,7 @@ module _ (page_of : List ℕ → Listed) where
   two_contents : Stored misfits.two_contents OneContent
   two_contents = record {
     moves = λ other. refl;
-    begins = λ other. begins_first;
+    begins = λ other. whole.begins page_of;
     since_given = λ other. (refl, (tt, (tt, (tt, (tt, (tt, tt))))));
     until_came = λ other. (tt, (tt, (tt, (refl, (tt, (tt, tt))))));
     once = λ other. (tt, tt);
@@ -308,7 +301,7 @@ module _ (page_of : List ℕ → Listed) where
   overwritten : Stored misfits.overwritten NotWritten
   overwritten = record {
     moves = λ other. refl;
-    begins = λ other. begins_first;
+    begins = λ other. whole.begins page_of;
     since_given = λ other. (refl, (tt, (tt, (tt, (tt, tt)))));
     until_came = λ other. (tt, (tt, (tt, (refl, (tt, tt)))));
     once = λ other. (tt, tt);
@@ -323,7 +316,7 @@ module _ (page_of : List ℕ → Listed) where
   removed : Stored misfits.removed NotRemoved
   removed = record {
     moves = λ other. refl;
-    begins = λ other. begins_first;
+    begins = λ other. whole.begins page_of;
     since_given = λ other. (refl, (tt, (tt, (tt, (tt, tt)))));
     until_came = λ other. (tt, (tt, (tt, (refl, (tt, tt)))));
     once = λ other. (tt, tt);

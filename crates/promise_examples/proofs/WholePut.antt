@@ -77,7 +77,7 @@ module _ (page_of : List ℕ → Listed) where
   pub answered : IsAnswered Shows jobs (request 1) (Replied reply.Stored [])
   answered = record { of = sent; known = at jobs 0 sent refl; place = 0; attempt = well; is_attempt = refl; is_sent = refl; names = named }
 
-  begins : (lane : ℕ) → filter_map (begun_in lane) (events_of whole_trace) ≡ flat_map requests_of (filter (λ (c : Dispatched). c.dispatch.lane == lane) jobs)
+  pub begins : (lane : ℕ) → filter_map (begun_in lane) (events_of whole_trace) ≡ flat_map requests_of (filter (λ (c : Dispatched). c.dispatch.lane == lane) jobs)
   begins zero = refl
   begins (suc lane) =
       let a : (suc lane == 0) ≡ false = grind arith in
