@@ -1,6 +1,7 @@
 pub mod Alone
 pub mod Answers
 pub mod BothKinds
+pub mod BothPlan
 pub mod BusyPut
 pub mod Carrying
 pub mod Concrete
