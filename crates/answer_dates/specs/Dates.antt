@@ -26,7 +26,8 @@ HasDates shown = Unit {0}
 pub record IsClassOf (asked : Ask) (talked : Talked) (shown : Class) : Type 0 where
   pub broken : IfBroken talked (λ reason. shown ≡ class.Uncertain reason)
   pub answered : IfAnswered talked (λ answered. 200 ≤ answered.status → IsClassed asked answered shown)
-  pub interim : IfAnswered talked (λ answered. answered.status < 200 → shown ≡ class.Uncertain (why.Status answered.status))
+  pub interim : IfAnswered talked (λ answered. answered.status < 200
+      → shown ≡ class.Uncertain (why.Status answered.status))
 
 -- What came back for a request has dates.
 abbrev pub AnswersAreDated : Type 0

@@ -106,8 +106,8 @@ fn send<W: Wire>(
 ///
 /// `payload` is what the request sends behind its head. Under `Some(limit)`, for a Get alone, the body of a 2xx answer
 /// goes to `into`, which is cleared first, and has at most `limit` bytes. Under `None` `into` stays as it is, and such
-/// a body has at most 8,388,608 bytes. What is listed has times before the year 10000. The connection is kept for the next request only where `keep` is true and the
-/// answer allows it. What was not a success leaves any bytes in `into`.
+/// a body has at most 8,388,608 bytes. The connection is kept for the next request only where `keep` is true and the
+/// answer allows it. What was not a success leaves any bytes in `into`. What is listed has times before the year 10000.
 ///
 /// # Errors
 ///

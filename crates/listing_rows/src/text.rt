@@ -42,7 +42,8 @@ fn add_objects(
     entries: &[Entry],
 ) -> Result<(), OutOfMemory>
     requires { AreDated entries.now }
-    ensures { OnOk result (AddsRows (IsObjectRow recursive) entries.now (string_bytes rows.old) (string_bytes rows.new)) }
+    ensures { OnOk result (AddsRows (IsObjectRow recursive) entries.now (string_bytes rows.old)
+        (string_bytes rows.new)) }
 {
     for entry in entries {
         let row = object_row(alloc, recursive, entry)?;
@@ -58,7 +59,8 @@ fn add_prefixes(
     recursive: bool,
     prefixes: &[Text],
 ) -> Result<(), OutOfMemory>
-    ensures { OnOk result (AddsRows (IsPrefixRow recursive) prefixes.now (string_bytes rows.old) (string_bytes rows.new)) }
+    ensures { OnOk result (AddsRows (IsPrefixRow recursive) prefixes.now (string_bytes rows.old)
+        (string_bytes rows.new)) }
 {
     for prefix in prefixes {
         let row = row_of_prefix(alloc, recursive, prefix)?;

@@ -23,8 +23,8 @@ commands:
   presign  prints a URL by which an object can be fetched
            s3 presign s3://bucket/notes.txt --endpoint-url http://localhost:9000
 
-In this version `cp` copies one file to an object, and `presign` is done; what is not
-built yet ends with `s3: not built yet` and status 252.
+In this version `cp` copies one file to an object, and `ls` and `presign` are done; what
+is not built yet ends with `s3: not built yet` and status 252.
 
 options:
   --endpoint-url URL       http://HOST or http://HOST:PORT; always wanted
@@ -54,12 +54,14 @@ keys and region:
 
 status:
     0  done
-    1  something failed, or nobody can know whether it was done
+    1  something failed, or nobody can know whether it was done; `ls` found nothing
     2  something was skipped with a warning
    70  out of memory
    74  an output failed
   252  the words are not understood, or not built yet
   253  the keys, the region or a settings file are missing or not understood
+  254  `ls`: the service refused a request
+  255  `ls`: the answer was lost, or a page was refused
 
 `s3 --version` prints the version.
 ";

@@ -14,7 +14,7 @@ use Rattle.s3_outside.specs.Files.{SeenFiles}
 use Rattle.s3_words.specs.declared.commands.Command.{Command}
 use Rattle.s3_words.specs.declared.commands.Verb.TheVariants as verb
 use Rattle.s3_words.specs.Commands.{IsCommand}
-use Rattle.upload_plans.specs.Commands.{is_presign, path_at, source_path}
+use Rattle.upload_plans.specs.Commands.{is_listing, is_presign, path_at, source_path}
 use Rattle.run_promise.specs.Gains.{Gains}
 use Rattle.upload_promise.specs.Sources.{LooksAt}
 use Rattle.run_promise.proofs.GainLemmas.{gains_as, gains_nothing}
@@ -24,7 +24,7 @@ use Rattle.s3_main.specs.declared.run.Run.{Run}
 use Rattle.s3_main.specs.Begun.{IsBegun, RefusedFor, StopsInSettings, StopsInWords, mode_in, path_in}
 use Rattle.s3_main.specs.Executed.{DoesOn, GoesOn}
 use Rattle.s3_main.specs.Plans.{HasNoTask}
-use Rattle.s3_main.specs.Runs.{GoesAs, StopsFor, StopsPlanning, Undertakes}
+use Rattle.s3_main.specs.Runs.{GoesAs, IsUnasked, StopsFor, StopsPlanning, Undertakes}
 use Rattle.s3_main.specs.Texts.{HasLine}
 use Rattle.s3_main.proofs.ExecutionLemmas.{nothing, stops_for, unplanned}
 
@@ -70,6 +70,32 @@ pub early_line : (words : List (List ℕ)) (env : Option SeenEnv) (before after 
 early_line words env before after why (inl h) = words_line words why h
 early_line words env before after why (inr h) = refused_line h.0 env before after why h.2
 
+words_unasked : (words : List (List ℕ)) (why : Fatal) → StopsInWords words why → IsUnasked (Some why)
+words_unasked words fatal.Memory h = tt
+words_unasked words (fatal.Words fault) h = tt
+words_unasked words fatal.NotYet h = tt
+words_unasked words (fatal.Profile fault) h = absurd h
+words_unasked words fatal.EnvRead h = absurd h
+words_unasked words (fatal.Plan fault) h = absurd h
+words_unasked words (fatal.Walk fault) h = absurd h
+words_unasked words (fatal.Listing fault) h = absurd h
+words_unasked words (fatal.Answer why) h = absurd h
+
+refused_unasked : (command : Command) (env : Option SeenEnv) (before after : ℕ) (why : Fatal) → RefusedFor command env before after why → IsUnasked (Some why)
+refused_unasked command env before after fatal.Memory h = tt
+refused_unasked command env before after (fatal.Profile fault) h = tt
+refused_unasked command env before after fatal.EnvRead h = tt
+refused_unasked command env before after (fatal.Words fault) h = absurd h
+refused_unasked command env before after fatal.NotYet h = absurd h
+refused_unasked command env before after (fatal.Plan fault) h = absurd h
+refused_unasked command env before after (fatal.Walk fault) h = absurd h
+refused_unasked command env before after (fatal.Listing fault) h = absurd h
+refused_unasked command env before after (fatal.Answer why) h = absurd h
+
+pub early_unasked : (words : List (List ℕ)) (env : Option SeenEnv) (before after : ℕ) (why : Fatal) → StopsInWords words why ⊎ StopsInSettings words env before after why → IsUnasked (Some why)
+early_unasked words env before after why (inl h) = words_unasked words why h
+early_unasked words env before after why (inr h) = refused_unasked h.0 env before after why h.2
+
 module _ (words : List (List ℕ)) (env : Option SeenEnv) (env_before env_after : ℕ) (limits : Limits) (was now : Option SeenFiles) (before after : ℕ) (run : Run) where
   abbrev Stops : Fatal → Type 0
   Stops = StopsFor words env env_before env_after limits was before after
@@ -84,26 +110,26 @@ module _ (words : List (List ℕ)) (env : Option SeenEnv) (env_before env_after 
   pub early_stops : (why : Fatal) → HasNoTask (Some why) [] [] run → StopsInWords words why ⊎ StopsInSettings words env env_before env_after why → IfSome run.fatal Stops
   early_stops why h stops = stops_for Stops why [] [] run h (early_is why stops)
 
-  pub early_goes : (seen : Option WireLog) (why : Fatal) → HasNoTask (Some why) [] [] run → Gains seen seen Goes
-  early_goes seen why h = gains_nothing Goes seen (inl (unplanned why run h))
+  pub early_goes : (seen : Option WireLog) (why : Fatal) → HasNoTask (Some why) [] [] run → StopsInWords words why ⊎ StopsInSettings words env env_before env_after why → Gains seen seen Goes
+  early_goes seen why h stops = gains_nothing Goes seen (inl (unplanned why run (early_unasked words env env_before env_after why stops) h))
 
-  pub early_does : (why : Fatal) → HasNoTask (Some why) [] [] run → Undertakes words limits before after run
-  early_does why h = inl (nothing why run h)
+  pub early_does : (why : Fatal) → HasNoTask (Some why) [] [] run → StopsInWords words why ⊎ StopsInSettings words env env_before env_after why → Undertakes words limits before after run
+  early_does why h stops = inl (nothing why run (early_unasked words env env_before env_after why stops) h)
 
   -- ---- a run that began
 
-  module _ (command : Command) (settings : Settings) (begun : IsBegun words env command settings) (copies : is_presign command.verb ≡ false) where
+  module _ (command : Command) (settings : Settings) (begun : IsBegun words env command settings) (copies : is_presign command.verb ≡ false) (no_listing : is_listing command.verb ≡ false) where
     goes : (talks : List Talk) (notes : List Note) → GoesOn command settings limits was now before after run talks notes → Goes talks notes
     goes talks notes (inl none) = inl none
     goes talks notes (inr (comes, fated, plan, works)) =
-        inr (inl (record { command = command; settings = settings; comes = comes; begun = begun; copies = copies; fated = fated; plan = plan; works = works }))
+        inr (inl (record { command = command; settings = settings; comes = comes; begun = begun; copies = copies; no_listing = no_listing; fated = fated; plan = plan; works = works }))
 
     pub begun_goes : (seen last : Option WireLog) → Gains seen last (GoesOn command settings limits was now before after run) → Gains seen last Goes
     begun_goes seen last gains = gains_as (GoesOn command settings limits was now before after run) Goes goes seen last gains
 
     stops : (why : Option Fatal) → IfSome why (StopsPlanning command settings limits was before after) → IfSome why Stops
     stops None h = tt
-    stops (Some why) h = inr (inr (command, settings, begun, copies, h))
+    stops (Some why) h = inr (inr (inl (command, settings, begun, copies, no_listing, h)))
 
     pub begun_stops : IfSome run.fatal (StopsPlanning command settings limits was before after) → IfSome run.fatal Stops
     begun_stops h = stops run.fatal h
@@ -111,4 +137,4 @@ module _ (words : List (List ℕ)) (env : Option SeenEnv) (env_before env_after 
     pub begun_does : DoesOn command settings limits before after run → Undertakes words limits before after run
     begun_does (inl none) = inl none
     begun_does (inr (comes, fated, plan, wants)) =
-        inr (inl (record { command = command; settings = settings; comes = comes; reads = begun.reads; copies = copies; fated = fated; plan = plan; wants = wants }))
+        inr (inl (record { command = command; settings = settings; comes = comes; reads = begun.reads; copies = copies; no_listing = no_listing; fated = fated; plan = plan; wants = wants }))

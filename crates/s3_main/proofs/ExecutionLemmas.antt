@@ -1,5 +1,5 @@
 -- From the fate of a command's file to what the run shows.
-use Rattle.std.proofs.Common.{◌≡◌, ◌≢◌, ◌≤◌, ◌∙◌, ◌⊎◌, ℕ, true, List, [], ◌∷◌, Option, Some, None, IfSome, refl, sym, ap, subst, inl, inr, arith, is_some}
+use Rattle.std.proofs.Common.{◌≡◌, ◌≢◌, ◌≤◌, ◌∙◌, ◌⊎◌, ℕ, true, List, [], ◌∷◌, Option, Some, None, IfSome, refl, sym, ap, subst, inl, inr, arith}
 use Rattle.result_lines.specs.Tasks.{HasSource}
 use Rattle.s3_model.specs.declared.outcomes.Cause.{Cause}
 use Rattle.s3_model.specs.declared.outcomes.Cause.TheVariants as cause
@@ -32,7 +32,7 @@ use Rattle.s3_main.specs.declared.run.Fatal.TheVariants as fatal
 use Rattle.s3_main.specs.declared.run.Run.{Run}
 use Rattle.s3_main.specs.Executed.{DoesOn, EndsAs, EndsForMemory, GoesOn, HasNoUpload, IsUnseen, MayUpload, MayWant, fatal_of}
 use Rattle.s3_main.specs.Plans.{HasNoTask, HasOneOutcome, HasPlan, HasUploaded, IsFate, IsUpload, MayEnd, path_of, put_ask}
-use Rattle.s3_main.specs.Runs.{IsNothingPlanned, IsUnplanned, StopsPlanning}
+use Rattle.s3_main.specs.Runs.{IsNothingPlanned, IsUnasked, IsUnplanned, StopsPlanning}
 use Rattle.s3_main.specs.Texts.{HasLine}
 
 none_some : {X : Type 0} (x : X) → None ≡ Some x → ⊥
@@ -47,9 +47,9 @@ if_some (Some x) P h = h x refl
 
 -- ---- a run without a task
 
-pub nothing : (why : Fatal) (run : Run) → HasNoTask (Some why) [] [] run → IsNothingPlanned run
-nothing why run h = record {
-  stopped = ap is_some h.fatal;
+pub nothing : (why : Fatal) (run : Run) → IsUnasked (Some why) → HasNoTask (Some why) [] [] run → IsNothingPlanned run
+nothing why run unasked h = record {
+  stopped = subst (λ (f : Option Fatal). IsUnasked f) (sym h.fatal) unasked;
   no_task = h.no_task;
   no_skip = h.skips_are;
   no_warning = h.warnings_are;
@@ -57,8 +57,8 @@ nothing why run h = record {
   no_job = h.no_job;
 }
 
-pub unplanned : (why : Fatal) (run : Run) → HasNoTask (Some why) [] [] run → IsUnplanned run [] []
-unplanned why run h = record { nothing = nothing why run h; no_talk = refl; no_note = refl }
+pub unplanned : (why : Fatal) (run : Run) → IsUnasked (Some why) → HasNoTask (Some why) [] [] run → IsUnplanned run [] []
+unplanned why run unasked h = record { nothing = nothing why run unasked h; no_talk = refl; no_note = refl }
 
 -- the one reason for which such a run stops
 pub stops_for : (P : Fatal → Type 0) (why : Fatal) (skips warnings : List Warning) (run : Run) → HasNoTask (Some why) skips warnings run → P why → IfSome run.fatal P
@@ -69,6 +69,17 @@ goes_on P skips warnings run h = subst (λ (f : Option Fatal). IfSome f P) (sym 
 
 pub may_end : (run : Run) → run.fatal ≡ None → MayEnd run.fatal
 may_end run none = subst (λ (f : Option Fatal). MayEnd f) (sym none) tt
+
+unseen_unasked : (before after : ℕ) (why : Fatal) → IsUnseen before after why → IsUnasked (Some why)
+unseen_unasked before after fatal.Memory h = tt
+unseen_unasked before after (fatal.Walk fault) h = tt
+unseen_unasked before after (fatal.Words fault) h = tt
+unseen_unasked before after (fatal.Profile fault) h = tt
+unseen_unasked before after fatal.EnvRead h = tt
+unseen_unasked before after (fatal.Plan fault) h = tt
+unseen_unasked before after fatal.NotYet h = tt
+unseen_unasked before after (fatal.Listing fault) h = absurd h
+unseen_unasked before after (fatal.Answer why) h = absurd h
 
 -- ---- counts of faults since an earlier moment
 
@@ -109,9 +120,9 @@ module _ (command : Command) (settings : Settings) (limits : Limits) (was now : 
   -- ---- the file is not copied
 
   idle : (comes : Fate) → HasNoUpload comes → IsFate command settings limits was comes → EndsAs comes run → Goes [] []
-  idle comes none fated (inl memory) = inl (unplanned fatal.Memory run memory)
-  idle fate.NotYet none fated (inr h) = inl (unplanned fatal.NotYet run h)
-  idle (fate.Refused fault) none fated (inr h) = inl (unplanned (fatal.Plan fault) run h)
+  idle comes none fated (inl memory) = inl (unplanned fatal.Memory run tt memory)
+  idle fate.NotYet none fated (inr h) = inl (unplanned fatal.NotYet run tt h)
+  idle (fate.Refused fault) none fated (inr h) = inl (unplanned (fatal.Plan fault) run tt h)
   idle (fate.NotAFile path) none fated (inr h) =
       inr (
         fate.NotAFile path,
@@ -139,9 +150,9 @@ module _ (command : Command) (settings : Settings) (limits : Limits) (was now : 
   ended_goes seen comes none fated ends = gains_nothing Goes seen (idle comes none fated ends)
 
   pub ended_does : (comes : Fate) → HasNoUpload comes → IsFate command settings limits was comes → EndsAs comes run → DoesOn command settings limits first after run
-  ended_does comes none fated (inl memory) = inl (nothing fatal.Memory run memory)
-  ended_does fate.NotYet none fated (inr h) = inl (nothing fatal.NotYet run h)
-  ended_does (fate.Refused fault) none fated (inr h) = inl (nothing (fatal.Plan fault) run h)
+  ended_does comes none fated (inl memory) = inl (nothing fatal.Memory run tt memory)
+  ended_does fate.NotYet none fated (inr h) = inl (nothing fatal.NotYet run tt h)
+  ended_does (fate.Refused fault) none fated (inr h) = inl (nothing (fatal.Plan fault) run tt h)
   ended_does (fate.NotAFile path) none fated (inr h) =
       inr (fate.NotAFile path, unseen (fate.NotAFile path) fated, record { ends = may_end run h.fatal; plan = tt; tasks = h.no_task; skips = h.skips_are; warnings = h.warnings_are }, (h.no_outcome, h.no_job))
   ended_does (fate.Skipped place why) none fated (inr h) =
@@ -162,8 +173,11 @@ module _ (command : Command) (settings : Settings) (limits : Limits) (was now : 
 
   -- ---- the file was not seen
 
-  pub unseen_goes : (seen : Option WireLog) (why : Fatal) → HasNoTask (Some why) [] [] run → Gains seen seen Goes
-  unseen_goes seen why h = gains_nothing Goes seen (inl (unplanned why run h))
+  pub unseen_goes : (seen : Option WireLog) (why : Fatal) → HasNoTask (Some why) [] [] run → IsUnseen first after why → Gains seen seen Goes
+  unseen_goes seen why h is = gains_nothing Goes seen (inl (unplanned why run (unseen_unasked first after why is) h))
+
+  pub unseen_does : (why : Fatal) → HasNoTask (Some why) [] [] run → IsUnseen first after why → DoesOn command settings limits first after run
+  unseen_does why h is = inl (nothing why run (unseen_unasked first after why is) h)
 
   unseen_is : (why : Fatal) → IsUnseen first after why → Stops why
   unseen_is fatal.Memory h = tt
@@ -192,7 +206,7 @@ module _ (command : Command) (settings : Settings) (limits : Limits) (was now : 
     since how talks notes (inr g) = inr g
 
     uploaded : (talks : List Talk) (notes : List Note) → IsFate command settings limits was (fate.Upload task) → MayUpload command.endpoint settings.keys task now before after run talks notes → Goes talks notes
-    uploaded talks notes fated (inl stopped) = inl (record { nothing = nothing fatal.Memory run stopped.stopped; no_talk = stopped.no_talk; no_note = stopped.no_note })
+    uploaded talks notes fated (inl stopped) = inl (record { nothing = nothing fatal.Memory run tt stopped.stopped; no_talk = stopped.no_talk; no_note = stopped.no_note })
     uploaded talks notes fated (inr (has, (how, one, uploads))) =
         inr (fate.Upload task, fated, record { ends = may_end run has.fatal; plan = tt; tasks = has.one_task; skips = has.no_skip; warnings = has.no_warning }, (how, one, since how talks notes uploads))
 
@@ -200,7 +214,7 @@ module _ (command : Command) (settings : Settings) (limits : Limits) (was now : 
     uploaded_goes seen last fated gains = gains_as (MayUpload command.endpoint settings.keys task now before after run) Goes (λ talks notes may. uploaded talks notes fated may) seen last gains
 
     pub uploaded_does : IsFate command settings limits was (fate.Upload task) → MayWant task before after run → DoesOn command settings limits first after run
-    uploaded_does fated (inl memory) = inl (nothing fatal.Memory run memory)
+    uploaded_does fated (inl memory) = inl (nothing fatal.Memory run tt memory)
     uploaded_does fated (inr (has, (how, one, wants))) =
         inr (
           fate.Upload task,

@@ -1,5 +1,5 @@
 -- A run keeps its promise: it planned an upload and carried it out, or it has no task.
-use Rattle.std.proofs.Common.{◌≡◌, ◌≢◌, ◌∙◌, ◌<◌, ◌≤◌, ◌^◌, ℕ, List, [], ◌∷◌, Option, Some, None, refl, sym, ap, subst, inl, inr, arith, filter_map}
+use Rattle.std.proofs.Common.{◌≡◌, ◌≢◌, ◌∙◌, ◌<◌, ◌≤◌, ◌^◌, ℕ, Bool, true, false, List, [], ◌∷◌, Option, Some, None, Result, Ok, Err, if◌then◌else◌, refl, sym, ap, subst, inl, inr, arith, filter_map}
 use Rattle.result_lines.specs.declared.tasks.Line.{Line}
 use Rattle.run_promise.specs.Settled.{left_by, untimed_by}
 use Rattle.s3_model.specs.declared.outcomes.Event.{Event}
@@ -15,6 +15,29 @@ use Rattle.s3_model.specs.Talks.{Talk, Note, Moment, Began}
 use Rattle.upload_promise.specs.Puts.{AreIdle}
 use Rattle.upload_promise.proofs.JobLemmas.{only}
 use Rattle.upload_promise.proofs.WireLemmas.{none_idle}
+use Rattle.answer_classes.specs.Showing.{HasStatus, Shows}
+use Rattle.list_walk.specs.Pages.{IsRefusedPage}
+use Rattle.listing_commands.specs.Commands.{IsShownBuckets, IsShownBy, IsShownWalk, ShowsListing, needs_of}
+use Rattle.listing_commands.specs.declared.show.Shown.{Shown}
+use Rattle.listing_promise.specs.Listings.{AskQuestions}
+use Rattle.listing_promise.proofs.PlanLemmas.{all_questions, asked_more}
+use Rattle.listing_promise.proofs.PromiseLemmas.{listing_keeps}
+use Rattle.listings.specs.Asked.{AreAsked, Asked, dispatched_from, events_from}
+use Rattle.listings.specs.Pages.{Plans, is_memory}
+use Rattle.listings.specs.declared.fault.ListingFault.{ListingFault}
+use Rattle.listings.specs.declared.fault.ListingFault.TheVariants as unlisted
+use Rattle.run_promise.specs.Planning.{Need, PlansFor}
+use Rattle.shared_lemmas.proofs.Clashes.{false_true}
+use Rattle.s3_model.specs.declared.places.Place.{Place}
+use Rattle.s3_model.specs.declared.places.Place.TheVariants as place
+use Rattle.s3_words.specs.Commands.{IsCommand, arguments_of, first_of}
+use Rattle.s3_words.specs.Given.{is_given}
+use Rattle.s3_words.specs.Places.{places_in}
+use Rattle.s3_words.specs.declared.options.OptionName.TheVariants.{Recursive}
+use Rattle.upload_plans.specs.Commands.{is_listing}
+use Rattle.s3_main.specs.declared.run.Fatal.{Fatal}
+use Rattle.s3_main.specs.declared.run.Fatal.TheVariants as fatal
+use Rattle.s3_main.specs.Listings.{EndsListing, HasNoOutcome}
 use Rattle.s3_main.specs.Urls.{IsPresigned}
 use Rattle.s3_model.specs.Validity.{IsValidConfig, IsValidLimits, IsWithin}
 use Rattle.s3_outside.specs.Env.{SeenEnv}
@@ -22,7 +45,6 @@ use Rattle.s3_outside.specs.Files.{SeenFiles, shape_at}
 use Rattle.s3_outside.specs.declared.files.Shape.{Shape}
 use Rattle.s3_outside.specs.declared.files.Shape.TheVariants as shape
 use Rattle.s3_words.specs.declared.commands.Command.{Command}
-use Rattle.answer_classes.specs.Showing.{HasStatus, Shows}
 use Rattle.attempts.specs.Attempts.{text_of}
 use Rattle.small_uploads.specs.Uploading.{Uploads}
 use Rattle.upload_plans.specs.Commands.{bucket_of, key_of, path_at, source_path}
@@ -34,10 +56,11 @@ use Rattle.upload_promise.specs.Shown.{KeepsPromise, shown_by}
 use Rattle.upload_promise.specs.Sources.{LooksAt}
 use Rattle.upload_promise.proofs.PromiseLemmas as promise
 use Rattle.s3_main.specs.declared.run.Run.{Run}
-use Rattle.s3_main.specs.Begun.{IsBegun, path_in}
+use Rattle.s3_main.specs.Begun.{IsBegun, needs_in, path_in}
 use Rattle.s3_main.specs.Plans.{HasPlan, HasUploaded, IsFate, IsIdle, Works, path_of, put_ask, warnings_of}
-use Rattle.s3_main.specs.Runs.{GoesAs, IfSeen, IsTrue, IsUnplanned}
+use Rattle.s3_main.specs.Runs.{GoesAs, IfSeen, IsTrue, IsUnasked, IsUnplanned, PlansBy}
 use Rattle.s3_main.proofs.BeginLemmas.{source_is}
+use Rattle.s3_main.proofs.UrlLemmas.{lists, presign_is_no_listing}
 
 abbrev no_keys : Keys
 no_keys = record { id = []; secret = []; token = None; region = [] }
@@ -87,21 +110,45 @@ moment_is_no_talk moment e = cc
 moment_idle : (moment : ℕ) → AreIdle (Moment moment ∷ [])
 moment_idle moment = record { no_talk = λ h. moment_is_no_talk moment (only (Moment moment) Began h); no_pause = refl }
 
+-- ---- what planning needs
+
+no_needs : (words : List (List ℕ)) (command : Command) → IsCommand words command → is_listing command.verb ≡ false → needs_in words ≡ []
+no_needs words command is none =
+    ap (λ (lists : Bool). if lists then needs_of (first_of (places_in (arguments_of words))) (is_given Recursive (arguments_of words)) else []) (lists words command is ∙ none)
+
+has_needs : (words : List (List ℕ)) (command : Command) → IsCommand words command → is_listing command.verb ≡ true → needs_in words ≡ needs_of command.from command.recursive
+has_needs words command is listing =
+    ap (λ (lists : Bool). if lists then needs_of (first_of (places_in (arguments_of words))) (is_given Recursive (arguments_of words)) else []) (lists words command is ∙ listing)
+    ∙ ap (λ (at : Option Place). needs_of at (is_given Recursive (arguments_of words))) (sym is.asks.from) ∙ ap (λ (recursive : Bool). needs_of command.from recursive) (sym is.asks.recursive)
+
+-- memory that ran out for a listing ends the run
+memory_ends : {T : Type 0} (Shows : T → Shown → Type 0) (listed : Result T ListingFault) (result : Result Shown ListingFault) (why : Option Fatal) → is_memory listed ≡ true → IsShownBy Shows listed result
+    → EndsListing result why → why ≡ Some fatal.Memory
+memory_ends Shows (Ok told) result why e shown ends = absurd (false_true e)
+memory_ends Shows (Err (unlisted.Listing refused)) result why e shown ends = absurd (false_true e)
+memory_ends Shows (Err (unlisted.Answer reason)) result why e shown ends = absurd (false_true e)
+memory_ends Shows (Err unlisted.Memory) (Ok told) why e shown ends = absurd shown
+memory_ends Shows (Err unlisted.Memory) (Err same) why e shown ends =
+    elim (subst (λ (f : ListingFault). EndsListing (Err f) why) shown ends) [ inl is ↦ is | inr is ↦ is ]
+
 module _ (words : List (List ℕ)) (env : Option SeenEnv) (limits : Limits) (valid : IsValidLimits limits) (before after : ℕ) (run : Run) (talks : List Talk) (notes : List Note)
-    (was now : SeenFiles) (same : now.store ≡ was.store) where
+    (was now : SeenFiles) (same : now.store ≡ was.store) (memory : run.fatal ≡ Some fatal.Memory → run.status ≡ 70) where
   abbrev path : List ℕ
   path = path_in words
 
   -- what is to be shown, of these lists
   abbrev Keeps : Endpoint → Settings → List Task → List Outcome → List Event → List Warning → List Talk → List Note → Type 0
   Keeps endpoint settings tasks outcomes journal warnings of_talks of_notes =
-      KeepsPromise Shows HasStatus (text_of endpoint settings.keys) endpoint.host endpoint.port path before after tasks warnings now
+      KeepsPromise Shows HasStatus (text_of endpoint settings.keys) endpoint.host endpoint.port (PlansBy words run.fatal) path before after tasks warnings now
       (shown_by settings.config limits run.status tasks outcomes journal of_talks of_notes was now)
 
-  nothing : (endpoint : Endpoint) (settings : Settings) → IsValidConfig settings.config → (warnings : List Warning) → filter_map left_by warnings ≡ [] → filter_map untimed_by warnings ≡ []
+  abbrev PlansNone : Type 0
+  PlansNone = PlansBy words run.fatal []
+
+  nothing : (endpoint : Endpoint) (settings : Settings) → IsValidConfig settings.config → PlansNone → (warnings : List Warning) → filter_map left_by warnings ≡ [] → filter_map untimed_by warnings ≡ []
       → (of_notes : List Note) → AreIdle of_notes → Keeps endpoint settings [] [] [] warnings [] of_notes
-  nothing endpoint settings configured warnings left untimed of_notes idle =
-      promise.unplanned Shows HasStatus (text_of endpoint settings.keys) endpoint.host endpoint.port settings.config configured limits valid run.status before after path was now same warnings left untimed of_notes idle
+  nothing endpoint settings configured none warnings left untimed of_notes idle =
+      promise.unplanned Shows HasStatus (text_of endpoint settings.keys) endpoint.host endpoint.port (PlansBy words run.fatal) none settings.config configured limits valid run.status before after path was now same warnings left untimed of_notes idle
 
   -- the lists of the run are these
   of_run : (endpoint : Endpoint) (settings : Settings) (tasks : List Task) (outcomes : List Outcome) (journal : List Event) (warnings : List Warning) (of_talks : List Talk) (of_notes : List Note)
@@ -122,7 +169,7 @@ module _ (words : List (List ℕ)) (env : Option SeenEnv) (limits : Limits) (val
     settings = some_settings;
     begun = λ some. absurd (some u.nothing.no_job);
     keeps = of_run nowhere some_settings [] [] [] [] [] [] u.nothing.no_task u.nothing.no_outcome u.nothing.no_job u.nothing.no_warning u.no_talk u.no_note
-        (nothing nowhere some_settings some_valid [] refl refl [] none_idle);
+        (nothing nowhere some_settings some_valid (inr (inl (refl, u.nothing.stopped))) [] refl refl [] none_idle);
   }
 
   url_true : IsPresigned words env run talks notes → IsTrue words env limits before after run talks notes was now
@@ -131,7 +178,7 @@ module _ (words : List (List ℕ)) (env : Option SeenEnv) (limits : Limits) (val
     settings = some_settings;
     begun = λ some. absurd (some u.taskless.no_job);
     keeps = of_run nowhere some_settings [] [] [] [] [] (Moment u.moment ∷ []) u.taskless.no_task u.taskless.no_outcome u.taskless.no_job u.taskless.no_warning u.no_talk u.noted
-        (nothing nowhere some_settings some_valid [] refl refl (Moment u.moment ∷ []) (moment_idle u.moment));
+        (nothing nowhere some_settings some_valid (inl (no_needs words u.command u.begun.reads.is_command (presign_is_no_listing u.command.verb u.presign))) [] refl refl (Moment u.moment ∷ []) (moment_idle u.moment));
   }
 
   module _ (command : Command) (settings : Settings) (begun : IsBegun words env command settings) where
@@ -144,45 +191,74 @@ module _ (words : List (List ℕ)) (env : Option SeenEnv) (limits : Limits) (val
     true_by : KeepsBoth run.plan.tasks.items run.outcomes.items run.journal.items run.warnings.items talks notes → IsTrue words env limits before after run talks notes was now
     true_by keeps = record { endpoint = endpoint; settings = settings; begun = λ some. (command, begun, refl); keeps = keeps }
 
+    none_planned : is_listing command.verb ≡ false → PlansNone
+    none_planned none = inl (no_needs words command begun.reads.is_command none)
+
     -- a plan without a task
-    idle_true : (comes : Fate) → run.plan.tasks.items ≡ [] → run.warnings.items ≡ warnings_of comes → IsIdle run talks notes → IsTrue words env limits before after run talks notes was now
-    idle_true comes tasks warnings idle =
+    idle_true : is_listing command.verb ≡ false → (comes : Fate) → run.plan.tasks.items ≡ [] → run.warnings.items ≡ warnings_of comes → IsIdle run talks notes → IsTrue words env limits before after run talks notes was now
+    idle_true none comes tasks warnings idle =
         true_by (of_run endpoint settings [] [] [] (warnings_of comes) [] [] tasks idle.no_outcome idle.no_job warnings idle.no_talk idle.no_note
-        (nothing endpoint settings begun.valid (warnings_of comes) (no_left comes) (no_untimed comes) [] none_idle))
+        (nothing endpoint settings begun.valid (none_planned none) (warnings_of comes) (no_left comes) (no_untimed comes) [] none_idle))
 
     -- a plan with its upload
-    upload_true : (task : Task) → IsFate command settings limits (Some was) (fate.Upload task) → run.plan.tasks.items ≡ task ∷ [] → run.warnings.items ≡ []
+    upload_true : is_listing command.verb ≡ false → (task : Task) → IsFate command settings limits (Some was) (fate.Upload task) → run.plan.tasks.items ≡ task ∷ [] → run.warnings.items ≡ []
         → HasUploaded endpoint settings.keys task (Some now) before after run talks notes → IsTrue words env limits before after run talks notes was now
-    upload_true task fated tasks warnings (how, one, uploads) =
+    upload_true none task fated tasks warnings (how, one, uploads) =
         let of_file = task_of command settings.config.threshold limits.max_object task fated.stands (sym fated.is) in
         let key = planned_key (source_path command) (key_of command) in
         let of_task = planned_task command (source_path command) (bucket_of command) key of_file.size of_file.micros in
         let sent = subst (λ (t : Task). Uploads endpoint settings.keys (put_ask t) (Some now) (path_of t) t.size before after run.journal.items how talks notes) of_file.is uploads in
         let stands : shape_at was.store (source_path command) ≡ shape.File of_file.size of_file.micros = fated.seen ∙ of_file.is_file in
         let keeps =
-        promise.uploaded Shows HasStatus (text_of endpoint settings.keys) endpoint.host endpoint.port settings.config begun.valid limits valid run.status before after (source_path command) was now same [] refl refl
+        promise.uploaded Shows HasStatus (text_of endpoint settings.keys) endpoint.host endpoint.port (PlansBy words run.fatal) (none_planned none) settings.config begun.valid limits valid run.status before after (source_path command) was now same [] refl refl
         (bucket_of command) key (content_for command (source_path command)) of_file.size of_file.micros of_file.small stands run.journal.items how talks notes sent in
         let here : KeepsBoth (of_task ∷ []) (how ∷ []) run.journal.items [] talks notes =
-        subst (λ (at : List ℕ). KeepsPromise Shows HasStatus (text_of endpoint settings.keys) endpoint.host endpoint.port at before after (of_task ∷ []) [] now
+        subst (λ (at : List ℕ). KeepsPromise Shows HasStatus (text_of endpoint settings.keys) endpoint.host endpoint.port (PlansBy words run.fatal) at before after (of_task ∷ []) [] now
         (shown_by settings.config limits run.status (of_task ∷ []) (how ∷ []) run.journal.items talks notes was now)) (source_is words command begun.reads.is_command) keeps in
         true_by (of_run endpoint settings (of_task ∷ []) (how ∷ []) run.journal.items [] talks notes
         (tasks ∙ ap (λ (t : Task). t ∷ []) of_file.is) one refl warnings refl refl here)
 
-    planned_true : (comes : Fate) → IsFate command settings limits (Some was) comes → HasPlan comes run → Works comes endpoint settings.keys (Some now) before after run talks notes
+    planned_true : is_listing command.verb ≡ false → (comes : Fate) → IsFate command settings limits (Some was) comes → HasPlan comes run → Works comes endpoint settings.keys (Some now) before after run talks notes
         → IsTrue words env limits before after run talks notes was now
-    planned_true fate.NotYet fated plan works = absurd plan.plan
-    planned_true (fate.Refused fault) fated plan works = absurd plan.plan
-    planned_true (fate.NotAFile at) fated plan works = idle_true (fate.NotAFile at) plan.tasks plan.warnings works
-    planned_true (fate.Skipped place why) fated plan works = idle_true (fate.Skipped place why) plan.tasks plan.warnings works
-    planned_true fate.LeftOut fated plan works = idle_true fate.LeftOut plan.tasks plan.warnings works
-    planned_true (fate.Upload task) fated plan works = upload_true task fated plan.tasks plan.warnings works
+    planned_true none fate.NotYet fated plan works = absurd plan.plan
+    planned_true none (fate.Refused fault) fated plan works = absurd plan.plan
+    planned_true none (fate.NotAFile at) fated plan works = idle_true none (fate.NotAFile at) plan.tasks plan.warnings works
+    planned_true none (fate.Skipped place why) fated plan works = idle_true none (fate.Skipped place why) plan.tasks plan.warnings works
+    planned_true none fate.LeftOut fated plan works = idle_true none fate.LeftOut plan.tasks plan.warnings works
+    planned_true none (fate.Upload task) fated plan works = upload_true none task fated plan.tasks plan.warnings works
+
+    -- a listing: its requests are those that planning needs
+    listed_true : is_listing command.verb ≡ true → HasNoOutcome run → (asked : List Asked) (wanting : Bool) → run.journal.items ≡ events_from 0 asked → AreAsked endpoint settings.keys wanting asked talks notes
+        → (wanting ≡ true → run.fatal ≡ Some fatal.Memory) → (needs : List Need) → needs_in words ≡ needs → AskQuestions needs → Plans wanting (dispatched_from 0 0 asked) needs [] None
+        → IsTrue words env limits before after run talks notes was now
+    listed_true listing none asked wanting events gained wants needs needed ask plans =
+        let questions = all_questions Shows IsRefusedPage ⊥ (wanting ≡ true) asked 0 0 needs [] None ask plans in
+        let more = asked_more Shows IsRefusedPage ⊥ (IsUnasked run.fatal) (wanting ≡ true) (run.fatal ≡ Some fatal.Memory) (λ h. absurd h) wants (dispatched_from 0 0 asked) needs [] None plans in
+        let planned = subst (λ (all : List Need). PlansFor Shows IsRefusedPage (IsUnasked run.fatal) (run.fatal ≡ Some fatal.Memory) all (dispatched_from 0 0 asked)) (sym needed) more in
+        true_by (of_run endpoint settings [] [] (events_from 0 asked) [] talks notes none.no_task none.no_outcome events none.no_warning refl refl
+        (listing_keeps endpoint settings.keys (PlansBy words run.fatal) settings.config begun.valid limits valid run.status before after path was now same asked questions talks notes wanting
+        (λ e. memory (wants e)) gained planned))
+
+    shown_true : is_listing command.verb ≡ true → HasNoOutcome run → (at : Option Place) (recursive : Bool) → needs_in words ≡ needs_of at recursive → (result : Result Shown ListingFault)
+        → ShowsListing endpoint settings.keys at recursive [] run.journal.items result talks notes → EndsListing result run.fatal → IsTrue words env limits before after run talks notes was now
+    shown_true listing none None recursive needed result shows ends =
+        listed_true listing none shows.lists.asked (is_memory shows.listed) shows.lists.events shows.lists.gained
+        (λ e. memory_ends IsShownBuckets shows.listed result run.fatal e shows.shown ends) (needs_of None recursive) needed (tt, tt) (shows.lists.plans 0)
+    shown_true listing none (Some (place.Object bucket key)) recursive needed result shows ends =
+        listed_true listing none shows.lists.asked (is_memory shows.listed) shows.lists.events shows.lists.gained
+        (λ e. memory_ends (IsShownWalk key recursive) shows.listed result run.fatal e shows.shown ends) (needs_of (Some (place.Object bucket key)) recursive) needed tt (shows.lists.plans 0)
+    shown_true listing none (Some (place.File at)) recursive needed result shows ends = absurd shows
 
 -- in either case, where the files are seen
 pub all_true : (limits : Limits) → IsValidLimits limits → (run : Run) (talks : List Talk) (notes : List Note) (words : List (List ℕ)) (env : Option SeenEnv) (was now : Option SeenFiles) (before after : ℕ)
-    → LooksAt (path_in words) was now → GoesAs words env limits was now before after run talks notes → IfSeen was now (IsTrue words env limits before after run talks notes)
-all_true limits valid run talks notes words env was None before after looks goes = tt
-all_true limits valid run talks notes words env None (Some now) before after looks goes = tt
-all_true limits valid run talks notes words env (Some was) (Some now) before after looks (inl u) = unplanned_true words env limits valid before after run talks notes was now looks.0 u
-all_true limits valid run talks notes words env (Some was) (Some now) before after looks (inr (inr u)) = url_true words env limits valid before after run talks notes was now looks.0 u
-all_true limits valid run talks notes words env (Some was) (Some now) before after looks (inr (inl p)) =
-    planned_true words env limits valid before after run talks notes was now looks.0 p.command p.settings p.begun p.comes p.fated p.plan p.works
+    → (run.fatal ≡ Some fatal.Memory → run.status ≡ 70) → LooksAt (path_in words) was now → GoesAs words env limits was now before after run talks notes
+    → IfSeen was now (IsTrue words env limits before after run talks notes)
+all_true limits valid run talks notes words env was None before after memory looks goes = tt
+all_true limits valid run talks notes words env None (Some now) before after memory looks goes = tt
+all_true limits valid run talks notes words env (Some was) (Some now) before after memory looks (inl u) = unplanned_true words env limits valid before after run talks notes was now looks.0 memory u
+all_true limits valid run talks notes words env (Some was) (Some now) before after memory looks (inr (inr (inl u))) = url_true words env limits valid before after run talks notes was now looks.0 memory u
+all_true limits valid run talks notes words env (Some was) (Some now) before after memory looks (inr (inl p)) =
+    planned_true words env limits valid before after run talks notes was now looks.0 memory p.command p.settings p.begun p.no_listing p.comes p.fated p.plan p.works
+all_true limits valid run talks notes words env (Some was) (Some now) before after memory looks (inr (inr (inr l))) =
+    shown_true words env limits valid before after run talks notes was now looks.0 memory l.command l.settings l.begun l.listing l.nothing l.command.from l.command.recursive
+    (has_needs words l.command l.begun.reads.is_command l.listing) l.result l.shows l.ends

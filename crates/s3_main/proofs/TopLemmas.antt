@@ -1,5 +1,5 @@
 -- The first wire of a run, and a run that was reported.
-use Rattle.std.proofs.Common.{true, ◌≡◌, ◌≢◌, ◌≤◌, ◌∙◌, ◌⊎◌, ℕ, List, [], ◌∷◌, Option, Some, None, Result, Ok, Err, IfSome, OnErr, refl, sym, ap, subst, inl, inr, arith, length, get_or, slice_set, is_some}
+use Rattle.std.proofs.Common.{Bool, true, false, ◌≡◌, ◌≢◌, ◌≤◌, ◌∙◌, ◌⊎◌, ℕ, List, [], ◌∷◌, Option, Some, None, Result, Ok, Err, IfSome, OnErr, refl, sym, ap, subst, inl, inr, arith, length, get_or, slice_set, is_some}
 use Rattle.result_lines.specs.declared.tasks.Line.{Line}
 use Rattle.s3_model.specs.declared.list.OutOfMemory.{OutOfMemory}
 use Rattle.s3_model.specs.declared.outcomes.Event.{Event}
@@ -16,11 +16,18 @@ use Rattle.small_uploads.specs.Uploading.{Uploads}
 use Rattle.s3_main.specs.declared.run.Fatal.{Fatal}
 use Rattle.s3_main.specs.declared.run.Fatal.TheVariants as fatal
 use Rattle.s3_main.specs.declared.run.Run.{Run}
-use Rattle.s3_main.specs.Begun.{mode_in}
-use Rattle.s3_main.specs.Executed.{HasLineOf}
-use Rattle.s3_main.specs.Urls.{IsOwn, IsTaskless}
+use Rattle.listing_commands.specs.Commands.{ShowsListing}
+use Rattle.listing_commands.specs.declared.show.Shown.{Shown}
+use Rattle.listings.specs.declared.fault.ListingFault.{ListingFault}
+use Rattle.s3_model.specs.declared.outcomes.Outcome.{Outcome}
+use Rattle.s3_model.specs.declared.tasks.Warning.{Warning}
+use Rattle.s3_main.specs.Begun.{lists_in, mode_in}
+use Rattle.s3_main.specs.Executed.{HasLineOf, HasStatusOf}
+use Rattle.s3_main.specs.Listings.{EndsListing, HasNoOutcome, IsListing}
+use Rattle.s3_main.specs.Own.{IsOwn, Own, nothing_own}
+use Rattle.s3_main.specs.Urls.{IsTaskless}
 use Rattle.s3_main.specs.Plans.{HasPlan, IsIdle, MayEnd, Wants, Works, path_of, put_ask}
-use Rattle.s3_main.specs.Runs.{GoesAs, IsNothingPlanned, IsPrinted, IsPrintedAs, OnFirst, StopsFor, Undertakes}
+use Rattle.s3_main.specs.Runs.{EndsAsShown, EndsWith, GoesAs, IsNothingPlanned, IsPrinted, IsPrintedAs, IsUnasked, OnFirst, StopsFor, Undertakes, run_status, status_by}
 use Rattle.s3_main.specs.Texts.{IsLineOf, err_by, err_of, err_text, fatal_after, out_by, out_of, out_text}
 
 -- what holds of the first of a list before and after it was written
@@ -28,15 +35,42 @@ pub on_first : {W : Type 0} (xs : List W) (before after : W) (P : W → W → Ty
 on_first [] before after P some is holds = absurd (omega (arith, some))
 on_first (x ∷ xs) before after P some is holds = (subst (λ w. P w after) is holds, refl)
 
+-- ---- statuses
+
+alike : (a b missed : Bool) (why : Option Fatal) (outcomes : List Outcome) (warnings : List Warning) → HasStatusOf b a why → status_by a missed why outcomes warnings ≡ status_by b missed why outcomes warnings
+alike a b missed None outcomes warnings h = refl
+alike a b missed (Some why) outcomes warnings h = sym h
+
+ends_alike : (OutputFailed : Type 0) (a b missed : Bool) (run : Run) → HasStatusOf b a run.fatal → EndsWith a missed run OutputFailed → EndsWith b missed run OutputFailed
+ends_alike OutputFailed a b missed run h (inl is) = inl (is ∙ alike a b missed run.fatal run.outcomes.items run.warnings.items h)
+ends_alike OutputFailed a b missed run h (inr failed) = inr failed
+
+-- where memory ran out nothing else decides the status
+memory_by : (a missed : Bool) (run : Run) → run.fatal ≡ Some fatal.Memory → run_status a missed run ≡ 70
+memory_by a missed run is = ap (λ (f : Option Fatal). status_by a missed f run.outcomes.items run.warnings.items) is
+
+memory_ends : (OutputFailed : Type 0) (a b missed other : Bool) (run : Run) → run.fatal ≡ Some fatal.Memory → EndsWith a missed run OutputFailed → EndsWith b other run OutputFailed
+memory_ends OutputFailed a b missed other run memory (inl is) = inl (is ∙ memory_by a missed run memory ∙ sym (memory_by b other run memory))
+memory_ends OutputFailed a b missed other run memory (inr failed) = absurd (failed.2 memory)
+
+pub memory_status : (OutputFailed : Type 0) (a missed : Bool) (run : Run) → EndsWith a missed run OutputFailed → run.fatal ≡ Some fatal.Memory → run.status ≡ 70
+memory_status OutputFailed a missed run (inl is) memory = is ∙ memory_by a missed run memory
+memory_status OutputFailed a missed run (inr failed) memory = absurd (failed.2 memory)
+
 -- ---- a run that was reported
 
-stays_stopped : (line : Result (Option Line) OutOfMemory) (why : Option Fatal) → is_some why ≡ true → is_some (fatal_after line why) ≡ true
+stays_stopped : (line : Result (Option Line) OutOfMemory) (why : Option Fatal) → IsUnasked why → IsUnasked (fatal_after line why)
 stays_stopped (Ok line) why is = is
-stays_stopped (Err memory) why is = refl
+stays_stopped (Err memory) why is = tt
 
 still_ends : (line : Result (Option Line) OutOfMemory) (why : Option Fatal) → MayEnd why → MayEnd (fatal_after line why)
 still_ends (Ok line) why h = h
 still_ends (Err memory) why h = tt
+
+still_listed : (line : Result (Option Line) OutOfMemory) (result : Result Shown ListingFault) (why : Option Fatal) → EndsListing result why → EndsListing result (fatal_after line why)
+still_listed (Ok line) result why h = h
+still_listed (Err memory) (Ok shown) why h = tt
+still_listed (Err memory) (Err ends) why h = inr refl
 
 -- it has the plan, the outcomes, the journal and the warnings of the run that worked
 pub record IsReported (work run : Run) (line : Result (Option Line) OutOfMemory) : Type 0 where
@@ -49,7 +83,7 @@ pub record IsReported (work run : Run) (line : Result (Option Line) OutOfMemory)
 module _ (work run : Run) (line : Result (Option Line) OutOfMemory) (r : IsReported work run line) where
   nothing : IsNothingPlanned work → IsNothingPlanned run
   nothing n = record {
-    stopped = ap is_some r.fatal ∙ stays_stopped line work.fatal n.stopped;
+    stopped = subst (λ (f : Option Fatal). IsUnasked f) (sym r.fatal) (stays_stopped line work.fatal n.stopped);
     no_task = ap (λ p. p.tasks.items) r.plan ∙ n.no_task;
     no_skip = ap (λ p. p.warnings.items) r.plan ∙ n.no_skip;
     no_warning = ap (λ w. w.items) r.warnings ∙ n.no_warning;
@@ -68,6 +102,26 @@ module _ (work run : Run) (line : Result (Option Line) OutOfMemory) (r : IsRepor
     no_warning = ap (λ w. w.items) r.warnings ∙ n.no_warning;
     no_outcome = ap (λ o. o.items) r.outcomes ∙ n.no_outcome;
     no_job = ap (λ j. j.items) r.journal ∙ n.no_job;
+  }
+
+  no_outcome : HasNoOutcome work → HasNoOutcome run
+  no_outcome n = record {
+    no_task = ap (λ p. p.tasks.items) r.plan ∙ n.no_task;
+    no_skip = ap (λ p. p.warnings.items) r.plan ∙ n.no_skip;
+    no_warning = ap (λ w. w.items) r.warnings ∙ n.no_warning;
+    no_outcome = ap (λ o. o.items) r.outcomes ∙ n.no_outcome;
+  }
+
+  listed : (words : List (List ℕ)) (env : Option SeenEnv) (talks : List Talk) (notes : List Note) → IsListing words env work talks notes → IsListing words env run talks notes
+  listed words env talks notes l = record {
+    command = l.command;
+    settings = l.settings;
+    begun = l.begun;
+    listing = l.listing;
+    nothing = no_outcome l.nothing;
+    result = l.result;
+    shows = subst (λ (events : List Event). ShowsListing l.command.endpoint l.settings.keys l.command.from l.command.recursive [] events l.result talks notes) (sym (ap (λ j. j.items) r.journal)) l.shows;
+    ends = subst (λ (f : Option Fatal). EndsListing l.result f) (sym r.fatal) (still_listed line l.result work.fatal l.ends);
   }
 
   has_plan : (comes : Fate) → HasPlan comes work → HasPlan comes run
@@ -115,7 +169,8 @@ module _ (work run : Run) (line : Result (Option Line) OutOfMemory) (r : IsRepor
   module _ (words : List (List ℕ)) (env : Option SeenEnv) (env_before env_after : ℕ) (limits : Limits) (was now : Option SeenFiles) (before after : ℕ) where
     pub goes : (talks : List Talk) (notes : List Note) → GoesAs words env limits was now before after work talks notes → GoesAs words env limits was now before after run talks notes
     goes talks notes (inl u) = inl (record { nothing = nothing u.nothing; no_talk = u.no_talk; no_note = u.no_note })
-    goes talks notes (inr (inr u)) = inr (inr (record {
+    goes talks notes (inr (inr (inr l))) = inr (inr (inr (listed words env talks notes l)))
+    goes talks notes (inr (inr (inl u))) = inr (inr (inl (record {
       command = u.command;
       settings = u.settings;
       begun = u.begun;
@@ -124,13 +179,14 @@ module _ (work run : Run) (line : Result (Option Line) OutOfMemory) (r : IsRepor
       moment = u.moment;
       no_talk = u.no_talk;
       noted = u.noted;
-    }))
+    })))
     goes talks notes (inr (inl p)) = inr (inl (record {
       command = p.command;
       settings = p.settings;
       comes = p.comes;
       begun = p.begun;
       copies = p.copies;
+      no_listing = p.no_listing;
       fated = p.fated;
       plan = has_plan p.comes p.plan;
       works = works p.command.endpoint p.settings.keys now before after talks notes p.comes p.works;
@@ -138,13 +194,15 @@ module _ (work run : Run) (line : Result (Option Line) OutOfMemory) (r : IsRepor
 
     pub does : Undertakes words limits before after work → Undertakes words limits before after run
     does (inl n) = inl (nothing n)
-    does (inr (inr u)) = inr (inr (record { command = u.command; reads = u.reads; presign = u.presign; taskless = taskless u.taskless }))
+    does (inr (inr (inr l))) = inr (inr (inr (record { command = l.command; reads = l.reads; listing = l.listing; nothing = no_outcome l.nothing })))
+    does (inr (inr (inl u))) = inr (inr (inl (record { command = u.command; reads = u.reads; presign = u.presign; taskless = taskless u.taskless })))
     does (inr (inl d)) = inr (inl (record {
       command = d.command;
       settings = d.settings;
       comes = d.comes;
       reads = d.reads;
       copies = d.copies;
+      no_listing = d.no_listing;
       fated = d.fated;
       plan = has_plan d.comes d.plan;
       wants = wants before after d.comes d.wants;
@@ -183,18 +241,36 @@ module _ (work run : Run) (line : Result (Option Line) OutOfMemory) (r : IsRepor
       memory = h.memory;
     }
 
-    owns : (own : List ℕ) → run.fatal ≡ work.fatal → IsOwn words env before after work own → IsOwn words env before after run own
-    owns own same (inl nothing_own) = inl nothing_own
+    owns : (own : Own) → run.fatal ≡ work.fatal → IsOwn words env before after work own → IsOwn words env before after run own
+    owns own same (inl nothing_shown) = inl nothing_shown
     owns own same (inr (inl url)) = inr (inl url)
-    owns own same (inr (inr stopped)) = inr (inr (ap is_some same ∙ stopped))
+    owns own same (inr (inr (inl rows))) = inr (inr (inl rows))
+    owns own same (inr (inr (inr stopped))) = inr (inr (inr (ap is_some same ∙ stopped)))
 
-    printed_as : (of_line : Result (Option Line) OutOfMemory) → HasLineOf words env before after work of_line → run.fatal ≡ fatal_after of_line work.fatal → OnErr of_line (run.status ≡ 70)
+    -- nothing is shown of a run that ended early
+    ended_owns : (memory : Fatal) → run.fatal ≡ Some memory → IsOwn words env before after run nothing_own
+    ended_owns memory is = inr (inr (inr (ap is_some is)))
+
+    printed_as : (missed : Bool) (of_line : Result (Option Line) OutOfMemory) → HasLineOf words env before after work of_line missed → run.fatal ≡ fatal_after of_line work.fatal → OnErr of_line (run.status ≡ 70)
         → Shows (out_of of_line) (err_of of_line) → IsPrinted words env before after run out_before out_after err_before err_after
-    printed_as (Err memory) (own, of_own, h) same ends shown = ([], inr (inr (ap is_some same)), forgotten (out_text words [] run) (err_text words run) [] [] ends shown)
-    printed_as (Ok of_line) (own, of_own, h) same ends shown =
-        let out = h.texts.0 ∙ (out_is own ∙ ap (λ (f : Option Fatal). out_by (mode_in words) own f run.plan.tasks.items run.outcomes.items) (sym same)) in
+    printed_as missed (Err memory) (own, of_own, h, is) same ends shown = (nothing_own, ended_owns fatal.Memory same, forgotten (out_text words [] run) (err_text words run) [] [] ends shown)
+    printed_as missed (Ok of_line) (own, of_own, h, is) same ends shown =
+        let out = h.texts.0 ∙ (out_is own.text ∙ ap (λ (f : Option Fatal). out_by (mode_in words) own.text f run.plan.tasks.items run.outcomes.items) (sym same)) in
         let err = h.texts.1 ∙ (err_is ∙ ap (λ (f : Option Fatal). err_by words (mode_in words) f run.plan.tasks.items run.outcomes.items run.warnings.items) (sym same)) in
         (own, owns own same of_own, subst (λ (text : List ℕ). Shows text (err_text words run)) out (subst (λ (text : List ℕ). Shows (out_of (Ok of_line)) text) err shown))
 
-    pub printed : HasLineOf words env before after work line → OnErr line (run.status ≡ 70) → Shows (out_of line) (err_of line) → IsPrinted words env before after run out_before out_after err_before err_after
-    printed h ends shown = printed_as line h r.fatal ends shown
+    pub printed : (missed : Bool) → HasLineOf words env before after work line missed → OnErr line (run.status ≡ 70) → Shows (out_of line) (err_of line) → IsPrinted words env before after run out_before out_after err_before err_after
+    printed missed h ends shown = printed_as missed line h r.fatal ends shown
+
+    -- ---- the status
+
+    ends_by : (OutputFailed : Type 0) (lists missed : Bool) (of_line : Result (Option Line) OutOfMemory) → HasLineOf words env before after work of_line missed → HasStatusOf (lists_in words) lists work.fatal
+        → run.fatal ≡ fatal_after of_line work.fatal → EndsWith lists missed run OutputFailed → EndsAsShown words env before after run OutputFailed
+    ends_by OutputFailed lists missed (Err memory) h status same ends = (nothing_own, ended_owns fatal.Memory same, memory_ends OutputFailed lists (lists_in words) missed false run same ends)
+    ends_by OutputFailed lists missed (Ok of_line) (own, of_own, h, is) status same ends =
+        let with_missed = subst (λ (m : Bool). EndsWith lists m run OutputFailed) (sym is) ends in
+        (own, owns own same of_own, ends_alike OutputFailed lists (lists_in words) own.missed run (subst (λ (f : Option Fatal). HasStatusOf (lists_in words) lists f) (sym same) status) with_missed)
+
+    pub ends_as : (OutputFailed : Type 0) (lists missed : Bool) → HasLineOf words env before after work line missed → HasStatusOf (lists_in words) lists work.fatal → EndsWith lists missed run OutputFailed
+        → EndsAsShown words env before after run OutputFailed
+    ends_as OutputFailed lists missed h status ends = ends_by OutputFailed lists missed line h status r.fatal ends

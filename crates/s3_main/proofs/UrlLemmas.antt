@@ -17,7 +17,7 @@ use Rattle.s3_words.specs.Commands.{IsCommand, arguments_of, expires_of, verb_of
 use Rattle.s3_words.specs.declared.options.OptionName.TheVariants.{ExpiresIn}
 use Rattle.s3_words.specs.Given.{value_of}
 use Rattle.s3_words.specs.Values.{seconds}
-use Rattle.upload_plans.specs.Commands.{is_presign}
+use Rattle.upload_plans.specs.Commands.{is_listing, is_presign}
 use Rattle.run_promise.specs.Gains.{Gains}
 use Rattle.run_promise.proofs.GainLemmas.{gains_as, gains_step}
 use Rattle.s3_model.specs.declared.outcomes.Outcome.{Outcome}
@@ -28,12 +28,15 @@ use Rattle.result_lines.specs.Warnings.{warning_line}
 use Rattle.s3_main.specs.declared.run.Fatal.{Fatal}
 use Rattle.s3_main.specs.declared.run.Fatal.TheVariants as fatal
 use Rattle.s3_main.specs.declared.run.Run.{Run}
-use Rattle.s3_main.specs.Begun.{IsBegun, mode_in, presigns, shows_url}
+use Rattle.shared_lemmas.proofs.Clashes.{false_true}
+use Rattle.s3_words.specs.declared.commands.Verb.TheVariants as verb
+use Rattle.s3_main.specs.Begun.{IsBegun, lists_by, lists_in, mode_in, presigns, shows_url}
+use Rattle.s3_main.specs.Own.{IsOwn, Own, nothing_own, only_text}
 use Rattle.s3_main.specs.Executed.{HasLineOf, IsMoment, MakesLine}
 use Rattle.s3_main.specs.Runs.{MakesUrl}
 use Rattle.s3_main.specs.Plans.{HasNoTask, MayEnd}
 use Rattle.s3_main.specs.Texts.{HasTexts, IsLineOf, MatchesFatal, err_by, err_lines, out_by, out_lines, warning_lines}
-use Rattle.s3_main.specs.Urls.{IsOwn, IsPresigned, IsTaskless, IsUrl, url_line}
+use Rattle.s3_main.specs.Urls.{IsPresigned, IsTaskless, IsUrl, url_line}
 
 -- ---- how long it lasts
 
@@ -69,16 +72,33 @@ stopped_taskless run h = record { ends = subst (λ (f : Option Fatal). MayEnd f)
 shows : (words : List (List ℕ)) (command : Command) → IsCommand words command → shows_url words ≡ is_presign command.verb
 shows words command is = ap presigns is.verb
 
--- a command that makes no URL shows nothing of its own
-pub copy_owns : (words : List (List ℕ)) (env : Option SeenEnv) (before after : Option WireLog) (run : Run) (command : Command) → IsCommand words command → is_presign command.verb ≡ false → IsOwn words env before after run []
-copy_owns words env before after run command is copies = inl (shows words command is ∙ copies, refl)
+pub lists : (words : List (List ℕ)) (command : Command) → IsCommand words command → lists_in words ≡ is_listing command.verb
+lists words command is = ap lists_by is.verb
 
-pub stopped_owns : (words : List (List ℕ)) (env : Option SeenEnv) (before after : Option WireLog) (run : Run) → is_some run.fatal ≡ true → IsOwn words env before after run []
-stopped_owns words env before after run stopped = inr (inr stopped)
+pub presign_is_no_listing : (of_verb : Verb) → is_presign of_verb ≡ true → is_listing of_verb ≡ false
+presign_is_no_listing verb.Presign h = refl
+presign_is_no_listing of_verb h = absurd (false_true h)
+
+-- a command that makes no URL and lists nothing shows nothing of its own
+pub copy_owns : (words : List (List ℕ)) (env : Option SeenEnv) (before after : Option WireLog) (run : Run) (command : Command) → IsCommand words command → is_presign command.verb ≡ false
+    → is_listing command.verb ≡ false → IsOwn words env before after run nothing_own
+copy_owns words env before after run command is copies none = inl (shows words command is ∙ copies, lists words command is ∙ none, refl)
+
+pub stopped_owns : (words : List (List ℕ)) (env : Option SeenEnv) (before after : Option WireLog) (run : Run) (own : Own) → is_some run.fatal ≡ true → IsOwn words env before after run own
+stopped_owns words env before after run own stopped = inr (inr (inr stopped))
+
+-- a command that is no listing has the line that it has without anything of its own
+pub copy_line : (words : List (List ℕ)) (env : Option SeenEnv) (before after : Option WireLog) (run : Run) (line : Result (Option Line) OutOfMemory) (command : Command) → IsCommand words command
+    → is_presign command.verb ≡ false → is_listing command.verb ≡ false → IsLineOf words [] run line → HasLineOf words env before after run line false
+copy_line words env before after run line command is copies none h = (nothing_own, copy_owns words env before after run command is copies none, h, refl)
+
+pub stopped_line : (words : List (List ℕ)) (env : Option SeenEnv) (before after : Option WireLog) (run : Run) (line : Result (Option Line) OutOfMemory) → is_some run.fatal ≡ true
+    → IsLineOf words [] run line → HasLineOf words env before after run line false
+stopped_line words env before after run line stopped h = (nothing_own, stopped_owns words env before after run nothing_own stopped, h, refl)
 
 -- ---- the line
 
-no_memory : (why : Option Fatal) (line : Result (Option Line) OutOfMemory) → why ≡ None → MatchesFatal why line
+pub no_memory : (why : Option Fatal) (line : Result (Option Line) OutOfMemory) → why ≡ None → MatchesFatal why line
 no_memory why (Ok line) is = λ memory. none_some fatal.Memory (sym is ∙ memory)
   where
     none_some : (f : Fatal) → ◌≡◌ {A = Option Fatal} None (Some f) → ⊥
@@ -92,7 +112,7 @@ no_warnings mode = by_quiet mode.quiet
     by_quiet true = refl
     by_quiet false = refl
 
-url_texts : (mode : Mode) (words : List (List ℕ)) (own : List ℕ) (why : Option Fatal) (tasks : List Task) (outcomes : List Outcome) (warnings : List Warning) (line : Result (Option Line) OutOfMemory)
+pub url_texts : (mode : Mode) (words : List (List ℕ)) (own : List ℕ) (why : Option Fatal) (tasks : List Task) (outcomes : List Outcome) (warnings : List Warning) (line : Result (Option Line) OutOfMemory)
     → why ≡ None → tasks ≡ [] → outcomes ≡ [] → warnings ≡ [] → HasTexts own [] line → HasTexts (out_by mode own why tasks outcomes) (err_by words mode why tasks outcomes warnings) line
 url_texts mode words own why tasks outcomes warnings line w t o ws h =
     subst (λ (f : Option Fatal). HasTexts (out_by mode own f tasks outcomes) (err_by words mode f tasks outcomes warnings) line) (sym w)
@@ -120,17 +140,19 @@ module _ (words : List (List ℕ)) (env : Option SeenEnv) (command : Command) (s
   pub url_does : MakesUrl words run
   url_does = record { command = command; reads = begun.reads; presign = presign; taskless = of_run }
 
-  pub url_line_is : HasLineOf words env before after run line
+  pub url_line_is : HasLineOf words env before after run line false
   url_line_is = elim makes.made [
-    | inl h ↦ ([], stopped_owns words env before after run (ap is_some h.0.fatal), h.1)
+    | inl h ↦ (nothing_own, stopped_owns words env before after run nothing_own (ap is_some h.0.fatal), h.1, refl)
     | inr h ↦ (
-      url_line command settings makes.moment,
+      only_text (url_line command settings makes.moment),
       inr (inl (
         shows words command begun.reads.is_command ∙ presign,
+        refl,
         gains_as (IsMoment makes.moment) (IsUrl words env (url_line command settings makes.moment))
             (λ talks notes m. record { command = command; settings = settings; begun = begun; moment = makes.moment; noted = m.1; is = refl }) before after makes.noted,
       )),
       url_line_of words (url_line command settings makes.moment) run line h.0 h.1,
+      refl,
     )
   ]
 

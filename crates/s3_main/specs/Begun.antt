@@ -1,5 +1,5 @@
 -- How a run begins: its words are read, and then its settings.
-use Rattle.std.specs.Prelude.{◌≡◌, ◌⊎◌, ℕ, Bool, true, false, List, Option, Some, None, IfSome}
+use Rattle.std.specs.Prelude.{◌≡◌, ◌⊎◌, ℕ, Bool, true, false, List, [], Option, Some, None, IfSome, if◌then◌else◌}
 use Rattle.s3_model.specs.declared.faults.WordFault.TheVariants as word_fault_of
 use Rattle.s3_model.specs.declared.settings.Settings.{Settings}
 use Rattle.s3_model.specs.declared.tasks.Mode.{Mode}
@@ -11,7 +11,11 @@ use Rattle.s3_words.specs.declared.commands.Verb.{Verb}
 use Rattle.s3_words.specs.Commands.{IsCommand, arguments_of, first_of, mode_of, verb_of}
 use Rattle.s3_words.specs.Faults.{word_fault}
 use Rattle.s3_words.specs.Places.{places_in}
-use Rattle.upload_plans.specs.Commands.{is_presign, is_unbuilt, path_at}
+use Rattle.listing_commands.specs.Commands.{needs_of}
+use Rattle.run_promise.specs.Planning.{Need}
+use Rattle.s3_words.specs.declared.options.OptionName.TheVariants.{Recursive}
+use Rattle.s3_words.specs.Given.{is_given}
+use Rattle.upload_plans.specs.Commands.{is_listing, is_presign, is_unbuilt, path_at}
 use Rattle.s3_main.specs.declared.run.Fatal.{Fatal}
 use Rattle.s3_main.specs.declared.run.Fatal.TheVariants as fatal
 use Rattle.s3_main.specs.Settings.{AreSettings, RefusesSettings}
@@ -31,6 +35,20 @@ presigns (Some of_verb) = is_presign of_verb
 -- the words ask for a URL
 abbrev pub shows_url : (words : List (List ℕ)) → Bool
 shows_url words = presigns (verb_of words)
+
+abbrev pub lists_by : Option Verb → Bool
+lists_by None = false
+lists_by (Some of_verb) = is_listing of_verb
+
+-- the words ask for a listing
+abbrev pub lists_in : (words : List (List ℕ)) → Bool
+lists_in words = lists_by (verb_of words)
+
+-- what the planning of the words has to ask
+abbrev pub needs_in : (words : List (List ℕ)) → List Need
+needs_in words =
+    if lists_in words
+    then needs_of (first_of (places_in (arguments_of words))) (is_given Recursive (arguments_of words)) else []
 
 -- the words have no fault, and ask for this command, which the program does
 pub record IsRead (words : List (List ℕ)) (command : Command) : Type 0 where

@@ -1,5 +1,5 @@
 -- What the parts of a run come to, before it is printed.
-use Rattle.std.specs.Prelude.{◌≡◌, ◌≢◌, ◌⊎◌, ℕ, true, List, [], ◌∷◌, Option, Some, None, Result, Ok, Err}
+use Rattle.std.specs.Prelude.{◌≡◌, ◌≢◌, ◌⊎◌, ℕ, Bool, true, List, [], ◌∷◌, Option, Some, None, Result, Ok, Err}
 use Rattle.s3_model.specs.declared.faults.WalkFault.TheVariants as walk
 use Rattle.s3_model.specs.declared.list.OutOfMemory.{OutOfMemory}
 use Rattle.s3_model.specs.declared.places.Endpoint.{Endpoint}
@@ -20,11 +20,11 @@ use Rattle.s3_main.specs.declared.execution.Executed.{Executed}
 use Rattle.s3_main.specs.declared.run.Fatal.{Fatal}
 use Rattle.s3_main.specs.declared.run.Fatal.TheVariants as fatal
 use Rattle.s3_main.specs.declared.run.Run.{Run}
-use Rattle.s3_main.specs.Plans.{HasNoTask, HasOneOutcome, HasPlan, HasUploaded, IsFate, Wants, Works, skips_of}
-use Rattle.s3_main.specs.Plans.{warnings_of}
-use Rattle.s3_main.specs.Runs.{IsNothingPlanned, IsUnplanned}
+use Rattle.s3_main.specs.Plans.{HasNoTask, HasOneOutcome, HasPlan, HasUploaded, IsFate, Wants, Works, skips_of, warnings_of}
+use Rattle.s3_main.specs.Own.{IsOwn, Own}
+use Rattle.s3_main.specs.Runs.{IsNothingPlanned, IsUnplanned, fatal_status}
 use Rattle.s3_main.specs.Texts.{HasTexts, IsLineOf}
-use Rattle.s3_main.specs.Urls.{IsOwn, url_line}
+use Rattle.s3_main.specs.Urls.{url_line}
 
 abbrev pub HasNoUpload : Fate → Type 0
 HasNoUpload (fate.Upload task) = ⊥
@@ -105,6 +105,11 @@ pub record MakesLine (words : List (List ℕ)) (command : Command) (settings : S
 
 -- the line that is due, with what the command is there to show
 abbrev pub HasLineOf : (words : List (List ℕ)) → Option SeenEnv → (before after : Option WireLog) → Run → Result
-    (Option Line) OutOfMemory → Type 0
-HasLineOf words env before after run line = (own : List ℕ) × IsOwn words env before after run own
-    × IsLineOf words own run line
+    (Option Line) OutOfMemory → (missed : Bool) → Type 0
+HasLineOf words env before after run line missed = (own : Own) × IsOwn words env before after run own
+    × IsLineOf words own.text run line × (own.missed ≡ missed)
+
+-- the same status, whether or not the command is taken for a listing
+abbrev pub HasStatusOf : (lists same : Bool) → Option Fatal → Type 0
+HasStatusOf lists same None = Unit {0}
+HasStatusOf lists same (Some why) = fatal_status lists why ≡ fatal_status same why

@@ -1,5 +1,7 @@
 pub mod Begun
 pub mod Executed
+pub mod Listings
+pub mod Own
 pub mod Plans
 pub mod Printed
 pub mod Rooms

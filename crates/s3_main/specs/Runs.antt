@@ -1,8 +1,11 @@
 -- What a run comes to: its status, what it prints, and what it promises.
-use Rattle.std.specs.Prelude.{◌≡◌, ◌≢◌, ◌⊎◌, ℕ, true, false, List, [], ◌∷◌, Option, Some, None, IfSome, is_some, length}
-use Rattle.result_lines.specs.Faults.{memory_line}
+use Rattle.std.specs.Prelude.{◌≡◌, ◌≢◌, ◌⊎◌, ℕ, Bool, true, false, List, [], ◌∷◌, Option, Some, None, IfSome, is_some, length, if◌then◌else◌}
+use Rattle.result_lines.specs.Causes.{IsShown}
+use Rattle.result_lines.specs.Faults.{IsListingFault, memory_line}
 use Rattle.result_lines.specs.Tasks.{status_of}
 use Rattle.s3_model.specs.declared.faults.WalkFault.TheVariants as walk
+use Rattle.s3_model.specs.declared.outcomes.Cause.{Cause}
+use Rattle.s3_model.specs.declared.outcomes.Cause.TheVariants as cause
 use Rattle.s3_model.specs.declared.outcomes.Outcome.{Outcome}
 use Rattle.s3_model.specs.declared.places.Endpoint.{Endpoint}
 use Rattle.s3_model.specs.declared.settings.Limits.{Limits}
@@ -16,7 +19,10 @@ use Rattle.s3_outside.specs.declared.files.Shape.{Shape}
 use Rattle.s3_words.specs.declared.commands.Command.{Command}
 use Rattle.answer_classes.specs.Showing.{HasStatus, Shows}
 use Rattle.attempts.specs.Attempts.{text_of}
-use Rattle.upload_plans.specs.Commands.{is_presign, source_path}
+use Rattle.list_walk.specs.Pages.{IsRefusedPage}
+use Rattle.run_promise.specs.Dispatches.{Dispatched}
+use Rattle.run_promise.specs.Planning.{PlansFor}
+use Rattle.upload_plans.specs.Commands.{is_listing, is_presign, source_path}
 use Rattle.upload_plans.specs.Plans.{is_large}
 use Rattle.upload_plans.specs.declared.plan.Fate.{Fate}
 use Rattle.upload_plans.specs.declared.plan.Fate.TheVariants as fate
@@ -24,35 +30,52 @@ use Rattle.upload_promise.specs.Shown.{KeepsPromise, shown_by}
 use Rattle.s3_main.specs.declared.run.Fatal.{Fatal}
 use Rattle.s3_main.specs.declared.run.Fatal.TheVariants as fatal
 use Rattle.s3_main.specs.declared.run.Run.{Run}
-use Rattle.s3_main.specs.Begun.{IsBegun, IsRead, StopsInSettings, StopsInWords, path_in}
+use Rattle.s3_main.specs.Begun.{IsBegun, IsRead, StopsInSettings, StopsInWords, lists_in, needs_in, path_in}
 use Rattle.s3_main.specs.Plans.{HasPlan, IsFate, Wants, Works}
 use Rattle.s3_main.specs.Printed.{Prints, PrintsFront}
 use Rattle.s3_main.specs.Texts.{err_text, out_text}
-use Rattle.s3_main.specs.Urls.{IsOwn, IsPresigned, IsTaskless}
+use Rattle.s3_main.specs.Listings.{HasNoOutcome, IsListing}
+use Rattle.s3_main.specs.Own.{IsOwn, Own}
+use Rattle.s3_main.specs.Urls.{IsPresigned, IsTaskless}
 
 -- ---- the status
 
-abbrev pub fatal_status : Fatal → ℕ
-fatal_status (fatal.Words fault) = 252
-fatal_status fatal.NotYet = 252
-fatal_status (fatal.Profile fault) = 253
-fatal_status fatal.EnvRead = 253
-fatal_status fatal.Memory = 70
-fatal_status other = 1
+-- a listing was refused, or nobody can know what it is
+abbrev pub answer_status : Cause → ℕ
+answer_status (cause.Service called code message) = 254
+answer_status why = 255
 
--- without a fatal it is that of the outcomes and the warnings
-abbrev pub status_by : Option Fatal → List Outcome → List Warning → ℕ
-status_by (Some why) outcomes warnings = fatal_status why
-status_by None outcomes warnings = status_of outcomes (length warnings)
+-- `lists`: the command is a listing
+abbrev pub fatal_status : (lists : Bool) → Fatal → ℕ
+fatal_status lists (fatal.Words fault) = 252
+fatal_status lists fatal.NotYet = 252
+fatal_status lists (fatal.Profile fault) = 253
+fatal_status lists fatal.EnvRead = 253
+fatal_status lists fatal.Memory = 70
+fatal_status lists (fatal.Listing fault) = if lists then 255 else 1
+fatal_status lists (fatal.Answer why) = if lists then answer_status why else 1
+fatal_status lists other = 1
+
+-- Without a fatal it is 1 where a key was given and nothing was found (`missed`), else that of the outcomes and the
+-- warnings.
+abbrev pub status_by : (lists missed : Bool) → Option Fatal → List Outcome → List Warning → ℕ
+status_by lists missed (Some why) outcomes warnings = fatal_status lists why
+status_by lists missed None outcomes warnings = if missed then 1 else status_of outcomes (length warnings)
 
 -- the status of a run whose lines could be written
-abbrev pub run_status : Run → ℕ
-run_status run = status_by run.fatal run.outcomes.items run.warnings.items
+abbrev pub run_status : (lists missed : Bool) → Run → ℕ
+run_status lists missed run = status_by lists missed run.fatal run.outcomes.items run.warnings.items
 
 -- The status is that, or 74 where an output failed; where memory ran out it is 70, whatever the outputs did.
-abbrev pub EndsWith : Run → (OutputFailed : Type 0) → Type 0
-EndsWith run OutputFailed = (run.status ≡ run_status run)
+abbrev pub EndsWith : (lists missed : Bool) → Run → (OutputFailed : Type 0) → Type 0
+EndsWith lists missed run OutputFailed = (run.status ≡ run_status lists missed run)
     ⊎ ((run.status ≡ 74) × OutputFailed × (run.fatal ≢ Some fatal.Memory))
+
+-- by the words, and by what the command is there to show
+abbrev pub EndsAsShown : (words : List (List ℕ)) → Option SeenEnv → (before after : Option WireLog) → Run
+    → (OutputFailed : Type 0) → Type 0
+EndsAsShown words env before after run OutputFailed =
+    (own : Own) × IsOwn words env before after run own × EndsWith (lists_in words) own.missed run OutputFailed
 
 -- ---- the lines
 
@@ -68,8 +91,9 @@ pub record IsPrintedAs (status : ℕ) (out err : List ℕ)
 abbrev pub IsPrinted : (words : List (List ℕ)) → Option SeenEnv → (before after : Option WireLog) → Run
     → (out_before out_after err_before err_after : Option (List ℕ)) → Type 0
 IsPrinted words env before after run out_before out_after err_before err_after =
-    (own : List ℕ) × IsOwn words env before after run own
-    × IsPrintedAs run.status (out_text words own run) (err_text words run) out_before out_after err_before err_after
+    (own : Own) × IsOwn words env before after run own
+    × IsPrintedAs run.status (out_text words own.text run) (err_text words run) out_before out_after err_before
+    err_after
 
 -- ---- why a run ended before its task
 
@@ -89,20 +113,40 @@ abbrev pub StopsInPlan : (words : List (List ℕ)) → Option SeenEnv → Limits
     → (faults_before faults_after : ℕ) → Fatal → Type 0
 StopsInPlan words env limits files before after why =
     (command : Command) × (settings : Settings) × IsBegun words env command settings
-    × (is_presign command.verb ≡ false) × StopsPlanning command settings limits files before after why
+    × (is_presign command.verb ≡ false) × (is_listing command.verb ≡ false)
+    × StopsPlanning command settings limits files before after why
 
--- in its words, in its settings, or in its plan
+-- a listing that was refused or that nobody can know; what the talks show of it is a part of how far the run went
+abbrev pub IsListingEnd : Fatal → Type 0
+IsListingEnd (fatal.Listing fault) = IsListingFault fault
+IsListingEnd (fatal.Answer why) = IsShown why
+IsListingEnd fatal.Memory = Unit {0}
+IsListingEnd why = ⊥
+
+abbrev pub StopsInListing : (words : List (List ℕ)) → Option SeenEnv → Fatal → Type 0
+StopsInListing words env why =
+    (command : Command) × (settings : Settings) × IsBegun words env command settings
+    × (is_listing command.verb ≡ true) × IsListingEnd why
+
+-- in its words, in its settings, in its plan, or in its listing
 abbrev pub StopsFor : (words : List (List ℕ)) → Option SeenEnv → (env_before env_after : ℕ) → Limits
     → Option SeenFiles → (faults_before faults_after : ℕ) → Fatal → Type 0
 StopsFor words env env_before env_after limits files before after why =
     StopsInWords words why ⊎ StopsInSettings words env env_before env_after why
-    ⊎ StopsInPlan words env limits files before after why
+    ⊎ StopsInPlan words env limits files before after why ⊎ StopsInListing words env why
 
 -- ---- how far it went
 
+-- what ended the run is no answer to a request
+abbrev pub IsUnasked : Option Fatal → Type 0
+IsUnasked None = ⊥
+IsUnasked (Some (fatal.Listing fault)) = ⊥
+IsUnasked (Some (fatal.Answer why)) = ⊥
+IsUnasked (Some why) = Unit {0}
+
 -- nothing was planned
 pub record IsNothingPlanned (run : Run) : Type 0 where
-  pub stopped : is_some run.fatal ≡ true
+  pub stopped : IsUnasked run.fatal
   pub no_task : run.plan.tasks.items ≡ []
   pub no_skip : run.plan.warnings.items ≡ []
   pub no_warning : run.warnings.items ≡ []
@@ -124,16 +168,17 @@ pub record IsPlanned (words : List (List ℕ)) (env : Option SeenEnv) (limits : 
   pub comes : Fate
   pub begun : IsBegun words env command settings
   pub copies : is_presign command.verb ≡ false
+  pub no_listing : is_listing command.verb ≡ false
   pub fated : IsFate command settings limits was comes
   pub plan : HasPlan comes run
   pub works : Works comes command.endpoint settings.keys now faults_before faults_after run talks notes
 
--- no plan was made, or one was, or a URL
+-- no plan was made, or one was, or a URL, or a listing
 abbrev pub GoesAs : (words : List (List ℕ)) → Option SeenEnv → Limits → (was now : Option SeenFiles)
     → (faults_before faults_after : ℕ) → Run → List Talk → List Note → Type 0
 GoesAs words env limits was now before after run talks notes =
     IsUnplanned run talks notes ⊎ IsPlanned words env limits was now before after run talks notes
-    ⊎ IsPresigned words env run talks notes
+    ⊎ IsPresigned words env run talks notes ⊎ IsListing words env run talks notes
 
 -- ---- what needs no look at wires, files and variables
 
@@ -144,6 +189,7 @@ pub record IsSomePlanned (words : List (List ℕ)) (limits : Limits) (faults_bef
   pub comes : Fate
   pub reads : IsRead words command
   pub copies : is_presign command.verb ≡ false
+  pub no_listing : is_listing command.verb ≡ false
   pub fated : IsFate command settings limits None comes
   pub plan : HasPlan comes run
   pub wants : Wants comes faults_before faults_after run
@@ -155,11 +201,24 @@ pub record MakesUrl (words : List (List ℕ)) (run : Run) : Type 0 where
   pub presign : is_presign command.verb ≡ true
   pub taskless : IsTaskless run
 
+-- a listing is asked for, and there is no task
+pub record MakesListing (words : List (List ℕ)) (run : Run) : Type 0 where
+  pub command : Command
+  pub reads : IsRead words command
+  pub listing : is_listing command.verb ≡ true
+  pub nothing : HasNoOutcome run
+
 abbrev pub Undertakes : (words : List (List ℕ)) → Limits → (faults_before faults_after : ℕ) → Run → Type 0
 Undertakes words limits before after run =
     IsNothingPlanned run ⊎ IsSomePlanned words limits before after run ⊎ MakesUrl words run
+    ⊎ MakesListing words run
 
 -- ---- the promise
+
+-- The planning of the run asks what its words need, unless it ended by what no request shows, or memory ran out.
+abbrev pub PlansBy : (words : List (List ℕ)) → Option Fatal → List Dispatched → Type 0
+PlansBy words why =
+    PlansFor Shows IsRefusedPage (IsUnasked why) (why ≡ Some fatal.Memory) (needs_in words)
 
 -- Over every honest service the outcomes are true, and over a willing one the task is done. The endpoint is the
 -- command's and the settings are those of the variables and files, where a request was sent.
@@ -170,7 +229,7 @@ pub record IsTrue (words : List (List ℕ)) (env : Option SeenEnv) (limits : Lim
   pub begun : run.journal.items ≢ [] → (command : Command) × IsBegun words env command settings
       × (command.endpoint ≡ endpoint)
   pub keeps : KeepsPromise Shows HasStatus (text_of endpoint settings.keys) endpoint.host endpoint.port
-      (path_in words) faults_before faults_after
+      (PlansBy words run.fatal) (path_in words) faults_before faults_after
       run.plan.tasks.items run.warnings.items now
       (shown_by settings.config limits run.status run.plan.tasks.items run.outcomes.items run.journal.items talks notes
       was now)

@@ -1,13 +1,13 @@
 -- The URL that `presign` prints (AWS CLI Command Reference, `s3 presign`).
-use Rattle.std.specs.Prelude.{◌≡◌, ◌⊎◌, ◌++◌, ℕ, true, false, List, [], ◌∷◌, Option, codes, is_some}
+use Rattle.std.specs.Prelude.{◌≡◌, ◌++◌, ℕ, true, List, [], ◌∷◌, Option, codes}
 use Rattle.presigned_urls.specs.Presigned.{presigned_url}
 use Rattle.s3_model.specs.declared.settings.Settings.{Settings}
-use Rattle.s3_model.specs.Talks.{Talk, Note, Moment, WireLog}
+use Rattle.s3_model.specs.Talks.{Talk, Note, Moment}
 use Rattle.s3_outside.specs.Env.{SeenEnv}
 use Rattle.s3_words.specs.declared.commands.Command.{Command}
 use Rattle.upload_plans.specs.Commands.{bucket_at, is_presign, key_at}
 use Rattle.run_promise.specs.Gains.{Gains}
-use Rattle.s3_main.specs.Begun.{IsBegun, shows_url}
+use Rattle.s3_main.specs.Begun.{IsBegun}
 use Rattle.s3_main.specs.Plans.{MayEnd}
 use Rattle.s3_main.specs.declared.run.Run.{Run}
 
@@ -48,11 +48,3 @@ pub record IsUrl (words : List (List ℕ)) (env : Option SeenEnv) (own : List �
   pub moment : ℕ
   pub noted : notes ≡ Moment moment ∷ []
   pub is : own ≡ url_line command settings moment
-
--- What the command is there to show: the URL, where the words ask for one, and else nothing. Of a run that ended early
--- nothing is shown.
-abbrev pub IsOwn : (words : List (List ℕ)) → Option SeenEnv → (before after : Option WireLog) → Run → List ℕ → Type 0
-IsOwn words env before after run own =
-    ((shows_url words ≡ false) × (own ≡ []))
-    ⊎ ((shows_url words ≡ true) × Gains before after (IsUrl words env own))
-    ⊎ (is_some run.fatal ≡ true)

@@ -7,15 +7,15 @@ ghost use Rattle.upload_plans.specs.Commands.{CopiesUp, source_path};
 ghost use Rattle.upload_plans.specs.Plans.{HasNoMemory};
 ghost use Rattle.run_promise.specs.Gains.{Gains};
 ghost use Rattle.upload_promise.specs.Sources.{LooksAt};
-ghost use Rattle.s3_main.specs.Begun.{mode_in, path_in};
-ghost use Rattle.s3_main.specs.Executed.{DoesOn, EndsAs, GoesOn, HasLineOf, HasNoUpload, IsUnseen, MayUpload, MayWant};
-ghost use Rattle.s3_main.specs.Executed.{OrMemory};
+ghost use Rattle.s3_main.specs.Begun.{lists_in, mode_in, path_in};
+ghost use Rattle.s3_main.specs.Executed.{DoesOn, EndsAs, GoesOn, HasLineOf, HasNoUpload, HasStatusOf, IsUnseen, MayUpload, MayWant, OrMemory};
 ghost use Rattle.s3_main.specs.Plans.{IsFate, IsUpload, path_of};
 ghost use Rattle.s3_main.specs.Runs.{GoesAs, StopsFor, StopsPlanning, Undertakes};
 ghost use Rattle.s3_main.specs.Settings.{AsksOnly};
 ghost use Rattle.s3_main.specs.Texts.{IsLineOf};
 
 use crate::endings::{end_early, end_idle, end_not_a_file, end_skipped};
+use crate::listing::execute_listing;
 use crate::run::{Fatal, Run};
 use crate::start::{Service, Start, read_start, service_of};
 use crate::task::{do_task, prepare};
@@ -24,13 +24,21 @@ use result_lines::Line;
 use s3_model::{Limits, Mode, OutOfMemory, Task, WalkFault};
 use s3_outside::{Env, Files, Wire};
 use std::alloc::Global;
-use upload_plans::{Fate, is_presign, places_of, plan_upload};
+use upload_plans::{Fate, is_listing, is_presign, places_of, plan_upload};
 
 /// A run before anything is printed, and the line that is to be, if there is one.
 #[derive(Drop)]
 pub(crate) struct Executed {
     pub run: Run,
     pub line: Result<Option<Line>, OutOfMemory>,
+}
+
+/// What a command came to, and whether it is a listing, of a key below which nothing was found.
+#[derive(Drop)]
+pub(crate) struct Worked {
+    pub executed: Executed,
+    pub lists: bool,
+    pub missed: bool,
 }
 
 /// Looks at the file of a command, and says what copying it comes to.
@@ -155,15 +163,18 @@ pub(crate) fn execute<W: Wire, F: Files, E: Env>(
     env: &mut E,
     files: &mut F,
     wire: &mut W,
-) -> Executed
+) -> Worked
     ensures went { Gains (W.seen wire.old) (W.seen wire.new) (GoesAs (map string_bytes words.now) (E.seen env.new)
-        (E.allows env.old) (F.seen files.old) (F.seen files.new) (F.faults files.old) (F.faults files.new) result.run) }
+        (E.allows env.old) (F.seen files.old) (F.seen files.new) (F.faults files.old) (F.faults files.new)
+        result.executed.run) }
     ensures line { HasLineOf (map string_bytes words.now) (E.seen env.new) (W.seen wire.old) (W.seen wire.new)
-        result.run result.line }
-    ensures stops { IfSome result.run.fatal (StopsFor (map string_bytes words.now) (E.seen env.new) (E.faults env.old)
-        (E.faults env.new) (E.allows env.old) (F.seen files.old) (F.faults files.old) (F.faults files.new)) }
+        result.executed.run result.executed.line result.missed }
+    ensures lists { HasStatusOf (lists_in (map string_bytes words.now)) result.lists result.executed.run.fatal }
+    ensures stops { IfSome result.executed.run.fatal (StopsFor (map string_bytes words.now) (E.seen env.new)
+        (E.faults env.old) (E.faults env.new) (E.allows env.old) (F.seen files.old) (F.faults files.old)
+        (F.faults files.new)) }
     ensures does { Undertakes (map string_bytes words.now) (E.allows env.old) (F.faults files.old) (F.faults files.new)
-        result.run }
+        result.executed.run }
     ensures valid { IsValidLimits (E.allows env.old) }
     ensures files { LooksAt (path_in (map string_bytes words.now)) (F.seen files.old) (F.seen files.new) }
     ensures files_later { F.faults files.old ≤ F.faults files.new }
@@ -173,8 +184,21 @@ pub(crate) fn execute<W: Wire, F: Files, E: Env>(
 {
     let limits = env.limits();
     match read_start(alloc, words, env) {
-        Ok(start) if is_presign(start.command.verb) => execute_presign(alloc, words, &start, wire),
-        Ok(start) => execute_command(alloc, words, start, &limits, files, wire),
-        Err(fatal) => end_early(alloc, words, fatal),
+        Ok(start) if is_presign(start.command.verb) => Worked {
+            executed: execute_presign(alloc, words, &start, wire),
+            lists: false,
+            missed: false,
+        },
+        Ok(start) if is_listing(start.command.verb) => execute_listing(alloc, words, start, wire),
+        Ok(start) => Worked {
+            executed: execute_command(alloc, words, start, &limits, files, wire),
+            lists: false,
+            missed: false,
+        },
+        Err(fatal) => Worked {
+            executed: end_early(alloc, words, fatal),
+            lists: false,
+            missed: false,
+        },
     }
 }

@@ -3,6 +3,7 @@
 
 mod endings;
 mod execution;
+mod listing;
 mod output;
 mod report;
 mod run;

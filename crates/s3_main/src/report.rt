@@ -3,25 +3,46 @@
 ghost use Rattle.std.specs.Prelude.{◌≡◌, ◌≤◌, ◌⊎◌, OnErr, OnOk};
 ghost use Rattle.s3_model.specs.Counts.{Rose};
 ghost use Rattle.s3_main.specs.Printed.{Prints, PrintsFront};
-ghost use Rattle.s3_main.specs.Runs.{EndsWith, IsPrintedAs, status_by};
+ghost use Rattle.s3_main.specs.Runs.{EndsWith, IsPrintedAs, answer_status, fatal_status, run_status};
 ghost use Rattle.s3_main.specs.Texts.{MatchesFatal, err_of, err_part, fatal_after, out_of, out_part};
 
-use crate::execution::Executed;
+use crate::execution::{Executed, Worked};
 use crate::output::write_text;
 use crate::run::{Fatal, Run};
 use result_lines::{Line, memory_line, status_of};
-use s3_model::{Outcomes, Warnings};
+use s3_model::Cause;
 use s3_outside::{Failed, Sink};
 
-fn status_by(fatal: &Option<Fatal>, outcomes: &Outcomes, warnings: &Warnings) -> u8
-    ensures { result ≡ status_by fatal.now outcomes.now.items warnings.now.items }
+/// The status of a listing that was refused, or of which nobody can know.
+fn answer_status(cause: &Cause) -> u8
+    ensures { result ≡ answer_status cause.now }
+{
+    match cause {
+        Cause::Service { .. } => 254,
+        _ => 255,
+    }
+}
+
+fn fatal_status(lists: bool, fatal: &Fatal) -> u8
+    ensures { result ≡ fatal_status lists fatal.now }
 {
     match fatal {
-        None => status_of(outcomes, warnings.len() as u64),
-        Some(Fatal::Words(_) | Fatal::NotYet) => 252,
-        Some(Fatal::Profile(_) | Fatal::EnvRead) => 253,
-        Some(Fatal::Memory) => 70,
-        Some(_) => 1,
+        Fatal::Words(_) | Fatal::NotYet => 252,
+        Fatal::Profile(_) | Fatal::EnvRead => 253,
+        Fatal::Memory => 70,
+        Fatal::Listing(_) if lists => 255,
+        Fatal::Answer(cause) if lists => answer_status(cause),
+        _ => 1,
+    }
+}
+
+fn status_by(lists: bool, missed: bool, run: &Run) -> u8
+    ensures { result ≡ run_status lists missed run.now }
+{
+    match &run.fatal {
+        Some(fatal) => fatal_status(lists, fatal),
+        None if missed => 1,
+        None => status_of(&run.outcomes, run.warnings.len() as u64),
     }
 }
 
@@ -44,21 +65,26 @@ fn print_line<O: Sink, X: Sink>(line: &Option<Line>, out: &mut O, err: &mut X) -
 }
 
 /// Prints the line of a run, and gives it its status.
-pub(crate) fn report<O: Sink, X: Sink>(executed: Executed, out: &mut O, err: &mut X) -> Run
-    requires { MatchesFatal executed.run.fatal executed.line }
-    ensures plan { result.plan ≡ executed.run.plan }
-    ensures outcomes { result.outcomes ≡ executed.run.outcomes }
-    ensures journal { result.journal ≡ executed.run.journal }
-    ensures warnings { result.warnings ≡ executed.run.warnings }
-    ensures fatal { result.fatal ≡ fatal_after executed.line executed.run.fatal }
-    ensures status { EndsWith result (Rose (O.faults out.old) (O.faults out.new) ⊎
+pub(crate) fn report<O: Sink, X: Sink>(worked: Worked, out: &mut O, err: &mut X) -> Run
+    requires { MatchesFatal worked.executed.run.fatal worked.executed.line }
+    ensures plan { result.plan ≡ worked.executed.run.plan }
+    ensures outcomes { result.outcomes ≡ worked.executed.run.outcomes }
+    ensures journal { result.journal ≡ worked.executed.run.journal }
+    ensures warnings { result.warnings ≡ worked.executed.run.warnings }
+    ensures fatal { result.fatal ≡ fatal_after worked.executed.line worked.executed.run.fatal }
+    ensures status { EndsWith worked.lists worked.missed result (Rose (O.faults out.old) (O.faults out.new) ⊎
         Rose (X.faults err.old) (X.faults err.new)) }
     ensures out_later { O.faults out.old ≤ O.faults out.new }
     ensures err_later { X.faults err.old ≤ X.faults err.new }
-    ensures memory { OnErr executed.line (result.status ≡ 70) }
-    ensures printed { IsPrintedAs result.status (out_of executed.line) (err_of executed.line) (O.seen out.old)
-        (O.seen out.new) (X.seen err.old) (X.seen err.new) }
+    ensures memory { OnErr worked.executed.line (result.status ≡ 70) }
+    ensures printed { IsPrintedAs result.status (out_of worked.executed.line) (err_of worked.executed.line)
+        (O.seen out.old) (O.seen out.new) (X.seen err.old) (X.seen err.new) }
 {
+    let Worked {
+        executed,
+        lists,
+        missed,
+    } = worked;
     let Executed { mut run, line } = executed;
     let Ok(line) = line else {
         let _ = write_text(err, memory_line());
@@ -70,6 +96,6 @@ pub(crate) fn report<O: Sink, X: Sink>(executed: Executed, out: &mut O, err: &mu
         run.status = 74;
         return run;
     }
-    run.status = status_by(&run.fatal, &run.outcomes, &run.warnings);
+    run.status = status_by(lists, missed, &run);
     run
 }

@@ -1,7 +1,7 @@
 //! What comes before the files are looked at: the words, and then the settings.
 
 ghost use Rattle.std.specs.Prelude.{◌≡◌, ◌≤◌, ◌⊎◌, true, false, IfOk, IfErr, IfSome, map, string_bytes};
-ghost use Rattle.upload_plans.specs.Commands.{CopiesUp, NamesObject, is_presign};
+ghost use Rattle.upload_plans.specs.Commands.{CopiesUp, IsListed, NamesObject, is_listing, is_presign};
 ghost use Rattle.s3_main.specs.Begun.{IsBegun, IsRead, RefusedFor, StopsInSettings, StopsInWords};
 ghost use Rattle.s3_main.specs.Settings.{AreSettings, AsksOnly, settings_fatal};
 ghost use Rattle.s3_model.specs.Validity.{IsValidConfig};
@@ -87,7 +87,9 @@ pub(crate) fn read_start<E: Env>(
 ) -> Result<Start, Fatal>
     ensures begun { IfOk result (λ start. IsBegun (map string_bytes words.now) (E.seen env.new) start.command
         start.settings) }
-    ensures copies { IfOk result (λ start. is_presign start.command.verb ≡ false → CopiesUp start.command) }
+    ensures copies { IfOk result (λ start. is_presign start.command.verb ≡ false
+        → is_listing start.command.verb ≡ false → CopiesUp start.command) }
+    ensures listed { IfOk result (λ start. is_listing start.command.verb ≡ true → IsListed start.command.from) }
     ensures object { IfOk result (λ start. is_presign start.command.verb ≡ true → NamesObject start.command) }
     ensures least { IfOk result (λ start. 1 ≤ start.command.expires) }
     ensures most { IfOk result (λ start. start.command.expires ≤ 604800) }

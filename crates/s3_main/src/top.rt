@@ -6,7 +6,7 @@ ghost use Rattle.run_promise.specs.Gains.{Gains};
 ghost use Rattle.upload_promise.specs.Sources.{LooksAt};
 ghost use Rattle.s3_main.specs.Begun.{path_in};
 ghost use Rattle.s3_main.specs.Settings.{AsksOnly};
-ghost use Rattle.s3_main.specs.Runs.{EndsWith, GoesAs, IfSeen, IsPrinted, IsTrue, OnFirst, StopsFor, Undertakes};
+ghost use Rattle.s3_main.specs.Runs.{EndsAsShown, GoesAs, IfSeen, IsPrinted, IsTrue, OnFirst, StopsFor, Undertakes};
 
 use crate::execution::execute;
 use crate::report::report;
@@ -18,13 +18,16 @@ use std::thread::Threads;
 
 /// Does what the words of a command line say, which follow the program's name, and prints what it came to.
 ///
-/// By now it does `presign`, which prints a URL from the first wire's moment on and makes no talk, and `cp` of one
-/// local file to an object, which goes up in one Put (Amazon S3 API Reference, "PutObject") that is tried once, over
-/// the first wire. The other commands, a file of the settings' threshold or more, trees and dry runs are refused with
-/// 252, and so are faulty words (AWS CLI Command Reference, `s3`). The status is 253 where the settings are refused or
-/// a file of them was not read; 0 where the file is copied or left out by a filter; 1 where it failed, where nobody can
-/// know, where it is not there, is a folder or could not be looked at; 2 where it was skipped with a warning. Where
-/// memory ran out the status is 70, and after a fault of an output 74.
+/// By now it does `presign`, which prints a URL from the first wire's moment on and makes no talk; `ls`, which asks for
+/// the buckets or for the pages of a listing (Amazon S3 API Reference, "ListBuckets", "ListObjectsV2") and then prints
+/// a row of each prefix and of each object; and `cp` of one local file to an object, which goes up in one Put
+/// ("PutObject"). Each request is tried once, over the first wire. The other commands, a file of the settings'
+/// threshold or more, trees and dry runs are refused with 252, and so are faulty words (AWS CLI Command Reference,
+/// `s3`). The status is 253 where the settings are refused or a file of them was not read; 0 where the file is copied
+/// or left out by a filter; 1 where it failed, where nobody can know, where it is not there, is a folder or could not
+/// be looked at; 2 where it was skipped with a warning. Of `ls` it is 0, or 1 where a key was given and nothing found;
+/// 254 where the service refused a request, and 255 where nobody can know its answer or a page is refused; then no row
+/// is printed. Where memory ran out the status is 70, and after a fault of an output 74.
 pub fn run_s3<R, W, F, O, X, E>(
     rt: &R,
     alloc: Global,
@@ -58,8 +61,9 @@ where
 
     ensures stops { IfSome result.fatal (StopsFor (map string_bytes words.now) (E.seen env.new) (E.faults env.old)
         (E.faults env.new) (E.allows env.old) (F.seen files.old) (F.faults files.old) (F.faults files.new)) }
-    ensures status { EndsWith result
-        (Rose (O.faults out.old) (O.faults out.new) ⊎ Rose (X.faults err.old) (X.faults err.new)) }
+    ensures status { OnFirst wires.old.items wires.new.items (λ before after.
+        EndsAsShown (map string_bytes words.now) (E.seen env.new) (W.seen before) (W.seen after) result
+        (Rose (O.faults out.old) (O.faults out.new) ⊎ Rose (X.faults err.old) (X.faults err.new))) }
     ensures printed { OnFirst wires.old.items wires.new.items (λ before after.
         IsPrinted (map string_bytes words.now) (E.seen env.new) (W.seen before) (W.seen after) result
         (O.seen out.old) (O.seen out.new) (X.seen err.old) (X.seen err.new)) }
@@ -83,6 +87,6 @@ where
     ensures err_later { X.faults err.old ≤ X.faults err.new }
 {
     let _ = rt;
-    let executed = execute(alloc, words, env, files, &mut wires[0]);
-    report(executed, out, err)
+    let worked = execute(alloc, words, env, files, &mut wires[0]);
+    report(worked, out, err)
 }

@@ -1,3 +1,2 @@
 pub mod FateLemmas
-pub mod NameLemmas
 pub mod WordLemmas

@@ -14,7 +14,7 @@ use Rattle.s3_words.specs.Faults.{command_fault, count_fault, endpoint_missing, 
 use Rattle.s3_words.specs.Given.{is_given}
 use Rattle.s3_words.specs.Places.{is_pair, is_right_count, places_in}
 use Rattle.s3_words.specs.Roles.{roles}
-use Rattle.upload_plans.specs.Commands.{CopiesUp, IsFile, IsObject, NamesObject, is_copy, is_presign, is_unbuilt, is_unbuilt_copy, reads_object}
+use Rattle.upload_plans.specs.Commands.{CopiesUp, IsFile, IsListed, IsObject, NamesObject, is_copy, is_listing, is_presign, is_unbuilt, is_unbuilt_copy, reads_object}
 
 some_is_none : {X : Type 0} (x : X) → Some x ≡ None → ⊥
 some_is_none x e = cc
@@ -38,12 +38,13 @@ none_of : (a b c : Bool) → (a || b || c) ≡ false → a ≡ false
 none_of false b c e = refl
 none_of true b c e = absurd (true_is_false e)
 
--- a command that is done is one of the two
-built_copy : (presign copy unbuilt : Bool) → (not presign && (not copy || unbuilt)) ≡ false → presign ≡ false → (copy ≡ true) × (unbuilt ≡ false)
-built_copy false true false e other = (refl, refl)
-built_copy false true true e other = absurd (true_is_false e)
-built_copy false false unbuilt e other = absurd (true_is_false e)
-built_copy true copy unbuilt e other = absurd (true_is_false other)
+-- a command that is done is one of the three
+built_copy : (presign listing copy unbuilt : Bool) → (not (presign || listing) && (not copy || unbuilt)) ≡ false → presign ≡ false → listing ≡ false → (copy ≡ true) × (unbuilt ≡ false)
+built_copy false false true false e other none = (refl, refl)
+built_copy false false true true e other none = absurd (true_is_false e)
+built_copy false false false unbuilt e other none = absurd (true_is_false e)
+built_copy false true copy unbuilt e other none = absurd (true_is_false none)
+built_copy true listing copy unbuilt e other none = absurd (true_is_false other)
 
 two : (recursive : Bool) (a b : Place) → reads_object (Some a) ≡ false → is_pair verb.Cp recursive (a ∷ b ∷ []) ≡ true → IsFile (Some a) × IsObject (Some b)
 two recursive (place.Object bucket key) b reads pair = absurd (true_is_false reads)
@@ -70,12 +71,12 @@ right_paths word words command right is_command =
     let pair = (neither (pair_fault command.verb recursive places) (endpoint_missing (roles Anything words)) paths.1).0 in
     (holds _ _ paths.0, holds _ _ pair)
 
-pub copies_up : (words : List (List ℕ)) (command : Command) → word_fault words ≡ None → IsCommand words command → is_unbuilt command ≡ false → is_presign command.verb ≡ false → CopiesUp command
-copies_up [] command right is_command built other = absurd (some_is_none _ right)
-copies_up (word ∷ words) command right is_command built other =
+pub copies_up : (words : List (List ℕ)) (command : Command) → word_fault words ≡ None → IsCommand words command → is_unbuilt command ≡ false → is_presign command.verb ≡ false → is_listing command.verb ≡ false → CopiesUp command
+copies_up [] command right is_command built other none = absurd (some_is_none _ right)
+copies_up (word ∷ words) command right is_command built other none =
     let places : List Place = places_in (roles Anything words) in
     let paths = right_paths word words command right is_command in
-    let copy = built_copy (is_presign command.verb) (is_copy command.verb) (is_unbuilt_copy command) built other in
+    let copy = built_copy (is_presign command.verb) (is_listing command.verb) (is_copy command.verb) (is_unbuilt_copy command) built other none in
     let reads = none_of (reads_object command.from) command.recursive command.mode.dryrun copy.1 in
     let fit = places_fit command.verb (is_given Recursive (roles Anything words)) places copy.0 (ap reads_object (sym is_command.asks.from) ∙ reads) paths.0 paths.1 in
     record {
@@ -96,3 +97,16 @@ names_object [] command right is_command presign = absurd (some_is_none _ right)
 names_object (word ∷ words) command right is_command presign =
     let paths = right_paths word words command right is_command in
     subst (λ (at : Option Place). IsObject at) (sym is_command.asks.from) (one_object command.verb (is_given Recursive (roles Anything words)) (places_in (roles Anything words)) presign paths.0 paths.1)
+
+-- the path of `ls`, if it has one
+one_listed : (of_verb : Verb) (recursive : Bool) (places : List Place) → is_listing of_verb ≡ true → is_pair of_verb recursive places ≡ true → IsListed (first_of places)
+one_listed verb.Ls recursive [] listing pair = tt
+one_listed verb.Ls recursive (place.Object bucket key ∷ rest) listing pair = tt
+one_listed verb.Ls recursive (place.File path ∷ rest) listing pair = absurd (false_is_true pair)
+one_listed of_verb recursive places listing pair = absurd (false_is_true listing)
+
+pub names_listed : (words : List (List ℕ)) (command : Command) → word_fault words ≡ None → IsCommand words command → is_listing command.verb ≡ true → IsListed command.from
+names_listed [] command right is_command listing = absurd (some_is_none _ right)
+names_listed (word ∷ words) command right is_command listing =
+    let paths = right_paths word words command right is_command in
+    subst (λ (at : Option Place). IsListed at) (sym is_command.asks.from) (one_listed command.verb (is_given Recursive (roles Anything words)) (places_in (roles Anything words)) listing paths.1)

@@ -18,13 +18,18 @@ abbrev pub is_presign : Verb → Bool
 is_presign verb.Presign = true
 is_presign other = false
 
+abbrev pub is_listing : Verb → Bool
+is_listing verb.Ls = true
+is_listing other = false
+
 -- a copy that reads an object, goes over a tree, or is a dry run
 abbrev pub is_unbuilt_copy : Command → Bool
 is_unbuilt_copy command = reads_object command.from || command.recursive || command.mode.dryrun
 
--- The program does not do the command yet: it is none of `cp` and `presign`, or such a copy.
+-- The program does not do the command yet: it is none of `cp`, `ls` and `presign`, or such a copy.
 abbrev pub is_unbuilt : Command → Bool
-is_unbuilt command = not (is_presign command.verb) && (not (is_copy command.verb) || is_unbuilt_copy command)
+is_unbuilt command =
+    not (is_presign command.verb || is_listing command.verb) && (not (is_copy command.verb) || is_unbuilt_copy command)
 
 abbrev pub path_at : Option Place → List ℕ
 path_at (Some (place.File path)) = path
@@ -64,3 +69,8 @@ pub record CopiesUp (command : Command) : Type 0 where
 -- an object is named
 abbrev pub NamesObject : Command → Type 0
 NamesObject command = IsObject command.from
+
+-- all buckets are listed, or what a bucket has below a prefix
+abbrev pub IsListed : Option Place → Type 0
+IsListed None = Unit {0}
+IsListed at = IsObject at

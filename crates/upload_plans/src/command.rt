@@ -1,7 +1,7 @@
 //! Which commands are done by now, and the places that such a command names.
 
 ghost use Rattle.std.specs.Prelude.{◌≡◌};
-ghost use Rattle.upload_plans.specs.Commands.{CopiesUp, bucket_of, is_copy, is_presign, is_unbuilt, is_unbuilt_copy, key_of, reads_object, source_path};
+ghost use Rattle.upload_plans.specs.Commands.{CopiesUp, bucket_of, is_copy, is_listing, is_presign, is_unbuilt, is_unbuilt_copy, key_of, reads_object, source_path};
 
 use s3_model::Place;
 use s3_words::{Command, Verb};
@@ -33,17 +33,26 @@ pub fn is_presign(verb: Verb) -> bool
     matches!(verb, Verb::Presign)
 }
 
+/// Whether the command is `ls`.
+pub fn is_listing(verb: Verb) -> bool
+    ensures { result ≡ is_listing verb }
+{
+    matches!(verb, Verb::Ls)
+}
+
 fn is_unbuilt_copy(command: &Command) -> bool
     ensures { result ≡ is_unbuilt_copy command.now }
 {
     reads_object(&command.from) || command.recursive || command.mode.dryrun
 }
 
-/// Whether the program does not do the command yet: it does `presign`, and `cp` of one local file, which is no dry run.
+/// Whether the program does not do the command yet: it does `ls`, `presign`, and `cp` of one local file, which is no
+/// dry run.
 pub fn is_unbuilt(command: &Command) -> bool
     ensures { result ≡ is_unbuilt command.now }
 {
-    !is_presign(command.verb) && (!is_copy(command.verb) || is_unbuilt_copy(command))
+    let shows = is_presign(command.verb) || is_listing(command.verb);
+    !shows && (!is_copy(command.verb) || is_unbuilt_copy(command))
 }
 
 /// The places of an upload.

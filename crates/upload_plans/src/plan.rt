@@ -9,6 +9,7 @@ ghost use Rattle.upload_plans.specs.Commands.{CopiesUp, bucket_of, key_of, sourc
 ghost use Rattle.upload_plans.specs.Plans.{HasNoMemory, added_name, content_for, fate_of, file_fate, kept_fate, planned_task, takes_name, task_fate};
 
 use crate::command::{Places, places_of};
+use path_names::last_name;
 use s3_model::{KeySkip, Kind, OutOfMemory, Place, PlanFault, Task, Text, content_of};
 use s3_outside::Shape;
 use s3_words::Command;
@@ -27,16 +28,6 @@ pub enum Fate {
     /// A filter leaves it out.
     LeftOut,
     Upload(Task),
-}
-
-/// What follows the last `/`, or the whole path.
-fn last_name(path: &str) -> &str
-    ensures { result.now ≡ last_name path.now }
-{
-    match path.rsplit_once('/') {
-        Some((_, name)) => name,
-        None => path,
-    }
 }
 
 fn ends_in_slash(text: &str) -> bool

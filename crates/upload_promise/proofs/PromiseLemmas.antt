@@ -36,7 +36,7 @@ use Rattle.s3_outside.specs.declared.files.Shape.TheVariants as shape
 use Rattle.upload_promise.specs.Puts.{AreIdle, IsJudged, stored, refused, open_ended, unread}
 use Rattle.upload_promise.specs.Sources.{AreFirstBytes}
 use Rattle.upload_promise.specs.Uploads.{Carries, IsReadCause, IsTalked, Uploads, put_events, upload_ask, upload_task}
-use Rattle.upload_promise.specs.Shown.{CallFailed, KeepsPromise, PlansNothing, in_first, one_attempt, shown_by, tells_file_failed}
+use Rattle.upload_promise.specs.Shown.{CallFailed, KeepsPromise, in_first, one_attempt, shown_by, tells_file_failed}
 use Rattle.upload_promise.proofs.JobLemmas.{Planned, each, first_only, in_none, no_buffers, no_jobs, no_schedule, put_alone, put_buffers, put_schedule, put_with, setting_of}
 use Rattle.upload_promise.proofs.LawLemmas.{AreAlone, IsOrdered, done_where_willing, truthful}
 use Rattle.upload_promise.proofs.OutcomeLemmas.{judged_for, silent_for, tells, unread_for}
@@ -112,13 +112,13 @@ judged_as Shows asked talk A B so of_mark how (refused code message body h) = re
 judged_as Shows asked talk A B so of_mark how (open_ended reason body no_memory h) = open_ended reason body no_memory h
 judged_as Shows asked talk A B so of_mark how (unread wanting) = unread (so wanting)
 
-status_is : (n : ℕ) → (n == 70) ≡ true → n ≡ 70
+pub status_is : (n : ℕ) → (n == 70) ≡ true → n ≡ 70
 status_is n e = grind arith
 
 -- the outcomes alone say whose file calls failed, since no job reads an object
-module _ (Shows : Ask → ℕ → Talk → Class → List ℕ → Type 0) (HasStatus : Ask → ℕ → Talk → ℕ → Type 0) where
-  told : (dispatched : List Dispatched) (n : ℕ) → NoneSaysChanged Shows HasStatus PlansNothing dispatched n → (how : Option Outcome)
-      → (tells_file_failed how ≡ true → HasFileFailed Shows HasStatus PlansNothing dispatched n how) × (HasFileFailed Shows HasStatus PlansNothing dispatched n how → tells_file_failed how ≡ true)
+module _ (Shows : Ask → ℕ → Talk → Class → List ℕ → Type 0) (HasStatus : Ask → ℕ → Talk → ℕ → Type 0) (Plans : List Dispatched → Type 0) where
+  told : (dispatched : List Dispatched) (n : ℕ) → NoneSaysChanged Shows HasStatus Plans dispatched n → (how : Option Outcome)
+      → (tells_file_failed how ≡ true → HasFileFailed Shows HasStatus Plans dispatched n how) × (HasFileFailed Shows HasStatus Plans dispatched n how → tells_file_failed how ≡ true)
   told dispatched n none (Some (outcome.Failed (cause.Files of_call))) = ((λ e. tt), (λ h. refl))
   told dispatched n none (Some (outcome.Failed (cause.Blocked length))) = ((λ e. tt), (λ h. refl))
   told dispatched n none (Some (outcome.Failed cause.Memory)) = ((λ e. tt), (λ h. refl))
@@ -131,7 +131,7 @@ upload_is_no_copy e = cc
 within : (low value high : ℕ) → low ≤ value → value ≤ high → IsWithin low value high
 within low value high least most = record { least = least; most = most }
 
-one_valid : (config : Config) → IsValidConfig config → IsValidConfig (one_attempt config)
+pub one_valid : (config : Config) → IsValidConfig config → IsValidConfig (one_attempt config)
 one_valid config v = record {
   threshold = v.threshold;
   chunk = v.chunk;
@@ -142,7 +142,7 @@ one_valid config v = record {
 }
 
 module _ (Shows : Ask → ℕ → Talk → Class → List ℕ → Type 0) (HasStatus : Ask → ℕ → Talk → ℕ → Type 0) (request_text : Ask → List ℕ → ℕ → List ℕ) (host : List ℕ) (port : ℕ)
-    (config : Config) (configured : IsValidConfig config) (limits : Limits) (valid : IsValidLimits limits) (status before after : ℕ) (path : List ℕ)
+    (Plans : List Dispatched → Type 0) (plans_none : Plans []) (config : Config) (configured : IsValidConfig config) (limits : Limits) (valid : IsValidLimits limits) (status before after : ℕ) (path : List ℕ)
     (was now : SeenFiles) (same : now.store ≡ was.store) (warnings : List Warning) (no_left : filter_map left_by warnings ≡ []) (no_untimed : filter_map untimed_by warnings ≡ []) where
   abbrev Fails : List Task → ℕ → Cause → Type 0
   Fails tasks = CallFailed path now before after tasks
@@ -150,22 +150,22 @@ module _ (Shows : Ask → ℕ → Talk → Class → List ℕ → Type 0) (HasSt
   -- what is to be shown of a run
   abbrev Keeps : List Task → List Outcome → List Event → List Talk → List Note → Type 0
   Keeps tasks outcomes journal talks notes =
-      KeepsPromise Shows HasStatus request_text host port path before after tasks warnings now (shown_by config limits status tasks outcomes journal talks notes was now)
+      KeepsPromise Shows HasStatus request_text host port Plans path before after tasks warnings now (shown_by config limits status tasks outcomes journal talks notes was now)
 
   module _ (tasks : List Task) (outcomes : List Outcome) (journal : List Event) (talks : List Talk) (notes : List Note) (jobs : List Dispatched) where
     abbrev shown : Shown
     shown = shown_by config limits status tasks outcomes journal talks notes was now
 
     abbrev Alone : Type 0
-    Alone = AreAlone Shows HasStatus request_text host port PlansNothing (Fails tasks) shown jobs
+    Alone = AreAlone Shows HasStatus request_text host port Plans (Fails tasks) shown jobs
 
     abbrev Ordered : Type 0
-    Ordered = IsOrdered Shows HasStatus request_text host port PlansNothing (Fails tasks) shown jobs
+    Ordered = IsOrdered Shows HasStatus request_text host port Plans (Fails tasks) shown jobs
 
     abbrev ReadNothing : Type 0
     ReadNothing = (c : Dispatched) → Contains jobs c → ReadsSource c.dispatch.job.op → ⊥
 
-    settles : Alone → ReadNothing → ((n : ℕ) (how : Outcome) → slice_get outcomes n ≡ Some how → IsOrdinary how) → IsSettingOf Shows HasStatus PlansNothing shown warnings ⊥ ⊥
+    settles : Alone → ReadNothing → ((n : ℕ) (how : Outcome) → slice_get outcomes n ≡ Some how → IsOrdinary how) → IsSettingOf Shows HasStatus Plans shown warnings ⊥ ⊥
     settles alone reads ordinary = record {
       memory = λ n. refl;
       lanes = configured.lanes.least;
@@ -174,7 +174,7 @@ module _ (Shows : Ask → ℕ → Talk → Class → List ℕ → Type 0) (HasSt
       left = sym no_left;
       untimed = sym no_untimed;
       files = λ dispatched coming scheduled are n.
-          told Shows HasStatus dispatched n (λ c place attempt known of_task slot says. reads c (subst (λ (all : List Dispatched). Contains all c) (alone dispatched coming scheduled are).0 known) says.0) (slice_get outcomes n);
+          told Shows HasStatus Plans dispatched n (λ c place attempt known of_task slot says. reads c (subst (λ (all : List Dispatched). Contains all c) (alone dispatched coming scheduled are).0 known) says.0) (slice_get outcomes n);
       cancelled = λ e. absurd (false_is_true e);
       cancels = λ n reason e. absurd (none_cancelled (slice_get outcomes n) (ordinary n) reason e);
       dry = λ n how at_n. (ordinary n how at_n).1;
@@ -186,8 +186,8 @@ module _ (Shows : Ask → ℕ → Talk → Class → List ℕ → Type 0) (HasSt
 
     keeps : Ordered → ReadNothing → ((n : ℕ) (how : Outcome) → slice_get outcomes n ≡ Some how → IsOrdinary how) → Keeps tasks outcomes journal talks notes
     keeps o reads ordinary = record {
-      truthful = truthful Shows HasStatus request_text host port PlansNothing (Fails tasks) shown jobs o;
-      willing = done_where_willing Shows HasStatus request_text host port PlansNothing (Fails tasks) shown jobs o;
+      truthful = truthful Shows HasStatus request_text host port Plans (Fails tasks) shown jobs o;
+      willing = done_where_willing Shows HasStatus request_text host port Plans (Fails tasks) shown jobs o;
       settles = settles o.alone reads ordinary;
     }
 
@@ -204,9 +204,9 @@ module _ (Shows : Ask → ℕ → Talk → Class → List ℕ → Type 0) (HasSt
   unplanned notes idle =
       keeps [] [] [] [] notes []
       (record {
-        schedule = no_schedule Shows PlansNothing (shown [] [] [] [] notes []).setting refl;
+        schedule = no_schedule Shows Plans (shown [] [] [] [] notes []).setting plans_none;
         carried = none_carried Shows request_text host port (shown [] [] [] [] notes []).setting notes idle (omega arith);
-        alone = no_jobs Shows PlansNothing (shown [] [] [] [] notes []).setting;
+        alone = no_jobs Shows Plans (shown [] [] [] [] notes []).setting;
         buffers = no_buffers config.buffers;
         as_many = refl;
         causes = λ n task how at_task at_how. absurd (none_is_some task at_task);
@@ -277,7 +277,7 @@ module _ (Shows : Ask → ℕ → Talk → Class → List ℕ → Type 0) (HasSt
       abbrev shows : Shown
       shows = shown (task ∷ []) (how ∷ []) journal talks notes jobs
 
-      planned : IsSchedule Shows shows.setting PlansNothing jobs jobs → IsCarried Shows request_text host port shows.setting journal (in_first talks) (in_first notes) jobs jobs
+      planned : IsSchedule Shows shows.setting Plans jobs jobs → IsCarried Shows request_text host port shows.setting journal (in_first talks) (in_first notes) jobs jobs
           → Alone (task ∷ []) (how ∷ []) journal talks notes jobs → KeepsBuffers config.buffers journal → HasOutcome Shows HasStatus (Fails (task ∷ [])) shows.setting jobs jobs 0 task how
           → ((c : Dispatched) → Contains jobs c → c.dispatch.job.task ≡ None → ⊥) → ReadNothing (task ∷ []) (how ∷ []) journal talks notes jobs → IsOrdinary how
           → Keeps (task ∷ []) (how ∷ []) journal talks notes
@@ -319,8 +319,8 @@ module _ (Shows : Ask → ℕ → Talk → Class → List ℕ → Type 0) (HasSt
     unread_run : (of_cause : Cause) → IsReadCause (Some now) path size before after of_cause → Keeps (task ∷ []) (outcome.Failed of_cause ∷ []) [] [] []
     unread_run of_cause h =
         let how = outcome.Failed of_cause in
-        planned how [] [] [] [] (no_schedule Shows PlansNothing (shows how [] [] [] []).setting refl)
-        (none_carried Shows request_text host port (shows how [] [] [] []).setting [] none_idle (omega arith)) (no_jobs Shows PlansNothing (shows how [] [] [] []).setting) (no_buffers config.buffers)
+        planned how [] [] [] [] (no_schedule Shows Plans (shows how [] [] [] []).setting plans_none)
+        (none_carried Shows request_text host port (shows how [] [] [] []).setting [] none_idle (omega arith)) (no_jobs Shows Plans (shows how [] [] [] []).setting) (no_buffers config.buffers)
         (unread_for Shows HasStatus (Fails (task ∷ [])) (upload how) now before after of_cause (λ reason. (task, refl, reason)) refl h) (λ c known of_none. in_none c known) (λ c known reads. in_none c known)
         (read_ordinary (Some now) path size before after of_cause h)
 
@@ -331,8 +331,8 @@ module _ (Shows : Ask → ℕ → Talk → Class → List ℕ → Type 0) (HasSt
         → Keeps (task ∷ []) (how ∷ []) (put_events tries) talks notes
     given_run how tries attempts talks notes carried has ordinary =
         let put : Dispatched = put_with (upload how) attempts in
-        planned how (put_events tries) talks notes (put ∷ []) (put_schedule Shows PlansNothing (upload how) refl attempts) carried
-        (λ dispatched coming scheduled are. put_alone Shows PlansNothing (upload how) dispatched coming attempts scheduled (are ∙ sym carried.shown)) (put_buffers config.buffers tries configured.buffers.least) has
+        planned how (put_events tries) talks notes (put ∷ []) (put_schedule Shows Plans (upload how) plans_none attempts) carried
+        (λ dispatched coming scheduled are. put_alone Shows Plans (upload how) dispatched coming attempts scheduled (are ∙ sym carried.shown)) (put_buffers config.buffers tries configured.buffers.least) has
         (each (λ (c : Dispatched). c.dispatch.job.task ≡ None → ⊥) put (λ e. none_is_some 0 (sym e))) (each (λ (c : Dispatched). ReadsSource c.dispatch.job.op → ⊥) put (λ reads. reads)) ordinary
 
     -- one talk for the bytes of the file

@@ -23,10 +23,6 @@ use Rattle.upload_promise.specs.Uploads.{IsReadCause}
 abbrev pub one_attempt : Config → Config
 one_attempt config = record config { attempts = 1 }
 
--- no request serves the planning
-abbrev pub PlansNothing : List Dispatched → Type 0
-PlansNothing jobs = jobs ≡ []
-
 -- what is in the first lane alone
 abbrev pub in_first : {A : Type 0} → List A → ℕ → List A
 in_first given lane = if lane == 0 then given else []
@@ -82,15 +78,15 @@ CallFailed path now before after tasks n why = (task : Task) × (slice_get tasks
 -- `Shows ask limit talk class bytes`: the talk has that class for the ask, and its answer that body.
 -- `HasStatus ask limit talk status`: its answer has that HTTP status.
 -- `request_text ask body moment`: the text of a request, signed at that moment.
+-- `Plans`: the planning jobs, in order, are those that the command needs.
 module _ (Shows : Ask → ℕ → Talk → Class → List ℕ → Type 0) (HasStatus : Ask → ℕ → Talk → ℕ → Type 0)
-    (request_text : Ask → List ℕ → ℕ → List ℕ) (host : List ℕ) (port : ℕ) where
+    (request_text : Ask → List ℕ → ℕ → List ℕ) (host : List ℕ) (port : ℕ) (Plans : List Dispatched → Type 0) where
   -- Over every honest service the outcomes are true, and over a willing one the task is done. `path` is that of the
   -- file.
   pub record KeepsPromise (path : List ℕ) (faults_before faults_after : ℕ) (tasks : List Task)
       (warnings : List Warning) (now : SeenFiles) (shown : Shown) : Type 0 where
-    pub truthful : IsTruthful Shows HasStatus request_text host port PlansNothing
+    pub truthful : IsTruthful Shows HasStatus request_text host port Plans
         (CallFailed path now faults_before faults_after tasks) shown
-    pub willing : IsDoneWhereWilling Shows request_text host port PlansNothing shown
-    -- the setting is that of a run with this status and these warnings, in which no output is waited for and nothing
-    -- is listed
-    pub settles : IsSettingOf Shows HasStatus PlansNothing shown warnings ⊥ ⊥
+    pub willing : IsDoneWhereWilling Shows request_text host port Plans shown
+    -- the setting is that of a run with this status and these warnings, which nothing cancels
+    pub settles : IsSettingOf Shows HasStatus Plans shown warnings ⊥ ⊥

@@ -1,11 +1,13 @@
-use Rattle.std.proofs.Common.{◌∙◌, Global, map, string_bytes, subst, sym, inr}
+use Rattle.std.proofs.Common.{◌∙◌, Global, map, string_bytes, None, ap, is_some, subst, sym, inl, inr}
 use Rattle.s3_model.specs.declared.settings.Limits.{Limits}
 use Rattle.run_promise.specs.Gains.{Gains}
 use Rattle.run_promise.proofs.GainLemmas.{gains_as}
+use Rattle.s3_main.specs.Listings.{IsListing}
 use Rattle.s3_main.specs.Runs.{GoesAs}
 use Rattle.s3_main.specs.Urls.{IsPresigned}
 use Rattle.s3_main.proofs.BeginLemmas as lemma
-use Rattle.s3_main.proofs.UrlLemmas.{url_does, url_goes, url_line_is}
+use Rattle.s3_main.proofs.ListingLemmas.{listing_does, listing_goes, listing_line_is, listing_stops, lists_true, same_status, unasked_status}
+use Rattle.s3_main.proofs.UrlLemmas.{copy_line, lists, presign_is_no_listing, stopped_line, url_does, url_goes, url_line_is}
 use Rattle.s3_main.proofs.execution.execute.Goals as goal
 
 pub returns-in-Ok-clause-went : goal.returns-in-Ok-clause-went
@@ -13,14 +15,14 @@ returns-in-Ok-clause-went g c =
     let words = map (string_bytes {Z = Global}) c.args.words.now in
     let run = c.execute_presign.result.run in
     gains_as (IsPresigned words (g.E.Env.seen c.read_start.new.env) run) (GoesAs words (g.E.Env.seen c.read_start.new.env) (g.E.Env.allows c.args.env.now) (g.F.Files.seen c.args.files.now)
-    (g.F.Files.seen c.args.files.now) (g.F.Files.faults c.args.files.now) (g.F.Files.faults c.args.files.now) run) (λ talks notes url. inr (inr url)) _ _
+    (g.F.Files.seen c.args.files.now) (g.F.Files.faults c.args.files.now) (g.F.Files.faults c.args.files.now) run) (λ talks notes url. inr (inr (inl url))) _ _
     (url_goes words _ c.in-Ok.start.command c.in-Ok.start.settings c.in-Ok.ensures.begun (sym c.is_presign.ensures ∙ c.if-is_presign.true) _ _ run c.execute_presign.result.line c.execute_presign.ensures.made)
 
 pub returns-in-Ok-clause-does : goal.returns-in-Ok-clause-does
 returns-in-Ok-clause-does g c =
     let words = map (string_bytes {Z = Global}) c.args.words.now in
-    inr (inr (url_does words _ c.in-Ok.start.command c.in-Ok.start.settings c.in-Ok.ensures.begun (sym c.is_presign.ensures ∙ c.if-is_presign.true) _ _ c.execute_presign.result.run c.execute_presign.result.line
-    c.execute_presign.ensures.made))
+    inr (inr (inl (url_does words _ c.in-Ok.start.command c.in-Ok.start.settings c.in-Ok.ensures.begun (sym c.is_presign.ensures ∙ c.if-is_presign.true) _ _ c.execute_presign.result.run c.execute_presign.result.line
+    c.execute_presign.ensures.made)))
 
 pub returns-in-Ok-clause-line : goal.returns-in-Ok-clause-line
 returns-in-Ok-clause-line g c =
@@ -28,13 +30,66 @@ returns-in-Ok-clause-line g c =
     url_line_is words _ c.in-Ok.start.command c.in-Ok.start.settings c.in-Ok.ensures.begun (sym c.is_presign.ensures ∙ c.if-is_presign.true) _ _ c.execute_presign.result.run c.execute_presign.result.line
     c.execute_presign.ensures.made
 
+pub returns-in-Ok-clause-lists : goal.returns-in-Ok-clause-lists
+returns-in-Ok-clause-lists g c =
+    let words = map (string_bytes {Z = Global}) c.args.words.now in
+    same_status _ _ _ (lists words c.in-Ok.start.command c.in-Ok.ensures.begun.reads.is_command ∙ presign_is_no_listing c.in-Ok.start.command.verb (sym c.is_presign.ensures ∙ c.if-is_presign.true))
+
 pub returns-in-Ok-2-clause-went : goal.returns-in-Ok-2-clause-went
 returns-in-Ok-2-clause-went g c =
     let words = map (string_bytes {Z = Global}) c.args.words.now in
+    let run = c.execute_listing.result.executed.run in
+    gains_as (IsListing words (g.E.Env.seen c.read_start.new.env) run) (GoesAs words (g.E.Env.seen c.read_start.new.env) (g.E.Env.allows c.args.env.now) (g.F.Files.seen c.args.files.now)
+    (g.F.Files.seen c.args.files.now) (g.F.Files.faults c.args.files.now) (g.F.Files.faults c.args.files.now) run) (λ talks notes listed. inr (inr (inr listed))) _ _
+    (listing_goes words run c.execute_listing.result.executed.line c.execute_listing.result.missed _ c.in-Ok.start.command c.in-Ok.start.settings c.in-Ok.ensures.begun
+    (sym c.is_listing.ensures ∙ c.if-is_listing.true) _ _ c.execute_listing.ensures.listed)
+
+pub returns-in-Ok-2-clause-line : goal.returns-in-Ok-2-clause-line
+returns-in-Ok-2-clause-line g c =
+    let words = map (string_bytes {Z = Global}) c.args.words.now in
+    listing_line_is words c.execute_listing.result.executed.run c.execute_listing.result.executed.line c.execute_listing.result.missed _ c.in-Ok.start.command c.in-Ok.start.settings c.in-Ok.ensures.begun
+    (sym c.is_listing.ensures ∙ c.if-is_listing.true) _ _ c.execute_listing.ensures.listed
+
+pub returns-in-Ok-2-clause-lists : goal.returns-in-Ok-2-clause-lists
+returns-in-Ok-2-clause-lists g c =
+    let words = map (string_bytes {Z = Global}) c.args.words.now in
+    same_status _ _ _ (lists words c.in-Ok.start.command c.in-Ok.ensures.begun.reads.is_command ∙ (sym c.is_listing.ensures ∙ c.if-is_listing.true) ∙ sym c.execute_listing.ensures.lists)
+
+pub returns-in-Ok-2-clause-stops : goal.returns-in-Ok-2-clause-stops
+returns-in-Ok-2-clause-stops g c =
+    let words = map (string_bytes {Z = Global}) c.args.words.now in
+    listing_stops words c.execute_listing.result.executed.run c.execute_listing.result.executed.line c.execute_listing.result.missed _ c.in-Ok.start.command c.in-Ok.start.settings c.in-Ok.ensures.begun
+    (sym c.is_listing.ensures ∙ c.if-is_listing.true) None None _ _ _ _ _ _ _ c.execute_listing.ensures.stops
+
+pub returns-in-Ok-2-clause-does : goal.returns-in-Ok-2-clause-does
+returns-in-Ok-2-clause-does g c =
+    let words = map (string_bytes {Z = Global}) c.args.words.now in
+    inr (inr (inr (listing_does words c.execute_listing.result.executed.run c.execute_listing.result.executed.line c.execute_listing.result.missed _ c.in-Ok.start.command c.in-Ok.start.settings c.in-Ok.ensures.begun
+    (sym c.is_listing.ensures ∙ c.if-is_listing.true) _ _ c.execute_listing.ensures.listed)))
+
+pub returns-in-Ok-3-clause-went : goal.returns-in-Ok-3-clause-went
+returns-in-Ok-3-clause-went g c =
+    let words = map (string_bytes {Z = Global}) c.args.words.now in
     subst (λ (limits : Limits). Gains (g.W.Wire.seen c.args.wire.now) (g.W.Wire.seen c.execute_command.new.wire) (GoesAs words (g.E.Env.seen c.read_start.new.env) limits (g.F.Files.seen c.args.files.now)
     (g.F.Files.seen c.execute_command.new.files) (g.F.Files.faults c.args.files.now) (g.F.Files.faults c.execute_command.new.files) c.execute_command.result.run)) c.limits-limits.ensures.value
-    (lemma.begun_goes words _ 0 0 _ _ _ _ _ c.execute_command.result.run c.in-Ok.start.command c.in-Ok.start.settings c.in-Ok.ensures.begun (sym c.is_presign.ensures ∙ c.if-is_presign.false) _ _ c.execute_command.ensures.went)
+    (lemma.begun_goes words _ 0 0 _ _ _ _ _ c.execute_command.result.run c.in-Ok.start.command c.in-Ok.start.settings c.in-Ok.ensures.begun (sym c.is_presign.ensures ∙ c.if-is_presign.false)
+    (sym c.is_listing.ensures ∙ c.if-is_listing.false) _ _ c.execute_command.ensures.went)
+
+pub returns-in-Ok-3-clause-line : goal.returns-in-Ok-3-clause-line
+returns-in-Ok-3-clause-line g c =
+    let words = map (string_bytes {Z = Global}) c.args.words.now in
+    copy_line words _ _ _ c.execute_command.result.run c.execute_command.result.line c.in-Ok.start.command c.in-Ok.ensures.begun.reads.is_command (sym c.is_presign.ensures ∙ c.if-is_presign.false)
+    (sym c.is_listing.ensures ∙ c.if-is_listing.false) c.execute_command.ensures.line
+
+pub returns-in-Ok-3-clause-lists : goal.returns-in-Ok-3-clause-lists
+returns-in-Ok-3-clause-lists g c =
+    let words = map (string_bytes {Z = Global}) c.args.words.now in
+    same_status _ _ _ (lists words c.in-Ok.start.command c.in-Ok.ensures.begun.reads.is_command ∙ (sym c.is_listing.ensures ∙ c.if-is_listing.false))
 
 pub returns-in-Err-clause-went : goal.returns-in-Err-clause-went
 returns-in-Err-clause-went g c =
-    lemma.early_goes (map (string_bytes {Z = Global}) c.args.words.now) _ 0 0 _ _ _ _ _ c.end_early.result.run _ c.in-Err.fatal c.end_early.ensures.run
+    lemma.early_goes (map (string_bytes {Z = Global}) c.args.words.now) _ _ _ _ _ _ _ _ c.end_early.result.run _ c.in-Err.fatal c.end_early.ensures.run c.in-Err.ensures.stops
+
+pub returns-in-Err-clause-line : goal.returns-in-Err-clause-line
+returns-in-Err-clause-line g c =
+    stopped_line (map (string_bytes {Z = Global}) c.args.words.now) _ _ _ c.end_early.result.run c.end_early.result.line (ap is_some c.end_early.ensures.run.fatal) c.end_early.ensures.line

@@ -50,4 +50,4 @@ returns-in-Ok g c =
 pub returns-in-Err-clause-went : goal.returns-in-Err-clause-went
 returns-in-Err-clause-went g c =
     lemma.unseen_goes c.args.start.command c.args.start.settings c.args.limits.now (g.F.Files.seen c.args.files.now) (g.F.Files.seen c.find_fate.new.files)
-    (g.F.Files.faults c.args.files.now) (g.F.Files.faults c.args.files.now) (g.F.Files.faults c.find_fate.new.files) c.end_early.result.run (g.W.Wire.seen c.args.wire.now) c.in-Err.fatal c.end_early.ensures.run
+    (g.F.Files.faults c.args.files.now) (g.F.Files.faults c.args.files.now) (g.F.Files.faults c.find_fate.new.files) c.end_early.result.run (g.W.Wire.seen c.args.wire.now) c.in-Err.fatal c.end_early.ensures.run c.in-Err.ensures.fault

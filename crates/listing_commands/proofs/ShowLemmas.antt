@@ -1,0 +1,46 @@
+-- From what was listed to what is shown of it.
+use Rattle.std.proofs.Common.{◌≡◌, ℕ, Bool, List, [], Option, Some, None, Result, Ok, Err, refl, sym, inr, append-nil}
+use Rattle.s3_model.specs.declared.outcomes.Event.{Event}
+use Rattle.s3_model.specs.declared.places.Endpoint.{Endpoint}
+use Rattle.s3_model.specs.declared.places.Entry.{Entry}
+use Rattle.s3_model.specs.declared.places.Place.{Place}
+use Rattle.s3_model.specs.declared.places.Place.TheVariants as place
+use Rattle.s3_model.specs.declared.settings.Keys.{Keys}
+use Rattle.s3_model.specs.Lists.{Reserved}
+use Rattle.s3_model.specs.Talks.{WireLog}
+use Rattle.run_promise.specs.Gains.{Gains}
+use Rattle.run_promise.proofs.GainLemmas.{gains_as}
+use Rattle.list_walk.specs.Pages.{Walk}
+use Rattle.listings.specs.Buckets.{ListsBuckets}
+use Rattle.listings.specs.Pages.{Lists}
+use Rattle.listings.specs.declared.fault.ListingFault.{ListingFault}
+use Rattle.listings.specs.declared.fault.ListingFault.TheVariants as fault
+use Rattle.upload_plans.specs.Commands.{IsListed}
+use Rattle.listing_commands.specs.declared.show.Shown.{Shown}
+use Rattle.listing_commands.specs.Commands.{IsShownBuckets, IsShownBy, IsShownWalk, ShowsBuckets, ShowsListing, ShowsPages, listing_of}
+
+module _ (endpoint : Endpoint) (keys : Keys) (before after : List Event) (result : Result Shown ListingFault) (was now : Option WireLog) where
+  pub buckets_shown : (listed : Result (Reserved Entry) ListingFault) → IsShownBy IsShownBuckets listed result → Gains was now (ListsBuckets endpoint keys 0 before after listed)
+      → Gains was now (ShowsBuckets endpoint keys before after result)
+  buckets_shown listed shown gains =
+      gains_as (ListsBuckets endpoint keys 0 before after listed) (ShowsBuckets endpoint keys before after result) (λ talks notes lists. record { listed = listed; lists = lists; shown = shown }) was now gains
+
+  pub pages_shown : (bucket key : List ℕ) (recursive : Bool) (listed : Result Walk ListingFault) → IsShownBy (IsShownWalk key recursive) listed result
+      → Gains was now (Lists (listing_of endpoint keys bucket key recursive) before after listed) → Gains was now (ShowsPages endpoint keys bucket key recursive before after result)
+  pages_shown bucket key recursive listed shown gains =
+      gains_as (Lists (listing_of endpoint keys bucket key recursive) before after listed) (ShowsPages endpoint keys bucket key recursive before after result)
+      (λ talks notes lists. record { listed = listed; lists = lists; shown = shown }) was now gains
+
+-- nothing was asked, since memory ran out
+pub none_shown : (endpoint : Endpoint) (keys : Keys) (at : Option Place) (recursive : Bool) (events : List Event) → IsListed at → ShowsListing endpoint keys at recursive events events (Err fault.Memory) [] []
+none_shown endpoint keys None recursive events listed = record {
+  listed = Err fault.Memory;
+  lists = record { asked = []; events = sym (append-nil events); gained = (refl, refl); plans = λ place. inr (inr refl); ends = tt };
+  shown = refl;
+}
+none_shown endpoint keys (Some (place.Object bucket key)) recursive events listed = record {
+  listed = Err fault.Memory;
+  lists = record { asked = []; events = sym (append-nil events); gained = (refl, refl); plans = λ place. inr (inr refl); ends = tt };
+  shown = refl;
+}
+none_shown endpoint keys (Some (place.File path)) recursive events listed = absurd listed

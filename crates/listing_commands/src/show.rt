@@ -1,0 +1,122 @@
+//! The requests of `ls`, and its rows.
+
+ghost use Rattle.std.specs.Prelude.{◌≡◌, ◌≤◌, IfErr};
+ghost use Rattle.run_promise.specs.Gains.{Gains};
+ghost use Rattle.listings.specs.Faults.{IsNoCancel};
+ghost use Rattle.upload_plans.specs.Commands.{IsListed};
+ghost use Rattle.listing_commands.specs.Commands.{ShowsBuckets, ShowsListing, ShowsPages, finds_nothing};
+
+use attempts::Client;
+use list_walk::Pages;
+use listing_rows::{buckets_text, listing_text};
+use listings::{ListingFault, list_buckets, list_pages};
+use s3_model::{Journal, Place, Text};
+use s3_outside::Wire;
+use std::alloc::Global;
+
+/// What `ls` has to show.
+#[derive(Debug, Drop)]
+pub struct Shown {
+    /// A row of each prefix and of each object, or of each bucket.
+    pub text: Text,
+    /// A key was given, and nothing has it or stands below it.
+    pub missed: bool,
+}
+
+/// A row of each bucket of the service.
+fn show_buckets<W: Wire>(
+    alloc: Global,
+    wire: &mut W,
+    client: &mut Client,
+    journal: &mut Journal,
+) -> Result<Shown, ListingFault>
+    ensures shown { Gains (W.seen wire.old) (W.seen wire.new) (ShowsBuckets client.old.endpoint client.old.signer
+        journal.old.items journal.new.items result) }
+    ensures no_cancel { IfErr result IsNoCancel }
+    ensures later { W.faults wire.old ≤ W.faults wire.new }
+{
+    match list_buckets(alloc, wire, client, 0, journal) {
+        Ok(buckets) => match buckets_text(alloc, &buckets) {
+            Ok(text) => Ok(Shown {
+                text,
+                missed: false,
+            }),
+            Err(_) => Err(ListingFault::Memory),
+        },
+        Err(fault) => Err(fault),
+    }
+}
+
+/// Whether a key was given and nothing has it or stands below it.
+fn finds_nothing(key: &str, pages: &Pages) -> bool
+    ensures { result ≡ finds_nothing key.now pages.now.gathered }
+{
+    !key.is_empty() && pages.entries().is_empty() && pages.prefixes().is_empty()
+}
+
+/// A row of each prefix and of each object of a bucket.
+fn show_pages<W: Wire>(
+    alloc: Global,
+    wire: &mut W,
+    client: &mut Client,
+    bucket: &str,
+    key: &str,
+    recursive: bool,
+    journal: &mut Journal,
+) -> Result<Shown, ListingFault>
+    ensures shown { Gains (W.seen wire.old) (W.seen wire.new) (ShowsPages client.old.endpoint client.old.signer
+        bucket.now key.now recursive journal.old.items journal.new.items result) }
+    ensures no_cancel { IfErr result IsNoCancel }
+    ensures later { W.faults wire.old ≤ W.faults wire.new }
+{
+    match list_pages(alloc, wire, client, bucket, key, !recursive, 0, journal) {
+        Ok(pages) => match listing_text(alloc, &pages, recursive) {
+            Ok(text) => Ok(Shown {
+                text,
+                missed: finds_nothing(key, &pages),
+            }),
+            Err(_) => Err(ListingFault::Memory),
+        },
+        Err(fault) => Err(fault),
+    }
+}
+
+/// What `ls` shows (AWS CLI Command Reference, `s3 ls`): the buckets of the service where `at` is None, else what has
+/// the key of `at` in front, in its bucket. Without `recursive` what stands below a `/` behind that key is shown as one
+/// prefix. Nothing is shown before all was listed.
+///
+/// The requests are planning jobs of the first lane, numbered from 0, with one attempt each; the journal has the events
+/// of each as it is given and as it comes.
+///
+/// # Errors
+///
+/// `Listing` where a page is refused, by `Pages::feed`; `Answer` where a request had no success; `Memory` where memory
+/// ran out. Nothing is asked after it.
+pub fn show_listing<W: Wire>(
+    alloc: Global,
+    wire: &mut W,
+    client: &mut Client,
+    at: &Option<Place>,
+    recursive: bool,
+    journal: &mut Journal,
+) -> Result<Shown, ListingFault>
+    requires listed { IsListed at.now }
+    ensures shown { Gains (W.seen wire.old) (W.seen wire.new) (ShowsListing client.old.endpoint client.old.signer
+        at.now recursive journal.old.items journal.new.items result) }
+    ensures no_cancel { IfErr result IsNoCancel }
+    ensures later { W.faults wire.old ≤ W.faults wire.new }
+{
+    match at {
+        None => show_buckets(alloc, wire, client, journal),
+        Some(Place::Object { bucket, key }) => show_pages(
+            alloc,
+            wire,
+            client,
+            bucket.as_str(),
+            key.as_str(),
+            recursive,
+            journal,
+        ),
+        Some(Place::File { .. }) => unreachable!(),
+    }
+}

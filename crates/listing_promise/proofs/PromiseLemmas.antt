@@ -1,0 +1,108 @@
+-- A run that lists keeps its promise: its requests were planned and carried, and it changes nothing.
+use Rattle.std.proofs.Common.{◌≡◌, ◌==◌, ◌≤◌, ℕ, Bool, true, false, List, [], Option, Some, None, refl, sym, ap, inl, inr, length, slice_get, arith}
+use Rattle.std.specs.FinMap.{get}
+use Rattle.shared_lemmas.proofs.Clashes.{false_true, none_is_some}
+use Rattle.s3_model.specs.declared.outcomes.Cause.{Cause}
+use Rattle.s3_model.specs.declared.places.Endpoint.{Endpoint}
+use Rattle.s3_model.specs.declared.settings.Config.{Config}
+use Rattle.s3_model.specs.declared.settings.Keys.{Keys}
+use Rattle.s3_model.specs.declared.settings.Limits.{Limits}
+use Rattle.s3_model.specs.Files.{FileStore}
+use Rattle.s3_model.specs.Talks.{Talk, Note}
+use Rattle.s3_model.specs.Validity.{IsValidConfig, IsValidLimits}
+use Rattle.run_promise.specs.Carried.{IsCarried}
+use Rattle.run_promise.specs.Dispatches.{Dispatched}
+use Rattle.run_promise.specs.Schedule.{IsSchedule}
+use Rattle.run_promise.specs.Settled.{IsSettingOf}
+use Rattle.run_promise.specs.Truthful.{IsDoneWhereWilling, IsTruthful, Shown}
+use Rattle.world_laws.specs.Promises.{IsOrderly}
+use Rattle.world_laws.proofs.Promises.{promise_holds}
+use Rattle.s3_outside.specs.Files.{SeenFiles}
+use Rattle.answer_classes.specs.Showing.{HasStatus, Shows}
+use Rattle.attempts.specs.Attempts.{text_of}
+use Rattle.upload_promise.specs.Shown.{CallFailed, KeepsPromise, in_first, shown_by}
+use Rattle.upload_promise.proofs.PromiseLemmas.{one_valid, status_is}
+use Rattle.listings.specs.Asked.{AreAsked, Asked, dispatched_from, events_from}
+use Rattle.listings.proofs.CarriedLaw.{requests_are_carried}
+use Rattle.listing_promise.specs.Listings.{AreQuestions}
+use Rattle.listing_promise.proofs.ScheduleLemmas.{listing_buffers, listing_schedule, questions}
+
+seventy : (n : ℕ) → n ≡ 70 → (n == 70) ≡ true
+seventy n is = grind arith
+
+module _ (endpoint : Endpoint) (keys : Keys) (Plans : List Dispatched → Type 0) (config : Config) (configured : IsValidConfig config) (limits : Limits) (valid : IsValidLimits limits) (status before after : ℕ)
+    (path : List ℕ) (was now : SeenFiles) (same : now.store ≡ was.store) (asked : List Asked) (asks : AreQuestions asked) (talks : List Talk) (notes : List Note) where
+  abbrev jobs : List Dispatched
+  jobs = dispatched_from 0 0 asked
+
+  abbrev shown : Shown
+  shown = shown_by config limits status [] [] (events_from 0 asked) talks notes was now
+
+  abbrev Fails : ℕ → Cause → Type 0
+  Fails = CallFailed path now before after []
+
+  stay : (any : List ℕ) → get now.store.held any ≡ get was.store.held any
+  stay any = ap (λ (s : FileStore). get s.held any) same
+
+  abbrev Scheduled : Type 0
+  Scheduled = IsSchedule Shows shown.setting Plans jobs jobs
+
+  abbrev Carried : Type 0
+  Carried = IsCarried Shows (text_of endpoint keys) endpoint.host endpoint.port shown.setting shown.journal shown.logs shown.notes jobs jobs
+
+  orderly : Scheduled → Carried → IsOrderly Shows HasStatus Plans Fails (text_of endpoint keys) endpoint.host endpoint.port shown jobs jobs
+  orderly schedule carried = record {
+    schedule = schedule;
+    carried = carried;
+    outcomes = inl refl;
+    causes = λ n task how at_task at_how. absurd (none_is_some task at_task);
+    questions = λ c known of_none. questions Shows Plans shown.setting asked asks c known;
+    tasks = λ n task at_task. absurd (none_is_some task at_task);
+    apart = record {
+      destinations = λ m n a b bucket key at_m at_n of_a of_b. absurd (none_is_some a at_m);
+      sources = λ m n a b bucket key at_m at_n moves of_a of_b. none_is_some a at_m;
+    };
+    sources = λ start trace of_trace n task how at_task at_how may. absurd (none_is_some task at_task);
+    files = λ n task how at at_task at_how moves from. absurd (none_is_some task at_task);
+    one_class = λ n task at_task is_fresh. absurd (none_is_some task at_task);
+    config = one_valid config configured;
+    limits = valid;
+  }
+
+  listing_truthful : Scheduled → Carried → IsTruthful Shows HasStatus (text_of endpoint keys) endpoint.host endpoint.port Plans Fails shown
+  listing_truthful schedule carried = record {
+    dispatched = jobs;
+    coming = jobs;
+    schedule = schedule;
+    carried = carried;
+    buffers = listing_buffers config.buffers asked asks 0;
+    outcomes = inl refl;
+    causes = λ n task how at_task at_how. absurd (none_is_some task at_task);
+    files = λ any. inr (inr (stay any));
+    holds = promise_holds Shows HasStatus Plans Fails (text_of endpoint keys) endpoint.host endpoint.port shown jobs jobs (orderly schedule carried);
+  }
+
+  listing_willing : IsDoneWhereWilling Shows HasStatus (text_of endpoint keys) endpoint.host endpoint.port Plans Fails shown
+  listing_willing = λ dispatched coming start trace scheduled carried of_trace honest willing fits certain alone buckets runs n how at_how. absurd (none_is_some how at_how)
+
+  listing_settles : IsSettingOf Shows HasStatus Plans shown [] ⊥ ⊥
+  listing_settles = record {
+    memory = λ n. refl;
+    lanes = configured.lanes.least;
+    planning_memory = λ e. status_is status e;
+    warning_memory = λ e. status_is status e;
+    left = refl;
+    untimed = refl;
+    files = λ dispatched coming scheduled are n. ((λ e. absurd (false_true e)), (λ h. absurd h));
+    cancelled = λ e. absurd (false_true e);
+    cancels = λ n reason e. absurd (none_is_some _ e);
+    dry = λ n how at_how. absurd (none_is_some how at_how);
+  }
+
+  -- Requests that the planning needs, carried one after the other; memory that is wanted ran out.
+  pub listing_keeps : (wanting : Bool) → (wanting ≡ true → status ≡ 70) → AreAsked endpoint keys wanting asked talks notes → Plans jobs
+      → KeepsPromise Shows HasStatus (text_of endpoint keys) endpoint.host endpoint.port Plans path before after [] [] now shown
+  listing_keeps wanting wants all plans =
+      let schedule = listing_schedule Shows Plans shown.setting asked asks plans in
+      let carried = requests_are_carried endpoint keys wanting shown.setting 0 asked talks notes (omega arith) refl (λ e. seventy status (wants e)) all in
+      record { truthful = listing_truthful schedule carried; willing = listing_willing; settles = listing_settles }

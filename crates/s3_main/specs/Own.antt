@@ -1,0 +1,47 @@
+-- What a command is there to show: the URL of `presign`, the rows of `ls`.
+use Rattle.std.specs.Prelude.{◌≡◌, ◌⊎◌, ℕ, Bool, true, false, List, [], Option, Ok, is_some}
+use Rattle.listing_commands.specs.Commands.{ShowsListing}
+use Rattle.listing_commands.specs.declared.show.Shown.{Shown}
+use Rattle.s3_model.specs.declared.outcomes.Event.{Event}
+use Rattle.s3_model.specs.declared.settings.Settings.{Settings}
+use Rattle.s3_model.specs.Talks.{Talk, Note, WireLog}
+use Rattle.s3_outside.specs.Env.{SeenEnv}
+use Rattle.s3_words.specs.declared.commands.Command.{Command}
+use Rattle.upload_plans.specs.Commands.{is_listing}
+use Rattle.run_promise.specs.Gains.{Gains}
+use Rattle.s3_main.specs.Begun.{IsBegun, lists_in, shows_url}
+use Rattle.s3_main.specs.Urls.{IsUrl}
+use Rattle.s3_main.specs.declared.run.Run.{Run}
+
+-- its text, and whether a key was given and nothing found
+pub record Own : Type 0 where
+  pub text : List ℕ
+  pub missed : Bool
+
+abbrev pub nothing_own : Own
+nothing_own = record { text = []; missed = false }
+
+abbrev pub only_text : List ℕ → Own
+only_text text = record { text = text; missed = false }
+
+-- the rows of the listing that the command asks for, as the talks show it
+pub record IsRows (words : List (List ℕ)) (env : Option SeenEnv) (own : Own) (talks : List Talk) (notes : List Note)
+    : Type 0 where
+  pub command : Command
+  pub settings : Settings
+  pub begun : IsBegun words env command settings
+  pub listing : is_listing command.verb ≡ true
+  pub jobs : List Event
+  pub shown : Shown
+  pub shows : ShowsListing command.endpoint settings.keys command.from command.recursive [] jobs (Ok shown) talks notes
+  pub text : own.text ≡ shown.text
+  pub missed : own.missed ≡ shown.missed
+
+-- The URL, where the words ask for one; the rows, where they ask for a listing; else nothing. Of a run that ended early
+-- nothing is shown.
+abbrev pub IsOwn : (words : List (List ℕ)) → Option SeenEnv → (before after : Option WireLog) → Run → Own → Type 0
+IsOwn words env before after run own =
+    ((shows_url words ≡ false) × (lists_in words ≡ false) × (own ≡ nothing_own))
+    ⊎ ((shows_url words ≡ true) × (own.missed ≡ false) × Gains before after (IsUrl words env own.text))
+    ⊎ ((lists_in words ≡ true) × Gains before after (IsRows words env own))
+    ⊎ (is_some run.fatal ≡ true)
