@@ -62,7 +62,7 @@ module _ (endpoint : Endpoint) (keys : Keys) (Plans : List Dispatched → Type 0
       destinations = λ m n a b bucket key at_m at_n of_a of_b. absurd (none_is_some a at_m);
       sources = λ m n a b bucket key at_m at_n moves of_a of_b. none_is_some a at_m;
     };
-    sources = λ start trace of_trace n task how at_task at_how may. absurd (none_is_some task at_task);
+    sources = λ run same of_shown n task how at_task at_how may. absurd (none_is_some task at_task);
     files = λ n task how at at_task at_how moves from. absurd (none_is_some task at_task);
     one_class = λ n task at_task is_fresh. absurd (none_is_some task at_task);
     config = one_valid config configured;
@@ -82,8 +82,8 @@ module _ (endpoint : Endpoint) (keys : Keys) (Plans : List Dispatched → Type 0
     holds = promise_holds Shows HasStatus Plans Fails (text_of endpoint keys) endpoint.host endpoint.port shown jobs jobs (orderly schedule carried);
   }
 
-  listing_willing : IsDoneWhereWilling Shows HasStatus (text_of endpoint keys) endpoint.host endpoint.port Plans Fails shown
-  listing_willing = λ dispatched coming start trace scheduled carried of_trace honest willing fits certain alone buckets runs n how at_how. absurd (none_is_some how at_how)
+  listing_willing : IsDoneWhereWilling Shows (text_of endpoint keys) endpoint.host endpoint.port Plans shown
+  listing_willing = λ run coming scheduled carried of_shown willing certain alone buckets runs n how at_how. absurd (none_is_some how at_how)
 
   listing_settles : IsSettingOf Shows HasStatus Plans shown [] ⊥ ⊥
   listing_settles = record {
