@@ -74,7 +74,8 @@ IsDelete task kind.RemoveObject asked = (to : Target task) × (asked ≡ ask.Del
 IsDelete task of_kind asked = IsSourceDelete task asked
 
 -- the request of a step with this piece, upload and entity tags, by its op
-abbrev pub IsStepAsk : Task → (range : ℕ × ℕ) → Option (List ℕ) → Option (Reserved (List ℕ)) → Op → (number : ℕ) → Ask → Type 0
+abbrev pub IsStepAsk : Task → (range : ℕ × ℕ) → Option (List ℕ) → Option (Reserved (List ℕ)) → Op → (number : ℕ)
+    → Ask → Type 0
 IsStepAsk task range upload etags op.Put number asked =
     (to : Target task) × (asked ≡ ask.Put to.bucket to.key task.content task.fresh)
 IsStepAsk task range upload etags op.Get number asked =
@@ -90,7 +91,8 @@ IsStepAsk task range upload etags op.PartCopy number asked =
     (to : Target task) × (from : Origin task) × (id : List ℕ) × (upload ≡ Some id)
     × (asked ≡ ask.PartCopy to.bucket to.key id number from.bucket from.key task.etag (ends_of range))
 IsStepAsk task range upload etags op.Complete number asked =
-    (to : Target task) × (id : List ℕ) × (given : Reserved (List ℕ)) × (spare : ℕ) × (upload ≡ Some id) × (etags ≡ Some given)
+    (to : Target task) × (id : List ℕ) × (given : Reserved (List ℕ)) × (spare : ℕ) × (upload ≡ Some id)
+    × (etags ≡ Some given)
     × (asked ≡ ask.Complete to.bucket to.key id (record { items = given.items; spare = spare }) task.fresh)
 IsStepAsk task range upload etags op.Abort number asked =
     (to : Target task) × (id : List ℕ) × (upload ≡ Some id) × (asked ≡ ask.Abort to.bucket to.key id)

@@ -11,8 +11,8 @@ use std::sync::Arc;
 
 /// One holder of a cell that is given a reason once, by which the jobs that hold a share of it are cancelled.
 ///
-/// Contracts see which cell it is, and the reason as far as this holder knows it. The first reason stays, so all holders
-/// that know one know the same.
+/// Contracts see which cell it is, and the reason as far as this holder knows it. The first reason stays, so all
+/// holders that know one know the same.
 #[derive(Drop)]
 pub struct CancelCell {
     first: Arc<OnceBox<Reason>, Global>,
@@ -45,8 +45,8 @@ impl CancelCell {
         }
     }
 
-    /// One more holder of the same cell, who knows what this one knows. `OutOfMemory` comes where no more holders can be
-    /// counted.
+    /// One more holder of the same cell, who knows what this one knows. `OutOfMemory` comes where no more holders can
+    /// be counted.
     pub fn share(&mut self) -> Result<CancelCell, OutOfMemory>
         ensures same { self.new ≡ self.old }
         ensures shared { IfOk result (λ share. share ≡ self.old) }

@@ -7,11 +7,11 @@ use std::marker::Model;
 
 /// One request of the planning or of a task, with all that it needs.
 ///
-/// A job of the planning asks for the entry of an object, a page of a listing or all buckets, and its id has that op. A
-/// step's op is one of its task's kind, the removal of a moved source, or the end of an upload that is given up; the
-/// objects, the upload and the entity tags that its request names are there. The range of a copied part or of a Get with
-/// a number has at least one byte, and ends below 2^64. Exactly a Put, a Part and a Get have a part; that of a Get has
-/// the room of its range.
+/// A job of the planning asks for the entry of an object, a page of a listing or all buckets, and its id has that op.
+/// A step's op is one of its task's kind, the removal of a moved source, or the end of an upload that is given up; the
+/// objects, the upload and the entity tags that its request names are there. The range of a copied part or of a Get
+/// with a number has at least one byte, and ends below 2^64. Exactly a Put, a Part and a Get have a part; that of a
+/// Get has the room of its range.
 #[derive(Drop)]
 pub struct Job {
     pub id: JobId,

@@ -126,8 +126,8 @@ fn out_of_memory() -> Went
 }
 
 impl<W: Wire + Drop> Lane<W> {
-    /// A lane over this wire, for jobs of at most `attempts` attempts each, from 1 to 10. It takes some 800 KiB of memory;
-    /// where there is not enough, the wire is handed back.
+    /// A lane over this wire, for jobs of at most `attempts` attempts each, from 1 to 10. It takes some 800 KiB of
+    /// memory; where there is not enough, the wire is handed back.
     pub fn make(
         alloc: Global,
         wire: W,
@@ -181,8 +181,9 @@ impl<W: Wire + Drop> Lane<W> {
         had: u32,
     ) -> Went
         requires { had ≤ 9 }
-        ensures carried { (place : List ℕ) × Carries (request_to self.old ask.now (body_of ask.now (bytes_of part.now))
-            None) had (most_attempts self.old.attempts had) (reason_of cell.new) place (W.seen self.old.wire)
+        ensures carried { (place : List ℕ) × Carries (request_to self.old ask.now
+            (body_of ask.now (bytes_of part.now)) None) had
+            (most_attempts self.old.attempts had) (reason_of cell.new) place (W.seen self.old.wire)
             (W.seen self.new.wire) result.tries result.ending }
         ensures stopped { IsSome (reason_of cell.old) → result.tries ≡ [] }
         ensures cell { KeepsCell cell.old cell.new }
@@ -279,8 +280,9 @@ impl<W: Wire + Drop> Lane<W> {
     ///
     /// Each attempt is one talk with the endpoint, signed at its moment; the body is hashed once. An attempt that lost
     /// its answer, or was refused with the code `SlowDown`, `ServiceUnavailable` or `RequestTimeout`, is made again, up
-    /// to the lane's number of attempts in all; before attempt n + 1 the lane waits for min(20, 2^(n-1)) seconds. A cell
-    /// of the job is looked at before each attempt and the pause ahead of it; a job without one goes on to its end.
+    /// to the lane's number of attempts in all; before attempt n + 1 the lane waits for min(20, 2^(n-1)) seconds. A
+    /// cell of the job is looked at before each attempt and the pause ahead of it; a job without one goes on to its
+    /// end.
     pub fn carry(&mut self, job: Job) -> Carried
         ensures carried { IsCarriedBy self.old job (W.seen self.old.wire) (W.seen self.new.wire) result }
         ensures stopped { IsSome (reason_of job.cell) → result.tries ≡ [] }

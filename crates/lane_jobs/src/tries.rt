@@ -29,8 +29,8 @@ fn ending_by(reason: Reason, last: Option<Class>) -> Ending
     }
 }
 
-/// Makes the attempts of a request from number `had + 1` up to number `most`, until one is not tried again. Before each,
-/// and before the pause that precedes it, the cell is looked at, and a reason ends the job.
+/// Makes the attempts of a request from number `had + 1` up to number `most`, until one is not tried again. Before
+/// each, and before the pause that precedes it, the cell is looked at, and a reason ends the job.
 pub(crate) fn make_attempts<W: Wire>(
     alloc: Global,
     wire: &mut W,

@@ -1,0 +1,3 @@
+mod AttemptLaw
+mod NoteLaw
+mod RunLaw
