@@ -1,13 +1,15 @@
 -- Bytes begin with one document's root.
-use Rattle.std.proofs.Common.{◌≡◌, ◌<◌, ◌+◌, ◌∙◌, ℕ, Bool, List, ◌∷◌, ◌-◌, length, refl, sym, subst, ap, drop, codes, inl, inr, ⊎_elim, arith}
+use Rattle.std.proofs.Common.{◌≡◌, ◌<◌, ◌+◌, ◌∙◌, ℕ, Bool, List, ◌∷◌, ◌-◌, ◌≤◌, suc, length, refl, sym, subst, ap, drop, codes, inl, inr, ⊎_elim, arith}
 use Rattle.std.proofs.lemmas.List.{append_cancel_left}
 use Rattle.reply_xml.specs.declared.runs.Sort.TheVariants as sort
 use Rattle.reply_xml.specs.Documents.{EndsAt, ReadsDeclaration, MayDeclare, BeginsDocument, NamesRoot}
 use Rattle.reply_xml.specs.Places.{BeginsOtherwise, HasOtherRoot, LacksName, LacksRoot}
 use Rattle.reply_xml.specs.Runs.{ReadsRun}
 use Rattle.reply_xml.specs.Tags.{NamesTag, ReadsTag, ReadsTagEnd}
-use Rattle.reply_xml.proofs.RunLemmas.{ReadsRun-same, no_run}
-use Rattle.reply_xml.proofs.TagLemmas.{ReadsTag-same, tag_end_of}
+use Rattle.reply_xml.proofs.RunLemmas.{ReadsRun-same, no_run, parts_same}
+use Rattle.std.proofs.lemmas.Bool.{false≢true}
+use Rattle.std.proofs.lemmas.List.{length-append, length-drop}
+use Rattle.reply_xml.proofs.TagLemmas.{ReadsName-first, ReadsTag-same, tag_end_of}
 
 place_same : (bytes : List ℕ) (i j : ℕ) → EndsAt bytes i → ((k : ℕ) → k < i → ¬ (EndsAt bytes k)) → EndsAt bytes j → ((k : ℕ) → k < j → ¬ (EndsAt bytes k)) → j ≡ i
 place_same bytes i j a f b g =
@@ -101,3 +103,21 @@ pub otherwise_at : (root doc : List ℕ) (place left : ℕ) → BeginsOtherwise 
 otherwise_at root doc place left (inl o) f g h = ap (λ n. length doc - n) (f o) ∙ sym o.at
 otherwise_at root doc place left (inr (inl l)) f g h = ap (λ n. length doc - n) (g l) ∙ sym l.at
 otherwise_at root doc place left (inr (inr l)) f g h = ap (λ n. length doc - n) (h l) ∙ sym l.at
+
+-- a root behind a declaration stands behind `<?xml`
+pub declared_left : (at at_space between at_root name rest : List ℕ) → ReadsDeclaration at at_space → ReadsRun sort.Space between at_space at_root → NamesTag name at_root rest → length rest + 5 ≤ length at
+declared_left at at_space between at_root name rest d gap tag =
+    let opens : length at ≡ 5 + length d.after = ap length d.opens ∙ length-append (codes "<?xml") d.after in
+    let behind : length at_space ≡ length d.after - (d.place + 2) = ap length d.behind ∙ length-drop (d.place + 2) d.after in
+    let space : length at_space ≡ length between + length at_root = ap length gap.split ∙ length-append between at_root in
+    let root : length at_root ≡ suc (length tag.at_name) = ap length tag.opens in
+    let named : length tag.at_name ≡ length name + length rest = ap length tag.named.run.split ∙ length-append name rest in
+    omega (arith, opens, behind, space, root, named)
+
+-- and no `?` follows its `<`
+pub no_question : (bytes space at between at_root name rest : List ℕ) → ReadsRun sort.Space space bytes at → ReadsRun sort.Space between at at_root → NamesTag name at_root rest
+    → (more : List ℕ) → ¬ (at ≡ 60 ∷ 63 ∷ more)
+no_question bytes space at between at_root name rest run gap tag more e =
+    let there = (no_run sort.Space at between at_root run.ends gap).1 in
+    let inside = (parts_same 60 60 tag.at_name (63 ∷ more) (sym tag.opens ∙ there ∙ e)).1 in
+    false≢true (ReadsName-first name tag.at_name rest more 63 tag.named inside)

@@ -1,5 +1,5 @@
 -- Bytes begin with one tag, and in one way.
-use Rattle.std.proofs.Common.{◌≡◌, ◌≢◌, ◌==◌, ◌||◌, ◌++◌, ◌∙◌, ◌⊎◌, ℕ, zero, suc, Bool, true, false, List, [], ◌∷◌, refl, sym, ap, subst, length, inl, inr, ⊎_elim, Result, Ok, Err, Some, None, slice_get}
+use Rattle.std.proofs.Common.{◌≡◌, ◌≢◌, ◌==◌, ◌||◌, ◌++◌, ◌∙◌, ◌⊎◌, ℕ, zero, suc, Bool, true, false, List, [], ◌∷◌, refl, sym, ap, subst, length, inl, inr, ⊎_elim, Result, Ok, Err, IfErr, Some, None, slice_get}
 use Rattle.reply_xml.specs.declared.runs.Sort.TheVariants as sort
 use Rattle.std.specs.Result.{IsErrAnd, OnErr}
 use Rattle.std.proofs.lemmas.List.{nil_from_length}
@@ -275,3 +275,8 @@ no_name_end-first bytes more byte e other n = false≢true (sym other ∙ ap end
 pub err_given : {U : Type 0} (r : Result U ℕ) (e f : ℕ) → IsErrAnd r (λ d. d ≡ e) → e ≡ f → r ≡ Err f
 err_given (Ok x) e f h same = absurd h
 err_given (Err d) e f h same = ap Err (h ∙ same)
+
+-- what holds of any error
+pub IfErr-any : {T E : Type 0} {P : E → Type 0} (r : Result T E) → ((e : E) → P e) → IfErr r P
+IfErr-any (Ok x) f = tt
+IfErr-any (Err e) f = f e

@@ -7,7 +7,7 @@ use Rattle.reply_xml.specs.declared.reader.Child.{Child}
 use Rattle.reply_xml.specs.declared.reader.Tag.{Tag}
 use Rattle.reply_xml.specs.Contents.{Content, Only, Then, ReadsContent, ReadsInner, is_the, named}
 use Rattle.reply_xml.specs.Children.{IsLeafOf}
-use Rattle.reply_xml.specs.Reading.{AtEnd, EndsContent, HoldsAs, NamesChild, ReadsAs, ReadsElement, ReadsNone, ReadsSome, Advances, Stops, OnceLeft, AtMostOnceLeft, LeafLeft, AtMostLeft}
+use Rattle.reply_xml.specs.Reading.{AtEnd, EndsContent, HoldsAs, NamesChild, ReadsAs, ReadsNone, ReadsSome, Advances, Stops, OnceLeft, AtMostOnceLeft, LeafLeft, AtMostLeft}
 use Rattle.reply_xml.proofs.ContentLemmas.{inner_open, content_inner, only_of}
 use Rattle.reply_xml.proofs.OpenLemmas.{element_before, element_past, ReadsElement-same, ReadsInner-same}
 use Rattle.reply_xml.proofs.ChildLemmas.{named_here, named_past, nothing_there, once_here, once_twice, once_bad, IsLeafOf-same}

@@ -5,13 +5,12 @@ use Rattle.reply_xml.specs.Documents.{BeginsDocument, NamesRoot, ReadsSpace}
 use Rattle.reply_xml.specs.Runs.{BeginsOutside, is_name_byte}
 use Rattle.reply_xml.specs.Tags.{NameEnds}
 
--- The bytes begin as a document with another root than this one. The fault stands at the end of its name.
+-- The bytes begin as a document up to the name of its root, which is another one than this, or behind which no tag goes on. The fault stands at the end of that name.
 pub record HasOtherRoot (root bytes : List ℕ) (place : ℕ) : Type 0 where
   pub name : List ℕ
   pub rest : List ℕ
   pub names : NamesRoot name bytes rest
-  pub ends : NameEnds rest
-  pub differs : name ≢ root
+  pub differs : NameEnds rest → name ≢ root
   pub at : place ≡ length bytes - length rest
 
 -- Behind white space in front stands something else than `<`, or nothing. The fault stands there.

@@ -9,7 +9,7 @@ ghost use Rattle.reply_xml.specs.Tags.{ReadsTag};
 
 use crate::elements::element_named;
 use crate::faults::DocFault;
-use crate::places::{common_front, is_same, utf8_front};
+use crate::places::{is_same, utf8_front};
 use crate::reader::{Reader, Tag};
 use crate::runs::{Sort, split_run};
 use crate::tags::{after_tag_end, split_start};
@@ -67,11 +67,13 @@ fn after_declaration(bytes: &[u8]) -> Result<&[u8], usize>
 fn root_left(at_declaration: &[u8], left: usize) -> usize
     ensures most { result ≤ left }
     ensures undeclared { ((more : List ℕ) → ¬ (at_declaration.now ≡ 60 ∷ 63 ∷ more)) → result ≡ left }
+    ensures behind { left + 5 ≤ length at_declaration.now → result ≡ left }
 {
     match at_declaration {
-        [b'<', b'?', ..] => {
-            left.min(at_declaration.len() - common_front(at_declaration, b"<?xml"))
-        }
+        [b'<', b'?', b'x', b'm', b'l', ..] => left.min(at_declaration.len() - 5),
+        [b'<', b'?', b'x', b'm', ..] => left.min(at_declaration.len() - 4),
+        [b'<', b'?', b'x', ..] => left.min(at_declaration.len() - 3),
+        [b'<', b'?', ..] => left.min(at_declaration.len() - 2),
         _ => left,
     }
 }

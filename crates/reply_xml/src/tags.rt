@@ -113,6 +113,8 @@ pub(crate) fn split_start(bytes: &[u8]) -> Result<(&[u8], &[u8]), usize>
     ensures left { IfErr result (λ left. left ≤ length bytes.now) }
     ensures refused { OnErr result ((closed : Bool) (name rest : List ℕ) → ¬ (ReadsTag closed name bytes.now rest)) }
     ensures unnamed { OnErr result ((name rest : List ℕ) → NamesTag name bytes.now rest → ¬ (NameEnds rest)) }
+    ensures named { IfErr result (λ left. (name rest : List ℕ) → NamesTag name bytes.now rest → left ≡ length rest) }
+    ensures ended { IfOk result (λ parts. NameEnds parts.1.now) }
     ensures bare { ((more : List ℕ) → ¬ (bytes.now ≡ 60 ∷ more)) → result ≡ Err (length bytes.now) }
     ensures nameless { (more : List ℕ) → bytes.now ≡ 60 ∷ more → BeginsOutside is_name_byte more →
         result ≡ Err (length more) }

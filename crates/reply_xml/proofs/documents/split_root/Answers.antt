@@ -1,7 +1,9 @@
-use Rattle.std.proofs.Common.{sym, ap, length, Err, ◌∷◌, ◌≡◌, ◌∙◌, subst, ℕ, List, Bool}
+use Rattle.std.proofs.Common.{◌+◌, ◌≤◌, ⊎_elim, sym, ap, length, Err, ◌∷◌, ◌≡◌, ◌∙◌, subst, ℕ, List, Bool}
 use Rattle.reply_xml.proofs.TagLemmas.{OnErr-any, NamesTag-same}
 use Rattle.reply_xml.specs.Documents.{BeginsDocument}
-use Rattle.reply_xml.proofs.DocumentLemmas.{declared_at, root_at, other_root, NamesRoot-declared, NamesRoot-tag, may_be_undeclared, root_there}
+use Rattle.reply_xml.proofs.DocumentLemmas.{declared_at, root_at, other_root, NamesRoot-declared, NamesRoot-tag, declared_left, may_be_undeclared, no_question, root_there}
+use Rattle.reply_xml.specs.Runs.{ReadsRun}
+use Rattle.reply_xml.specs.Tags.{NameEnds}
 use Rattle.reply_xml.specs.declared.runs.Sort.TheVariants as sort
 use Rattle.reply_xml.proofs.FaultLemmas.{err_same, not_err}
 use Rattle.reply_xml.proofs.RunLemmas.{ReadsRun-same, parts_same}
@@ -29,11 +31,16 @@ returns-in_err-at_space-clause-other c place o =
 
 pub returns-in-Err-clause-other : goal.returns-in-Err-clause-other
 returns-in-Err-clause-other c place o =
-    absurd
+    let tag = NamesRoot-tag o.name _ _ _ _ _ _ o.rest c.split_run.ensures.value c.in_ok-at_space.ensures.value c.split_run-2.ensures.value o.names in
+    let left = c.in-Err.ensures.named o.name o.rest tag in
+    let kept = ⊎_elim
+    (λ d. c.root_left.ensures.behind (subst (λ n. n + 5 ≤ length c.split_run.result.1.now) (sym left) (declared_left _ _ _ _ o.name o.rest d c.split_run-2.ensures.value tag)))
     (
-    c.in-Err.ensures.unnamed o.name o.rest
-    (NamesRoot-tag o.name _ _ _ _ _ _ o.rest c.split_run.ensures.value c.in_ok-at_space.ensures.value c.split_run-2.ensures.value o.names) o.ends
+    λ p. c.root_left.ensures.undeclared
+    (no_question c.args.doc.now _ _ _ _ o.name o.rest c.split_run.ensures.value (subst (λ (b : List ℕ). ReadsRun sort.Space c.split_run-2.result.0.now b c.split_run-2.result.1.now) p.0 c.split_run-2.ensures.value) tag)
     )
+    c.in_ok-at_space.ensures.value in
+    ap Err (kept ∙ left)
 
 pub returns-then-not-is_same-clause-other : goal.returns-then-not-is_same-clause-other
 returns-then-not-is_same-clause-other c place o =
@@ -43,7 +50,8 @@ returns-then-not-is_same-clause-other c place o =
 pub returns-clause-other : goal.returns-clause-other
 returns-clause-other c place o =
     let tag = NamesRoot-tag o.name _ _ _ _ _ _ o.rest c.split_run.ensures.value c.in_ok-at_space.ensures.value c.split_run-2.ensures.value o.names in
-    absurd (o.differs ((NamesTag-same _ o.name _ _ o.rest c.in-Ok.ensures.value tag).0 ∙ c.if-not-is_same.ensures ∙ c.as_bytes.ensures.value))
+    let same = NamesTag-same _ o.name _ _ o.rest c.in-Ok.ensures.value tag in
+    absurd (o.differs (subst NameEnds (sym same.1) c.in-Ok.ensures.ended) (same.0 ∙ c.if-not-is_same.ensures ∙ c.as_bytes.ensures.value))
 
 pub returns-in_err-at_space-clause-bare : goal.returns-in_err-at_space-clause-bare
 returns-in_err-at_space-clause-bare c place l =

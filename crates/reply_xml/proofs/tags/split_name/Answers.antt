@@ -1,4 +1,4 @@
-use Rattle.std.proofs.Common.{◌==◌, ap, length, refl, sym, ◌∙◌}
+use Rattle.std.proofs.Common.{sym, ◌∙◌}
 use Rattle.std.proofs.lemmas.Bool.{eqb-true}
 use Rattle.reply_xml.specs.declared.runs.Sort.TheVariants as sort
 use Rattle.reply_xml.proofs.RunLemmas.{no_run}

@@ -1,7 +1,7 @@
-use Rattle.std.proofs.Common.{Bool, List, ℕ, ap, length, sym, subst, ◌∙◌}
+use Rattle.std.proofs.Common.{List, ℕ, ap, length, sym, subst, ◌∙◌}
 use Rattle.reply_xml.proofs.TagLemmas.{first_none, first_of, tag_end_of, no_tag_end-first, no_tag_end-none, NamesTag-of, no_name_end-first, no_name_end-none}
 use Rattle.reply_xml.specs.Tags.{NameEnds, NamesTag, ReadsName}
-use Rattle.reply_xml.proofs.TagLemmas.{OnErr-any, err_given}
+use Rattle.reply_xml.proofs.TagLemmas.{IfErr-any, OnErr-any, err_given}
 use Rattle.reply_xml.proofs.FaultLemmas.{err_same, not_err}
 use Rattle.reply_xml.specs.Runs.{BeginsOutside, is_name_byte}
 use Rattle.reply_xml.proofs.RunLemmas.{parts_same}
@@ -69,3 +69,29 @@ pub returns-clause-nameless : goal.returns-clause-nameless
 returns-clause-nameless c more e h =
     let same = (parts_same 60 60 _ more (sym c.in-Some.ensures.value ∙ e)).1 in
     absurd (not_err _ _ (c.in_ok-name.ensures.outside (subst (BeginsOutside is_name_byte) (sym same) h)))
+
+pub returns-in_default-clause-named : goal.returns-in_default-clause-named
+returns-in_default-clause-named c name rest n = absurd (c.in_default.ensures.value n.at_name n.opens)
+
+pub returns-in_err-name-clause-named : goal.returns-in_err-name-clause-named
+returns-in_err-name-clause-named c =
+    IfErr-any c.from_residual.result
+    (
+    λ left name rest n. absurd
+    (c.in_err-name.ensures.refused name rest (subst (λ (b : List ℕ). ReadsName name b rest) (parts_same 60 60 n.at_name _ (sym n.opens ∙ c.in-Some.ensures.value)).1 n.named))
+    )
+
+pub returns-in_default-first-clause-named : goal.returns-in_default-first-clause-named
+returns-in_default-first-clause-named c name rest n =
+    let same = NamesTag-of name _ _ _ rest _ c.in-Some.ensures.value c.in_ok-name.ensures.value n in
+    sym (ap length (same.1 ∙ first_none _ c.in_default-first.ensures.value))
+
+pub returns-then-not-ends_name-clause-named : goal.returns-then-not-ends_name-clause-named
+returns-then-not-ends_name-clause-named c name rest n =
+    let same = NamesTag-of name _ _ _ rest _ c.in-Some.ensures.value c.in_ok-name.ensures.value n in
+    sym (ap length same.1)
+
+pub returns-clause-ended : goal.returns-clause-ended
+returns-clause-ended c =
+    let first = first_of _ _ c.in-Some-first.ensures.value in
+    (_, first.0, first.1, sym c.ends_name.ensures ∙ c.if-not-ends_name.false)

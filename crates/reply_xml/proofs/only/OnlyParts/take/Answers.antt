@@ -1,6 +1,5 @@
-use Rattle.std.proofs.Common.{◌∙◌, sym, ℕ, List}
+use Rattle.std.proofs.Common.{◌∙◌, sym}
 use Rattle.reply_xml.specs.Children.{IsLeafOf}
-use Rattle.reply_xml.specs.Contents.{Content}
 use Rattle.reply_xml.specs.Reading.{LeafLeft, OnceLeft}
 use Rattle.reply_xml.proofs.FaultLemmas.{OnOk-map, refused_so}
 use Rattle.reply_xml.proofs.TakeLemmas.{named_passes, skipped, stops_there}

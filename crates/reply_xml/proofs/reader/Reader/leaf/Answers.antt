@@ -1,4 +1,3 @@
-use Rattle.std.proofs.Common.{ℕ, List}
 use Rattle.reply_xml.proofs.FaultLemmas.{IfOk-map, refused_past, refused_so}
 use Rattle.reply_xml.proofs.LeafLemmas.{leaf_read, leaf_closed, leaf_no_closed, leaf_no_end, leaf_no_tag, leaf_no_text, leaf_no_value}
 use Rattle.reply_xml.specs.Children.{IsLeafOf}
