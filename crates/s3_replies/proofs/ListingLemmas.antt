@@ -1,12 +1,11 @@
 -- A document is one page.
 use Rattle.std.proofs.Common.{◌≡◌, ◌∙◌, ℕ, Bool, true, false, List, [], Option, Some, None, sym, refl, subst, ap, codes}
-use Rattle.std.specs.List.{AllZip}
 use Rattle.s3_model.specs.declared.answers.Listed.{Listed}
 use Rattle.s3_model.specs.declared.places.Entry.{Entry}
 use Rattle.reply_xml.specs.declared.elements.Element.TheVariants as element
 use Rattle.reply_xml.specs.Contents.{Content, named}
 use Rattle.reply_xml.specs.Children.{AtMostOnce, HasLeaf, IsFormed, IsLeafOf}
-use Rattle.s3_replies.specs.Listing.{MeansPage, HasEncoding, HasListing, HasObject, HasPage, IsListing, IsWritten, MeansEntry, MeansText, Page}
+use Rattle.s3_replies.specs.Listing.{MeansPage, HasEncoding, HasListing, HasObject, HasPage, IsListing, IsWritten, Page}
 use Rattle.reply_values.specs.Numbers.{SpellsTruth}
 use Rattle.reply_xml.proofs.ChildLemmas.{nothing_there, leaf_same, Once-same, IsLeafOf-same, IsFormed-same}
 use Rattle.s3_replies.proofs.EachLemmas.{Each-same}

@@ -10,10 +10,9 @@ use Rattle.reply_xml.specs.Contents.{Content, Only, Then, is_the, named}
 use Rattle.reply_xml.specs.Children.{HasLeaf, IsFormed, IsLeaf, IsLeafOf}
 use Rattle.s3_replies.specs.Listing.{EncodingLeft, HasEncoding, HasObject, HasPage, ObjectsLeft, Page, PageLeft, PrefixesLeft}
 use Rattle.reply_values.specs.Numbers.{SpellsTruth}
-use Rattle.reply_xml.specs.Reading.{HoldsAs, ReadsAs, ReadsNone, ReadsSome, Advances, Stops, OnceLeft, AtMostOnceLeft, LeafLeft, AtMostLeft, EachLeft}
+use Rattle.reply_xml.specs.Reading.{HoldsAs, ReadsAs, ReadsSome, Advances, Stops, OnceLeft, AtMostOnceLeft, LeafLeft, AtMostLeft, EachLeft}
 use Rattle.reply_xml.proofs.ChildLemmas.{is_other, named_here, nothing_there, content_same, leaf_same, IsFormed-same}
 use Rattle.s3_replies.proofs.EachLemmas.{each_start, each_end}
-use Rattle.reply_xml.proofs.LeafLemmas.{IsLeaf-same, ReadsAs-same}
 use Rattle.reply_xml.proofs.TakeLemmas.{Both, Passes, first_advanced, other_advanced, first_stopped, other_stopped, both_pass, part_advanced, part_stopped, skipped, named_passes}
 
 pub HasLeaf-same : (of : Element) (c : Content) (v w : List ℕ) → HasLeaf of c v → HasLeaf of c w → w ≡ v

@@ -1,4 +1,3 @@
-use Rattle.s3_replies.specs.Listing.{HasPage}
 use Rattle.reply_xml.proofs.FaultLemmas.{IfOk-map, refused_so}
 use Rattle.s3_replies.proofs.PageLemmas.{page_started}
 use Rattle.s3_replies.proofs.listing.written_page.Goals as goal

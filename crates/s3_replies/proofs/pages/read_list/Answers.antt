@@ -38,14 +38,14 @@ returns-in_err-close-clause-refused c =
     (
     λ none listed l.
     no_whole HasPage (codes "ListBucketResult") c.args.doc.now _ _ c.in-Ok.parts.1 c.in-Ok-written_page.page c.in-Ok.ensures.begins c.in-Ok.ensures.room c.in-Ok.ensures.named
-        c.in-Ok-written_page.ensures.value none l.0 l.1
+    c.in-Ok-written_page.ensures.value none l.0 l.1
     )
     c.in_err-close.ensures.refused
 
 pub returns-clause-value : goal.returns-clause-value
 returns-clause-value c =
     let written = whole HasPage (codes "ListBucketResult") c.args.doc.now _ _ c.in-Ok.parts.1 c.in-Ok-written_page.page c.in-Ok.ensures.begins c.in-Ok.ensures.room c.in-Ok.ensures.named
-        c.in-Ok-written_page.ensures.value c.in_ok-close.ensures.value in
+    c.in-Ok-written_page.ensures.value c.in_ok-close.ensures.value in
     (c.in-Ok-written_page.page, written, c.in-Ok-listed.ensures.value)
 
 pub returns-in-Err-clause-other_root : goal.returns-in-Err-clause-other_root
