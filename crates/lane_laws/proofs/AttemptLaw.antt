@@ -5,7 +5,7 @@ use Rattle.s3_model.specs.declared.answers.Class.{Class}
 use Rattle.s3_model.specs.Talks.{Talk, Note}
 use Rattle.run_promise.specs.Carried.{mark_of}
 use Rattle.run_promise.specs.Dispatches.{Attempt, last_of, paired}
-use Rattle.attempts.specs.Attempts.{HasClass, Request}
+use Rattle.attempts.specs.Attempts.{HasClass, SignedRequest}
 use Rattle.lane_jobs.specs.Lanes.{AreMade, IsMade}
 
 -- ---- the last of a list
@@ -29,7 +29,7 @@ index_below (x ∷ xs) (suc k) a e = let below = index_below xs k a e in omega a
 
 -- ---- attempts
 
-module _ (r : Request) (place : List ℕ) where
+module _ (r : SignedRequest) (place : List ℕ) where
   abbrev pub attempts_of : List Class → List Talk → List Attempt
   attempts_of classes talks = paired (map mark_of classes) talks
 

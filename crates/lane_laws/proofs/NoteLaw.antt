@@ -10,7 +10,7 @@ use Rattle.s3_model.specs.declared.places.Endpoint.{Endpoint}
 use Rattle.s3_model.specs.declared.settings.Keys.{Keys}
 use Rattle.s3_model.specs.Talks.{Talk, Note, Moment, Pause, Began}
 use Rattle.answer_classes.specs.Showing.{Shows}
-use Rattle.attempts.specs.Attempts.{IsSilent, Request, text_of}
+use Rattle.attempts.specs.Attempts.{IsSilent, SignedRequest, text_of}
 use Rattle.attempts.proofs.SaidLemmas.{said}
 use Rattle.jobs.specs.declared.ending.Ending.{Ending}
 use Rattle.jobs.specs.declared.ending.Ending.TheVariants as ending
@@ -92,13 +92,22 @@ module _ (endpoint : Endpoint) (keys : Keys) where
 
   more_unused : (few many : ℕ) (attempts : List Numbered) (notes : List Note) → few ≤ many → Noted few attempts notes → Noted many attempts notes
   more_unused few many [] notes below (none, free) = (none, elim free [ inl e ↦ inl e | inr within ↦ inr (omega arith) ])
-  more_unused few many (a ∷ attempts) notes below (front, seconds, rest, extra, e, none, p, free, is_said, later) =
-      (front, seconds, rest, extra, e, none, p, elim free [ inl empty ↦ inl empty | inr within ↦ inr (omega arith) ], is_said,
-      more_unused (few - length extra) (many - length extra) attempts rest (omega arith) later)
+  more_unused few many (a ∷ attempts) notes below (front, seconds, rest, extra, e, none, p, free, is_said, later) = (
+    front,
+    seconds,
+    rest,
+    extra,
+    e,
+    none,
+    p,
+    elim free [ inl empty ↦ inl empty | inr within ↦ inr (omega arith) ],
+    is_said,
+    more_unused (few - length extra) (many - length extra) attempts rest (omega arith) later,
+  )
 
   -- the attempts of a job, behind notes that are left from the jobs before it
   module _ (c : Dispatched) (limit : Option ℕ) (limit_is : unwrap_or limit most_body ≡ c.limit) (place : List ℕ) where
-    abbrev request : Request
+    abbrev request : SignedRequest
     request = record { endpoint = endpoint; keys = keys; asked = c.ask; body = c.body; limit = limit }
 
     made_noted : (classes : List Class) (k : ℕ) (left : List Note) (talks : List Talk) (own tail : List Note) (rest : List Numbered) (unused : ℕ) → IsQuiet left
@@ -113,23 +122,32 @@ module _ (endpoint : Endpoint) (keys : Keys) where
         let attempt : Attempt = record { mark = mark_of shown; talk = one.made.talk } in
         let front = left ++ noted_before number in
         let own_is : own ≡ noted_before number ++ Moment m ∷ Began ∷ others =
-            n ∙ ap (λ (ns : List Note). ns ++ others) (one.paused ∙ ap (λ (ns : List Note). noted_before number ++ ns) one.made.noted)
-            ∙ append_assoc (noted_before number) (Moment m ∷ Began ∷ []) others in
+        n ∙ ap (λ (ns : List Note). ns ++ others) (one.paused ∙ ap (λ (ns : List Note). noted_before number ++ ns) one.made.noted)
+        ∙ append_assoc (noted_before number) (Moment m ∷ Began ∷ []) others in
         let whole : left ++ (own ++ tail) ≡ front ++ Moment m ∷ Began ∷ (others ++ tail) =
-            ap (λ (ns : List Note). left ++ (ns ++ tail)) own_is
-            ∙ ap (λ (ns : List Note). left ++ ns) (append_assoc (noted_before number) (Moment m ∷ Began ∷ others) tail)
-            ∙ sym (append_assoc left (noted_before number) (Moment m ∷ Began ∷ (others ++ tail))) in
+        ap (λ (ns : List Note). left ++ (ns ++ tail)) own_is
+        ∙ ap (λ (ns : List Note). left ++ ns) (append_assoc (noted_before number) (Moment m ∷ Began ∷ others) tail)
+        ∙ sym (append_assoc left (noted_before number) (Moment m ∷ Began ∷ (others ++ tail))) in
         let none = quiet_both left (noted_before number) quiet (quiet_pauses (pauses_before number)) in
         let before : pauses front ≡ pauses left ++ pauses_before number =
-            filter_map-append pause_of left (noted_before number) ∙ ap (λ (ps : List ℕ). pauses left ++ ps) (pauses_noted (pauses_before number)) in
+        filter_map-append pause_of left (noted_before number) ∙ ap (λ (ps : List ℕ). pauses left ++ ps) (pauses_noted (pauses_before number)) in
         let next : number + 1 ≡ c.dispatch.earlier + (k + 1) + 1 = omega arith in
         let free : 0 + unused ≡ length (pauses left) + unused - length (pauses left) = omega arith in
         let within : length (pauses left) ≤ length (pauses left) + unused = omega arith in
         let further = subst (λ (u : ℕ). Noted u (numbered_from c (k + 1) (attempts_of request place classes more) ++ rest) (others ++ tail)) free
-            (made_noted classes (k + 1) [] more others tail rest unused (λ h. h) (subst (λ (at : ℕ). AreMade request at place classes more others) next following) behind) in
-        let all : Noted (length (pauses left) + unused) (numbered_from c k (attempt ∷ attempts_of request place classes more) ++ rest) (left ++ (own ++ tail)) =
-            (front, m, others ++ tail, pauses left, whole, (λ h. none (has front Began h)), before, inr within,
-            said endpoint keys c limit limit_is shown place number (mark_of shown) first one.own one.made, further) in
+        (made_noted classes (k + 1) [] more others tail rest unused (λ h. h) (subst (λ (at : ℕ). AreMade request at place classes more others) next following) behind) in
+        let all : Noted (length (pauses left) + unused) (numbered_from c k (attempt ∷ attempts_of request place classes more) ++ rest) (left ++ (own ++ tail)) = (
+          front,
+          m,
+          others ++ tail,
+          pauses left,
+          whole,
+          (λ h. none (has front Began h)),
+          before,
+          inr within,
+          said endpoint keys c limit limit_is shown place number (mark_of shown) first one.own one.made,
+          further,
+        ) in
         subst (λ (xs : List Attempt). Noted (length (pauses left) + unused) (numbered_from c k xs ++ rest) (left ++ (own ++ tail)))
         (sym (attempts_are request place number shown classes talks first more noted t one)) all
 
@@ -162,8 +180,8 @@ module _ (endpoint : Endpoint) (keys : Keys) where
         let unused = length (pauses behind) + count_by wanted (dispatched_of givings) in
         let from = c_zero g.of.dispatch.earlier in
         let goes_on = made_noted g.of job.limit job.limit_is job.place g.classes 0 left first own (behind ++ others) (numbered givings) unused quiet
-            (subst (λ (at : ℕ). AreMade (request g.of job.limit job.limit_is job.place) at job.place g.classes first own) from made)
-            (λ l none. after givings behind others l (run_noted givings (l ++ behind) more others (quiet_both l behind none is_left.quiet) rest (λ x known. want x (inr known)))) in
+        (subst (λ (at : ℕ). AreMade (request g.of job.limit job.limit_is job.place) at job.place g.classes first own) from made)
+        (λ l none. after givings behind others l (run_noted givings (l ++ behind) more others (quiet_both l behind none is_left.quiet) rest (λ x known. want x (inr known)))) in
         let enough : length (pauses left) + unused ≤ length (pauses left) + count_by wanted (dispatched_of (g ∷ givings)) = omega arith in
         let shown = numbered_from g.of 0 (attempts_of (request g.of job.limit job.limit_is job.place) job.place g.classes first) ++ numbered givings in
         let placed = subst (λ (ns : List Note). Noted (length (pauses left) + unused) shown (left ++ ns)) (sym (n ∙ ap (λ (ns : List Note). ns ++ others) noted_is ∙ append_assoc own behind others)) goes_on in
@@ -171,6 +189,7 @@ module _ (endpoint : Endpoint) (keys : Keys) where
       where
         c_zero : (earlier : ℕ) → earlier + 1 ≡ earlier + 0 + 1
         c_zero earlier = omega arith
+
         after : (givings : List Giving) (behind others l : List Note)
             → Noted (length (pauses (l ++ behind)) + count_by wanted (dispatched_of givings)) (numbered givings) ((l ++ behind) ++ others)
             → Noted (length (pauses l) + (length (pauses behind) + count_by wanted (dispatched_of givings))) (numbered givings) (l ++ (behind ++ others))

@@ -19,7 +19,7 @@ use Rattle.s3_model.specs.Replies.{IsSameClass}
 use Rattle.s3_model.specs.Talks.{Talk, Note}
 use Rattle.answer_classes.specs.Showing.{Shows}
 use Rattle.answer_classes.proofs.OneShown.{one_shown}
-use Rattle.attempts.specs.Attempts.{HasClass, Request, text_of}
+use Rattle.attempts.specs.Attempts.{HasClass, SignedRequest, text_of}
 use Rattle.jobs.specs.declared.ending.Ending.{Ending}
 use Rattle.jobs.specs.declared.ending.Ending.TheVariants as ending
 use Rattle.lane_jobs.specs.Lanes.{EndsByCell, EndsByClass, EndsByMemory, ending_of, most_attempts}
@@ -83,7 +83,7 @@ module _ (endpoint : Endpoint) (keys : Keys) (s : Setting) where
 
   module _ (coming : List Dispatched) (g : Giving) (talks : List Talk) (notes : List Note) (job : Job g talks notes) (left : g.of.dispatch.earlier < s.config.attempts)
       (wants : RanOut g.ended → IsWanting s g.of) where
-    abbrev r : Request
+    abbrev r : SignedRequest
     r = record { endpoint = endpoint; keys = keys; asked = g.of.ask; body = g.of.body; limit = job.limit }
 
     abbrev attempts : List Attempt
@@ -230,10 +230,12 @@ module _ (endpoint : Endpoint) (keys : Keys) (s : Setting) where
     noted_in : (lane : ℕ) → (unused : ℕ) × (unused ≤ count_by (λ (c : Dispatched). s.wanted_memory c.dispatch.job.task) (in_lane lane ds))
         × AreNoted Shows (text_of endpoint keys) endpoint.host endpoint.port unused (flat_map (λ (c : Dispatched). numbered_from c 0 c.dispatch.attempts) (in_lane lane ds)) (notes lane)
     noted_in lane =
-        rw (in_lane_of lane givings)
-        (0 + count_by (λ (c : Dispatched). s.wanted_memory c.dispatch.job.task) (dispatched_of (given_to lane givings)), omega arith,
-        run_noted endpoint keys s (given_to lane givings) [] (logs lane) (notes lane) (λ h. h) (lanes lane)
-            (λ g known ran. causes.wants g (contains_of givings g (kept (λ (x : Giving). x.of.dispatch.lane == lane) givings g known)) ran))
+        rw (in_lane_of lane givings) (
+          0 + count_by (λ (c : Dispatched). s.wanted_memory c.dispatch.job.task) (dispatched_of (given_to lane givings)),
+          omega arith,
+          run_noted endpoint keys s (given_to lane givings) [] (logs lane) (notes lane) (λ h. h) (lanes lane)
+              (λ g known ran. causes.wants g (contains_of givings g (kept (λ (x : Giving). x.of.dispatch.lane == lane) givings g known)) ran),
+        )
 
     given_again : (a b : Dispatched) → (a.dispatch.job ≡ b.dispatch.job → (g : Giving) × Contains givings g × (g.of ≡ a) × IsCutShort s g)
         → a.dispatch.job ≡ b.dispatch.job → (attempt : Attempt) → last_of a.dispatch.attempts ≡ Some attempt

@@ -12,7 +12,7 @@ use Rattle.s3_model.specs.declared.tries.Mark.{Mark}
 use Rattle.s3_model.specs.Classes.{is_tried_again}
 use Rattle.s3_model.specs.Talks.{Talk, Note}
 use Rattle.answer_classes.specs.Showing.{Shows}
-use Rattle.attempts.specs.Attempts.{Request, text_of}
+use Rattle.attempts.specs.Attempts.{SignedRequest, text_of}
 use Rattle.jobs.specs.declared.ending.Ending.{Ending}
 use Rattle.jobs.specs.declared.ending.Ending.TheVariants as ending
 use Rattle.lane_jobs.specs.Lanes.{Ends, IsShare, most_attempts}

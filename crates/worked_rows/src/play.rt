@@ -1,5 +1,6 @@
 //! A run over a wire, a file, outputs and an environment in memory.
 
+use crate::answers::answer_bytes;
 use crate::rows::{Row, variable};
 use s3_main::run_s3;
 use s3_outside::{FileTable, MemEnv, MemFile, MemFiles, MemSink, S3_LIMITS, ScriptWire};
@@ -24,6 +25,22 @@ pub(crate) fn first_sent(wires: &[ScriptWire]) -> &[u8] {
     match wires.first().and_then(|wire| wire.talks().first()) {
         Some(talk) => talk.sent.as_slice(),
         None => &[],
+    }
+}
+
+/// Whether the first wire made so many talks.
+pub(crate) fn has_talks(wires: &[ScriptWire], count: usize) -> bool {
+    match wires.first() {
+        Some(wire) => wire.talks().len() == count,
+        None => false,
+    }
+}
+
+/// Whether that talk of the first wire began so.
+pub(crate) fn says(wires: &[ScriptWire], place: usize, line: &str) -> bool {
+    match wires.first().and_then(|wire| wire.talks().get(place)) {
+        Some(talk) => talk.sent.as_slice().starts_with(line.as_bytes()),
+        None => false,
     }
 }
 
@@ -69,13 +86,20 @@ fn files(alloc: Global) -> Result<MemFiles, Fail> {
     Ok(MemFiles::make(alloc, table, Vec::new(alloc), Vec::new(alloc)))
 }
 
-/// One wire whose talks get these answers.
-pub(crate) fn one_wire(alloc: Global, answers: &[&str]) -> Result<Vec<ScriptWire>, Fail> {
-    let mut listed = Vec::new(alloc);
-    for answer in answers {
-        listed.push(answer.as_bytes().to_vec(alloc)?)?;
+fn push_answers(alloc: Global, answers: &mut Vec<Vec<u8>>, told: &str) -> Result<(), Fail> {
+    for answer in told.split('|') {
+        answers.push(answer_bytes(alloc, answer)?)?;
     }
-    let wire = ScriptWire::make(alloc, listed, Vec::new(alloc), MOMENT);
+    Ok(())
+}
+
+/// One wire that plays these answers, one for each talk; a text may tell several, with `|` between them.
+pub(crate) fn one_wire(alloc: Global, told: &[&str]) -> Result<Vec<ScriptWire>, Fail> {
+    let mut answers = Vec::new(alloc);
+    for text in told {
+        push_answers(alloc, &mut answers, text)?;
+    }
+    let wire = ScriptWire::make(alloc, answers, Vec::new(alloc), MOMENT);
     Ok(vec![in alloc; wire]?)
 }
 

@@ -1,6 +1,6 @@
 //! Each row comes out as it is written.
 
-use crate::play::{Seen, first_sent, one_wire, play};
+use crate::play::{Seen, first_sent, has_talks, one_wire, play, says};
 use crate::rows::{KEPT, OTHER_UPLOAD, ROWS, Row, STORED, nth_row, request};
 use s3_outside::ScriptWire;
 use std::process::Abort;
@@ -18,6 +18,15 @@ fn check_sent(rt: &impl Abort, row: &Row, wires: &[ScriptWire]) {
     assert_eq!(rt; first_sent(wires), want.as_bytes(), "{}", row.err);
 }
 
+fn check_listing(rt: &impl Abort, row: &Row, wires: &[ScriptWire]) {
+    let mut talks: usize = 0;
+    for line in row.lists.split('|') {
+        assert!(rt; says(wires, talks, line), "{line}");
+        talks = talks.saturating_add(1);
+    }
+    assert!(rt; has_talks(wires, talks), "{}", row.lists);
+}
+
 #[test]
 fn rows_come_out(rt: HostRuntime) -> Result<(), Fail> {
     for n in 0..ROWS {
@@ -25,7 +34,11 @@ fn rows_come_out(rt: HostRuntime) -> Result<(), Fail> {
         let mut wires = one_wire(rt.alloc(), &[row.answer])?;
         let seen = play(&rt, rt.alloc(), &row, &mut wires)?;
         check(&rt, &row, &seen);
-        check_sent(&rt, &row, &wires);
+        if row.lists.is_empty() {
+            check_sent(&rt, &row, &wires);
+        } else {
+            check_listing(&rt, &row, &wires);
+        }
     }
     Ok(())
 }
