@@ -1,7 +1,7 @@
 //! Reads documents of a service, one a line, and prints after each its value, or its first fault.
 //!
-//! A line is the reader, a space, and the document's bytes, in which `\xHH` stands for a byte and `\\` for `\`. Readers are
-//! `error`, `list`, `buckets`, `created`, `completed`, `copied` and `part`.
+//! A line is the reader, a space, and the document's bytes, in which `\xHH` stands for a byte and `\\` for `\`. Readers
+//! are `error`, `list`, `buckets`, `created`, `completed`, `copied` and `part`.
 #![tactic(auto)]
 
 mod shown;
