@@ -4,6 +4,7 @@ import os
 from typing import NamedTuple
 
 import commands
+import listings
 from lines import STORED, lost, refused
 from programs import LARGE, line_of
 from service import free_ports
@@ -177,3 +178,4 @@ def try_service(checks, runs, service):
     unsent(checks, runs, service, client)
     full_output(checks, runs, service)
     commands.try_commands(checks, runs, service, client)
+    listings.try_listings(checks, runs, service, client)
