@@ -169,7 +169,7 @@ LOST = "The answer to the ListObjectsV2 operation was lost "
 TWO = page(["a"], "T"), page(["b"])
 WHOLE = 0, rows_of(["a", "b"]), ""
 
-# A server, how a listing of it ends, and how many connections that opens.
+# A server, how a listing of it ends, and how many connections that opens: each request is tried once by now.
 SERVERS = [
     ("two pages over one connection", answered(*TWO), WHOLE, 1),
     ("closes a kept connection between two requests", answered(*TWO, close_after=0), WHOLE, 2),
@@ -179,11 +179,11 @@ SERVERS = [
      fatal("The listing is out of order: a after b"), 1),
     ("the same page twice", answered(page(["a"], "T"), page(["a"])), fatal("The listing is out of order: a after a"), 1),
     ("a key outside the prefix", answered(page(["z"])), fatal("The listing has z outside its prefix"), 1),
-    ("a head of 65,537 bytes, three times", hostile.says(hostile.padded(65_539)[:65_537], take=hostile.take_head),
-     fatal(LOST + "(head too long)"), 3),
+    ("a head of 65,537 bytes", hostile.says(hostile.padded(65_539)[:65_537], take=hostile.take_head),
+     fatal(LOST + "(head too long)"), 1),
     ("a refusal", hostile.says(hostile.DENIED, take=hostile.take_head),
      fatal("An error occurred (AccessDenied) when calling the ListObjectsV2 operation: Access Denied.", 254), 1),
-    ("no document", hostile.says(hostile.EMPTY, take=hostile.take_head), fatal(LOST + "(unreadable answer)"), 3),
+    ("no document", hostile.says(hostile.EMPTY, take=hostile.take_head), fatal(LOST + "(unreadable answer)"), 1),
 ]
 
 
