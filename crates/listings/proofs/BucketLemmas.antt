@@ -1,13 +1,21 @@
 -- The one request for the buckets, and what it comes to.
-use Rattle.std.proofs.Common.{◌≡◌, ◌∙◌, ◌++◌, ℕ, true, false, List, [], ◌∷◌, Option, Some, None, refl, sym, inl, inr}
+use Rattle.std.proofs.Common.{◌≡◌, ◌∙◌, ◌++◌, ℕ, true, false, List, [], ◌∷◌, Option, Some, None, Result, Ok, Err, refl, sym, subst, inl, inr}
 use Rattle.std.proofs.lemmas.List.{append-nil}
 use Rattle.s3_model.specs.declared.requests.Ask.TheVariants as ask
+use Rattle.s3_model.specs.declared.requests.Op.{Op}
+use Rattle.s3_model.specs.declared.requests.Op.TheVariants as op
+use Rattle.s3_model.specs.declared.answers.Answered.{Answered}
 use Rattle.s3_model.specs.declared.answers.Class.{Class}
 use Rattle.s3_model.specs.declared.answers.Class.TheVariants as class
 use Rattle.s3_model.specs.declared.answers.Reply.{Reply}
 use Rattle.s3_model.specs.declared.answers.Reply.TheVariants as reply
 use Rattle.s3_model.specs.declared.answers.Why.TheVariants as why
+use Rattle.s3_model.specs.declared.outcomes.Cause.{Cause}
+use Rattle.s3_model.specs.declared.outcomes.Cause.TheVariants as cause
 use Rattle.s3_model.specs.declared.outcomes.Event.{Event}
+use Rattle.s3_model.specs.declared.places.Entry.{Entry}
+use Rattle.s3_model.specs.Classes.{Succeeded, succeeded}
+use Rattle.s3_model.specs.Lists.{Reserved}
 use Rattle.s3_model.specs.declared.places.Endpoint.{Endpoint}
 use Rattle.s3_model.specs.declared.settings.Keys.{Keys}
 use Rattle.s3_model.specs.declared.tries.Mark.TheVariants as mark
@@ -15,11 +23,17 @@ use Rattle.s3_model.specs.Talks.{Talk, Note}
 use Rattle.run_promise.specs.Carried.{mark_of}
 use Rattle.run_promise.specs.Planning as planning
 use Rattle.run_promise.specs.Schedule.{most_body}
-use Rattle.answer_classes.specs.Showing.{Shows}
+use Rattle.answer_classes.specs.Documents.{ReadsError, ReadsReply}
+use Rattle.answer_classes.specs.Showing.{HasClass, Shows}
 use Rattle.attempts.specs.Attempts.{IsOneTalk}
 use Rattle.listings.specs.Asked.{AreAsked, Asked, IsAsked, IsGiven, dispatched_from, events_of, made_of, request_for, silent_of}
 use Rattle.listings.specs.Buckets.{ListsBuckets, buckets_of}
+use Rattle.listings.specs.Buckets as buckets
+use Rattle.listings.specs.Faults.{IsCauseOf, IsFailed, fault_of}
 use Rattle.listings.specs.Pages.{Plans}
+use Rattle.listings.specs.Pages as pages
+use Rattle.listings.specs.declared.fault.ListingFault.{ListingFault}
+use Rattle.listings.specs.declared.fault.ListingFault.TheVariants as fault
 use Rattle.listings.proofs.PageLemmas.{memory_clash, refusal_certain, refusal_mark, success_certain, uncertain_mark}
 
 module _ (endpoint : Endpoint) (keys : Keys) (number : ℕ) (before after : List Event) (talks : List Talk) (notes : List Note) where
@@ -111,3 +125,51 @@ module _ (endpoint : Endpoint) (keys : Keys) (number : ℕ) (before after : List
   pub buckets_listed : (given : Option Class) → IsGiven endpoint keys ask.Buckets number before after given talks notes → Listed given
   buckets_listed None gives = nothing_given gives
   buckets_listed (Some shown) gives = given_one shown gives.0 gives.1 gives.2
+
+-- ---- why it ends
+
+-- the answer to a request for the buckets has no other reply
+pub only_buckets : (answered : Answered) (document : List ℕ) (said : Reply) → Succeeded ReadsError ReadsReply ask.Buckets answered document said
+    → (buckets : Reserved Entry) × (said ≡ reply.BucketList buckets)
+only_buckets answered document (reply.BucketList buckets) reads = (buckets, refl)
+only_buckets answered document said reads = absurd reads
+
+class_buckets : (answered : Answered) (document : List ℕ) (said : Reply) → HasClass ask.Buckets answered document (class.Success said) → (buckets : Reserved Entry) × (said ≡ reply.BucketList buckets)
+class_buckets answered document said (succeeded told status reads) = only_buckets answered document said reads
+
+shows_buckets : (talk : Talk) (said : Reply) (body : List ℕ) → Shows ask.Buckets most_body talk (class.Success said) body → (buckets : Reserved Entry) × (said ≡ reply.BucketList buckets)
+shows_buckets talk said body (inl h) = class_buckets h.0 body said h.2
+shows_buckets talk said body (inr h) = absurd (success_certain said h.0 h.2)
+
+same_answer : (a b : Cause) → fault.Answer a ≡ fault.Answer b → a ≡ b
+same_answer a b e = cc
+
+memory_is_no_answer : (why : Cause) → fault.Memory ≡ fault.Answer why → ⊥
+memory_is_no_answer why e = cc
+
+-- a class that is no success ends a listing for its operation
+pub cause_is : (of_op : Op) (shown : Class) (why : Cause) → IsFailed shown → fault_of of_op shown ≡ fault.Answer why → IsCauseOf of_op why
+cause_is of_op (class.Success said) why failed is = absurd failed
+cause_is of_op (class.Refusal code message) why failed is = subst (IsCauseOf of_op) (same_answer (cause.Service of_op code message) why is) refl
+cause_is of_op (class.Uncertain why.Memory) why failed is = absurd (memory_is_no_answer why is)
+cause_is of_op (class.Uncertain reason) why failed is = subst (IsCauseOf of_op) (same_answer (cause.Lost of_op reason) why is) refl
+
+buckets_no_fault : (buckets : Reserved Entry) (f : ListingFault) → ◌≡◌ {A = Result (Reserved Entry) ListingFault} (Ok buckets) (Err f) → ⊥
+buckets_no_fault buckets f e = cc
+
+same_fault : (f g : ListingFault) → ◌≡◌ {A = Result (Reserved Entry) ListingFault} (Err f) (Err g) → f ≡ g
+same_fault f g e = cc
+
+buckets_cause : (talk : Talk) (body : List ℕ) (shown : Class) (why : Cause) → Shows ask.Buckets most_body talk shown body → buckets_of (Some shown) ≡ Err (fault.Answer why) → IsCauseOf op.Buckets why
+buckets_cause talk body (class.Success said) why shows is =
+    let b = shows_buckets talk said body shows in
+    absurd (buckets_no_fault b.0 (fault.Answer why) (subst (λ (r : Reply). buckets_of (Some (class.Success r)) ≡ Err (fault.Answer why)) b.1 is))
+buckets_cause talk body (class.Refusal code message) why shows is = cause_is op.Buckets (class.Refusal code message) why tt (same_fault _ _ is)
+buckets_cause talk body (class.Uncertain reason) why shows is = cause_is op.Buckets (class.Uncertain reason) why tt (same_fault _ _ is)
+
+-- the answer that ends a listing is to its operation
+pub buckets_end : (asked : List Asked) (why : Cause) → buckets.EndsAs asked (Err (fault.Answer why)) → IsCauseOf op.Buckets why
+buckets_end asked why (attempt, shown, body, alone, shows, is) = buckets_cause attempt.talk body shown why shows is
+
+pub pages_end : (prefix : List ℕ) (asked : List Asked) (why : Cause) → pages.EndsAs prefix asked (Err (fault.Answer why)) → IsCauseOf op.List why
+pages_end prefix asked why (before, last, attempt, shown, body, at_end, tried, shows, failed, is) = cause_is op.List shown why failed is

@@ -1,5 +1,5 @@
 -- What pages gather is dated where each of them is.
-use Rattle.std.proofs.Common.{◌≡◌, ◌++◌, ℕ, Bool, List, sym, subst}
+use Rattle.std.proofs.Common.{◌≡◌, ℕ, Bool, List, sym, subst}
 use Rattle.std.proofs.lemmas.List.Elements.{All-append, All-nil}
 use Rattle.s3_model.specs.declared.answers.Listed.{Listed}
 use Rattle.answer_dates.specs.Dates.{AreDated, IsDated}

@@ -5,3 +5,4 @@ pub mod CarriedLemmas
 pub mod DatedLemmas
 pub mod ListLemmas
 pub mod PageLemmas
+pub mod SomeLemmas

@@ -1,31 +1,31 @@
 -- A listing goes on by one page, or ends, as its wire gains; and it cannot go on for ever.
-use Rattle.std.proofs.Common.{◌≡◌, ◌∙◌, ◌==◌, ◌+◌, ◌*◌, ◌<◌, ◌≤◌, ◌++◌, ℕ, Bool, true, false, List, [], ◌∷◌, Option, Some, None, refl, sym, ap, subst, inl, arith, length-append, append_assoc}
-use Rattle.shared_lemmas.proofs.Clashes.{true_is_false}
-use Rattle.std.specs.Prelude.{◌||◌, not, Result, Ok, Err}
+use Rattle.std.proofs.Common.{◌≡◌, ◌∙◌, ◌==◌, ◌+◌, ◌*◌, ◌<◌, ◌≤◌, ◌++◌, ℕ, Bool, true, false, List, [], ◌∷◌, Option, Some, None, refl, sym, ap, subst, inl, arith, length-append}
+use Rattle.shared_lemmas.proofs.Clashes.{some_is, true_is_false}
+use Rattle.std.specs.Prelude.{◌||◌, if◌then◌else◌, not, Result, Ok, Err}
 use Rattle.s3_model.specs.declared.requests.Ask.{Ask}
+use Rattle.s3_model.specs.declared.requests.Ask.TheVariants as ask
 use Rattle.s3_model.specs.declared.answers.Class.{Class}
 use Rattle.s3_model.specs.declared.answers.Listed.{Listed}
 use Rattle.s3_model.specs.declared.outcomes.Event.{Event}
 use Rattle.s3_model.specs.declared.outcomes.Event.TheVariants as entry
-use Rattle.s3_model.specs.declared.outcomes.JobId.{JobId}
 use Rattle.s3_model.specs.declared.requests.Op.{Op}
 use Rattle.s3_model.specs.declared.tries.Mark.{Mark}
-use Rattle.run_promise.specs.Carried.{mark_of}
 use Rattle.run_promise.specs.Schedule.{op_of}
 use Rattle.s3_model.specs.declared.places.Endpoint.{Endpoint}
 use Rattle.s3_model.specs.declared.settings.Keys.{Keys}
-use Rattle.s3_model.specs.Talks.{WireLog}
+use Rattle.s3_model.specs.Talks.{Note, Talk, WireLog}
 use Rattle.attempts.specs.Attempts.{IsOneTalk, Makes, tries_of}
 use Rattle.run_promise.specs.Gains.{Gains}
 use Rattle.attempts.specs.declared.send.Attempted.{Attempted}
 use Rattle.attempts.specs.declared.send.Attempted.TheVariants as attempted_as
 use Rattle.run_promise.proofs.GainLemmas.{gains_as, gains_both, gains_nothing}
-use Rattle.list_walk.specs.Pages.{Gathered, IsSound, Walk, count_of, gathered_with, new_walk, refusal_of, total_of, with_page}
+use Rattle.list_walk.specs.Pages.{Gathered, IsSound, Walk, count_of, gathered_with, new_walk, next_ask, refusal_of, total_of, with_page}
 use Rattle.list_walk.proofs.LawLemmas.{taken_where_sound}
-use Rattle.listings.specs.Asked.{IsGiven, request_for}
-use Rattle.listings.specs.Pages.{IsNext, Listing, Lists}
+use Rattle.listings.specs.Asked.{IsGiven, OfSomeTalks, request_for}
+use Rattle.listings.specs.Pages.{IsNext, Listing, Lists, TakesClass}
 use Rattle.listings.specs.declared.fault.ListingFault.{ListingFault}
 use Rattle.listings.specs.declared.fault.ListingFault.TheVariants as fault
+use Rattle.listings.proofs.SomeLemmas.{journals, some_as, some_both}
 use Rattle.listings.proofs.PageLemmas.{IsUnderway, at_first, last_page, more_pages, no_page, stops_here}
 
 -- ---- nothing was asked
@@ -43,16 +43,40 @@ pub made_given : (endpoint : Endpoint) (keys : Keys) (asked : Ask) (of_op : Op) 
     → Gains was now (Makes (record { endpoint = endpoint; keys = keys; asked = asked; body = body; limit = None }) attempted place)
     → Gains was now (IsGiven endpoint keys asked number before after (Some shown))
 made_given endpoint keys asked of_op number before reserved first after tries attempted shown body place was now op_is reserved_is first_is after_is tries_are made empty gained =
-    let job : Op → JobId = λ o. record { task = None; op = o; number = number } in
     let with_none = subst (λ (b : List ℕ). Gains was now (Makes (record { endpoint = endpoint; keys = keys; asked = asked; body = b; limit = None }) attempted place)) empty gained in
     let with_class = subst (λ (a : Attempted). Gains was now (Makes (request_for endpoint keys asked) a place)) made with_none in
-    let marks : tries ≡ mark_of shown ∷ [] = tries_are ∙ ap tries_of made in
-    let journals : after ≡ before ++ entry.Given (job (op_of asked)) 0 ∷ entry.Came (job (op_of asked)) 0 (mark_of shown ∷ []) ∷ [] =
-    after_is ∙ ap (λ (events : List Event). events ++ entry.Came (job of_op) 0 tries ∷ []) (first_is ∙ ap (λ (events : List Event). events ++ entry.Given (job of_op) 0 ∷ []) reserved_is)
-    ∙ append_assoc before (entry.Given (job of_op) 0 ∷ []) (entry.Came (job of_op) 0 tries ∷ [])
-    ∙ ap (λ (ms : List Mark). before ++ entry.Given (job of_op) 0 ∷ entry.Came (job of_op) 0 ms ∷ []) marks
-    ∙ ap (λ (o : Op). before ++ entry.Given (job o) 0 ∷ entry.Came (job o) 0 (mark_of shown ∷ []) ∷ []) op_is in
-    gains_as (IsOneTalk (request_for endpoint keys asked) shown place) (IsGiven endpoint keys asked number before after (Some shown)) (λ talks notes talk. (place, talk, journals)) was now with_class
+    let events = journals endpoint keys asked of_op number before reserved first after tries attempted op_is reserved_is first_is after_is tries_are (attempted_as.Made shown) made in
+    gains_as (IsOneTalk (request_for endpoint keys asked) shown place) (IsGiven endpoint keys asked number before after (Some shown)) (λ talks notes talk. (place, talk, events)) was now with_class
+
+-- what a walk that is open asks next
+asked_next : (walk : Walk) (given : Option Ask) (a : Ask) → walk.over ≡ false → given ≡ next_ask walk → given ≡ Some a → a ≡ ask.List walk.bucket walk.prefix walk.delimited walk.token
+asked_next walk given a open_before is some =
+    let asked : Ask = ask.List walk.bucket walk.prefix walk.delimited walk.token in
+    some_is a asked (sym some ∙ is ∙ ap (λ (over : Bool). if over then None else Some asked) open_before)
+
+-- the request was the next, and its answer was taken
+module _ (endpoint : Endpoint) (keys : Keys) (number : ℕ) (walk after_walk : Walk) (before after : List Event) (result : Result Bool ListingFault) (found : Option Ask) (a : Ask) (given : Option Class) (shown : Class)
+    (open_before : walk.over ≡ false) (found_is : found ≡ next_ask walk) (some : found ≡ Some a) (given_is : given ≡ Some shown) (takes : TakesClass walk shown after_walk result) where
+  abbrev Given : List Talk → List Note → Type 0
+  Given = IsGiven endpoint keys a number before after given
+
+  is_next : (talks : List Talk) (notes : List Note) → Given talks notes → IsNext endpoint keys number walk after_walk before after result talks notes
+  is_next talks notes gives = record {
+    given = Some shown;
+    gives =
+        subst (λ (asked : Ask). IsGiven endpoint keys asked number before after (Some shown) talks notes) (asked_next walk found a open_before found_is some)
+        (subst (λ (o : Option Class). IsGiven endpoint keys a number before after o talks notes) given_is gives);
+    takes = takes;
+  }
+
+  pub gains_next : (was now : Option WireLog) → Gains was now Given → Gains was now (IsNext endpoint keys number walk after_walk before after result)
+  gains_next was now gained = gains_as Given (IsNext endpoint keys number walk after_walk before after result) is_next was now gained
+
+  pub some_next : OfSomeTalks Given → OfSomeTalks (IsNext endpoint keys number walk after_walk before after result)
+  some_next of_some = some_as Given (IsNext endpoint keys number walk after_walk before after result) is_next of_some
+
+pub none_next_some : (endpoint : Endpoint) (keys : Keys) (number : ℕ) (walk : Walk) (events : List Event) → OfSomeTalks (IsNext endpoint keys number walk walk events events (Err fault.Memory))
+none_next_some endpoint keys number walk events = ([], [], record { given = None; gives = inl (refl, refl, refl); takes = refl })
 
 pub none_next : (endpoint : Endpoint) (keys : Keys) (number : ℕ) (walk : Walk) (events : List Event) (seen : Option WireLog)
     → Gains seen seen (IsNext endpoint keys number walk walk events events (Err fault.Memory))
@@ -63,6 +87,13 @@ pub none_listed : (l : Listing) (events : List Event) (seen : Option WireLog) �
 none_listed l events seen =
     gains_nothing (Lists l events events (Err fault.Memory)) seen
     (stops_here l (new_walk l.bucket l.prefix l.delimited) l.first events events [] [] (at_first l events) events refl)
+
+pub none_listed_some : (l : Listing) (events : List Event) → OfSomeTalks (Lists l events events (Err fault.Memory))
+none_listed_some l events = ([], [], stops_here l (new_walk l.bucket l.prefix l.delimited) l.first events events [] [] (at_first l events) events refl)
+
+pub begins_some : (l : Listing) (walk : Walk) (events : List Event) → walk ≡ new_walk l.bucket l.prefix l.delimited → OfSomeTalks (IsUnderway l walk l.first events events)
+begins_some l walk events is =
+    subst (λ (w : Walk). OfSomeTalks (IsUnderway l w l.first events events)) (sym is) ([], [], at_first l events)
 
 pub begins : (l : Listing) (walk : Walk) (events : List Event) (seen : Option WireLog) → walk ≡ new_walk l.bucket l.prefix l.delimited
     → Gains seen seen (IsUnderway l walk l.first events events)
@@ -97,6 +128,32 @@ module _ (l : Listing) (walk after_walk : Walk) (number : ℕ) (before middle af
   fails f is =
       gains_both (IsUnderway l walk number before middle) (IsNext l.endpoint l.keys number walk after_walk middle after (Err f)) (Lists l before after (Err f))
       (λ talks more notes others under next. no_page l walk number before middle talks notes under after_walk more others after f next) first second third u (next_is (Err f) is)
+
+-- the same of some talks
+module _ (l : Listing) (walk after_walk : Walk) (number : ℕ) (before middle after : List Event) (endpoint : Endpoint) (keys : Keys) (same_endpoint : endpoint ≡ l.endpoint) (same_keys : keys ≡ l.keys)
+    (result : Result Bool ListingFault) (u : OfSomeTalks (IsUnderway l walk number before middle)) (n : OfSomeTalks (IsNext endpoint keys number walk after_walk middle after result)) where
+  abbrev NextOfSome : Endpoint → Keys → Result Bool ListingFault → Type 0
+  NextOfSome e k r = OfSomeTalks (IsNext e k number walk after_walk middle after r)
+
+  next_of_some : (r : Result Bool ListingFault) → result ≡ r → NextOfSome l.endpoint l.keys r
+  next_of_some r is =
+      subst (λ (other : Result Bool ListingFault). NextOfSome l.endpoint l.keys other) is
+      (subst (λ (k : Keys). NextOfSome l.endpoint k result) same_keys (subst (λ (e : Endpoint). NextOfSome e keys result) same_endpoint n))
+
+  pub goes_on_some : result ≡ Ok true → OfSomeTalks (IsUnderway l after_walk (number + 1) before after)
+  goes_on_some is =
+      some_both (IsUnderway l walk number before middle) (IsNext l.endpoint l.keys number walk after_walk middle after (Ok true)) (IsUnderway l after_walk (number + 1) before after)
+      (λ talks more notes others under next. more_pages l walk number before middle talks notes under after_walk more others after next) u (next_of_some (Ok true) is)
+
+  pub ends_some : result ≡ Ok false → OfSomeTalks (Lists l before after (Ok after_walk))
+  ends_some is =
+      some_both (IsUnderway l walk number before middle) (IsNext l.endpoint l.keys number walk after_walk middle after (Ok false)) (Lists l before after (Ok after_walk))
+      (λ talks more notes others under next. last_page l walk number before middle talks notes under after_walk more others after next) u (next_of_some (Ok false) is)
+
+  pub fails_some : (f : ListingFault) → result ≡ Err f → OfSomeTalks (Lists l before after (Err f))
+  fails_some f is =
+      some_both (IsUnderway l walk number before middle) (IsNext l.endpoint l.keys number walk after_walk middle after (Err f)) (Lists l before after (Err f))
+      (λ talks more notes others under next. no_page l walk number before middle talks notes under after_walk more others after f next) u (next_of_some (Err f) is)
 
 -- ---- it ends
 

@@ -26,10 +26,10 @@ use Rattle.run_promise.specs.Schedule.{HasReply, most_body}
 use Rattle.answer_classes.specs.Documents.{ReadsError, ReadsReply}
 use Rattle.answer_classes.specs.Showing.{HasClass, Shows}
 use Rattle.attempts.specs.Attempts.{IsOneTalk, IsSilent}
-use Rattle.list_walk.specs.Pages.{IsRefusedPage, Walk, gathered_from, gathered_with, new_walk, refusal_of, with_page}
+use Rattle.list_walk.specs.Pages.{Gathered, IsRefusedPage, Walk, gathered_from, gathered_with, new_walk, nothing, refusal_of, with_page}
 use Rattle.listings.specs.Asked.{AreAsked, Asked, IsAsked, IsGiven, dispatched_at, dispatched_from, events_from, events_of, made_of, request_for, silent_of}
-use Rattle.listings.specs.Faults.{fault_of}
-use Rattle.listings.specs.Pages.{IsNext, Listing, Lists, Plans, ShowPages, TakesAnswer, TakesClass, TakesPage, need_of}
+use Rattle.listings.specs.Faults.{IsFailed, fault_of}
+use Rattle.listings.specs.Pages.{AreTaken, IsNext, Listing, Lists, Plans, ShowPages, TakesAnswer, TakesClass, TakesPage, need_of}
 use Rattle.listings.specs.declared.fault.ListingFault.{ListingFault}
 use Rattle.listings.specs.declared.fault.ListingFault.TheVariants as fault
 use Rattle.listings.proofs.AskedLemmas.{asked_more, dispatched_more, events_more, may_want, number_after, one_more, pages_more, place_after}
@@ -117,6 +117,7 @@ pub record IsUnderway (l : Listing) (walk : Walk) (number : ℕ) (before after :
   pub asks : (token : Option (List ℕ)) → ask.List walk.bucket walk.prefix walk.delimited token ≡ ask.List l.bucket l.prefix l.delimited token
   pub prefix : walk.prefix ≡ l.prefix
   pub shown : ShowPages asked pages
+  pub taken : AreTaken l.prefix nothing pages
   pub events : after ≡ before ++ events_from l.first asked
   pub gained : AreAsked l.endpoint l.keys false asked talks notes
   pub numbers : number ≡ number_after l.first asked
@@ -131,6 +132,7 @@ at_first l events = record {
   asked = [];
   pages = [];
   shown = tt;
+  taken = tt;
   events = sym (append-nil events);
   gained = (refl, refl);
   numbers = refl;
@@ -139,6 +141,11 @@ at_first l events = record {
 }
 
 -- ---- one request more
+
+taken_more : (prefix : List ℕ) (g : Gathered) (pages : List Listed) (page : Listed) → AreTaken prefix g pages → refusal_of prefix (fold gathered_with g pages) page ≡ None
+    → AreTaken prefix g (pages ++ page ∷ [])
+taken_more prefix g [] page taken none = (none, tt)
+taken_more prefix g (p ∷ pages) page taken none = (taken.0, taken_more prefix (gathered_with g p) pages page taken.1 none)
 
 fold_more : {X Y : Type 0} (f : Y → X → Y) (z : Y) (xs : List X) (x : X) → fold f z (xs ++ x ∷ []) ≡ f (fold f z xs) x
 fold_more f z [] x = refl
@@ -201,6 +208,7 @@ module _ (l : Listing) (walk : Walk) (number : ℕ) (before middle : List Event)
       asks = u.asks;
       prefix = u.prefix;
       shown = pages_more u.asked u.pages taken page u.shown shows_page;
+      taken = taken_more l.prefix nothing u.pages page u.taken (refusal_here page None none);
       events = events_with taken after e;
       gained = asked_more l.endpoint l.keys false u.asked taken talks more notes others u.gained
           (is_asked seen place more others made false (λ is. absurd (success_certain (reply.Listed page) why.Memory is)));
@@ -223,7 +231,14 @@ module _ (l : Listing) (walk : Walk) (number : ℕ) (before middle : List Event)
           subst (λ (all : List Dispatched). Plans false all (need_of l ∷ []) [] None) (append-nil (dispatched_from at l.first (u.asked ++ taken ∷ [])))
           (with_one taken refl false at []
           (u.asks walk.token, inl (page, has_reply (place_after at u.asked) (number_after l.first u.asked), inr (inr (not_refused l.prefix u.pages page (refusal_here page None none), no_more, inl refl)))));
-      ends = (u.pages ++ page ∷ [], pages_more u.asked u.pages taken page u.shown shows_page, ap (λ (g : _). gathered_with g page) u.gathered ∙ sym (fold_more gathered_with _ u.pages page));
+      ends = (
+        u.pages,
+        page,
+        pages_more u.asked u.pages taken page u.shown shows_page,
+        taken_more l.prefix nothing u.pages page u.taken (refusal_here page None none),
+        no_more,
+        ap (λ (g : _). gathered_with g page) u.gathered ∙ sym (fold_more gathered_with _ u.pages page),
+      );
     }
 
     refused_last : (bad : BadListing) → refusal_of walk.prefix walk.gathered page ≡ Some bad → IsRefusedPage l.prefix (u.pages ++ page ∷ [])
@@ -241,7 +256,7 @@ module _ (l : Listing) (walk : Walk) (number : ℕ) (before middle : List Event)
           subst (λ (all : List Dispatched). Plans false all (need_of l ∷ []) [] None) (append-nil (dispatched_from at l.first (u.asked ++ taken ∷ [])))
           (with_one taken refl false at []
           (u.asks walk.token, inl (page, has_reply (place_after at u.asked) (number_after l.first u.asked), inl (refused_last bad e, refl))));
-      ends = (u.pages, page, pages_more u.asked u.pages taken page u.shown shows_page, refusal_here page (Some bad) e);
+      ends = (u.pages, page, pages_more u.asked u.pages taken page u.shown shows_page, u.taken, refusal_here page (Some bad) e);
     }
 
     -- what follows a page when memory ran out in taking it: refused or not, the last or not
@@ -318,15 +333,15 @@ module _ (l : Listing) (walk : Walk) (number : ℕ) (before middle : List Event)
       ends = tt;
     }
 
-    failed_here : (cause : _) → (shown ≡ class.Uncertain why.Memory → ⊥) → fault_of op.List shown ≡ fault.Answer cause → Lists l before after (Err (fault.Answer cause)) (talks ++ more) (notes ++ others)
-    failed_here cause other is =
+    failed_here : (cause : _) → (shown ≡ class.Uncertain why.Memory → ⊥) → IsFailed shown → fault_of op.List shown ≡ fault.Answer cause → Lists l before after (Err (fault.Answer cause)) (talks ++ more) (notes ++ others)
+    failed_here cause other failed is =
         let shows : (body : List ℕ) × Shows next most_body made.talk shown body = elim made.has_class [ inl memory ↦ absurd (other memory) | inr h ↦ (h.0, h.1) ] in
         record {
           asked = u.asked ++ asked_last ∷ [];
           events = events_with asked_last after events;
           gained = gained_last false (λ memory. absurd (other memory));
           plans = unanswered false (λ memory. absurd (other memory));
-          ends = (u.asked, asked_last, record { mark = mark_of shown; talk = made.talk }, shown, shows.0, refl, refl, shows.1, is);
+          ends = (u.asked, asked_last, record { mark = mark_of shown; talk = made.talk }, shown, shows.0, refl, refl, shows.1, failed, is);
         }
 
   -- ---- by the answer
@@ -362,7 +377,7 @@ module _ (l : Listing) (walk : Walk) (number : ℕ) (before middle : List Event)
         → after ≡ middle ++ events_of number (made_of next (class.Uncertain reason) made.talk) → Ended (fault_of op.List (class.Uncertain reason))
     uncertain_fault why.Memory place made events = lost_here (class.Uncertain why.Memory) place more others made uncertain_mark after events
     uncertain_fault reason place made events =
-        failed_here (class.Uncertain reason) place more others made uncertain_mark after events _ (memory_clash reason tt) refl
+        failed_here (class.Uncertain reason) place more others made uncertain_mark after events _ (memory_clash reason tt) tt refl
 
     other_reply : (said : Reply) → NotListed said → (place : List ℕ) → IsOneTalk (request_for l.endpoint l.keys next) (class.Success said) place more others → ⊥
     other_reply said other place made = elim made.has_class [
@@ -376,7 +391,7 @@ module _ (l : Listing) (walk : Walk) (number : ℕ) (before middle : List Event)
     class_fault (class.Success said) place made events f takes = absurd (other_reply said tt place made)
     class_fault (class.Refusal code message) place made events f takes =
         subst Ended (sym (fault_is f _ takes))
-        (failed_here (class.Refusal code message) place more others made refusal_mark after events _ (refusal_certain code message why.Memory) refl)
+        (failed_here (class.Refusal code message) place more others made refusal_mark after events _ (refusal_certain code message why.Memory) tt refl)
     class_fault (class.Uncertain reason) place made events f takes = subst Ended (sym (fault_is f _ takes)) (uncertain_fault reason place made events)
 
     nothing_given : ((after ≡ middle) × (more ≡ []) × (others ≡ [])) ⊎ ((after ≡ middle ++ events_of number (silent_of next)) × IsSilent more others) → Ended fault.Memory

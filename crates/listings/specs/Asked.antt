@@ -103,6 +103,10 @@ AreAsked endpoint keys wanting (a ∷ rest) talks notes =
     × (talks ≡ first ++ more) × (notes ≡ noted ++ others)
     × IsAsked endpoint keys wanting a.asked a.attempt first noted × AreAsked endpoint keys wanting rest more others
 
+-- P of some talks and notes, also where the wire shows none
+abbrev pub OfSomeTalks : (List Talk → List Note → Type 0) → Type 0
+OfSomeTalks P = (talks : List Talk) × (notes : List Note) × P talks notes
+
 -- ---- one request
 
 -- The request was given with its number and attempted, and this is its class; or memory ran out, before it was given or

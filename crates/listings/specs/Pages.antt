@@ -15,9 +15,9 @@ use Rattle.run_promise.specs.Planning.{Need}
 use Rattle.run_promise.specs.Planning as planning
 use Rattle.run_promise.specs.Schedule.{most_body}
 use Rattle.answer_classes.specs.Showing.{Shows}
-use Rattle.list_walk.specs.Pages.{IsRefusedPage, Walk, gathered_from, refusal_of, with_page}
+use Rattle.list_walk.specs.Pages.{Gathered, IsRefusedPage, Walk, gathered_from, gathered_with, nothing, refusal_of, with_page}
 use Rattle.listings.specs.Asked.{AreAsked, Asked, IsGiven, dispatched_from, events_from}
-use Rattle.listings.specs.Faults.{fault_of}
+use Rattle.listings.specs.Faults.{IsFailed, fault_of}
 use Rattle.listings.specs.declared.fault.ListingFault.{ListingFault}
 use Rattle.listings.specs.declared.fault.ListingFault.TheVariants as fault
 
@@ -57,16 +57,27 @@ ShowPages [] [] = Unit {0}
 ShowPages (a ∷ rest) (page ∷ pages) = ShowsPage a page × ShowPages rest pages
 ShowPages asked pages = ⊥
 
--- All pages were taken; or the last was refused; or the last request was answered without a success, or had no answer.
+-- each of these pages is taken, behind what was gathered and those before it
+abbrev pub AreTaken : (prefix : List ℕ) → Gathered → List Listed → Type 0
+AreTaken prefix gathered [] = Unit {0}
+AreTaken prefix gathered (page ∷ pages) =
+    (refusal_of prefix gathered page ≡ None) × AreTaken prefix (gathered_with gathered page) pages
+
+-- All pages were taken, and none is behind the last; or the last was refused; or the last request was answered without a
+-- success, or had no answer.
 abbrev pub EndsAs : (prefix : List ℕ) → List Asked → Result Walk ListingFault → Type 0
-EndsAs prefix asked (Ok walk) = (pages : List Listed) × ShowPages asked pages × (walk.gathered ≡ gathered_from pages)
+EndsAs prefix asked (Ok walk) =
+    (pages : List Listed) × (last : Listed)
+    × ShowPages asked (pages ++ last ∷ []) × AreTaken prefix nothing (pages ++ last ∷ []) × (last.more ≡ false)
+    × (walk.gathered ≡ gathered_from (pages ++ last ∷ []))
 EndsAs prefix asked (Err (fault.Listing bad)) =
     (pages : List Listed) × (last : Listed)
-    × ShowPages asked (pages ++ last ∷ []) × (refusal_of prefix (gathered_from pages) last ≡ Some bad)
+    × ShowPages asked (pages ++ last ∷ []) × AreTaken prefix nothing pages
+    × (refusal_of prefix (gathered_from pages) last ≡ Some bad)
 EndsAs prefix asked (Err (fault.Answer cause)) =
     (before : List Asked) × (last : Asked) × (attempt : Attempt) × (shown : Class) × (body : List ℕ)
     × (asked ≡ before ++ last ∷ []) × (last.attempt ≡ Some attempt)
-    × Shows last.asked most_body attempt.talk shown body × (fault_of op.List shown ≡ fault.Answer cause)
+    × Shows last.asked most_body attempt.talk shown body × IsFailed shown × (fault_of op.List shown ≡ fault.Answer cause)
 EndsAs prefix asked (Err fault.Memory) = Unit {0}
 
 -- The requests were given and attempted one after the other, they are those that the listing needs, and the result is

@@ -3,6 +3,7 @@
 ghost use Rattle.std.specs.Prelude.{◌≡◌, ◌≤◌, IfErr, IfOk, IfSome};
 ghost use Rattle.answer_dates.specs.Dates.{AreDated, HasDates};
 ghost use Rattle.run_promise.specs.Gains.{Gains};
+ghost use Rattle.listings.specs.Asked.{OfSomeTalks};
 ghost use Rattle.listings.specs.Buckets.{ListsBuckets, buckets_of};
 ghost use Rattle.listings.specs.Faults.{IsNoCancel};
 
@@ -42,6 +43,9 @@ pub fn list_buckets<W: Wire>(
 ) -> Result<Entries, ListingFault>
     ensures listed { Gains (W.seen wire.old) (W.seen wire.new) (ListsBuckets client.old.endpoint client.old.signer
         number journal.old.items journal.new.items result) }
+    // The same of some talks, also where the wire shows none.
+    ensures some { OfSomeTalks (ListsBuckets client.old.endpoint client.old.signer number journal.old.items
+        journal.new.items result) }
     ensures dated { IfOk result (λ buckets. AreDated buckets.items) }
     ensures no_cancel { IfErr result IsNoCancel }
     ensures later { W.faults wire.old ≤ W.faults wire.new }

@@ -4,7 +4,7 @@ ghost use Rattle.std.specs.Prelude.{◌≡◌, ◌≤◌, ◌+◌, IfSome, lengt
 ghost use Rattle.answer_dates.specs.Dates.{HasDates};
 ghost use Rattle.run_promise.specs.Schedule.{op_of};
 ghost use Rattle.run_promise.specs.Gains.{Gains};
-ghost use Rattle.listings.specs.Asked.{IsGiven};
+ghost use Rattle.listings.specs.Asked.{IsGiven, OfSomeTalks};
 
 use attempts::{Attempted, Client, Payload, attempt, tries_of};
 use s3_model::{Ask, Bytes, Class, Event, JobId, Journal, Op};
@@ -25,6 +25,8 @@ pub(crate) fn give<W: Wire>(
     requires { op ≡ op_of ask.now }
     ensures given { Gains (W.seen wire.old) (W.seen wire.new) (IsGiven client.old.endpoint client.old.signer ask.now
         number journal.old.items journal.new.items result) }
+    ensures some { OfSomeTalks (IsGiven client.old.endpoint client.old.signer ask.now number journal.old.items
+        journal.new.items result) }
     ensures dated { IfSome result HasDates }
     ensures few { length journal.new.items ≤ length journal.old.items + 2 }
     ensures later { W.faults wire.old ≤ W.faults wire.new }

@@ -3,6 +3,7 @@
 ghost use Rattle.std.specs.Prelude.{◌≡◌, ◌≤◌, ◌+◌, false, IfErr, IfOk, length};
 ghost use Rattle.answer_dates.specs.Dates.{AreDated, HasDates};
 ghost use Rattle.run_promise.specs.Gains.{Gains};
+ghost use Rattle.listings.specs.Asked.{OfSomeTalks};
 ghost use Rattle.listings.specs.Faults.{IsNoCancel};
 ghost use Rattle.listings.specs.Pages.{IsNext, Listing, Lists, TakesClass, TakesPage, TookPage};
 
@@ -58,6 +59,8 @@ fn next_page<W: Wire>(
     requires before { AreDated pages.old.gathered.entries }
     ensures next { Gains (W.seen wire.old) (W.seen wire.new) (IsNext client.old.endpoint client.old.signer number
         pages.old pages.new journal.old.items journal.new.items result) }
+    ensures some { OfSomeTalks (IsNext client.old.endpoint client.old.signer number pages.old pages.new
+        journal.old.items journal.new.items result) }
     ensures took { IfOk result (TookPage pages.old pages.new) }
     ensures dated { IfOk result (λ _. AreDated pages.new.gathered.entries) }
     ensures no_cancel { IfErr result IsNoCancel }
@@ -105,6 +108,15 @@ pub fn list_pages<W: Wire>(
       delimited = delimited;
       first = first;
     } in Gains (W.seen wire.old) (W.seen wire.new) (Lists listing journal.old.items journal.new.items result) }
+    // The same of some talks, also where the wire shows none.
+    ensures some { let listing : Listing = record {
+      endpoint = client.old.endpoint;
+      keys = client.old.signer;
+      bucket = bucket.now;
+      prefix = prefix.now;
+      delimited = delimited;
+      first = first;
+    } in OfSomeTalks (Lists listing journal.old.items journal.new.items result) }
     ensures dated { IfOk result (λ walk. AreDated walk.gathered.entries) }
     ensures no_cancel { IfErr result IsNoCancel }
     ensures few { length journal.new.items ≤ length journal.old.items + 2_000_002_000 }

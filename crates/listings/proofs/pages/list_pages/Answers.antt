@@ -4,7 +4,7 @@ use Rattle.answer_dates.specs.Dates.{AreDated}
 use Rattle.list_walk.specs.Pages.{IsSound, Walk}
 use Rattle.list_walk.proofs.PageLemmas.{nothing_is_sound}
 use Rattle.listings.proofs.DatedLemmas.{none_dated}
-use Rattle.listings.proofs.ListLemmas.{begins, ends, fails, goes_on, none_listed, still_bound, still_open, still_sound}
+use Rattle.listings.proofs.ListLemmas.{begins, begins_some, ends, ends_some, fails, fails_some, goes_on, goes_on_some, none_listed, none_listed_some, still_bound, still_open, still_sound}
 use Rattle.listings.specs.Pages.{TookPage}
 use Rattle.listings.specs.declared.fault.ListingFault.{ListingFault}
 use Rattle.listings.proofs.pages.list_pages.Goals as goal
@@ -12,9 +12,13 @@ use Rattle.listings.proofs.pages.list_pages.Goals as goal
 pub returns-in_default-clause-listed : goal.returns-in_default-clause-listed
 returns-in_default-clause-listed g c = none_listed _ _ _
 
+pub returns-in_default-clause-some : goal.returns-in_default-clause-some
+returns-in_default-clause-some g c = none_listed_some _ _
+
 pub loop-number-init : goal.loop-number-init
 loop-number-init g c = record {
   underway = begins _ _ _ _ c.in-Ok.ensures;
+  some = begins_some _ _ _ c.in-Ok.ensures;
   goes_on = ap (λ (w : Walk). w.over) c.in-Ok.ensures;
   sound = subst (λ (w : Walk). IsSound w.prefix w.gathered) (sym c.in-Ok.ensures) (nothing_is_sound c.args.prefix.now);
   dated = none_dated c.args.bucket.now c.args.prefix.now c.args.delimited _ c.in-Ok.ensures;
@@ -28,6 +32,15 @@ loop-number-init g c = record {
 pub returns-in-Err-clause-listed : goal.returns-in-Err-clause-listed
 returns-in-Err-clause-listed g c =
     fails _ _ _ _ _ _ _ _ _ _ _ _ c.loop-number.invariant.endpoint c.loop-number.invariant.keys c.next_page.result c.loop-number.invariant.underway c.next_page.ensures.next _ c.in-Err.is
+
+pub returns-in-Err-clause-some : goal.returns-in-Err-clause-some
+returns-in-Err-clause-some g c =
+    fails_some _ _ _ _ _ _ _ _ _ c.loop-number.invariant.endpoint c.loop-number.invariant.keys c.next_page.result c.loop-number.invariant.some c.next_page.ensures.some _ c.in-Err.is
+
+pub returns-in-Ok-false-clause-some : goal.returns-in-Ok-false-clause-some
+returns-in-Ok-false-clause-some g c =
+    let is = c.in-Ok-false.is ∙ ap (λ (more : Bool). Ok more) c.in-Ok-false.field-0-test in
+    ends_some _ _ _ _ _ _ _ _ _ c.loop-number.invariant.endpoint c.loop-number.invariant.keys c.next_page.result c.loop-number.invariant.some c.next_page.ensures.some is
 
 pub returns-in-Ok-false-clause-listed : goal.returns-in-Ok-false-clause-listed
 returns-in-Ok-false-clause-listed g c =
@@ -43,6 +56,7 @@ loop-number-preserved g c =
     let (page, none, is_with, more) = subst (λ (r : Result Bool ListingFault). IfOk r (TookPage before after)) is c.next_page.ensures.took in
     record {
       underway = goes_on _ _ _ _ _ _ _ _ _ _ _ _ before_is.endpoint before_is.keys c.next_page.result before_is.underway c.next_page.ensures.next is;
+      some = goes_on_some _ _ _ _ _ _ _ _ _ before_is.endpoint before_is.keys c.next_page.result before_is.some c.next_page.ensures.some is;
       goes_on = still_open before after page is_with before_is.goes_on more;
       sound = still_sound before after page is_with before_is.sound none;
       dated = subst (λ (r : Result Bool ListingFault). IfOk r (λ more. AreDated after.gathered.entries)) is c.next_page.ensures.dated;

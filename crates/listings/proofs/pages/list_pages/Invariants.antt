@@ -2,6 +2,7 @@ use Rattle.std.proofs.Common.{◌≡◌, ◌+◌, ◌*◌, ◌≤◌, false, len
 use Rattle.answer_dates.specs.Dates.{AreDated}
 use Rattle.run_promise.specs.Gains.{Gains}
 use Rattle.list_walk.specs.Pages.{IsSound, total_of}
+use Rattle.listings.specs.Asked.{OfSomeTalks}
 use Rattle.listings.proofs.PageLemmas.{IsUnderway}
 use Rattle.listings.proofs.pages.list_pages.Given as goal
 
@@ -9,6 +10,8 @@ abbrev pub invariant-loop-number : goal.invariant-loop-number
 invariant-loop-number g l = record {
   underway : Gains (g.W.Wire.seen l.initial.wire) (g.W.Wire.seen l.wire)
       (IsUnderway (record { endpoint = l.initial.client.endpoint; keys = l.initial.client.signer; bucket = l.bucket; prefix = l.prefix; delimited = l.delimited; first = l.first })
+      l.pages l.number l.initial.journal.items l.journal.items);
+  some : OfSomeTalks (IsUnderway (record { endpoint = l.initial.client.endpoint; keys = l.initial.client.signer; bucket = l.bucket; prefix = l.prefix; delimited = l.delimited; first = l.first })
       l.pages l.number l.initial.journal.items l.journal.items);
   goes_on : l.pages.over ≡ false;
   sound : IsSound l.pages.prefix l.pages.gathered;
