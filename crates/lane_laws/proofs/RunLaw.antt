@@ -33,6 +33,9 @@ use Rattle.lane_laws.proofs.NoteLaw.{run_noted}
 false_is_true : false ≡ true → ⊥
 false_is_true e = cc
 
+split : (n m : ℕ) → n ≤ m → (n < m) ⊎ (n ≡ m)
+split n m below = grind arith
+
 -- ---- classes
 
 abbrev IsWanting : Setting → Dispatched → Type 0
@@ -122,9 +125,6 @@ module _ (endpoint : Endpoint) (keys : Keys) (s : Setting) where
       | inl less ↦ absurd (false_is_true (sym final ∙ job.again k shown at less))
       | inr same ↦ same
     ]
-      where
-        split : (n m : ℕ) → n ≤ m → (n < m) ⊎ (n ≡ m)
-        split n m below = grind arith
 
     memory_wants : (k : ℕ) (shown : Class) → slice_get g.classes k ≡ Some shown → shown ≡ class.Uncertain why.Memory → (k + 1 ≡ length g.classes) × IsWanting s g.of
     memory_wants k shown at is =
@@ -170,25 +170,43 @@ module _ (endpoint : Endpoint) (keys : Keys) (s : Setting) where
         let fewer = cut.1 in
         (goes_on_by a shown (subst (λ (l : Option Class). IfSome l (λ c. is_tried_again c ≡ true)) last cut.0) class_is, omega arith)
 
-    module _ (stops : IsSome g.gave → MayStop Shows (text_of endpoint keys) endpoint.host endpoint.port s coming g.of) where
+    module _ (stops : IsSome g.gave → IsCutShort s g → MayStop Shows (text_of endpoint keys) endpoint.host endpoint.port s coming g.of) where
       abbrev Stops : Type 0
       Stops = MayStop Shows (text_of endpoint keys) endpoint.host endpoint.port s coming g.of
 
-      through : (a : Attempt) (shown : Class) → HasClass r a.talk shown job.place → last_of g.classes ≡ Some shown → GoesOn a → is_tried_again shown ≡ false → IsWanting s g.of
-      through a shown (inl memory) last goes final = wants (memory_last (last ∙ ap (λ (c : Class). Some c) memory))
-      through a shown (inr h) last (told, bytes, shows, again) final =
-          let same = one_shown g.of.ask g.of.limit a.talk told shown bytes h.0 shows (told_of a shown h.0 h.1) in
-          absurd (false_is_true (sym final ∙ sym (same_again told shown same.0) ∙ again))
+      abbrev IsEnded : Type 0
+      IsEnded = (g.of.dispatch.earlier + length attempts ≡ s.config.attempts) ⊎ IsWanting s g.of ⊎ Stops
 
-      to_the_end : (a : Attempt) → last_of attempts ≡ Some a → GoesOn a → (g.of.dispatch.earlier + length attempts ≡ s.config.attempts) ⊎ IsWanting s g.of ⊎ Stops
+      -- the last class is tried again where its talk would go on, unless memory ran out
+      tried_again : (a : Attempt) (shown : Class) → HasClass r a.talk shown job.place → last_of g.classes ≡ Some shown → GoesOn a → (is_tried_again shown ≡ true) ⊎ IsWanting s g.of
+      tried_again a shown (inl memory) last goes = inr (wants (memory_last (last ∙ ap (λ (c : Class). Some c) memory)))
+      tried_again a shown (inr h) last (told, bytes, shows, again) =
+          let same = one_shown g.of.ask g.of.limit a.talk told shown bytes h.0 shows (told_of a shown h.0 h.1) in
+          inl (sym (same_again told shown same.0) ∙ again)
+
+      through : (shown : Class) → (is_tried_again shown ≡ true) ⊎ IsWanting s g.of → is_tried_again shown ≡ false → IsWanting s g.of
+      through shown (inl again) final = absurd (false_is_true (sym final ∙ again))
+      through shown (inr wanting) final = wanting
+
+      -- where the cell gave a reason behind a class that is tried again: all attempts are made, or the job was cut short
+      stopped : (shown : Class) → last_of g.classes ≡ Some shown → (is_tried_again shown ≡ true) ⊎ IsWanting s g.of → IsSome g.gave → IsEnded
+      stopped shown last (inr wanting) given = inr (inl wanting)
+      stopped shown last (inl again) given =
+          elim (split (g.of.dispatch.earlier + length attempts) s.config.attempts few) [
+            | inl less ↦ let long = many in inr (inr (stops given (subst (λ (l : Option Class). IfSome l (λ c. is_tried_again c ≡ true)) (sym last) again, omega arith)))
+            | inr same ↦ inl same
+          ]
+
+      to_the_end : (a : Attempt) → last_of attempts ≡ Some a → GoesOn a → IsEnded
       to_the_end a e goes =
           let (shown, last, class_is) = last_shown a e in
+          let again = tried_again a shown class_is last goes in
           elim job.ends [
             | inl h ↦ elim h.is_through [
-              | inl final ↦ inr (inl (through a shown class_is last goes (subst (λ (c : Class). is_tried_again c ≡ false) (some_is _ _ (sym h.last ∙ last)) final)))
+              | inl final ↦ inr (inl (through shown again (subst (λ (c : Class). is_tried_again c ≡ false) (some_is _ _ (sym h.last ∙ last)) final)))
               | inr others ↦ elim others [
                 | inl all ↦ inl (let long = many in let is = most_is in omega arith)
-                | inr given ↦ inr (inr (stops given))
+                | inr given ↦ stopped shown last again given
               ]
             ]
             | inr others ↦ elim others [
@@ -201,13 +219,16 @@ module _ (endpoint : Endpoint) (keys : Keys) (s : Setting) where
       none_last [] shown none last = none_is_some shown last
       none_last (c ∷ cs) shown none last = absurd (omega arith)
 
+      not_begun : g.classes ≡ [] → IsCutShort s g
+      not_begun none = subst (λ (cs : List Class). IfSome (last_of cs) (λ c. is_tried_again c ≡ true) × (length cs < s.config.attempts)) (sym none) (cc, omega arith)
+
       silent : attempts ≡ [] → IsWanting s g.of ⊎ Stops
       silent none =
           let empty : length g.classes ≡ 0 = sym many ∙ ap (λ (xs : List Attempt). length xs) none in
           elim job.ends [
             | inl h ↦ absurd (none_last g.classes h.shown empty h.last)
             | inr others ↦ elim others [
-              | inl h ↦ inr (stops (subst (λ (o : Option _). IsSome o) (sym h.gave_is) refl))
+              | inl h ↦ inr (stops (subst (λ (o : Option _). IsSome o) (sym h.gave_is) refl) (not_begun h.none_made))
               | inr h ↦ inl (wants (inl h.ending_is))
             ]
           ]

@@ -62,7 +62,8 @@ AreCarriedJobs endpoint keys attempts (g ∷ givings) talks notes =
 
 -- ---- the journal
 
--- What the journal says: each dispatch comes once, in the order of its lane, and nothing else does.
+-- What the journal says: each dispatch comes once, in the order of its lane, and nothing else does. These six are
+-- fields of `IsCarried` word for word, which the law passes on: whoever writes the journal gives them.
 pub record IsJournal (s : Setting) (journal : List Event) (logs : ℕ → List Talk) (notes : ℕ → List Note)
     (dispatched : List Dispatched) : Type 0 where
   pub shown : map (λ (c : Dispatched). c.dispatch) dispatched ≡ dispatches journal logs
@@ -89,12 +90,13 @@ abbrev pub IsCutShort : Setting → Giving → Type 0
 IsCutShort s g =
     IfSome (last_of g.classes) (λ shown. is_tried_again shown ≡ true) × (length g.classes < s.config.attempts)
 
--- why jobs wanted memory, stopped early or were given again
+-- Why jobs wanted memory, stopped early or were given again. A reason that the cell gave stops a job only where the job
+-- was cut short: one that ended by a class that is not tried again, or has had all its attempts, needs no cause.
 pub record HaveCauses (endpoint : Endpoint) (keys : Keys) (s : Setting) (givings : List Giving)
     (coming : List Dispatched) : Type 0 where
   pub left : (g : Giving) → Contains givings g → g.of.dispatch.earlier < s.config.attempts
   pub wants : (g : Giving) → Contains givings g → RanOut g.ended → s.wanted_memory g.of.dispatch.job.task ≡ true
-  pub stops : (g : Giving) → Contains givings g → IsSome g.gave
+  pub stops : (g : Giving) → Contains givings g → IsSome g.gave → IsCutShort s g
       → MayStop Shows (text_of endpoint keys) endpoint.host endpoint.port s coming g.of
   pub given_again : AllPairs (λ (a b : Dispatched). a.dispatch.job ≡ b.dispatch.job
       → (g : Giving) × Contains givings g × (g.of ≡ a) × IsCutShort s g) (dispatched_of givings)
