@@ -1,5 +1,5 @@
 -- From what was listed to what is shown of it.
-use Rattle.std.proofs.Common.{◌≡◌, ℕ, Bool, List, [], Option, Some, None, Result, Ok, Err, refl, sym, inr, append-nil}
+use Rattle.std.proofs.Common.{ℕ, Bool, List, [], Option, Some, None, Result, Err, refl, sym, inr, append-nil}
 use Rattle.s3_model.specs.declared.outcomes.Event.{Event}
 use Rattle.s3_model.specs.declared.places.Endpoint.{Endpoint}
 use Rattle.s3_model.specs.declared.places.Entry.{Entry}
@@ -11,6 +11,7 @@ use Rattle.s3_model.specs.Talks.{WireLog}
 use Rattle.run_promise.specs.Gains.{Gains}
 use Rattle.run_promise.proofs.GainLemmas.{gains_as}
 use Rattle.list_walk.specs.Pages.{Walk}
+use Rattle.listings.specs.Asked.{OfSomeTalks}
 use Rattle.listings.specs.Buckets.{ListsBuckets}
 use Rattle.listings.specs.Pages.{Lists}
 use Rattle.listings.specs.declared.fault.ListingFault.{ListingFault}
@@ -30,6 +31,16 @@ module _ (endpoint : Endpoint) (keys : Keys) (before after : List Event) (result
   pages_shown bucket key recursive listed shown gains =
       gains_as (Lists (listing_of endpoint keys bucket key recursive) before after listed) (ShowsPages endpoint keys bucket key recursive before after result)
       (λ talks notes lists. record { listed = listed; lists = lists; shown = shown }) was now gains
+
+-- the same of some talks
+module _ (endpoint : Endpoint) (keys : Keys) (before after : List Event) (result : Result Shown ListingFault) where
+  pub buckets_of_some : (listed : Result (Reserved Entry) ListingFault) → IsShownBy IsShownBuckets listed result → OfSomeTalks (ListsBuckets endpoint keys 0 before after listed)
+      → OfSomeTalks (ShowsBuckets endpoint keys before after result)
+  buckets_of_some listed shown some = (some.0, some.1, record { listed = listed; lists = some.2; shown = shown })
+
+  pub pages_of_some : (bucket key : List ℕ) (recursive : Bool) (listed : Result Walk ListingFault) → IsShownBy (IsShownWalk key recursive) listed result
+      → OfSomeTalks (Lists (listing_of endpoint keys bucket key recursive) before after listed) → OfSomeTalks (ShowsPages endpoint keys bucket key recursive before after result)
+  pages_of_some bucket key recursive listed shown some = (some.0, some.1, record { listed = listed; lists = some.2; shown = shown })
 
 -- nothing was asked, since memory ran out
 pub none_shown : (endpoint : Endpoint) (keys : Keys) (at : Option Place) (recursive : Bool) (events : List Event) → IsListed at → ShowsListing endpoint keys at recursive events events (Err fault.Memory) [] []

@@ -2,6 +2,7 @@
 
 ghost use Rattle.std.specs.Prelude.{◌≡◌, ◌≤◌, IfErr};
 ghost use Rattle.run_promise.specs.Gains.{Gains};
+ghost use Rattle.listings.specs.Asked.{OfSomeTalks};
 ghost use Rattle.listings.specs.Faults.{IsNoCancel};
 ghost use Rattle.upload_plans.specs.Commands.{IsListed};
 ghost use Rattle.listing_commands.specs.Commands.{ShowsBuckets, ShowsListing, ShowsPages, finds_nothing};
@@ -32,6 +33,8 @@ fn show_buckets<W: Wire>(
 ) -> Result<Shown, ListingFault>
     ensures shown { Gains (W.seen wire.old) (W.seen wire.new) (ShowsBuckets client.old.endpoint client.old.signer
         journal.old.items journal.new.items result) }
+    ensures some { OfSomeTalks (ShowsBuckets client.old.endpoint client.old.signer journal.old.items journal.new.items
+        result) }
     ensures no_cancel { IfErr result IsNoCancel }
     ensures later { W.faults wire.old ≤ W.faults wire.new }
 {
@@ -66,6 +69,8 @@ fn show_pages<W: Wire>(
 ) -> Result<Shown, ListingFault>
     ensures shown { Gains (W.seen wire.old) (W.seen wire.new) (ShowsPages client.old.endpoint client.old.signer
         bucket.now key.now recursive journal.old.items journal.new.items result) }
+    ensures some { OfSomeTalks (ShowsPages client.old.endpoint client.old.signer bucket.now key.now recursive
+        journal.old.items journal.new.items result) }
     ensures no_cancel { IfErr result IsNoCancel }
     ensures later { W.faults wire.old ≤ W.faults wire.new }
 {
@@ -103,6 +108,9 @@ pub fn show_listing<W: Wire>(
     requires listed { IsListed at.now }
     ensures shown { Gains (W.seen wire.old) (W.seen wire.new) (ShowsListing client.old.endpoint client.old.signer
         at.now recursive journal.old.items journal.new.items result) }
+    // The same of some talks, also where the wire shows none.
+    ensures some { OfSomeTalks (ShowsListing client.old.endpoint client.old.signer at.now recursive journal.old.items
+        journal.new.items result) }
     ensures no_cancel { IfErr result IsNoCancel }
     ensures later { W.faults wire.old ≤ W.faults wire.new }
 {

@@ -1,9 +1,16 @@
 -- A run that lists: what it shows of its requests, and how it ends.
 use Rattle.std.proofs.Common.{◌≡◌, ◌∙◌, ◌⊎◌, ℕ, Bool, true, false, List, [], Option, Some, None, Result, Ok, Err, refl, sym, ap, subst, inl, inr, is_some}
 use Rattle.std.specs.Prelude.{IfSome}
-use Rattle.listing_commands.specs.Commands.{ShowsListing}
+use Rattle.shared_lemmas.proofs.Clashes.{none_is_some, some_is}
+use Rattle.list_walk.specs.Pages.{Walk}
+use Rattle.listing_commands.specs.Commands.{IsShownBuckets, IsShownBy, IsShownWalk, ShowsListing}
+use Rattle.listings.specs.Asked.{OfSomeTalks}
+use Rattle.listings.specs.Buckets as buckets
+use Rattle.listings.specs.Pages as pages
+use Rattle.listings.proofs.BucketLemmas.{buckets_end, pages_end}
+use Rattle.listings.proofs.SomeLemmas.{some_as}
 use Rattle.listing_commands.specs.declared.show.Shown.{Shown}
-use Rattle.listings.specs.Faults.{IsNoCancel}
+use Rattle.listings.specs.Faults.{IsCauseOf, IsNoCancel}
 use Rattle.listings.specs.declared.fault.ListingFault.{ListingFault}
 use Rattle.listings.specs.declared.fault.ListingFault.TheVariants as unlisted
 use Rattle.result_lines.specs.Causes.{IsShown}
@@ -11,6 +18,15 @@ use Rattle.result_lines.specs.declared.tasks.Line.{Line}
 use Rattle.s3_model.specs.declared.list.OutOfMemory.{OutOfMemory}
 use Rattle.s3_model.specs.declared.outcomes.Cause.{Cause}
 use Rattle.s3_model.specs.declared.outcomes.Cause.TheVariants as cause
+use Rattle.s3_model.specs.declared.faults.BadListing.{BadListing}
+use Rattle.s3_model.specs.declared.faults.BadListing.TheVariants as bad
+use Rattle.s3_model.specs.declared.outcomes.Event.{Event}
+use Rattle.s3_model.specs.declared.places.Endpoint.{Endpoint}
+use Rattle.s3_model.specs.declared.places.Entry.{Entry}
+use Rattle.s3_model.specs.declared.places.Place.{Place}
+use Rattle.s3_model.specs.declared.places.Place.TheVariants as place
+use Rattle.s3_model.specs.declared.settings.Keys.{Keys}
+use Rattle.s3_model.specs.Lists.{Reserved}
 use Rattle.s3_model.specs.declared.settings.Limits.{Limits}
 use Rattle.s3_model.specs.declared.settings.Settings.{Settings}
 use Rattle.s3_model.specs.Talks.{Talk, Note, WireLog}
@@ -28,7 +44,7 @@ use Rattle.s3_main.specs.Executed.{HasLineOf, HasStatusOf}
 use Rattle.s3_main.specs.Listings.{EndsListing, HasNoOutcome, IsListing, IsMade, Lists, fatal_for}
 use Rattle.s3_main.specs.Own.{IsRows, Own}
 use Rattle.s3_main.specs.Plans.{MayEnd}
-use Rattle.s3_main.specs.Runs.{IsListingEnd, IsUnasked, MakesListing, StopsFor}
+use Rattle.s3_main.specs.Runs.{IsListingEnd, IsUnasked, MakesListing, MayEndListing, StopsFor, listed_op}
 use Rattle.s3_main.specs.Texts.{HasLine, HasTexts, IsLineOf}
 use Rattle.s3_main.proofs.UrlLemmas.{lists, no_memory, url_texts}
 
@@ -44,7 +60,7 @@ shown_cause (cause.Files call) h = tt
 shown_cause (cause.Blocked length) h = tt
 shown_cause cause.Memory h = tt
 
-pub listing_line : (why : Fatal) → IsListingEnd why → HasLine why
+pub listing_line : (why : Fatal) → MayEndListing why → HasLine why
 listing_line (fatal.Listing refused) h = h
 listing_line (fatal.Answer why) h = h
 listing_line fatal.Memory h = tt
@@ -54,6 +70,46 @@ listing_line fatal.EnvRead h = absurd h
 listing_line (fatal.Plan fault) h = absurd h
 listing_line (fatal.Walk fault) h = absurd h
 listing_line fatal.NotYet h = absurd h
+
+-- what is shown of a listing that an answer ended is that it did
+unlisted_is : {T : Type 0} (Shows : T → Shown → Type 0) (listed : Result T ListingFault) (why : Cause) → IsShownBy Shows listed (Err (unlisted.Answer why)) → listed ≡ Err (unlisted.Answer why)
+unlisted_is {T} Shows (Ok listed) why h = absurd h
+unlisted_is {T} Shows (Err ends) why h = ap (λ (f : ListingFault). Err f) (sym h)
+
+-- it is an answer to the operation of the listing
+answer_ends : (endpoint : Endpoint) (keys : Keys) (at : Option Place) (recursive : Bool) (before after : List Event) (why : Cause) (talks : List Talk) (notes : List Note)
+    → ShowsListing endpoint keys at recursive before after (Err (unlisted.Answer why)) talks notes → IsCauseOf (listed_op at) why
+answer_ends endpoint keys None recursive before after why talks notes shows =
+    buckets_end shows.lists.asked why (subst (λ (r : Result (Reserved Entry) ListingFault). buckets.EndsAs shows.lists.asked r) (unlisted_is IsShownBuckets shows.listed why shows.shown) shows.lists.ends)
+answer_ends endpoint keys (Some (place.Object bucket key)) recursive before after why talks notes shows =
+    pages_end key shows.lists.asked why (subst (λ (r : Result Walk ListingFault). pages.EndsAs key shows.lists.asked r) (unlisted_is (IsShownWalk key recursive) shows.listed why shows.shown) shows.lists.ends)
+answer_ends endpoint keys (Some (place.File path)) recursive before after why talks notes shows = absurd shows
+
+memory_no_answer : (why : Cause) → fatal.Memory ≡ fatal.Answer why → ⊥
+memory_no_answer why e = cc
+
+refused_no_answer : (refused : BadListing) (why : Cause) → fatal.Listing refused ≡ fatal.Answer why → ⊥
+refused_no_answer refused why e = cc
+
+same_answer : (a b : Cause) → fatal.Answer a ≡ fatal.Answer b → a ≡ b
+same_answer a b e = cc
+
+answer_fault : (ends : ListingFault) (why : Cause) → fatal_for ends ≡ fatal.Answer why → ends ≡ unlisted.Answer why
+answer_fault (unlisted.Listing bad.Memory) why is = absurd (memory_no_answer why is)
+answer_fault (unlisted.Listing refused) why is = absurd (refused_no_answer refused why is)
+answer_fault (unlisted.Answer ends) why is = ap (λ (c : Cause). unlisted.Answer c) (same_answer ends why is)
+answer_fault unlisted.Memory why is = absurd (memory_no_answer why is)
+
+listing_end : (at : Option Place) (why : Fatal) → MayEndListing why → ((answer : Cause) → why ≡ fatal.Answer answer → IsCauseOf (listed_op at) answer) → IsListingEnd at why
+listing_end at (fatal.Listing refused) h of_op = h
+listing_end at (fatal.Answer answer) h of_op = of_op answer refl
+listing_end at fatal.Memory h of_op = tt
+listing_end at (fatal.Words fault) h of_op = absurd h
+listing_end at (fatal.Profile fault) h of_op = absurd h
+listing_end at fatal.EnvRead h of_op = absurd h
+listing_end at (fatal.Plan fault) h of_op = absurd h
+listing_end at (fatal.Walk fault) h of_op = absurd h
+listing_end at fatal.NotYet h of_op = absurd h
 
 -- ---- statuses
 
@@ -95,15 +151,21 @@ module _ (words : List (List ℕ)) (run : Run) (line : Result (Option Line) OutO
     pub lists_true : lists_in words ≡ true
     lists_true = lists words command begun.reads.is_command ∙ listing
 
-    own_line : (result : Result Shown ListingFault) → Gains before after (Asks result) → IsMade words result run line missed → HasLineOf words env before after run line missed
-    own_line (Ok shown) gained (has, texts, is) =
+    unseen : IsBegun words None command settings
+    unseen = record { reads = begun.reads; settled = tt; valid = begun.valid }
+
+    own_line : (result : Result Shown ListingFault) → Gains before after (Asks result) → OfSomeTalks (Asks result) → IsMade words result run line missed → HasLineOf words env before after run line missed
+    own_line (Ok shown) gained some (has, texts, is) =
         let own : Own = record { text = shown.text; missed = missed } in (
           own,
           inr (inr (inl (
             lists_true,
-            gains_as (Asks (Ok shown)) (IsRows words env own)
-                (λ talks notes shows. record { command = command; settings = settings; begun = begun; listing = listing; jobs = run.journal.items; shown = shown; shows = shows; text = refl; missed = is })
+            gains_as (Asks (Ok shown)) (IsRows words env run own)
+                (λ talks notes shows. record { command = command; settings = settings; begun = begun; listing = listing; shown = shown; shows = shows; text = refl; missed = is })
                 before after gained,
+            some_as (Asks (Ok shown)) (IsRows words None run own)
+                (λ talks notes shows. record { command = command; settings = settings; begun = unseen; listing = listing; shown = shown; shows = shows; text = refl; missed = is })
+                some,
           ))),
           record {
             texts = url_texts (mode_in words) words shown.text run.fatal run.plan.tasks.items run.outcomes.items run.warnings.items line has.fatal has.nothing.no_task has.nothing.no_outcome
@@ -112,7 +174,7 @@ module _ (words : List (List ℕ)) (run : Run) (line : Result (Option Line) OutO
           },
           refl,
         )
-    own_line (Err ends) gained (has, h) = (record { text = []; missed = missed }, inr (inr (inr (ap is_some has.fatal))), h, refl)
+    own_line (Err ends) gained some (has, h) = (record { text = []; missed = missed }, inr (inr (inr (ap is_some has.fatal))), h, refl)
 
     module _ (made : Lists words command settings before after run line missed) where
       pub listing_goes : Gains before after (IsListing words env run)
@@ -121,12 +183,23 @@ module _ (words : List (List ℕ)) (run : Run) (line : Result (Option Line) OutO
           before after made.gained
 
       pub listing_does : MakesListing words run
-      listing_does = record { command = command; reads = begun.reads; listing = listing; nothing = made_nothing made.result made.made }
+      listing_does = some_as (Asks made.result) (IsListing words None run)
+          (λ talks notes shows. record { command = command; settings = settings; begun = unseen; listing = listing; nothing = made_nothing made.result made.made; result = made.result; shows = shows; ends = made_ends made.result made.made })
+          made.some
 
       pub listing_line_is : HasLineOf words env before after run line missed
-      listing_line_is = own_line made.result made.gained made.made
+      listing_line_is = own_line made.result made.gained made.some made.made
 
-    pub listing_stops : (env_before env_after : ℕ) (limits : Limits) (was : Option SeenFiles) (faults_before faults_after : ℕ) (why : Option Fatal) → IfSome why IsListingEnd
-        → IfSome why (StopsFor words env env_before env_after limits was faults_before faults_after)
-    listing_stops env_before env_after limits was faults_before faults_after None h = tt
-    listing_stops env_before env_after limits was faults_before faults_after (Some why) h = inr (inr (inr (command, settings, begun, listing, h)))
+    -- an answer that ended it
+    answer_is : (result : Result Shown ListingFault) → OfSomeTalks (Asks result) → IsMade words result run line missed → (answer : Cause) → run.fatal ≡ Some (fatal.Answer answer) → IsCauseOf (listed_op command.from) answer
+    answer_is (Ok shown) some made answer is = absurd (none_is_some (fatal.Answer answer) (sym made.0.fatal ∙ is))
+    answer_is (Err ends) some made answer is =
+        answer_ends command.endpoint settings.keys command.from command.recursive [] run.journal.items answer some.0 some.1
+        (subst (λ (f : ListingFault). Asks (Err f) some.0 some.1) (answer_fault ends answer (some_is (fatal_for ends) (fatal.Answer answer) (sym made.0.fatal ∙ is))) some.2)
+
+    pub listing_stops : Lists words command settings before after run line missed → (env_before env_after : ℕ) (limits : Limits) (was : Option SeenFiles) (faults_before faults_after : ℕ) (why : Option Fatal)
+        → run.fatal ≡ why → IfSome why MayEndListing → IfSome why (StopsFor words env env_before env_after limits was faults_before faults_after)
+    listing_stops made env_before env_after limits was faults_before faults_after None same h = tt
+    listing_stops made env_before env_after limits was faults_before faults_after (Some why) same h =
+        let ends = listing_end command.from why h (λ answer is. answer_is made.result made.some made.made answer (same ∙ ap (λ (f : Fatal). Some f) is)) in
+        inr (inr (inr (command, settings, begun, listing, ends)))

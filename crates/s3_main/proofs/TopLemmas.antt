@@ -19,12 +19,14 @@ use Rattle.s3_main.specs.declared.run.Run.{Run}
 use Rattle.listing_commands.specs.Commands.{ShowsListing}
 use Rattle.listing_commands.specs.declared.show.Shown.{Shown}
 use Rattle.listings.specs.declared.fault.ListingFault.{ListingFault}
+use Rattle.listings.proofs.SomeLemmas.{some_as}
+use Rattle.run_promise.proofs.GainLemmas.{gains_as}
 use Rattle.s3_model.specs.declared.outcomes.Outcome.{Outcome}
 use Rattle.s3_model.specs.declared.tasks.Warning.{Warning}
 use Rattle.s3_main.specs.Begun.{lists_in, mode_in}
 use Rattle.s3_main.specs.Executed.{HasLineOf, HasStatusOf}
 use Rattle.s3_main.specs.Listings.{EndsListing, HasNoOutcome, IsListing}
-use Rattle.s3_main.specs.Own.{IsOwn, Own, nothing_own}
+use Rattle.s3_main.specs.Own.{IsOwn, IsRows, Own, nothing_own}
 use Rattle.s3_main.specs.Urls.{IsTaskless}
 use Rattle.s3_main.specs.Plans.{HasPlan, IsIdle, MayEnd, Wants, Works, path_of, put_ask}
 use Rattle.s3_main.specs.Runs.{EndsAsShown, EndsWith, GoesAs, IsNothingPlanned, IsPrinted, IsPrintedAs, IsUnasked, OnFirst, StopsFor, Undertakes, run_status, status_by}
@@ -194,7 +196,7 @@ module _ (work run : Run) (line : Result (Option Line) OutOfMemory) (r : IsRepor
 
     pub does : Undertakes words limits before after work → Undertakes words limits before after run
     does (inl n) = inl (nothing n)
-    does (inr (inr (inr l))) = inr (inr (inr (record { command = l.command; reads = l.reads; listing = l.listing; nothing = no_outcome l.nothing })))
+    does (inr (inr (inr l))) = inr (inr (inr (some_as (IsListing words None work) (IsListing words None run) (listed words None) l)))
     does (inr (inr (inl u))) = inr (inr (inl (record { command = u.command; reads = u.reads; presign = u.presign; taskless = taskless u.taskless })))
     does (inr (inl d)) = inr (inl (record {
       command = d.command;
@@ -241,10 +243,26 @@ module _ (work run : Run) (line : Result (Option Line) OutOfMemory) (r : IsRepor
       memory = h.memory;
     }
 
+    rows_on : (seen : Option SeenEnv) (own : Own) (talks : List Talk) (notes : List Note) → IsRows words seen work own talks notes → IsRows words seen run own talks notes
+    rows_on seen own talks notes h = record {
+      command = h.command;
+      settings = h.settings;
+      begun = h.begun;
+      listing = h.listing;
+      shown = h.shown;
+      shows = subst (λ (events : List Event). ShowsListing h.command.endpoint h.settings.keys h.command.from h.command.recursive [] events (Ok h.shown) talks notes) (sym (ap (λ j. j.items) r.journal)) h.shows;
+      text = h.text;
+      missed = h.missed;
+    }
+
     owns : (own : Own) → run.fatal ≡ work.fatal → IsOwn words env before after work own → IsOwn words env before after run own
     owns own same (inl nothing_shown) = inl nothing_shown
     owns own same (inr (inl url)) = inr (inl url)
-    owns own same (inr (inr (inl rows))) = inr (inr (inl rows))
+    owns own same (inr (inr (inl rows))) = inr (inr (inl (
+      rows.0,
+      gains_as (IsRows words env work own) (IsRows words env run own) (rows_on env own) before after rows.1,
+      some_as (IsRows words None work own) (IsRows words None run own) (rows_on None own) rows.2,
+    )))
     owns own same (inr (inr (inr stopped))) = inr (inr (inr (ap is_some same ∙ stopped)))
 
     -- nothing is shown of a run that ended early

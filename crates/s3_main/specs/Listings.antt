@@ -2,6 +2,7 @@
 use Rattle.std.specs.Prelude.{◌≡◌, ◌⊎◌, ℕ, Bool, true, List, [], Option, Some, None, Result, Ok, Err}
 use Rattle.listing_commands.specs.Commands.{ShowsListing}
 use Rattle.listing_commands.specs.declared.show.Shown.{Shown}
+use Rattle.listings.specs.Asked.{OfSomeTalks}
 use Rattle.listings.specs.declared.fault.ListingFault.{ListingFault}
 use Rattle.listings.specs.declared.fault.ListingFault.TheVariants as fault
 use Rattle.result_lines.specs.declared.tasks.Line.{Line}
@@ -70,5 +71,7 @@ pub record Lists (words : List (List ℕ)) (command : Command) (settings : Setti
     (run : Run) (line : Result (Option Line) OutOfMemory) (missed : Bool) : Type 0 where
   pub result : Result Shown ListingFault
   pub gained : Gains before after
+      (ShowsListing command.endpoint settings.keys command.from command.recursive [] run.journal.items result)
+  pub some : OfSomeTalks
       (ShowsListing command.endpoint settings.keys command.from command.recursive [] run.journal.items result)
   pub made : IsMade words result run line missed

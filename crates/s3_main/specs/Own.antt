@@ -1,8 +1,8 @@
 -- What a command is there to show: the URL of `presign`, the rows of `ls`.
-use Rattle.std.specs.Prelude.{◌≡◌, ◌⊎◌, ℕ, Bool, true, false, List, [], Option, Ok, is_some}
+use Rattle.std.specs.Prelude.{◌≡◌, ◌⊎◌, ℕ, Bool, true, false, List, [], Option, None, Ok, is_some}
 use Rattle.listing_commands.specs.Commands.{ShowsListing}
 use Rattle.listing_commands.specs.declared.show.Shown.{Shown}
-use Rattle.s3_model.specs.declared.outcomes.Event.{Event}
+use Rattle.listings.specs.Asked.{OfSomeTalks}
 use Rattle.s3_model.specs.declared.settings.Settings.{Settings}
 use Rattle.s3_model.specs.Talks.{Talk, Note, WireLog}
 use Rattle.s3_outside.specs.Env.{SeenEnv}
@@ -24,24 +24,25 @@ nothing_own = record { text = []; missed = false }
 abbrev pub only_text : List ℕ → Own
 only_text text = record { text = text; missed = false }
 
--- the rows of the listing that the command asks for, as the talks show it
-pub record IsRows (words : List (List ℕ)) (env : Option SeenEnv) (own : Own) (talks : List Talk) (notes : List Note)
-    : Type 0 where
+-- the rows of the listing that the command asks for, as the talks and the jobs show it
+pub record IsRows (words : List (List ℕ)) (env : Option SeenEnv) (run : Run) (own : Own) (talks : List Talk)
+    (notes : List Note) : Type 0 where
   pub command : Command
   pub settings : Settings
   pub begun : IsBegun words env command settings
   pub listing : is_listing command.verb ≡ true
-  pub jobs : List Event
   pub shown : Shown
-  pub shows : ShowsListing command.endpoint settings.keys command.from command.recursive [] jobs (Ok shown) talks notes
+  pub shows : ShowsListing command.endpoint settings.keys command.from command.recursive [] run.journal.items
+      (Ok shown) talks notes
   pub text : own.text ≡ shown.text
   pub missed : own.missed ≡ shown.missed
 
--- The URL, where the words ask for one; the rows, where they ask for a listing; else nothing. Of a run that ended early
--- nothing is shown.
+-- The URL, where the words ask for one; the rows, where they ask for a listing, and they are those of some talks also
+-- where the wire shows none; else nothing. Of a run that ended early nothing is shown.
 abbrev pub IsOwn : (words : List (List ℕ)) → Option SeenEnv → (before after : Option WireLog) → Run → Own → Type 0
 IsOwn words env before after run own =
     ((shows_url words ≡ false) × (lists_in words ≡ false) × (own ≡ nothing_own))
     ⊎ ((shows_url words ≡ true) × (own.missed ≡ false) × Gains before after (IsUrl words env own.text))
-    ⊎ ((lists_in words ≡ true) × Gains before after (IsRows words env own))
+    ⊎ ((lists_in words ≡ true) × Gains before after (IsRows words env run own)
+        × OfSomeTalks (IsRows words None run own))
     ⊎ (is_some run.fatal ≡ true)

@@ -8,6 +8,9 @@ use Rattle.s3_model.specs.declared.outcomes.Cause.{Cause}
 use Rattle.s3_model.specs.declared.outcomes.Cause.TheVariants as cause
 use Rattle.s3_model.specs.declared.outcomes.Outcome.{Outcome}
 use Rattle.s3_model.specs.declared.places.Endpoint.{Endpoint}
+use Rattle.s3_model.specs.declared.places.Place.{Place}
+use Rattle.s3_model.specs.declared.requests.Op.{Op}
+use Rattle.s3_model.specs.declared.requests.Op.TheVariants as op
 use Rattle.s3_model.specs.declared.settings.Limits.{Limits}
 use Rattle.s3_model.specs.declared.settings.Settings.{Settings}
 use Rattle.s3_model.specs.declared.tasks.Warning.{Warning}
@@ -20,6 +23,8 @@ use Rattle.s3_words.specs.declared.commands.Command.{Command}
 use Rattle.answer_classes.specs.Showing.{HasStatus, Shows}
 use Rattle.attempts.specs.Attempts.{text_of}
 use Rattle.list_walk.specs.Pages.{IsRefusedPage}
+use Rattle.listings.specs.Asked.{OfSomeTalks}
+use Rattle.listings.specs.Faults.{IsCauseOf}
 use Rattle.run_promise.specs.Dispatches.{Dispatched}
 use Rattle.run_promise.specs.Planning.{PlansFor}
 use Rattle.upload_plans.specs.Commands.{is_listing, is_presign, source_path}
@@ -34,7 +39,7 @@ use Rattle.s3_main.specs.Begun.{IsBegun, IsRead, StopsInSettings, StopsInWords, 
 use Rattle.s3_main.specs.Plans.{HasPlan, IsFate, Wants, Works}
 use Rattle.s3_main.specs.Printed.{Prints, PrintsFront}
 use Rattle.s3_main.specs.Texts.{err_text, out_text}
-use Rattle.s3_main.specs.Listings.{HasNoOutcome, IsListing}
+use Rattle.s3_main.specs.Listings.{IsListing}
 use Rattle.s3_main.specs.Own.{IsOwn, Own}
 use Rattle.s3_main.specs.Urls.{IsPresigned, IsTaskless}
 
@@ -116,17 +121,30 @@ StopsInPlan words env limits files before after why =
     × (is_presign command.verb ≡ false) × (is_listing command.verb ≡ false)
     × StopsPlanning command settings limits files before after why
 
--- a listing that was refused or that nobody can know; what the talks show of it is a part of how far the run went
-abbrev pub IsListingEnd : Fatal → Type 0
-IsListingEnd (fatal.Listing fault) = IsListingFault fault
-IsListingEnd (fatal.Answer why) = IsShown why
-IsListingEnd fatal.Memory = Unit {0}
-IsListingEnd why = ⊥
+-- what may end a listing has a line
+abbrev pub MayEndListing : Fatal → Type 0
+MayEndListing (fatal.Listing fault) = IsListingFault fault
+MayEndListing (fatal.Answer why) = IsShown why
+MayEndListing fatal.Memory = Unit {0}
+MayEndListing why = ⊥
+
+-- what a listing of this path asks, or one without a path
+abbrev pub listed_op : Option Place → Op
+listed_op None = op.Buckets
+listed_op (Some at) = op.List
+
+-- A page was refused; or a request of the operation was, or nobody can know what it came to. What the talks show of it
+-- is a part of how far the run went.
+abbrev pub IsListingEnd : Option Place → Fatal → Type 0
+IsListingEnd at (fatal.Listing fault) = IsListingFault fault
+IsListingEnd at (fatal.Answer why) = IsCauseOf (listed_op at) why
+IsListingEnd at fatal.Memory = Unit {0}
+IsListingEnd at why = ⊥
 
 abbrev pub StopsInListing : (words : List (List ℕ)) → Option SeenEnv → Fatal → Type 0
 StopsInListing words env why =
     (command : Command) × (settings : Settings) × IsBegun words env command settings
-    × (is_listing command.verb ≡ true) × IsListingEnd why
+    × (is_listing command.verb ≡ true) × IsListingEnd command.from why
 
 -- in its words, in its settings, in its plan, or in its listing
 abbrev pub StopsFor : (words : List (List ℕ)) → Option SeenEnv → (env_before env_after : ℕ) → Limits
@@ -201,12 +219,9 @@ pub record MakesUrl (words : List (List ℕ)) (run : Run) : Type 0 where
   pub presign : is_presign command.verb ≡ true
   pub taskless : IsTaskless run
 
--- a listing is asked for, and there is no task
-pub record MakesListing (words : List (List ℕ)) (run : Run) : Type 0 where
-  pub command : Command
-  pub reads : IsRead words command
-  pub listing : is_listing command.verb ≡ true
-  pub nothing : HasNoOutcome run
+-- a listing that some talks show, also where the wire shows none, and there is no task
+abbrev pub MakesListing : (words : List (List ℕ)) → Run → Type 0
+MakesListing words run = OfSomeTalks (IsListing words None run)
 
 abbrev pub Undertakes : (words : List (List ℕ)) → Limits → (faults_before faults_after : ℕ) → Run → Type 0
 Undertakes words limits before after run =

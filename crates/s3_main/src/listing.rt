@@ -2,11 +2,12 @@
 
 ghost use Rattle.std.specs.Prelude.{◌≡◌, ◌≤◌, [], true, None, Some, IfErr, IfSome, map, string_bytes};
 ghost use Rattle.listing_commands.specs.Commands.{ShowsListing};
+ghost use Rattle.listings.specs.Asked.{OfSomeTalks};
 ghost use Rattle.listings.specs.Faults.{IsNoCancel};
 ghost use Rattle.upload_plans.specs.Commands.{IsListed};
 ghost use Rattle.run_promise.specs.Gains.{Gains};
 ghost use Rattle.s3_main.specs.Listings.{HasListed, IsMade, Lists, fatal_for};
-ghost use Rattle.s3_main.specs.Runs.{IsListingEnd};
+ghost use Rattle.s3_main.specs.Runs.{MayEndListing};
 ghost use Rattle.s3_main.specs.Texts.{HasLine, IsLineOf};
 
 use crate::execution::{Executed, Worked};
@@ -26,7 +27,7 @@ use std::alloc::Global;
 fn fatal_for(fault: ListingFault) -> Fatal
     requires { IsNoCancel fault }
     ensures is { result ≡ fatal_for fault }
-    ensures end { IsListingEnd result }
+    ensures end { MayEndListing result }
 {
     match fault {
         ListingFault::Listing(BadListing::Memory) => Fatal::Memory,
@@ -80,7 +81,7 @@ fn end_listing(
 ) -> Worked
     requires { IfErr listed IsNoCancel }
     ensures made { IsMade (map string_bytes words.now) listed result.executed.run result.executed.line result.missed }
-    ensures stops { IfSome result.executed.run.fatal IsListingEnd }
+    ensures stops { IfSome result.executed.run.fatal MayEndListing }
     ensures lists { result.lists ≡ true }
     ensures journal { result.executed.run.journal ≡ journal }
 {
@@ -116,6 +117,8 @@ fn ask<W: Wire>(
     requires { IsListed at.now }
     ensures shown { Gains (W.seen wire.old) (W.seen wire.new) (ShowsListing service.endpoint service.keys at.now
         recursive journal.old.items journal.new.items result) }
+    ensures some { OfSomeTalks (ShowsListing service.endpoint service.keys at.now recursive journal.old.items
+        journal.new.items result) }
     ensures no_cancel { IfErr result IsNoCancel }
     ensures later { W.faults wire.old ≤ W.faults wire.new }
 {
@@ -135,7 +138,7 @@ pub(crate) fn execute_listing<W: Wire>(
     requires { IsListed start.command.from }
     ensures listed { Lists (map string_bytes words.now) start.command start.settings (W.seen wire.old) (W.seen wire.new)
         result.executed.run result.executed.line result.missed }
-    ensures stops { IfSome result.executed.run.fatal IsListingEnd }
+    ensures stops { IfSome result.executed.run.fatal MayEndListing }
     ensures lists { result.lists ≡ true }
     ensures later { W.faults wire.old ≤ W.faults wire.new }
 {

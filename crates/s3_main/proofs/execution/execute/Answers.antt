@@ -1,4 +1,4 @@
-use Rattle.std.proofs.Common.{◌∙◌, Global, map, string_bytes, None, ap, is_some, subst, sym, inl, inr}
+use Rattle.std.proofs.Common.{◌∙◌, Global, map, string_bytes, None, refl, ap, is_some, subst, sym, inl, inr}
 use Rattle.s3_model.specs.declared.settings.Limits.{Limits}
 use Rattle.run_promise.specs.Gains.{Gains}
 use Rattle.run_promise.proofs.GainLemmas.{gains_as}
@@ -59,7 +59,7 @@ pub returns-in-Ok-2-clause-stops : goal.returns-in-Ok-2-clause-stops
 returns-in-Ok-2-clause-stops g c =
     let words = map (string_bytes {Z = Global}) c.args.words.now in
     listing_stops words c.execute_listing.result.executed.run c.execute_listing.result.executed.line c.execute_listing.result.missed _ c.in-Ok.start.command c.in-Ok.start.settings c.in-Ok.ensures.begun
-    (sym c.is_listing.ensures ∙ c.if-is_listing.true) None None _ _ _ _ _ _ _ c.execute_listing.ensures.stops
+    (sym c.is_listing.ensures ∙ c.if-is_listing.true) _ _ c.execute_listing.ensures.listed _ _ _ _ _ _ _ refl c.execute_listing.ensures.stops
 
 pub returns-in-Ok-2-clause-does : goal.returns-in-Ok-2-clause-does
 returns-in-Ok-2-clause-does g c =
