@@ -1,6 +1,5 @@
 -- From the words and the settings to what the run shows.
-use Rattle.std.proofs.Common.{Err, Result, refl, ◌≡◌, ◌∙◌, ◌⊎◌, ℕ, false, List, [], ◌∷◌, Option, Some, None, IfSome, sym, ap, subst, inl, inr}
-use Rattle.s3_model.specs.declared.places.Place.{Place}
+use Rattle.std.proofs.Common.{Err, Result, refl, ◌≡◌, ◌⊎◌, ℕ, false, List, [], Option, Some, None, IfSome, ap, subst, inl, inr}
 use Rattle.s3_model.specs.declared.settings.Limits.{Limits}
 use Rattle.s3_model.specs.declared.settings.Settings.{Settings}
 use Rattle.env_settings.specs.Calls.{AnswersAs}
@@ -12,7 +11,6 @@ use Rattle.s3_model.specs.Talks.{Talk, Note, WireLog}
 use Rattle.s3_outside.specs.Env.{SeenEnv}
 use Rattle.s3_outside.specs.Files.{SeenFiles}
 use Rattle.s3_words.specs.declared.commands.Command.{Command}
-use Rattle.s3_words.specs.declared.commands.Verb.TheVariants as verb
 use Rattle.s3_words.specs.Commands.{IsCommand}
 use Rattle.upload_plans.specs.Commands.{is_listing, is_presign, path_at, source_path}
 use Rattle.run_promise.specs.Gains.{Gains}
@@ -21,7 +19,7 @@ use Rattle.run_promise.proofs.GainLemmas.{gains_as, gains_nothing}
 use Rattle.s3_main.specs.declared.run.Fatal.{Fatal}
 use Rattle.s3_main.specs.declared.run.Fatal.TheVariants as fatal
 use Rattle.s3_main.specs.declared.run.Run.{Run}
-use Rattle.s3_main.specs.Begun.{IsBegun, RefusedFor, StopsInSettings, StopsInWords, mode_in, path_in}
+use Rattle.s3_main.specs.Begun.{IsBegun, RefusedFor, StopsInSettings, StopsInWords, path_in}
 use Rattle.s3_main.specs.Executed.{DoesOn, GoesOn}
 use Rattle.s3_main.specs.Plans.{HasNoTask}
 use Rattle.s3_main.specs.Runs.{GoesAs, IsUnasked, StopsFor, StopsPlanning, Undertakes}

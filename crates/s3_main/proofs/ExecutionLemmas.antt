@@ -1,5 +1,5 @@
 -- From the fate of a command's file to what the run shows.
-use Rattle.std.proofs.Common.{◌≡◌, ◌≢◌, ◌≤◌, ◌∙◌, ◌⊎◌, ℕ, true, List, [], ◌∷◌, Option, Some, None, IfSome, refl, sym, ap, subst, inl, inr, arith}
+use Rattle.std.proofs.Common.{◌≡◌, ◌≤◌, ℕ, List, [], Option, Some, None, IfSome, refl, sym, subst, inl, inr, arith}
 use Rattle.result_lines.specs.Tasks.{HasSource}
 use Rattle.s3_model.specs.declared.outcomes.Cause.{Cause}
 use Rattle.s3_model.specs.declared.outcomes.Cause.TheVariants as cause
@@ -7,7 +7,6 @@ use Rattle.s3_model.specs.declared.outcomes.FileCall.TheVariants as call
 use Rattle.s3_model.specs.declared.outcomes.Event.{Event}
 use Rattle.s3_model.specs.declared.outcomes.Outcome.{Outcome}
 use Rattle.s3_model.specs.declared.outcomes.Outcome.TheVariants as outcome
-use Rattle.s3_model.specs.declared.faults.PlanFault.{PlanFault}
 use Rattle.s3_model.specs.declared.faults.WalkFault.TheVariants as walk
 use Rattle.s3_model.specs.declared.places.Endpoint.{Endpoint}
 use Rattle.s3_model.specs.declared.settings.Keys.{Keys}
@@ -19,7 +18,6 @@ use Rattle.s3_model.specs.Talks.{Talk, Note, WireLog}
 use Rattle.s3_outside.specs.Files.{SeenFiles}
 use Rattle.s3_words.specs.declared.commands.Command.{Command}
 use Rattle.upload_plans.specs.Commands.{source_path}
-use Rattle.upload_plans.specs.Plans.{fate_of, planned_task}
 use Rattle.upload_plans.specs.declared.plan.Fate.{Fate}
 use Rattle.upload_plans.specs.declared.plan.Fate.TheVariants as fate
 use Rattle.upload_plans.proofs.FateLemmas.{large_of, task_of}
@@ -30,8 +28,8 @@ use Rattle.small_uploads.specs.Uploading.{Uploads}
 use Rattle.s3_main.specs.declared.run.Fatal.{Fatal}
 use Rattle.s3_main.specs.declared.run.Fatal.TheVariants as fatal
 use Rattle.s3_main.specs.declared.run.Run.{Run}
-use Rattle.s3_main.specs.Executed.{DoesOn, EndsAs, EndsForMemory, GoesOn, HasNoUpload, IsUnseen, MayUpload, MayWant, fatal_of}
-use Rattle.s3_main.specs.Plans.{HasNoTask, HasOneOutcome, HasPlan, HasUploaded, IsFate, IsUpload, MayEnd, path_of, put_ask}
+use Rattle.s3_main.specs.Executed.{DoesOn, EndsAs, EndsForMemory, GoesOn, HasNoUpload, IsUnseen, MayUpload, MayWant}
+use Rattle.s3_main.specs.Plans.{HasNoTask, IsFate, IsUpload, MayEnd, path_of, put_ask}
 use Rattle.s3_main.specs.Runs.{IsNothingPlanned, IsUnasked, IsUnplanned, StopsPlanning}
 use Rattle.s3_main.specs.Texts.{HasLine}
 

@@ -1,5 +1,5 @@
 -- A run that lists: what it shows of its requests, and how it ends.
-use Rattle.std.proofs.Common.{◌≡◌, ◌∙◌, ◌⊎◌, ℕ, Bool, true, false, List, [], Option, Some, None, Result, Ok, Err, refl, sym, ap, subst, inl, inr, is_some}
+use Rattle.std.proofs.Common.{◌≡◌, ◌∙◌, ℕ, Bool, true, List, [], Option, Some, None, Result, Ok, Err, refl, sym, ap, subst, inl, inr, is_some}
 use Rattle.std.specs.Prelude.{IfSome}
 use Rattle.shared_lemmas.proofs.Clashes.{none_is_some, some_is}
 use Rattle.list_walk.specs.Pages.{Walk}
@@ -45,7 +45,7 @@ use Rattle.s3_main.specs.Listings.{EndsListing, HasNoOutcome, IsListing, IsMade,
 use Rattle.s3_main.specs.Own.{IsRows, Own}
 use Rattle.s3_main.specs.Plans.{MayEnd}
 use Rattle.s3_main.specs.Runs.{IsListingEnd, IsUnasked, MakesListing, MayEndListing, StopsFor, listed_op}
-use Rattle.s3_main.specs.Texts.{HasLine, HasTexts, IsLineOf}
+use Rattle.s3_main.specs.Texts.{HasLine}
 use Rattle.s3_main.proofs.UrlLemmas.{lists, no_memory, url_texts}
 
 -- ---- ends

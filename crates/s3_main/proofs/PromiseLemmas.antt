@@ -1,6 +1,5 @@
 -- A run keeps its promise: it planned an upload and carried it out, or it has no task.
-use Rattle.std.proofs.Common.{◌≡◌, ◌≢◌, ◌∙◌, ◌<◌, ◌≤◌, ◌^◌, ℕ, Bool, true, false, List, [], ◌∷◌, Option, Some, None, Result, Ok, Err, if◌then◌else◌, refl, sym, ap, subst, inl, inr, arith, filter_map}
-use Rattle.result_lines.specs.declared.tasks.Line.{Line}
+use Rattle.std.proofs.Common.{◌≡◌, ◌∙◌, ◌≤◌, ◌^◌, ℕ, Bool, true, false, List, [], ◌∷◌, Option, Some, None, Result, Ok, Err, if◌then◌else◌, refl, sym, ap, subst, inl, inr, arith, filter_map}
 use Rattle.run_promise.specs.Settled.{left_by, untimed_by}
 use Rattle.s3_model.specs.declared.outcomes.Event.{Event}
 use Rattle.s3_model.specs.declared.outcomes.Outcome.{Outcome}
@@ -42,12 +41,11 @@ use Rattle.s3_main.specs.Urls.{IsPresigned}
 use Rattle.s3_model.specs.Validity.{IsValidConfig, IsValidLimits, IsWithin}
 use Rattle.s3_outside.specs.Env.{SeenEnv}
 use Rattle.s3_outside.specs.Files.{SeenFiles, shape_at}
-use Rattle.s3_outside.specs.declared.files.Shape.{Shape}
 use Rattle.s3_outside.specs.declared.files.Shape.TheVariants as shape
 use Rattle.s3_words.specs.declared.commands.Command.{Command}
 use Rattle.attempts.specs.Attempts.{text_of}
 use Rattle.small_uploads.specs.Uploading.{Uploads}
-use Rattle.upload_plans.specs.Commands.{bucket_of, key_of, path_at, source_path}
+use Rattle.upload_plans.specs.Commands.{bucket_of, key_of, source_path}
 use Rattle.upload_plans.specs.Plans.{content_for, planned_key, planned_task}
 use Rattle.upload_plans.specs.declared.plan.Fate.{Fate}
 use Rattle.upload_plans.specs.declared.plan.Fate.TheVariants as fate

@@ -1,5 +1,5 @@
 -- The first wire of a run, and a run that was reported.
-use Rattle.std.proofs.Common.{Bool, true, false, ◌≡◌, ◌≢◌, ◌≤◌, ◌∙◌, ◌⊎◌, ℕ, List, [], ◌∷◌, Option, Some, None, Result, Ok, Err, IfSome, OnErr, refl, sym, ap, subst, inl, inr, arith, length, get_or, slice_set, is_some}
+use Rattle.std.proofs.Common.{Bool, false, ◌≡◌, ◌≤◌, ◌∙◌, ℕ, List, [], ◌∷◌, Option, Some, None, Result, Ok, Err, IfSome, OnErr, refl, sym, ap, subst, inl, inr, arith, length, get_or, slice_set, is_some}
 use Rattle.result_lines.specs.declared.tasks.Line.{Line}
 use Rattle.s3_model.specs.declared.list.OutOfMemory.{OutOfMemory}
 use Rattle.s3_model.specs.declared.outcomes.Event.{Event}
@@ -30,7 +30,7 @@ use Rattle.s3_main.specs.Own.{IsOwn, IsRows, Own, nothing_own}
 use Rattle.s3_main.specs.Urls.{IsTaskless}
 use Rattle.s3_main.specs.Plans.{HasPlan, IsIdle, MayEnd, Wants, Works, path_of, put_ask}
 use Rattle.s3_main.specs.Runs.{EndsAsShown, EndsWith, GoesAs, IsNothingPlanned, IsPrinted, IsPrintedAs, IsUnasked, OnFirst, StopsFor, Undertakes, run_status, status_by}
-use Rattle.s3_main.specs.Texts.{IsLineOf, err_by, err_of, err_text, fatal_after, out_by, out_of, out_text}
+use Rattle.s3_main.specs.Texts.{err_by, err_of, err_text, fatal_after, out_by, out_of, out_text}
 
 -- what holds of the first of a list before and after it was written
 pub on_first : {W : Type 0} (xs : List W) (before after : W) (P : W → W → Type 0) → 1 ≤ length xs → before ≡ get_or xs 0 before → P before after → OnFirst xs (slice_set xs 0 after) P

@@ -1,5 +1,5 @@
 -- How long a URL lasts, the moment that it begins at, and the run that makes it.
-use Rattle.std.proofs.Common.{◌≡◌, ◌≤◌, ◌<◌, ◌∙◌, ◌⊎◌, ◌&&◌, ◌++◌, flat_map, ℕ, Bool, true, false, List, [], ◌∷◌, Option, Some, None, Result, Ok, Err, refl, sym, ap, subst, inl, inr, arith, append-nil, is_some, if◌then◌else◌}
+use Rattle.std.proofs.Common.{◌≡◌, ◌≤◌, ◌∙◌, ◌&&◌, ◌++◌, flat_map, ℕ, Bool, true, false, List, [], ◌∷◌, Option, Some, None, Result, Ok, Err, refl, sym, ap, subst, inl, inr, arith, append-nil, is_some, if◌then◌else◌}
 use Rattle.std.specs.Prelude.{nat_lt, IfSome}
 use Rattle.std.specs.Option.{unwrap_or}
 use Rattle.std.specs.Str.{all_ascii_digits}
@@ -7,16 +7,15 @@ use Rattle.std.specs.Str.Parse.{digits_value}
 use Rattle.result_lines.specs.declared.tasks.Line.{Line}
 use Rattle.s3_model.specs.declared.list.OutOfMemory.{OutOfMemory}
 use Rattle.s3_model.specs.declared.settings.Settings.{Settings}
-use Rattle.s3_model.specs.Talks.{Talk, Note, Moment, WireLog}
+use Rattle.s3_model.specs.Talks.{Moment, WireLog}
 use Rattle.s3_outside.specs.Env.{SeenEnv}
 use Rattle.s3_outside.specs.Seen.{IsSeenAfter}
 use Rattle.s3_outside.specs.Wire.{noted}
 use Rattle.s3_words.specs.declared.commands.Command.{Command}
 use Rattle.s3_words.specs.declared.commands.Verb.{Verb}
-use Rattle.s3_words.specs.Commands.{IsCommand, arguments_of, expires_of, verb_of}
+use Rattle.s3_words.specs.Commands.{IsCommand, arguments_of, expires_of}
 use Rattle.s3_words.specs.declared.options.OptionName.TheVariants.{ExpiresIn}
 use Rattle.s3_words.specs.Given.{value_of}
-use Rattle.s3_words.specs.Values.{seconds}
 use Rattle.upload_plans.specs.Commands.{is_listing, is_presign}
 use Rattle.run_promise.specs.Gains.{Gains}
 use Rattle.run_promise.proofs.GainLemmas.{gains_as, gains_step}

@@ -1,6 +1,5 @@
 -- How a run begins: its words are read, and then its settings.
-use Rattle.std.specs.Prelude.{◌≡◌, ◌⊎◌, ℕ, Bool, true, false, List, [], Option, Some, None, IfSome, if◌then◌else◌}
-use Rattle.s3_model.specs.declared.faults.WordFault.TheVariants as word_fault_of
+use Rattle.std.specs.Prelude.{◌≡◌, ℕ, Bool, true, false, List, [], Option, Some, None, IfSome, if◌then◌else◌}
 use Rattle.s3_model.specs.declared.settings.Settings.{Settings}
 use Rattle.s3_model.specs.declared.tasks.Mode.{Mode}
 use Rattle.s3_model.specs.Counts.{Rose}

@@ -44,5 +44,5 @@ IsOwn words env before after run own =
     ((shows_url words ≡ false) × (lists_in words ≡ false) × (own ≡ nothing_own))
     ⊎ ((shows_url words ≡ true) × (own.missed ≡ false) × Gains before after (IsUrl words env own.text))
     ⊎ ((lists_in words ≡ true) × Gains before after (IsRows words env run own)
-        × OfSomeTalks (IsRows words None run own))
+    × OfSomeTalks (IsRows words None run own))
     ⊎ (is_some run.fatal ≡ true)

@@ -6,7 +6,6 @@ use Rattle.s3_model.specs.Talks.{Talk, Note, Moment}
 use Rattle.s3_outside.specs.Env.{SeenEnv}
 use Rattle.s3_words.specs.declared.commands.Command.{Command}
 use Rattle.upload_plans.specs.Commands.{bucket_at, is_presign, key_at}
-use Rattle.run_promise.specs.Gains.{Gains}
 use Rattle.s3_main.specs.Begun.{IsBegun}
 use Rattle.s3_main.specs.Plans.{MayEnd}
 use Rattle.s3_main.specs.declared.run.Run.{Run}

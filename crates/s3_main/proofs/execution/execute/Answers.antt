@@ -1,4 +1,4 @@
-use Rattle.std.proofs.Common.{◌∙◌, Global, map, string_bytes, None, refl, ap, is_some, subst, sym, inl, inr}
+use Rattle.std.proofs.Common.{◌∙◌, Global, map, string_bytes, refl, ap, is_some, subst, sym, inl, inr}
 use Rattle.s3_model.specs.declared.settings.Limits.{Limits}
 use Rattle.run_promise.specs.Gains.{Gains}
 use Rattle.run_promise.proofs.GainLemmas.{gains_as}
@@ -6,7 +6,7 @@ use Rattle.s3_main.specs.Listings.{IsListing}
 use Rattle.s3_main.specs.Runs.{GoesAs}
 use Rattle.s3_main.specs.Urls.{IsPresigned}
 use Rattle.s3_main.proofs.BeginLemmas as lemma
-use Rattle.s3_main.proofs.ListingLemmas.{listing_does, listing_goes, listing_line_is, listing_stops, lists_true, same_status, unasked_status}
+use Rattle.s3_main.proofs.ListingLemmas.{listing_does, listing_goes, listing_line_is, listing_stops, same_status}
 use Rattle.s3_main.proofs.UrlLemmas.{copy_line, lists, presign_is_no_listing, stopped_line, url_does, url_goes, url_line_is}
 use Rattle.s3_main.proofs.execution.execute.Goals as goal
 

@@ -1,4 +1,4 @@
-use Rattle.std.proofs.Common.{[], sym, subst}
+use Rattle.std.proofs.Common.{[], subst}
 use Rattle.listing_commands.specs.Commands.{ShowsListing}
 use Rattle.listing_commands.proofs.ShowLemmas.{none_shown}
 use Rattle.listings.specs.Asked.{OfSomeTalks}

@@ -1,4 +1,4 @@
-use Rattle.std.proofs.Common.{None, Global, map, string_bytes, arith, subst}
+use Rattle.std.proofs.Common.{None, Global, map, string_bytes, arith}
 use Rattle.s3_main.proofs.PromiseLemmas.{all_true}
 use Rattle.s3_main.proofs.TopLemmas as lemma
 use Rattle.run_promise.proofs.GainLemmas.{gains_as}
