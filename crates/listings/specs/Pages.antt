@@ -63,8 +63,8 @@ AreTaken prefix gathered [] = Unit {0}
 AreTaken prefix gathered (page ∷ pages) =
     (refusal_of prefix gathered page ≡ None) × AreTaken prefix (gathered_with gathered page) pages
 
--- All pages were taken, and none is behind the last; or the last was refused; or the last request was answered without a
--- success, or had no answer.
+-- All pages were taken, and none is behind the last; or the last was refused; or the last request was answered without
+-- a success, or had no answer.
 abbrev pub EndsAs : (prefix : List ℕ) → List Asked → Result Walk ListingFault → Type 0
 EndsAs prefix asked (Ok walk) =
     (pages : List Listed) × (last : Listed)
@@ -77,7 +77,8 @@ EndsAs prefix asked (Err (fault.Listing bad)) =
 EndsAs prefix asked (Err (fault.Answer cause)) =
     (before : List Asked) × (last : Asked) × (attempt : Attempt) × (shown : Class) × (body : List ℕ)
     × (asked ≡ before ++ last ∷ []) × (last.attempt ≡ Some attempt)
-    × Shows last.asked most_body attempt.talk shown body × IsFailed shown × (fault_of op.List shown ≡ fault.Answer cause)
+    × Shows last.asked most_body attempt.talk shown body × IsFailed shown
+    × (fault_of op.List shown ≡ fault.Answer cause)
 EndsAs prefix asked (Err fault.Memory) = Unit {0}
 
 -- The requests were given and attempted one after the other, they are those that the listing needs, and the result is
