@@ -14,9 +14,14 @@ use std::sync::Arc;
 use std::test::*;
 
 const OK: &str = "HTTP/1.1 200 OK\r\ncontent-length: 0\r\n\r\n";
+
 const LOST: &str = "HTTP/1.1 2";
-const BUSY: &str = "HTTP/1.1 503 Slow Down\r\ncontent-length: 72\r\n\r\n<Error><Code>SlowDown</Code><Message>Reduce your rate.</Message></Error>";
-const DENIED: &str = "HTTP/1.1 403 Forbidden\r\ncontent-length: 72\r\n\r\n<Error><Code>AccessDenied</Code><Message>Access Denied</Message></Error>";
+
+const BUSY: &str =
+    "HTTP/1.1 503 Slow Down\r\ncontent-length: 72\r\n\r\n<Error><Code>SlowDown</Code><Message>Reduce your rate.</Message></Error>";
+
+const DENIED: &str =
+    "HTTP/1.1 403 Forbidden\r\ncontent-length: 72\r\n\r\n<Error><Code>AccessDenied</Code><Message>Access Denied</Message></Error>";
 
 /// What is expected of a job's ending.
 #[derive(Clone, Copy)]
