@@ -5,7 +5,7 @@ pub(crate) const VERSION: &str = "s3 0.1.0\n";
 
 /// The page that `--help` prints.
 pub(crate) const HELP: &str = "\
-usage: s3 COMMAND PATH.. --endpoint-url URL [OPTION..]
+usage: s3 COMMAND [PATH..] --endpoint-url URL [OPTION..]
 
 The `s3` commands of the AWS CLI, over plain HTTP.
 
@@ -23,8 +23,9 @@ commands:
   presign  prints a URL by which an object can be fetched
            s3 presign s3://bucket/notes.txt --endpoint-url http://localhost:9000
 
-In this version `cp` copies one file to an object, and `ls` and `presign` are done; what
-is not built yet ends with `s3: not built yet` and status 252.
+In this version `cp` copies one file to an object, where it is below the settings'
+multipart_threshold, and `ls` and `presign` are done; what is not built yet ends with
+`s3: not built yet` and status 252.
 
 options:
   --endpoint-url URL       http://HOST or http://HOST:PORT; always wanted
@@ -43,7 +44,7 @@ options:
   --content-type TYPE      cp, mv, sync: the content type of uploads
   --no-guess-mime-type     cp, mv, sync: looks up no content type
   --no-progress            cp, mv, sync: changes nothing
-  --expires-in SECONDS     presign: 1 to 604800, or else 3600
+  --expires-in SECONDS     presign: 1 to 604800; without it 3600
 
 keys and region:
   The keys are AWS_ACCESS_KEY_ID and AWS_SECRET_ACCESS_KEY, with AWS_SESSION_TOKEN if
@@ -54,12 +55,12 @@ keys and region:
 
 status:
     0  done
-    1  something failed, or nobody can know whether it was done; `ls` found nothing
+    1  something failed, or nobody can know whether it was done; `ls` found no such key
     2  something was skipped with a warning
    70  out of memory
    74  an output failed
   252  the words are not understood, or not built yet
-  253  the keys, the region or a settings file are missing or not understood
+  253  keys, region or profile are missing, or a settings file was not understood or read
   254  `ls`: the service refused a request
   255  `ls`: the answer was lost, or a page was refused
 
