@@ -1,2 +1,3 @@
 pub mod ContentTypes
+pub mod Lending
 pub mod Rows

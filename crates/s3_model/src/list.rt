@@ -6,12 +6,24 @@ use crate::outcomes::{Event, Outcome};
 use crate::places::Entry;
 use crate::tasks::{Task, Warning};
 use crate::text::Text;
-use std::alloc::Global;
+use std::alloc::{AllocError, AllocFailed, Global};
 use std::marker::Model;
 
 /// A call found no memory.
 #[derive(Debug, Clone, Copy, PartialEq, Eq)]
 pub struct OutOfMemory;
+
+impl From<AllocError> for OutOfMemory {
+    fn from(_: AllocError) -> OutOfMemory {
+        OutOfMemory
+    }
+}
+
+impl<T: Drop> From<AllocFailed<T>> for OutOfMemory {
+    fn from(_: AllocFailed<T>) -> OutOfMemory {
+        OutOfMemory
+    }
+}
 
 /// A list with room that is reserved first and then pushed into without memory.
 ///
@@ -92,13 +104,9 @@ impl<T: Drop> List<T> {
         ensures spare { OnOk result (n ≤ self.new.spare) }
         ensures kept { OnErr result (self.new.spare ≡ self.old.spare) }
     {
-        match self.inner.reserve(n) {
-            Ok(()) => {
-                self.spare = self.spare.max(n);
-                Ok(())
-            }
-            Err(_) => Err(OutOfMemory),
-        }
+        self.inner.reserve(n)?;
+        self.spare = self.spare.max(n);
+        Ok(())
     }
 
     /// Adds an item at the end, without memory.

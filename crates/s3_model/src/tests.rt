@@ -63,6 +63,11 @@ fn bytes_keep_their_room(rt: HostRuntime) -> Result<(), Fail> {
     assert_eq!(rt; bytes.as_slice(), b"abcd".as_slice());
     bytes.clear();
     assert_eq!(rt; bytes.as_slice(), b"".as_slice());
+    bytes.add(b"x");
+    bytes.grow(3);
+    bytes.as_mut_slice().copy_from_slice(b"wxyz");
+    bytes.truncate(3);
+    assert_eq!(rt; bytes.as_slice(), b"wxy".as_slice());
     assert_eq!(rt; bytes.room(), 4);
     Ok(())
 }

@@ -34,23 +34,17 @@ impl Text {
     pub fn of(alloc: Global, s: &str) -> Result<Text, OutOfMemory>
         ensures { IfOk result (λ text. text ≡ s.now) }
     {
-        match String::from_str(alloc, s) {
-            Ok(inner) => Ok(Text { inner }),
-            Err(_) => Err(OutOfMemory),
-        }
+        let inner = String::from_str(alloc, s)?;
+        Ok(Text { inner })
     }
 
     /// The pieces one after another, in one text of just that size.
     pub fn joined(alloc: Global, pieces: &[&str]) -> Result<Text, OutOfMemory>
         ensures { IfOk result (λ text. text ≡ flat_map (λ piece. piece.now) pieces.now) }
     {
-        let Ok(mut inner) = String::with_capacity(alloc, size_of_all(pieces)) else {
-            return Err(OutOfMemory);
-        };
+        let mut inner = String::with_capacity(alloc, size_of_all(pieces))?;
         for piece in pieces {
-            if inner.push_str(piece).is_err() {
-                return Err(OutOfMemory);
-            }
+            inner.push_str(piece)?;
         }
         Ok(Text { inner })
     }
@@ -66,10 +60,8 @@ impl Text {
     pub fn copy(&self) -> Result<Text, OutOfMemory>
         ensures { IfOk result (λ text. text ≡ self.now) }
     {
-        match self.inner.clone() {
-            Ok(inner) => Ok(Text { inner }),
-            Err(_) => Err(OutOfMemory),
-        }
+        let inner = self.inner.clone()?;
+        Ok(Text { inner })
     }
 }
 
