@@ -100,8 +100,6 @@ pub fn canonical_request(
     ensures { IfOk result (λ text. text
         ≡ spec.canonical_request method.now path.now query.now.items headers.now.items payload_hash.now) }
 {
-    match signed_text(alloc, method, path, query, headers, payload_hash) {
-        Ok(text) => Ok(Text::from(text)),
-        Err(_) => Err(OutOfMemory),
-    }
+    let text = signed_text(alloc, method, path, query, headers, payload_hash)?;
+    Ok(Text::from(text))
 }

@@ -21,10 +21,7 @@ fn hex_sha256(alloc: Global, bytes: &[u8]) -> Result<String, AllocError>
 pub fn payload_hash(alloc: Global, body: &[u8]) -> Result<Text, OutOfMemory>
     ensures { IfOk result (λ text. text ≡ spec.hex_sha256 body.now) }
 {
-    match hex_sha256(alloc, body) {
-        Ok(text) => Ok(Text::from(text)),
-        Err(_) => Err(OutOfMemory),
-    }
+    Ok(Text::from(hex_sha256(alloc, body)?))
 }
 
 /// Adds date/region/s3/aws4_request.
@@ -81,10 +78,7 @@ pub fn string_to_sign(
     requires { moment < 253402300800 }
     ensures { IfOk result (λ text. text ≡ spec.string_to_sign moment region.now canonical.now) }
 {
-    match text_to_sign(alloc, moment, region, canonical) {
-        Ok(text) => Ok(Text::from(text)),
-        Err(_) => Err(OutOfMemory),
-    }
+    Ok(Text::from(text_to_sign(alloc, moment, region, canonical)?))
 }
 
 #[tactic(auto, unfolding(crate::specs::Signing::signing_key))]
@@ -109,10 +103,7 @@ pub fn signing_key(
 ) -> Result<[u8; 32], OutOfMemory>
     ensures { IfOk result (λ key. key ≡ spec.signing_key secret.now date.now region.now) }
 {
-    match key_of(alloc, secret, date, region) {
-        Ok(key) => Ok(key),
-        Err(_) => Err(OutOfMemory),
-    }
+    Ok(key_of(alloc, secret, date, region)?)
 }
 
 /// The signing key of a moment's date and a region.
@@ -166,8 +157,5 @@ pub fn signature(
     requires { moment < 253402300800 }
     ensures { IfOk result (λ text. text ≡ spec.signature keys.now moment canonical.now) }
 {
-    match signed(alloc, keys, moment, canonical) {
-        Ok(text) => Ok(Text::from(text)),
-        Err(_) => Err(OutOfMemory),
-    }
+    Ok(Text::from(signed(alloc, keys, moment, canonical)?))
 }
