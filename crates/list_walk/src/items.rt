@@ -49,13 +49,9 @@ impl Item for Entry {
 pub(crate) fn copy_all<T: Item>(alloc: Global, items: &[T]) -> Result<Vec<T>, OutOfMemory>
     ensures { IfOk result (λ copies. copies.items ≡ items.now) }
 {
-    let Ok(mut copies) = Vec::with_capacity(alloc, items.len()) else {
-        return Err(OutOfMemory);
-    };
+    let mut copies = Vec::with_capacity(alloc, items.len())?;
     for item in items {
-        if copies.push(item.duplicate()?).is_err() {
-            return Err(OutOfMemory);
-        }
+        copies.push(item.duplicate()?)?;
     }
     Ok(copies)
 }
