@@ -31,4 +31,5 @@ header_block headers = flat_map canonical_header headers ++ codes "\n" ++ signed
 abbrev pub canonical_with : SignedParts → List ℕ
 canonical_with parts = join_with_byte 10 (
     parts.method.now ∷ parts.path.now ∷ parts.query.now
-    ∷ flat_map canonical_header (pairs_of parts.headers.now) ∷ signed_names (pairs_of parts.headers.now) ∷ parts.payload_hash.now ∷ [])
+    ∷ flat_map canonical_header (pairs_of parts.headers.now) ∷ signed_names (pairs_of parts.headers.now)
+    ∷ parts.payload_hash.now ∷ [])

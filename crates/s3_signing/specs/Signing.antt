@@ -1,5 +1,6 @@
 -- AWS Signature Version 4 (Amazon S3 API Reference, "Authenticating Requests: Using the Authorization Header").
-use Rattle.std.specs.Prelude.{◌++◌, ◌∷◌, ◌==◌, ◌||◌, ◌≡◌, ℕ, Bool, false, List, [], All, length, map, filter, not, codes, if◌then◌else◌}
+use Rattle.std.specs.Prelude.{◌++◌, ◌∷◌, ◌==◌, ◌||◌, ◌≡◌, ℕ, Bool, false, List, [], All, length, map, filter, not}
+use Rattle.std.specs.Prelude.{codes, if◌then◌else◌}
 use Rattle.std.specs.Cmp.Lexicographic.{slice_cmp}
 use Rattle.std.specs.List.{flat_map, join_with_byte, list_any, slice_split, AllAdjacentBelow}
 use Rattle.std.specs.Char.{is_ascii_alphanumeric, is_ascii_uppercase}
@@ -63,7 +64,8 @@ signed_names headers = join_with_byte 59 (map (λ h. h.0) headers)
 -- the six parts of a request that are signed, joined by line feeds; the headers stand in ascending order of their names
 unfoldable pub canonical_request : (method path : List ℕ) (query headers : List Pair) (payload_hash : List ℕ) → List ℕ
 canonical_request method path query headers payload_hash = join_with_byte 10 (
-    method ∷ encode_path path ∷ canonical_query query ∷ flat_map canonical_header headers ∷ signed_names headers ∷ payload_hash ∷ [])
+    method ∷ encode_path path ∷ canonical_query query ∷ flat_map canonical_header headers ∷ signed_names headers
+    ∷ payload_hash ∷ [])
 
 -- the SHA-256 of some bytes in lower-case hexadecimal digits
 unfoldable pub hex_sha256 : List ℕ → List ℕ
@@ -80,12 +82,14 @@ credential keys moment = keys.id ++ codes "/" ++ credential_scope (basic_date mo
 -- what the signature is made of, joined by line feeds; the moment is in seconds since 1970
 unfoldable pub string_to_sign : (moment : ℕ) (region canonical : List ℕ) → List ℕ
 string_to_sign moment region canonical = join_with_byte 10 (
-    codes "AWS4-HMAC-SHA256" ∷ basic_time moment ∷ credential_scope (basic_date moment) region ∷ hex_sha256 canonical ∷ [])
+    codes "AWS4-HMAC-SHA256" ∷ basic_time moment ∷ credential_scope (basic_date moment) region ∷ hex_sha256 canonical
+    ∷ [])
 
 -- the key of one day, region and service, from the secret access key
 unfoldable pub signing_key : (secret date region : List ℕ) → List ℕ
 signing_key secret date region =
-    hmac_sha256 (hmac_sha256 (hmac_sha256 (hmac_sha256 (codes "AWS4" ++ secret) date) region) (codes "s3")) (codes "aws4_request")
+    hmac_sha256 (hmac_sha256 (hmac_sha256 (hmac_sha256 (codes "AWS4" ++ secret) date) region) (codes "s3"))
+    (codes "aws4_request")
 
 -- the HMAC of the string to sign under the signing key, in lower-case hexadecimal digits
 unfoldable pub signature_under : (key : List ℕ) (moment : ℕ) (region canonical : List ℕ) → List ℕ
