@@ -5,4 +5,5 @@ use Rattle.s3_model.specs.Parts.{IsFirstFitting, within_limits}
 
 -- the first doubling of the chunk that fits, brought within the limits
 abbrev pub IsPartLength : Limits → ℕ → ℕ → ℕ → Type 0
-IsPartLength limits chunk size length = (found : ℕ) × IsFirstFitting chunk size limits.max_parts found × (length ≡ within_limits limits found)
+IsPartLength limits chunk size length =
+    (found : ℕ) × IsFirstFitting chunk size limits.max_parts found × (length ≡ within_limits limits found)

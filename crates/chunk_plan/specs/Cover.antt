@@ -19,7 +19,8 @@ pub record IsCut (bytes : List ℕ) (piece count : ℕ) : Type 0 where
   pub filled : (number : ℕ) → IsWithin 1 number count → 0 < length bytes → 0 < length (piece_of bytes piece number)
   -- each stands where its range says
   pub placed : (number : ℕ) → IsWithin 1 number count
-      → piece_of bytes piece number ≡ take (piece_range (length bytes) piece number).1 (drop (piece_range (length bytes) piece number).0 bytes)
+      → piece_of bytes piece number ≡ take (piece_range (length bytes) piece number).1
+      (drop (piece_range (length bytes) piece number).0 bytes)
 
 -- what a service asks of the parts of an upload
 pub record KeepsLimits (limits : Limits) (bytes : List ℕ) (piece count : ℕ) : Type 0 where
@@ -32,10 +33,13 @@ pub record IsSound (config : Config) (limits : Limits) (bytes : List ℕ) (piece
   pub limits_kept : config.threshold ≤ length bytes → KeepsLimits limits bytes piece count
 
 abbrev pub PiecesCoverTheObject : Type 0
-PiecesCoverTheObject = (config : Config) (limits : Limits) (bytes : List ℕ) (piece count : ℕ) → IsValidConfig config → IsValidLimits limits
-    → length bytes ≤ limits.max_object → IsTransfer config limits (length bytes) piece count → IsSound config limits bytes piece count
+PiecesCoverTheObject =
+    (config : Config) (limits : Limits) (bytes : List ℕ) (piece count : ℕ) → IsValidConfig config → IsValidLimits limits
+    → length bytes ≤ limits.max_object → IsTransfer config limits (length bytes) piece count
+    → IsSound config limits bytes piece count
 
 -- there is one way to cut
 abbrev pub PiecesAreDetermined : Type 0
 PiecesAreDetermined = (config : Config) (limits : Limits) (size piece count other_piece other_count : ℕ)
-    → IsTransfer config limits size piece count → IsTransfer config limits size other_piece other_count → (piece ≡ other_piece) × (count ≡ other_count)
+    → IsTransfer config limits size piece count → IsTransfer config limits size other_piece other_count
+    → (piece ≡ other_piece) × (count ≡ other_count)

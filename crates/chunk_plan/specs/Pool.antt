@@ -3,7 +3,8 @@ use Rattle.std.specs.Prelude.{◌≤◌, ℕ, List}
 use Rattle.std.specs.List.{All}
 use Rattle.s3_model.specs.declared.bytes.Part.{Part}
 
--- how many parts there are, how many of them are here and how many are lent, a room that each has at least, and one that none exceeds
+-- how many parts there are, how many of them are here and how many are lent, a room that each has at least, and one
+-- that none exceeds
 pub record Pool : Type 0 where
   pub count : ℕ
   pub free : ℕ

@@ -1,6 +1,23 @@
 //! The parts in memory, lent and given back.
 
-ghost use Rattle.std.specs.Prelude.{◌≡◌, ◌+◌, ◌-◌, ◌<◌, ◌≤◌, ◌↔◌, ℕ, [], max, IsNone, IfSome, IfNone, OnSome, IfOk, OnOk, OnErr};
+ghost use Rattle.std.specs.Prelude.{
+  ◌≡◌,
+  ◌+◌,
+  ◌-◌,
+  ◌<◌,
+  ◌≤◌,
+  ◌↔◌,
+  ℕ,
+  [],
+  max,
+  IsNone,
+  IfSome,
+  IfNone,
+  OnSome,
+  IfOk,
+  OnOk,
+  OnErr,
+};
 ghost use Rattle.chunk_plan.specs.Pool.{HaveAtMost, HaveRoom};
 
 use s3_model::{Bytes, OutOfMemory, Part};
@@ -26,9 +43,16 @@ impl Model for PartPool {
 
     ghost Value = { Pool };
 
-    ghost view = { λ p. record { count = vec_len p.parts + p.lent; free = vec_len p.parts; lent = p.lent; room = p.room; most = p.most } };
+    ghost view = { λ p. record {
+      count = vec_len p.parts + p.lent;
+      free = vec_len p.parts;
+      lent = p.lent;
+      room = p.room;
+      most = p.most;
+    } };
 
-    ghost invariant = { λ p. (vec_len p.parts + p.lent ≤ vec_capacity p.parts) × (vec_len p.parts + p.lent < 2 ^ 32) × HaveRoom p.room p.parts.items × HaveAtMost p.most p.parts.items };
+    ghost invariant = { λ p. (vec_len p.parts + p.lent ≤ vec_capacity p.parts) × (vec_len p.parts + p.lent < 2 ^ 32)
+        × HaveRoom p.room p.parts.items × HaveAtMost p.most p.parts.items };
 }
 
 impl PartPool {
@@ -37,9 +61,7 @@ impl PartPool {
         ensures { IfOk result
             (λ pool. pool ≡ record { count = count; free = count; lent = 0; room = bytes; most = bytes }) }
     {
-        let Ok(mut parts) = Vec::with_capacity(alloc, count as usize) else {
-            return Err(OutOfMemory);
-        };
+        let mut parts = Vec::with_capacity(alloc, count as usize)?;
         for _ in 0..count {
             let bytes = Bytes::make(alloc, bytes)?;
             let Ok(()) = parts.push(Part { bytes }) else {
@@ -76,7 +98,11 @@ impl PartPool {
         requires lent { 0 < self.old.lent }
         requires room { self.old.room ≤ part.bytes.room }
         ensures { self.new ≡
-            record self.old { free = self.old.free + 1; lent = self.old.lent - 1; most = max self.old.most part.bytes.room } }
+            record self.old {
+              free = self.old.free + 1;
+              lent = self.old.lent - 1;
+              most = max self.old.most part.bytes.room;
+            } }
     {
         self.most = self.most.max(part.bytes.room());
         let Ok(()) = self.parts.push(part) else {
