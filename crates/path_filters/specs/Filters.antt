@@ -11,8 +11,10 @@ NoneMatches filters path = All (λ (filter : Filter). ¬ (Matches filter.pattern
 abbrev pub Keeps : List Filter → List ℕ → Bool → Type 0
 Keeps filters path kept =
     (NoneMatches filters path × (kept ≡ true))
-    ⊎ ((before : List Filter) × (filter : Filter) × (after : List Filter) × (filters ≡ before ++ filter ∷ after) × Matches filter.pattern path × NoneMatches after path × (kept ≡ filter.keep))
+    ⊎ ((before : List Filter) × (filter : Filter) × (after : List Filter) × (filters ≡ before ++ filter ∷ after)
+    × Matches filter.pattern path × NoneMatches after path × (kept ≡ filter.keep))
 
 -- the same as a test that computes
 abbrev pub is_kept : List Filter → List ℕ → Bool
-is_kept filters path = fold (λ kept (filter : Filter). if is_match filter.pattern path then filter.keep else kept) true filters
+is_kept filters path =
+    fold (λ kept (filter : Filter). if is_match filter.pattern path then filter.keep else kept) true filters

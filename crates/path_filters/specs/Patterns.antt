@@ -1,5 +1,7 @@
--- Patterns of characters, as the shell's file name patterns (POSIX.1-2017, Shell and Utilities, 2.13), but that `*` and `?` also stand for `/`.
-use Rattle.std.specs.Prelude.{◌≡◌, ◌≢◌, ◌≤◌, ◌==◌, ◌&&◌, ◌||◌, ◌++◌, ⊤, ℕ, Bool, true, false, not, nat_le, List, [], ◌∷◌, length, All, Any, if◌then◌else◌}
+-- Patterns of characters, as the shell's file name patterns (POSIX.1-2017, Shell and Utilities, 2.13), but that `*` and
+-- `?` also stand for `/`.
+use Rattle.std.specs.Prelude.{◌≡◌, ◌≢◌, ◌≤◌, ◌==◌, ◌&&◌, ◌||◌, ◌++◌, ⊤, ℕ, Bool, true, false, not, nat_le, List, []}
+use Rattle.std.specs.Prelude.{◌∷◌, length, All, Any, if◌then◌else◌}
 use Rattle.std.specs.List.{list_any}
 use Rattle.path_filters.specs.declared.pieces.Piece.{Piece}
 use Rattle.path_filters.specs.declared.pieces.Piece.TheVariants.{Star, One, Set, Question}
@@ -44,7 +46,8 @@ Takes (Set true members) code = ¬ (IsMember members code)
 abbrev pub Matches : List Piece → List ℕ → Type 0
 Matches [] text = text ≡ []
 Matches (Star ∷ pieces) text = (front : List ℕ) × (back : List ℕ) × (text ≡ front ++ back) × Matches pieces back
-Matches (piece ∷ pieces) text = (code : ℕ) × (rest : List ℕ) × (text ≡ code ∷ rest) × Takes piece code × Matches pieces rest
+Matches (piece ∷ pieces) text =
+    (code : ℕ) × (rest : List ℕ) × (text ≡ code ∷ rest) × Takes piece code × Matches pieces rest
 
 -- The same as tests that compute.
 abbrev pub is_member : List Range → ℕ → Bool
@@ -73,7 +76,8 @@ abbrev pub ranges_of : List ℕ → List Range
 ranges_of [] = []
 ranges_of (from ∷ []) = record { first = from; last = from } ∷ []
 ranges_of (from ∷ next ∷ []) = record { first = from; last = from } ∷ record { first = next; last = next } ∷ []
-ranges_of (from ∷ next ∷ to ∷ codes) = if next == hyphen then record { first = from; last = to } ∷ ranges_of codes else record { first = from; last = from } ∷ ranges_of (next ∷ to ∷ codes)
+ranges_of (from ∷ next ∷ to ∷ codes) = if next == hyphen then record { first = from; last = to } ∷ ranges_of codes
+    else record { first = from; last = from } ∷ ranges_of (next ∷ to ∷ codes)
 
 -- What stands in a set: a character, and then any but `]`. A set that is not negated does not begin with `!`.
 abbrev pub IsInside : Bool → List ℕ → Type 0
@@ -87,14 +91,18 @@ bracketed false inside = inside
 
 -- a `]` closes the set whose `[` stands before this text
 abbrev pub IsClosed : List ℕ → Type 0
-IsClosed text = (negated : Bool) × (inside : List ℕ) × (rest : List ℕ) × (text ≡ bracketed negated inside ++ closing ∷ rest) × IsInside negated inside
+IsClosed text = (negated : Bool) × (inside : List ℕ) × (rest : List ℕ)
+    × (text ≡ bracketed negated inside ++ closing ∷ rest) × IsInside negated inside
 
 -- the piece that a text begins with, and what follows it
 abbrev pub BeginsWith : List ℕ → Piece → List ℕ → Type 0
 BeginsWith text Star rest = text ≡ asterisk ∷ rest
 BeginsWith text Question rest = text ≡ question ∷ rest
-BeginsWith text (Set negated members) rest = (inside : List ℕ) × (text ≡ opening ∷ bracketed negated inside ++ closing ∷ rest) × IsInside negated inside × (members ≡ ranges_of inside)
-BeginsWith text (One code) rest = (text ≡ code ∷ rest) × (code ≢ asterisk) × (code ≢ question) × (code ≡ opening → ¬ (IsClosed rest))
+BeginsWith text (Set negated members) rest = (inside : List ℕ)
+    × (text ≡ opening ∷ bracketed negated inside ++ closing ∷ rest) × IsInside negated inside
+    × (members ≡ ranges_of inside)
+BeginsWith text (One code) rest =
+    (text ≡ code ∷ rest) × (code ≢ asterisk) × (code ≢ question) × (code ≡ opening → ¬ (IsClosed rest))
 
 -- the pieces that a text spells
 abbrev pub IsPattern : List ℕ → List Piece → Type 0

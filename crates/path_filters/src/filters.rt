@@ -47,10 +47,8 @@ impl Filters {
         ensures ok { OnOk result (self.new ≡ self.old ++ record { keep = keep; pattern = pattern } ∷ []) }
         ensures err { OnErr result (self.new ≡ self.old) }
     {
-        match self.inner.push(Filter { keep, pattern }) {
-            Ok(()) => Ok(()),
-            Err(_) => Err(OutOfMemory),
-        }
+        self.inner.push(Filter { keep, pattern })?;
+        Ok(())
     }
 
     /// Whether the path is kept: as the last filter says whose pattern matches it, and so where none does.

@@ -79,9 +79,7 @@ impl Pattern {
             let first = piece_from(alloc, code, after, closes)?;
             left = first.rest;
             closes = first.closes;
-            if pieces.push(first.piece).is_err() {
-                return Err(OutOfMemory);
-            }
+            pieces.push(first.piece)?;
         }
         Ok(Pattern { pieces })
     }

@@ -65,10 +65,8 @@ impl Ranges {
         ensures ok { OnOk result (self.new ≡ self.old ++ range ∷ []) }
         ensures err { OnErr result (self.new ≡ self.old) }
     {
-        match self.inner.push(range) {
-            Ok(()) => Ok(()),
-            Err(_) => Err(OutOfMemory),
-        }
+        self.inner.push(range)?;
+        Ok(())
     }
 
     /// Whether the character stands in one of the ranges.

@@ -1,6 +1,22 @@
 //! Sets of characters in brackets.
 
-ghost use Rattle.std.specs.Prelude.{◌≡◌, ◌≢◌, ◌∷◌, ◌++◌, ◌≤◌, ◌<◌, [], List, ℕ, All, length, false, MatchOption, IfSome, IfOk};
+ghost use Rattle.std.specs.Prelude.{
+  ◌≡◌,
+  ◌≢◌,
+  ◌∷◌,
+  ◌++◌,
+  ◌≤◌,
+  ◌<◌,
+  [],
+  List,
+  ℕ,
+  All,
+  length,
+  false,
+  MatchOption,
+  IfSome,
+  IfOk,
+};
 ghost use Rattle.std.specs.Str.{chars};
 ghost use Rattle.path_filters.specs.Patterns.{ranges_of, bracketed, IsInside, IsClosed, BeginsWith};
 ghost use Rattle.path_filters.specs.Sets.{IsRangeEnd, NeverClosed};
