@@ -14,7 +14,8 @@ use Rattle.s3_requests.specs.declared.description.Resource.TheVariants as resour
 use Rattle.s3_requests.specs.declared.description.Source.{Source}
 use Rattle.s3_signing.specs.Pairs.{Pair}
 use Rattle.s3_signing.specs.Paths.{bucket_path, object_path}
-use Rattle.s3_requests.specs.Requests.{Request, uploads, upload_id, part_parameters, list_parameters, content_type, if_none_match, read_headers, copy_source, copy_range}
+use Rattle.s3_requests.specs.Requests.{Request, uploads, upload_id, part_parameters, list_parameters, content_type}
+use Rattle.s3_requests.specs.Requests.{if_none_match, read_headers, copy_source, copy_range}
 
 abbrev pub path_in : Resource → List ℕ
 path_in resource.Service = codes "/"

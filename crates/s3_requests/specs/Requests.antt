@@ -1,5 +1,6 @@
 -- The requests of the Amazon S3 API, path style, as they are sent.
-use Rattle.std.specs.Prelude.{◌++◌, ◌∷◌, ℕ, Bool, true, false, List, [], length, map, Option, Some, None, codes, decimal, if◌then◌else◌}
+use Rattle.std.specs.Prelude.{◌++◌, ◌∷◌, ℕ, Bool, true, false, List, [], length, map, Option, Some, None, codes}
+use Rattle.std.specs.Prelude.{decimal, if◌then◌else◌}
 use Rattle.std.specs.List.{flat_map, join_with_byte}
 use Rattle.std.specs.Str.{bytes_eq}
 use Rattle.s3_model.specs.declared.places.Endpoint.{Endpoint}
@@ -9,10 +10,12 @@ use Rattle.s3_model.specs.declared.settings.Keys.{Keys}
 use Rattle.s3_model.specs.Documents.{completion}
 use Rattle.s3_signing.specs.Pairs.{Pair, optional, sort_pairs}
 use Rattle.s3_signing.specs.Paths.{bucket_path, object_path}
-use Rattle.s3_signing.specs.Signing.{encode_path, encode_pair, canonical_request, credential, parameter, signature, signed_names, hex_sha256}
+use Rattle.s3_signing.specs.Signing.{encode_path, encode_pair, canonical_request, credential, parameter, signature}
+use Rattle.s3_signing.specs.Signing.{signed_names, hex_sha256}
 use Rattle.s3_signing.specs.Times.{basic_time}
 
--- a request before it is encoded and signed: its own headers are those beside the headers of every request; the body is the document, and empty where the caller has an object's bytes
+-- a request before it is encoded and signed: its own headers are those beside the headers of every request; the body is
+-- the document, and empty where the caller has an object's bytes
 pub record Request : Type 0 where
   pub method : List ℕ
   pub path : List ℕ
@@ -84,12 +87,15 @@ request_of (ask.Head bucket key) = plain (codes "HEAD") (object_path bucket key)
 request_of (ask.Get bucket key etag range) =
     record (plain (codes "GET") (object_path bucket key)) { own_headers = read_headers etag range }
 request_of (ask.Put bucket key content fresh) =
-    record (plain (codes "PUT") (object_path bucket key)) { own_headers = content_type content ++ if_none_match fresh; has_body = true }
+    record (plain (codes "PUT") (object_path bucket key))
+    { own_headers = content_type content ++ if_none_match fresh; has_body = true }
 request_of (ask.Copy bucket key from_bucket from_key etag) =
-    record (plain (codes "PUT") (object_path bucket key)) { own_headers = copy_source from_bucket from_key etag; has_body = true }
+    record (plain (codes "PUT") (object_path bucket key))
+    { own_headers = copy_source from_bucket from_key etag; has_body = true }
 request_of (ask.Delete bucket key) = plain (codes "DELETE") (object_path bucket key)
 request_of (ask.Create bucket key content) =
-    record (plain (codes "POST") (object_path bucket key)) { query = uploads ∷ []; own_headers = content_type content; has_body = true }
+    record (plain (codes "POST") (object_path bucket key))
+    { query = uploads ∷ []; own_headers = content_type content; has_body = true }
 request_of (ask.Part bucket key upload number) =
     record (plain (codes "PUT") (object_path bucket key)) { query = part_parameters number upload; has_body = true }
 request_of (ask.PartCopy bucket key upload number from_bucket from_key etag range) =
@@ -127,12 +133,15 @@ target_query query = marked (join_with_byte 38 (map target_parameter (sort_pairs
 -- the headers of every request
 abbrev pub common_headers : (endpoint : Endpoint) (keys : Keys) (moment : ℕ) (payload_hash : List ℕ) → List Pair
 common_headers endpoint keys moment payload_hash =
-    (codes "host", endpoint.written) ∷ (codes "x-amz-content-sha256", payload_hash) ∷ (codes "x-amz-date", basic_time moment)
+    (codes "host", endpoint.written) ∷ (codes "x-amz-content-sha256", payload_hash)
+    ∷ (codes "x-amz-date", basic_time moment)
     ∷ optional (codes "x-amz-security-token") keys.token
 
 -- every header that is signed, sorted by name
-unfoldable pub signed_headers : (r : Request) (endpoint : Endpoint) (keys : Keys) (moment : ℕ) (payload_hash : List ℕ) → List Pair
-signed_headers r endpoint keys moment payload_hash = sort_pairs (r.own_headers ++ common_headers endpoint keys moment payload_hash)
+unfoldable pub signed_headers : (r : Request) (endpoint : Endpoint) (keys : Keys) (moment : ℕ) (payload_hash : List ℕ)
+    → List Pair
+signed_headers r endpoint keys moment payload_hash =
+    sort_pairs (r.own_headers ++ common_headers endpoint keys moment payload_hash)
 
 -- name: value and CR LF
 abbrev pub header_line : Pair → List ℕ
@@ -157,23 +166,31 @@ unfoldable pub request_line : Request → List ℕ
 request_line r = method_and_path r ++ target_query r.query ++ codes " HTTP/1.1\r\n"
 
 -- the signature of a request with these signed headers
-unfoldable pub signature_of : (r : Request) (headers : List Pair) (keys : Keys) (moment : ℕ) (payload_hash : List ℕ) → List ℕ
+unfoldable pub signature_of : (r : Request) (headers : List Pair) (keys : Keys) (moment : ℕ) (payload_hash : List ℕ)
+    → List ℕ
 signature_of r headers keys moment payload_hash =
     signature keys moment (canonical_request r.method r.path r.query headers payload_hash)
 
 -- the head of a request with these signed headers: the request line, the headers and an empty line
-unfoldable pub head_with : (r : Request) (headers : List Pair) (keys : Keys) (moment : ℕ) (payload_hash : List ℕ) (length : ℕ) → List ℕ
+unfoldable pub head_with : (r : Request) (headers : List Pair) (keys : Keys) (moment : ℕ) (payload_hash : List ℕ)
+    (length : ℕ) → List ℕ
 head_with r headers keys moment payload_hash length =
     request_line r
     ++ (flat_map header_line headers
     ++ length_line r.has_body length
-    ++ header_line (codes "authorization", authorization keys moment headers (signature_of r headers keys moment payload_hash))
+    ++ header_line (
+      codes "authorization",
+      authorization keys moment headers
+          (signature_of r headers keys moment payload_hash),
+    )
     ++ codes "\r\n")
 
 -- the head of a request whose body has that hash and length
-abbrev pub request_head : (a : Ask) (endpoint : Endpoint) (keys : Keys) (moment : ℕ) (payload_hash : List ℕ) (length : ℕ) → List ℕ
+abbrev pub request_head : (a : Ask) (endpoint : Endpoint) (keys : Keys) (moment : ℕ) (payload_hash : List ℕ)
+    (length : ℕ) → List ℕ
 request_head a endpoint keys moment payload_hash length =
-    head_with (request_of a) (signed_headers (request_of a) endpoint keys moment payload_hash) keys moment payload_hash length
+    head_with (request_of a) (signed_headers (request_of a) endpoint keys moment payload_hash) keys moment payload_hash
+    length
 
 -- a whole request: its head and its body
 abbrev pub request_text : (a : Ask) (endpoint : Endpoint) (keys : Keys) (moment : ℕ) (body : List ℕ) → List ℕ

@@ -102,10 +102,7 @@ pub fn body_text(alloc: Global, ask: &Ask) -> Result<Bytes, OutOfMemory>
     ensures { IfOk result (λ body. body.bytes ≡ spec.document_of ask.now) }
 {
     match describe(ask).body {
-        Body::Document(etags) => match completion(alloc, etags.as_slice()) {
-            Ok(text) => bytes_of(alloc, text.as_bytes()),
-            Err(_) => Err(OutOfMemory),
-        },
+        Body::Document(etags) => bytes_of(alloc, completion(alloc, etags.as_slice())?.as_bytes()),
         Body::Absent | Body::Bytes => Bytes::make(alloc, 0),
     }
 }

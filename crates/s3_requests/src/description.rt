@@ -1,7 +1,15 @@
 //! What each of the twelve asks says as a request, before it is escaped and signed.
 ghost use Rattle.std.specs.Prelude.{◌≡◌};
 ghost use Rattle.std.specs.Option.{option_copied};
-ghost use Rattle.s3_requests.specs.Descriptions.{body_in, has_body_in, own_in, path_in, query_in, request_in, source_in};
+ghost use Rattle.s3_requests.specs.Descriptions.{
+  body_in,
+  has_body_in,
+  own_in,
+  path_in,
+  query_in,
+  request_in,
+  source_in,
+};
 ghost use Rattle.s3_requests.specs.Requests.{copy_source, request_of};
 
 use s3_model::{Ask, Text, Texts};

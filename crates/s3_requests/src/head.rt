@@ -146,7 +146,8 @@ fn sign(
     requires path { string_bytes target.now.path ≡ encode_path (path_in request.now.resource) }
     requires query { string_bytes target.now.query ≡ canonical_query (query_in request.now.query) }
     ensures { IfOk result (λ text. string_bytes text
-        ≡ spec.signature_of (request_in request.now) (pairs_of headers.now) key.now.keys.now key.now.moment payload_hash.now) }
+        ≡ spec.signature_of (request_in request.now) (pairs_of headers.now) key.now.keys.now key.now.moment
+        payload_hash.now) }
 {
     let parts = SignedParts {
         method: request.method,
@@ -194,7 +195,8 @@ fn head_with(
     requires moment { key.now.moment < 253402300800 }
     requires key { IsKey key.now }
     ensures { IfOk result (λ text. string_bytes text
-        ≡ spec.head_with (request_in request.now) (pairs_of headers.now) key.now.keys.now key.now.moment payload_hash.now length) }
+        ≡ spec.head_with (request_in request.now) (pairs_of headers.now) key.now.keys.now key.now.moment
+        payload_hash.now length) }
 {
     let target = target_of(alloc, request)?;
     let signed = sign(alloc, request, &target, key, headers, payload_hash)?;

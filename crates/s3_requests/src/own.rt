@@ -92,7 +92,8 @@ fn push_upload_headers(
     fresh: bool,
 ) -> Result<(), AllocError>
     ensures { OnOk result (text_pairs headers.new.items
-        ≡ text_pairs headers.old.items ++ (spec.content_type (option_copied content.entry) ++ spec.if_none_match fresh)) }
+        ≡ text_pairs headers.old.items
+        ++ (spec.content_type (option_copied content.entry) ++ spec.if_none_match fresh)) }
 {
     push_optional(alloc, headers, "content-type", content)?;
     if fresh {

@@ -109,10 +109,8 @@ impl Signer {
             ≡ spec.request_head ask.now endpoint.now self.old moment payload_hash.now length) }
         ensures keys { self.new ≡ self.old }
     {
-        match self.sign_head(alloc, ask, endpoint, moment, payload_hash, length) {
-            Ok(text) => Ok(Text::from(text)),
-            Err(_) => Err(OutOfMemory),
-        }
+        let text = self.sign_head(alloc, ask, endpoint, moment, payload_hash, length)?;
+        Ok(Text::from(text))
     }
 }
 
@@ -153,8 +151,6 @@ pub fn head_text(
     ensures { IfOk result (λ text. text
         ≡ spec.request_head ask.now endpoint.now keys.now moment payload_hash.now length) }
 {
-    match sign_one_head(alloc, ask, endpoint, keys, moment, payload_hash, length) {
-        Ok(text) => Ok(Text::from(text)),
-        Err(_) => Err(OutOfMemory),
-    }
+    let text = sign_one_head(alloc, ask, endpoint, keys, moment, payload_hash, length)?;
+    Ok(Text::from(text))
 }
