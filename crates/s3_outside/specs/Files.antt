@@ -1,5 +1,6 @@
 -- What the calls on files answer, and what they leave in the list of calls.
-use Rattle.std.specs.Prelude.{◌≡◌, ◌++◌, ◌<◌, ◌≤◌, ◌⊎◌, ℕ, List, [], ◌∷◌, Option, Some, None, Result, length, take, drop, if◌then◌else◌}
+use Rattle.std.specs.Prelude.{◌≡◌, ◌++◌, ◌<◌, ◌≤◌, ◌⊎◌, ℕ, List, [], ◌∷◌, Option, Some, None, Result, length, take}
+use Rattle.std.specs.Prelude.{drop, if◌then◌else◌}
 use Rattle.std.specs.FinMap.{get}
 use Rattle.s3_model.specs.Files.{FileStore, HeldFile, is_folder, is_listed}
 use Rattle.s3_outside.specs.declared.files.Shape.{Shape}
@@ -34,7 +35,8 @@ shape_of store path (Some file) = shape.File (length file.bytes) file.micros
 abbrev pub shape_at : FileStore → List ℕ → Shape
 shape_at store path = shape_of store path (get store.held path)
 
--- so many bytes of the file from that place stand in front, and none only where there is no room or the file has no more
+-- so many bytes of the file from that place stand in front, and none only where there is no room or the file has no
+-- more
 pub record Reads (store : FileStore) (path : List ℕ) (at : ℕ) (into : List ℕ) (count : ℕ) : Type 0 where
   pub file : HeldFile
   pub held : get store.held path ≡ Some file

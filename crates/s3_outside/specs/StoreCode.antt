@@ -12,7 +12,8 @@ abbrev pub map_code : {V : Type 0} → Coded V → Coded (MapOf V)
 map_code value = code text_code value
 
 abbrev pub file_code : Coded HeldFile
-file_code = code_by (List ℕ × ℕ) (coded× text_code coded_ℕ) (λ f. (f.bytes, f.micros)) (λ p. record { bytes = p.0; micros = p.1 }) (λ _. refl)
+file_code = code_by (List ℕ × ℕ) (coded× text_code coded_ℕ) (λ f. (f.bytes, f.micros))
+    (λ p. record { bytes = p.0; micros = p.1 }) (λ _. refl)
 
 abbrev pub store_code : Coded FileStore
 store_code = code_by (MapOf HeldFile × (List (List ℕ) × (List (List ℕ) × MapOf ℕ)))

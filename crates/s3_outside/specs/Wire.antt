@@ -1,5 +1,6 @@
 -- What the calls of a wire add to its log.
-use Rattle.std.specs.Prelude.{◌++◌, ◌==◌, ◌&&◌, ◌+◌, ◌-◌, ◌^◌, ℕ, Bool, true, false, List, [], ◌∷◌, Result, Ok, Err, is_ok, length, take, min, not, Option, Some, None, if◌then◌else◌}
+use Rattle.std.specs.Prelude.{◌++◌, ◌==◌, ◌&&◌, ◌+◌, ◌-◌, ◌^◌, ℕ, Bool, true, false, List, [], ◌∷◌, Result, Ok, Err}
+use Rattle.std.specs.Prelude.{is_ok, length, take, min, not, Option, Some, None, if◌then◌else◌}
 use Rattle.std.specs.Str.{bytes_eq}
 use Rattle.s3_model.specs.Talks.{Talk, Ending, Failed, Closed, Finished, Note, Began, WireLog}
 
@@ -9,7 +10,13 @@ noted note log = record log { notes = log.notes ++ note ∷ [] }
 -- A talk begins, also where the connection could not be opened.
 abbrev pub begun : List ℕ → ℕ → Bool → WireLog → WireLog
 begun host port opened log = record {
-  talks = log.talks ++ record { host = host; port = port; sent = []; got = []; ending = if opened then Finished else Failed } ∷ [];
+  talks = log.talks ++ record {
+    host = host;
+    port = port;
+    sent = [];
+    got = [];
+    ending = if opened then Finished else Failed;
+  } ∷ [];
   notes = log.notes ++ Began ∷ [];
 }
 
@@ -47,7 +54,8 @@ after_send bytes (Err fault) log = last_talk fails log
 
 -- the bytes that came are got; none that came into a place with room are the end
 abbrev pub after_take : {E : Type 0} → List ℕ → Result ℕ E → WireLog → WireLog
-after_take into (Ok count) log = if count == 0 && not (length into == 0) then last_talk closes log else last_talk (gets (take count into)) log
+after_take into (Ok count) log =
+    if count == 0 && not (length into == 0) then last_talk closes log else last_talk (gets (take count into)) log
 after_take into (Err fault) log = last_talk fails log
 
 abbrev pub went_well : Ending → Bool
@@ -88,5 +96,6 @@ count_opening true count = min (count + 1) (2 ^ 32 - 1)
 count_opening false count = count
 
 abbrev pub opened_after : List ℕ → ℕ → Bool → Option WireLog → Option Bool → Option ℕ → Option ℕ
-opened_after host port begun (Some log) (Some alive) (Some count) = Some (count_opening (opens host port begun alive log.talks) count)
+opened_after host port begun (Some log) (Some alive) (Some count) =
+    Some (count_opening (opens host port begun alive log.talks) count)
 opened_after host port begun log alive count = None

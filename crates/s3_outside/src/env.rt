@@ -48,7 +48,8 @@ pub trait Env {
         ensures value { IfSome (seen self.old) (λ env. IfOk result (λ file.
             option_map (λ bytes. bytes.items) file ≡ get env.files path.now)) }
         ensures bound { IfOk result (λ file. IfSome file (λ bytes. length bytes.items ≤ 1048576)) }
-        ensures asked { IsSeenAfter (asks path.now) (seen self.old) (seen self.new) (faults self.old) (faults self.new) }
+        ensures asked { IsSeenAfter (asks path.now) (seen self.old) (seen self.new) (faults self.old)
+            (faults self.new) }
         ensures limits { allows self.new ≡ allows self.old }
         ensures later { faults self.old ≤ faults self.new }
         ensures cause { result ≡ Err EnvFault.Failed → Rose (faults self.old) (faults self.new) };

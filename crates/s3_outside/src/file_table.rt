@@ -64,7 +64,12 @@ impl Model for FileTable {
 
     ghost coded = { store_code };
 
-    ghost view = { λ t. record { held = t.held; empty_folders = t.empty_folders.items; others = t.others.items; unnamed = t.unnamed } };
+    ghost view = { λ t. record {
+      held = t.held;
+      empty_folders = t.empty_folders.items;
+      others = t.others.items;
+      unnamed = t.unnamed;
+    } };
 }
 
 impl FileTable {

@@ -2,7 +2,18 @@
 
 ghost use Rattle.std.specs.Prelude.{◌≡◌, [], ◌∷◌, ◌++◌, map, OnOk, OnErr, IfSome, IsTrue, is_ok};
 ghost use Rattle.std.specs.Option.{option_map};
-ghost use Rattle.s3_outside.specs.Wire.{begun, noted, change_last, last_talk, last_went_well, is_last_service, sends, gets, fails, closes};
+ghost use Rattle.s3_outside.specs.Wire.{
+  begun,
+  noted,
+  change_last,
+  last_talk,
+  last_went_well,
+  is_last_service,
+  sends,
+  gets,
+  fails,
+  closes,
+};
 
 use s3_model::{OutOfMemory, Text};
 use std::alloc::Global;

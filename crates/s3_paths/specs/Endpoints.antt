@@ -1,5 +1,6 @@
 -- Endpoints of plain HTTP, and which rule a text that is none breaks.
-use Rattle.std.specs.Prelude.{◌≡◌, ◌≤◌, ◌==◌, ◌&&◌, ◌||◌, ◌++◌, ◌⊎◌, ℕ, Bool, true, not, List, Option, Some, None, is_none, length, drop, codes, nat_eq, nat_lt, if◌then◌else◌}
+use Rattle.std.specs.Prelude.{◌≡◌, ◌≤◌, ◌==◌, ◌&&◌, ◌||◌, ◌++◌, ◌⊎◌, ℕ, Bool, true, not, List, Option, Some, None}
+use Rattle.std.specs.Prelude.{is_none, length, drop, codes, nat_eq, nat_lt, if◌then◌else◌}
 use Rattle.std.specs.Char.{is_ascii_alphanumeric}
 use Rattle.std.specs.List.{AllPass, list_any, list_all, starts_with, before_first, after_first}
 use Rattle.std.specs.Str.{all_ascii_digits}
@@ -31,7 +32,9 @@ is_host host = nat_lt 0 (length host) && list_all is_host_byte host
 
 -- the number that decimal digits write, where it is 1 to 65,535; zeros may come first
 abbrev pub port_number : List ℕ → Option ℕ
-port_number digits = if all_ascii_digits digits && nat_lt 0 (digits_value 10 digits) && nat_lt (digits_value 10 digits) 65536 then Some (digits_value 10 digits) else None
+port_number digits =
+    if all_ascii_digits digits && nat_lt 0 (digits_value 10 digits) && nat_lt (digits_value 10 digits) 65536
+    then Some (digits_value 10 digits) else None
 
 -- the port that is written, and else 80
 abbrev pub port_of : List ℕ → Option ℕ
@@ -54,7 +57,8 @@ IsDecimal digits number = (all_ascii_digits digits ≡ true) × (digits_value 10
 -- a text names a host and a port as `http://host:port`, or as `http://host` with the port 80; one `/` may follow
 pub record IsEndpoint (text host written : List ℕ) (port : ℕ) : Type 0 where
   pub whole : (text ≡ codes "http://" ++ written) ⊎ (text ≡ codes "http://" ++ written ++ codes "/")
-  pub authority : ((written ≡ host) × (port ≡ 80)) ⊎ ((digits : List ℕ) × (written ≡ host ++ codes ":" ++ digits) × IsDecimal digits port)
+  pub authority : ((written ≡ host) × (port ≡ 80))
+      ⊎ ((digits : List ℕ) × (written ≡ host ++ codes ":" ++ digits) × IsDecimal digits port)
   pub named : 1 ≤ length host
   pub plain : AllPass is_host_byte host
   pub least : 1 ≤ port

@@ -1,5 +1,6 @@
 -- The names of a transfer's two sides, and which of them are left out.
-use Rattle.std.specs.Prelude.{◌==◌, ◌||◌, ◌++◌, ℕ, Bool, List, Option, Some, None, length, codes, nat_eq, nat_lt, if◌then◌else◌}
+use Rattle.std.specs.Prelude.{◌==◌, ◌||◌, ◌++◌, ℕ, Bool, List, Option, Some, None, length, codes, nat_eq, nat_lt}
+use Rattle.std.specs.Prelude.{if◌then◌else◌}
 use Rattle.std.specs.List.{list_any, ends_with, slice_split}
 use Rattle.std.specs.Str.{bytes_eq}
 use Rattle.s3_model.specs.declared.faults.KeySkip.{KeySkip}
@@ -31,4 +32,5 @@ local_path root path = if ends_with nat_eq root (codes "/") then root ++ path el
 
 -- why a key is left out
 abbrev pub key_skip : List ℕ → Option KeySkip
-key_skip key = if length key == 0 then Some EmptyName else if nat_lt 1024 (length key) then Some (LongKey (length key)) else None
+key_skip key =
+    if length key == 0 then Some EmptyName else if nat_lt 1024 (length key) then Some (LongKey (length key)) else None

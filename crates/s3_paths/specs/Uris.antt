@@ -1,5 +1,6 @@
 -- S3 URIs, and which rule a text that is none breaks.
-use Rattle.std.specs.Prelude.{◌≡◌, ◌≤◌, ◌==◌, ◌||◌, ◌++◌, ◌⊎◌, ℕ, Bool, not, List, [], Option, Some, None, length, take, drop, position, codes, nat_eq, nat_lt, option_map, if◌then◌else◌}
+use Rattle.std.specs.Prelude.{◌≡◌, ◌≤◌, ◌==◌, ◌||◌, ◌++◌, ◌⊎◌, ℕ, Bool, not, List, [], Option, Some, None, length, take}
+use Rattle.std.specs.Prelude.{drop, position, codes, nat_eq, nat_lt, option_map, if◌then◌else◌}
 use Rattle.std.specs.Char.{is_ascii_alphanumeric}
 use Rattle.std.specs.List.{AllPass, starts_with, before_first, after_first}
 use Rattle.std.specs.Option.{option_or}
@@ -23,7 +24,8 @@ is_bucket_byte byte = is_ascii_alphanumeric byte || byte == 46 || byte == 45 || 
 
 -- the first place in a bucket's name of a byte that none may have; 255 is such a place in a longer name
 abbrev pub bad_place : List ℕ → Option ℕ
-bad_place bucket = option_or (position (λ byte. not (is_bucket_byte byte)) (take 255 bucket)) (if nat_lt 255 (length bucket) then Some 255 else None)
+bad_place bucket = option_or (position (λ byte. not (is_bucket_byte byte)) (take 255 bucket))
+    (if nat_lt 255 (length bucket) then Some 255 else None)
 
 abbrev pub bucket_fault : List ℕ → Option UriFault
 bucket_fault [] = Some NoBucket
@@ -34,7 +36,9 @@ key_fault key = if nat_lt 1024 (length key) then Some (LongKey (length key)) els
 
 -- the first rule that a text breaks
 abbrev pub uri_fault : List ℕ → Option UriFault
-uri_fault text = if starts_with nat_eq text (codes "s3://") then option_or (bucket_fault (bucket_in text)) (key_fault (key_in text)) else Some NotS3
+uri_fault text =
+    if starts_with nat_eq text (codes "s3://") then option_or (bucket_fault (bucket_in text)) (key_fault (key_in text))
+    else Some NotS3
 
 -- how a bucket and a key are written as one text
 abbrev pub uri_text : List ℕ → List ℕ → List ℕ

@@ -2,7 +2,16 @@
 
 ghost use Rattle.std.specs.Prelude.{◌≡◌, ◌≢◌, OnOk, IfOk, IfErr, Some, None};
 ghost use Rattle.std.specs.List.{list_all};
-ghost use Rattle.s3_paths.specs.Endpoints.{IsEndpoint, is_host_byte, is_host, host_of, port_number, port_of, authority_in, endpoint_fault};
+ghost use Rattle.s3_paths.specs.Endpoints.{
+  IsEndpoint,
+  is_host_byte,
+  is_host,
+  host_of,
+  port_number,
+  port_of,
+  authority_in,
+  endpoint_fault,
+};
 
 use crate::uris::split_at_slash;
 use s3_model::{Endpoint, EndpointFault, Text};

@@ -2,7 +2,18 @@
 
 ghost use Rattle.std.specs.Prelude.{◌≡◌, ◌≢◌, OnOk, IfOk, IfErr, Some, None, Contains, drop, position, not};
 ghost use Rattle.std.specs.List.{before_first, after_first};
-ghost use Rattle.s3_paths.specs.Uris.{IsUri, is_slash, is_bucket_byte, bad_place, bucket_fault, key_fault, uri_fault, bucket_in, key_in, uri_text};
+ghost use Rattle.s3_paths.specs.Uris.{
+  IsUri,
+  is_slash,
+  is_bucket_byte,
+  bad_place,
+  bucket_fault,
+  key_fault,
+  uri_fault,
+  bucket_in,
+  key_in,
+  uri_text,
+};
 
 use s3_model::{OutOfMemory, Text, UriFault};
 use std::alloc::Global;
