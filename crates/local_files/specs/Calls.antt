@@ -1,5 +1,6 @@
 -- Calls that change local files, with their answers: what each makes of the files, and what it leaves where it failed.
-use Rattle.std.specs.Prelude.{◌≡◌, ◌≢◌, ◌⊎◌, ◌+◌, ◌-◌, ◌++◌, ◌==◌, ℕ, Bool, true, false, List, [], ◌∷◌, Option, Some, None, Result, Ok, length, take, drop, replicate, if◌then◌else◌}
+use Rattle.std.specs.Prelude.{◌≡◌, ◌≢◌, ◌⊎◌, ◌+◌, ◌-◌, ◌++◌, ◌==◌, ℕ, Bool, true, false, List, [], ◌∷◌, Option, Some}
+use Rattle.std.specs.Prelude.{None, Result, Ok, length, take, drop, replicate, if◌then◌else◌}
 use Rattle.std.specs.FinMap.{get, insert, remove}
 use Rattle.std.specs.List.{list_any}
 use Rattle.s3_model.specs.Files.{HeldFile}
