@@ -17,6 +17,7 @@ use Rattle.run_promise.specs.Dispatches.{Dispatched}
 use Rattle.run_promise.specs.Endings.{Excused, HasContent}
 use Rattle.run_promise.specs.Schedule.{Setting, is_small}
 use Rattle.run_promise.specs.Traces.{Step, states}
+use Rattle.run_promise.specs.Runs.{Run}
 use Rattle.local_files.specs.Calls.{Call, DropTemp, IsCallRun, IsTempFor, Leads, MakeTemp, Remove, Rename, Stamp, WriteAt}
 use Rattle.world_laws.specs.Tasks.{HasSourceObject, IsScheduled, IsTraceOf}
 use Rattle.shared_lemmas.proofs.Clashes.{some_is}
@@ -360,6 +361,12 @@ module _ (Shows : Ask → ℕ → Talk → Class → List ℕ → Type 0) (s : S
         by (Free e freed) = inl e
         by (Left excuse m other freed) = inr excuse
 
+-- a trace of a run is one of the run with the same dispatched requests
+pub traced_as : (Shows : Ask → ℕ → Talk → Class → List ℕ → Type 0) (s : Setting) (over : Run) (dispatched : List Dispatched) → over.dispatched ≡ dispatched → IsTraceOf Shows s over
+    → IsTraceOf Shows s (record { start = over.start; trace = over.trace; journal = over.journal; dispatched = dispatched })
+traced_as Shows s over dispatched same traced =
+    subst (λ (all : List Dispatched). IsTraceOf Shows s (record { start = over.start; trace = over.trace; journal = over.journal; dispatched = all })) same traced
+
 module _ (Shows : Ask → ℕ → Talk → Class → List ℕ → Type 0) where
   pub file_is_kept_safe : FileIsKeptSafe Shows
   file_is_kept_safe run a n task path to load = record {
@@ -370,5 +377,6 @@ module _ (Shows : Ask → ℕ → Talk → Class → List ℕ → Type 0) where
   }
 
   pub file_is_downloaded : FileIsDownloaded Shows
-  file_is_downloaded run start trace journal a r traced n task path to load source =
-      new_from Shows run.setting run.excused run.dispatched run.coming run.calls a n task path to.0 load to.1 start trace journal r traced source
+  file_is_downloaded run over same a r traced n task path to load source =
+      new_from Shows run.setting run.excused run.dispatched run.coming run.calls a n task path to.0 load to.1 over.start over.trace over.journal r
+      (traced_as Shows run.setting over run.dispatched same traced) source

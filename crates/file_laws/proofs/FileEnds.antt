@@ -179,10 +179,12 @@ module _ (Shows : Ask → ℕ → Talk → Class → List ℕ → Type 0) (HasSt
 
 module _ (Shows : Ask → ℕ → Talk → Class → List ℕ → Type 0) (HasStatus : Ask → ℕ → Talk → ℕ → Type 0) (CallFailed : ℕ → Cause → Type 0) where
   pub file_task_ends : FileTaskEnds Shows HasStatus CallFailed
-  file_task_ends run start trace part journal a r traced whole n task how is_task by source is shown = elim by.decided [
-    | inl load ↦ download_ends Shows HasStatus CallFailed run.setting run.excused run.dispatched run.coming run.calls start trace part journal a r traced whole n task is_task by.path by.is_dest load (by.from load) how
+  file_task_ends run over part same a r traced whole n task how is_task by source is shown = elim by.decided [
+    | inl load ↦ download_ends Shows HasStatus CallFailed run.setting run.excused run.dispatched run.coming run.calls over.start over.trace part over.journal a r
+        (downloads.traced_as Shows run.setting over run.dispatched same traced) whole n task is_task by.path by.is_dest load (by.from load) how
         (λ new. source new load) is (subst (λ (k : Kind). IsShownByCalls how (IsDestChanged k run.calls n) (HasFailedAct run.calls n)) load shown)
-    | inr removal ↦ removal_ends Shows HasStatus CallFailed run.setting run.excused run.dispatched run.coming run.calls start trace part journal a r traced whole n task is_task by.path by.is_dest removal (by.keeps removal) how is
+    | inr removal ↦ removal_ends Shows HasStatus CallFailed run.setting run.excused run.dispatched run.coming run.calls over.start over.trace part over.journal a r
+        (downloads.traced_as Shows run.setting over run.dispatched same traced) whole n task is_task by.path by.is_dest removal (by.keeps removal) how is
         (subst (λ (k : Kind). IsShownByCalls how (IsDestChanged k run.calls n) (HasFailedAct run.calls n)) removal shown)
   ]
 

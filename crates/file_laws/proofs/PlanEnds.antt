@@ -80,7 +80,7 @@ module _ (Shows : Ask → ℕ → Talk → Class → List ℕ → Type 0) (HasSt
     by_files : (n : ℕ) (task : Task) (how : Outcome) → slice_get shown.setting.tasks n ≡ Some task → slice_get shown.outcomes n ≡ Some how → IsByFiles task → Ends n task how shown.held_after
     by_files n task how is_task at_how by =
         subst (Ends n task how) (sym o.held_after)
-        (file_task_ends Shows HasStatus CallFailed (run_shown shown dispatched coming calls) start trace part shown.journal o.over_files
+        (file_task_ends Shows HasStatus CallFailed (run_shown shown dispatched coming calls) run part refl o.over_files
         (promises.scheduled Shows HasStatus Plans CallFailed request_text host port shown dispatched coming o.over_wires) of_trace whole n task how is_task by
         (λ may load. subst (HasPlannedSource shown.setting (states start trace) task) load (o.sources run refl of_shown n task how is_task at_how may))
         (o.over_wires.causes n task how is_task at_how) (o.decided n task how is_task at_how by))

@@ -3,7 +3,6 @@ use Rattle.std.specs.Prelude.{◌≡◌, ◌⊎◌, ℕ, false, List, Some, Err,
 use Rattle.s3_model.specs.declared.answers.Class.{Class}
 use Rattle.s3_model.specs.declared.outcomes.Cause.{Cause}
 use Rattle.s3_model.specs.declared.outcomes.Cause.TheVariants as cause
-use Rattle.s3_model.specs.declared.outcomes.Event.{Event}
 use Rattle.s3_model.specs.declared.outcomes.FileCall.{FileCall}
 use Rattle.s3_model.specs.declared.outcomes.FileCall.TheVariants as call
 use Rattle.s3_model.specs.declared.outcomes.Outcome.{Outcome}
@@ -14,17 +13,16 @@ use Rattle.s3_model.specs.declared.tasks.Kind.{Kind}
 use Rattle.s3_model.specs.declared.tasks.Kind.TheVariants as kind
 use Rattle.s3_model.specs.declared.tasks.Task.{Task}
 use Rattle.s3_model.specs.Talks.{Talk}
-use Rattle.s3_service.specs.ServiceState.{State}
 use Rattle.run_promise.specs.Dispatches.{Dispatched}
 use Rattle.run_promise.specs.Endings.{IsEnded}
 use Rattle.run_promise.specs.Outcomes.{HasOutcome}
-use Rattle.run_promise.specs.Traces.{Step, states}
+use Rattle.run_promise.specs.Traces.{Step}
 use Rattle.run_promise.specs.Truthful.{OtherFilesStay, Shown}
-use Rattle.run_promise.specs.Runs.{HasJournal}
+use Rattle.run_promise.specs.Runs.{HasEndedBy, Run, moments}
 use Rattle.local_files.specs.Calls.{Blocked, Call, Failed, MakeTemp, Remove, Rename, WriteAt}
 use Rattle.world_laws.specs.Promises.{AreFilesLeft, IsFileLeft}
 use Rattle.world_laws.specs.Tasks.{HasSourceObject, IsScheduled, IsTraceOf, MayBeNew, scene_after, scene_before}
-use Rattle.file_laws.specs.FileLaws.{AreCalls, FileRun, with_trace}
+use Rattle.file_laws.specs.FileLaws.{AreCalls, FileRun}
 use Rattle.file_laws.specs.FileTasks.{IsMoveOf, IsRemoved, IsRenamed, TaskCall, files_after}
 
 -- a task that calls on files decide: a download of an object, or the removal of a file, which moves nothing
@@ -132,15 +130,12 @@ module _ (Shows : Ask → ℕ → Talk → Class → List ℕ → Type 0) where
     -- its jobs and its calls show.
     -- The source of a download is to be as planned only where its destination may be new.
     abbrev pub FileTaskEnds : Type 0
-    FileTaskEnds = (run : FileRun) (start : State) (trace part : List Step) (journal : List Event)
-        → AreCalls Shows run → IsScheduled Shows run.setting journal run.dispatched run.coming
-        → IsTraceOf Shows run.setting (with_trace run journal start trace)
-        → HasJournal journal trace part → (n : ℕ) (task : Task) (how : Outcome)
+    FileTaskEnds = (run : FileRun) (over : Run) (part : List Step) → over.dispatched ≡ run.dispatched
+        → AreCalls Shows run → IsScheduled Shows run.setting over.journal run.dispatched run.coming
+        → IsTraceOf Shows run.setting over → HasEndedBy over part → (n : ℕ) (task : Task) (how : Outcome)
         → slice_get run.setting.tasks n ≡ Some task → IsByFiles task
-        → (MayBeNew how → task.kind ≡ kind.Download → HasSourceObject (states start trace) task)
+        → (MayBeNew how → task.kind ≡ kind.Download → HasSourceObject (moments over) task)
         → HasOutcome Shows HasStatus CallFailed run.setting run.dispatched run.coming n task how
         → IsShownByCalls how (IsDestChanged task.kind run.calls n) (HasFailedAct run.calls n)
-        → IsEnded run.excused (with_trace run journal start trace)
-        (scene_before run.setting (with_trace run journal start trace))
-        (scene_after run.setting (files_after run.setting.held run.calls) (with_trace run journal start trace) part)
-        n task how
+        → IsEnded run.excused over (scene_before run.setting over)
+        (scene_after run.setting (files_after run.setting.held run.calls) over part) n task how

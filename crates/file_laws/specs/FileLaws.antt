@@ -12,10 +12,10 @@ use Rattle.s3_service.specs.ServiceState.{State}
 use Rattle.run_promise.specs.Dispatches.{Dispatched}
 use Rattle.run_promise.specs.Endings.{Excused, HasContent, IsLeft, IsUntimed}
 use Rattle.run_promise.specs.Schedule.{Setting}
-use Rattle.run_promise.specs.Traces.{Step, states}
+use Rattle.run_promise.specs.Traces.{Step}
 use Rattle.run_promise.specs.Truthful.{IsTouchedFile}
 use Rattle.local_files.specs.Calls.{IsCallRun, WriteAt}
-use Rattle.run_promise.specs.Runs.{Run}
+use Rattle.run_promise.specs.Runs.{Run, moments}
 use Rattle.world_laws.specs.Tasks.{HasSourceObject, IsScheduled, IsTraceOf}
 use Rattle.file_laws.specs.FileTasks.{AreFileCalls, AreFilesApart, HasFailedDrop, HasFailedStamp, IsDecidedBefore}
 use Rattle.file_laws.specs.FileTasks.{IsMade, IsMoveOf, IsRemoved, IsRenamed, IsTaskTo, TaskCall, files_after, steps_of}
@@ -127,12 +127,9 @@ module _ (Shows : Ask → ℕ → Talk → Class → List ℕ → Type 0) where
   FileIsKeptSafe = (run : FileRun) → AreCalls run → (n : ℕ) (task : Task) (path : List ℕ)
       → IsTaskTo run.setting.tasks n task path → task.kind ≡ kind.Download → IsKeptSafe run n task path
 
-  -- Over every honest trace, what is renamed has the content of its source.
+  -- Over every honest trace of the same dispatched requests, what is renamed has the content of its source.
   abbrev pub FileIsDownloaded : Type 0
-  FileIsDownloaded = (run : FileRun) (start : State) (trace : List Step) (journal : List Event)
-      → AreCalls run
-      → IsScheduled Shows run.setting journal run.dispatched run.coming
-      → IsTraceOf Shows run.setting (with_trace run journal start trace)
+  FileIsDownloaded = (run : FileRun) (over : Run) → over.dispatched ≡ run.dispatched → AreCalls run
+      → IsScheduled Shows run.setting over.journal run.dispatched run.coming → IsTraceOf Shows run.setting over
       → (n : ℕ) (task : Task) (path : List ℕ) → IsTaskTo run.setting.tasks n task path → task.kind ≡ kind.Download
-      → HasSourceObject (states start trace) task
-      → IsDownloaded run (states start trace) n task path
+      → HasSourceObject (moments over) task → IsDownloaded run (moments over) n task path
