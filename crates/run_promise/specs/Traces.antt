@@ -135,16 +135,17 @@ abbrev pub IsRefusedAsTaken : Bool → State → (bucket key code : List ℕ) �
 IsRefusedAsTaken fresh t bucket key code =
     fresh ≡ true → IsSome (object_at t bucket key) → is_listed taken_codes code ≡ true
 
-abbrev pub SaysTaken : State → Ask → (code : List ℕ) → Type 0
-SaysTaken t (ask.Put bucket key content fresh) code = IsRefusedAsTaken fresh t bucket key code
-SaysTaken t (ask.Complete bucket key id etags fresh) code = IsRefusedAsTaken fresh t bucket key code
-SaysTaken t asked code = Unit {0}
+-- what a Put and a Complete that are not to replace an object are refused with, where it is there
+abbrev pub SaysIfThere : State → Ask → (code : List ℕ) → Type 0
+SaysIfThere t (ask.Put bucket key content fresh) code = IsRefusedAsTaken fresh t bucket key code
+SaysIfThere t (ask.Complete bucket key id etags fresh) code = IsRefusedAsTaken fresh t bucket key code
+SaysIfThere t asked code = Unit {0}
 
 -- What may succeed does, and a Get with a range is not answered with the whole.
 abbrev pub IsWillingAt : Limits → State → TraceEvent → Type 0
 IsWillingAt limits old (Serve sent (Refused code)) =
     ((answered : Reply) (bytes : List ℕ) (new : State) → ¬ (Succeeds limits old sent.ask sent.body answered bytes new))
-    × SaysTaken old sent.ask code
+    × SaysIfThere old sent.ask code
 IsWillingAt limits old (Serve sent (Replied answered bytes)) = HasRange sent.ask → ¬ (IsWholeObject answered)
 IsWillingAt limits old (Given job lane) = Unit {0}
 IsWillingAt limits old (Begin lane sent) = Unit {0}

@@ -43,7 +43,7 @@ use Rattle.run_promise.specs.Dispatches.{Attempt, Dispatched, FitsAsk, last_of, 
 use Rattle.run_promise.specs.Fits.{request_at}
 use Rattle.run_promise.specs.Outcomes.{HasMark, IsDecidedByRequest, deciding}
 use Rattle.run_promise.specs.Schedule.{Setting, Gained, IsFailed, IsObject, IsSource, IsTaskAsk, Known, Target, gained_before, is_small, job_of, source_bytes, HasReply, IsBefore, IsPart, IsUpload, asked_range, bytes_of}
-use Rattle.run_promise.specs.Traces.{Step, IsTrace, IsWilling, SaysTaken, state_after, events_of, event_of, states}
+use Rattle.run_promise.specs.Traces.{Step, IsTrace, IsWilling, SaysIfThere, state_after, events_of, event_of, states}
 use Rattle.run_promise.specs.Truthful.{Shown, AreCertain, HasDestBuckets, IsAlone, MayBeFresh}
 use Rattle.shared_lemmas.proofs.Clashes.{none_is_some, some_is, true_is_false}
 use Rattle.shared_lemmas.proofs.Maps.{found_in_empty}
@@ -591,7 +591,7 @@ module _ (Shows : Ask → ℕ → Talk → Class → List ℕ → Type 0) (HasSt
               let met = vacant_or_taken all.to (λ vacant.
               possible.complete_possible s.limits old c.ask c.body all.to.bucket all.to.key all.id (record { items = all.etags; spare = all.spare }) task.fresh open_here.upload whole.0 all.asks
               (open_to all.to all.id open_here.upload open_here.is_open) vacant whole.1 vain) in
-              (met.0, subst (λ (a : Ask). SaysTaken old a code) all.asks there.says_taken met.0 met.1)
+              (met.0, subst (λ (a : Ask). SaysIfThere old a code) all.asks there.says_taken met.0 met.1)
 
         -- an Abort finds its upload open
         abort_here : c.dispatch.job ≡ job_of n op.Abort 0 → (to : Target task) (id : List ℕ) → IsUpload (Gains c.dispatch.given_at) n id → c.ask ≡ ask.Abort to.bucket to.key id → ⊥
@@ -614,7 +614,7 @@ module _ (Shows : Ask → ℕ → Talk → Class → List ℕ → Type 0) (HasSt
         is_taken kind.Upload true op.Put is_kind is_size is_op row =
             let to = row.0 in
             let met = vacant_or_taken to (λ vacant. possible.put_possible s.limits old c.ask c.body to.bucket to.key task.content task.fresh row.2 (dest_bucket to there.front (there.step ∷ there.back) there.is) vacant vain) in
-            (met.0, is_kind, decides kind.Upload true is_kind is_size is_op row.1, subst (λ (a : Ask). SaysTaken old a code) row.2 there.says_taken met.0 met.1)
+            (met.0, is_kind, decides kind.Upload true is_kind is_size is_op row.1, subst (λ (a : Ask). SaysIfThere old a code) row.2 there.says_taken met.0 met.1)
         is_taken kind.Copy true op.Copy is_kind is_size is_op row =
             let from = row.1 in
             let is_job = decides kind.Copy true is_kind is_size is_op row.2 in

@@ -11,7 +11,7 @@ use Rattle.s3_model.specs.Talks.{Talk}
 use Rattle.s3_service.specs.ServiceState.{State}
 use Rattle.s3_service.specs.Serves.{Answer, Refused, Succeeds}
 use Rattle.run_promise.specs.Dispatches.{Attempt, Dispatched}
-use Rattle.run_promise.specs.Traces.{Step, TraceEvent, Serve, Came, IsTrace, IsWilling, IsWillingAt, SaysTaken, state_after, events_of, event_of}
+use Rattle.run_promise.specs.Traces.{Step, TraceEvent, Serve, Came, IsTrace, IsWilling, IsWillingAt, SaysIfThere, state_after, events_of, event_of}
 use Rattle.run_promise.specs.Fits.{Fits, request_at}
 use Rattle.world_laws.specs.Premises.{HasCome}
 use Rattle.shared_lemmas.proofs.Lists.{head_is, tail_is}
@@ -40,7 +40,7 @@ pub record IsRefusedEarly (limits : Limits) (start : State) (trace : List Step) 
   pub number : ℕ
   pub is_event : step.event ≡ Serve (request_at c number) (Refused code)
   pub in_vain : (answered : Reply) (bytes : List ℕ) (new : State) → ¬ (Succeeds limits (state_after start front) c.ask c.body answered bytes new)
-  pub says_taken : SaysTaken (state_after start front) c.ask code
+  pub says_taken : SaysIfThere (state_after start front) c.ask code
   pub early : reached front ≤ place
 
 -- a trace is split where its events are
