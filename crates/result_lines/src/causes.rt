@@ -1,7 +1,15 @@
 //! The texts of causes.
 
 ghost use Rattle.std.specs.Prelude.{◌≡◌, ◌++◌, IfOk, []};
-ghost use Rattle.result_lines.specs.Causes.{IsShown, call_name, cause_text, front_within, op_name, reason_text, why_text};
+ghost use Rattle.result_lines.specs.Causes.{
+  IsShown,
+  call_name,
+  cause_text,
+  front_within,
+  op_name,
+  reason_text,
+  why_text,
+};
 
 use s3_model::{Cause, FileCall, Op, OutOfMemory, Reason, Text, Why};
 use std::alloc::Global;
@@ -28,10 +36,7 @@ fn op_name(op: Op) -> &'static str
 fn status_text(alloc: Global, status: u16) -> Result<Text, OutOfMemory>
     ensures { IfOk result (λ text. text ≡ why_text (Why.Status status)) }
 {
-    match format!(in alloc; "status {status}") {
-        Ok(text) => Ok(Text::from(text)),
-        Err(_) => Err(OutOfMemory),
-    }
+    Ok(Text::from(format!(in alloc; "status {status}")?))
 }
 
 fn why_text(alloc: Global, why: Why) -> Result<Text, OutOfMemory>

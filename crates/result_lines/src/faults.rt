@@ -2,7 +2,22 @@
 
 ghost use Rattle.std.specs.Prelude.{◌≡◌, ◌++◌, IfOk, [], codes, map, string_bytes};
 ghost use Rattle.result_lines.specs.Causes.{IsShown, cause_text};
-ghost use Rattle.result_lines.specs.Faults.{IsListingFault, IsPlanFault, IsWalkFault, fatal_line, file_name, listing_text, memory_line, plan_text, profile_text, program_line, unread_line, walk_text, word_at, word_text};
+ghost use Rattle.result_lines.specs.Faults.{
+  IsListingFault,
+  IsPlanFault,
+  IsWalkFault,
+  fatal_line,
+  file_name,
+  listing_text,
+  memory_line,
+  plan_text,
+  profile_text,
+  program_line,
+  unread_line,
+  walk_text,
+  word_at,
+  word_text,
+};
 
 use crate::causes::cause_text;
 use crate::lines::{four_in_line, number, three_in_line, two_in_line};

@@ -9,10 +9,7 @@ use std::alloc::Global;
 pub(crate) fn number(alloc: Global, n: u64) -> Result<Text, OutOfMemory>
     ensures { IfOk result (λ text. text ≡ decimal n) }
 {
-    match format!(in alloc; "{n}") {
-        Ok(text) => Ok(Text::from(text)),
-        Err(_) => Err(OutOfMemory),
-    }
+    Ok(Text::from(format!(in alloc; "{n}")?))
 }
 
 pub(crate) fn two_in_line<'a>(

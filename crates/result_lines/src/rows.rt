@@ -1,7 +1,16 @@
 //! The rows of `ls`.
 
 ghost use Rattle.std.specs.Prelude.{◌≡◌, ◌<◌, ◌++◌, ◌/◌, ◌%◌, ◌^◌, IfOk, codes, decimal};
-ghost use Rattle.result_lines.specs.Rows.{IsBucketRow, IsRow, IsTimed, clock_text, date_text, in_digits, prefix_row, right_in};
+ghost use Rattle.result_lines.specs.Rows.{
+  IsBucketRow,
+  IsRow,
+  IsTimed,
+  clock_text,
+  date_text,
+  in_digits,
+  prefix_row,
+  right_in,
+};
 
 use jiff_core::civil::Date;
 use s3_model::{Entry, OutOfMemory, Text};
@@ -18,20 +27,14 @@ const EPOCH: u32 = 4_371_587;
 fn two_digits(alloc: Global, n: u32) -> Result<Text, OutOfMemory>
     ensures { IfOk result (λ text. text ≡ in_digits 2 n) }
 {
-    match format!(in alloc; "{n:02}") {
-        Ok(text) => Ok(Text::from(text)),
-        Err(_) => Err(OutOfMemory),
-    }
+    Ok(Text::from(format!(in alloc; "{n:02}")?))
 }
 
 #[tactic(auto, using(crate::proofs::PaddingLemmas::zeros))]
 fn four_digits(alloc: Global, n: u32) -> Result<Text, OutOfMemory>
     ensures { IfOk result (λ text. text ≡ in_digits 4 n) }
 {
-    match format!(in alloc; "{n:04}") {
-        Ok(text) => Ok(Text::from(text)),
-        Err(_) => Err(OutOfMemory),
-    }
+    Ok(Text::from(format!(in alloc; "{n:04}")?))
 }
 
 fn date_text(alloc: Global, year: u16, month: u8, day: u8) -> Result<Text, OutOfMemory>
@@ -96,10 +99,7 @@ fn timed_row(alloc: Global, micros: u64, rest: &str) -> Result<Text, OutOfMemory
 fn size_text(alloc: Global, size: u64) -> Result<Text, OutOfMemory>
     ensures { IfOk result (λ text. text ≡ right_in 10 32 (decimal size)) }
 {
-    match format!(in alloc; "{size:>10}") {
-        Ok(text) => Ok(Text::from(text)),
-        Err(_) => Err(OutOfMemory),
-    }
+    Ok(Text::from(format!(in alloc; "{size:>10}")?))
 }
 
 /// The row of an object under that name, as the AWS CLI prints it: its time in UTC, its size right in 10 places, its

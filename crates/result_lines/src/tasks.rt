@@ -3,7 +3,22 @@
 ghost use Rattle.std.specs.Prelude.{◌≡◌, ◌++◌, IfOk, codes};
 ghost use Rattle.std.specs.List.{list_any};
 ghost use Rattle.result_lines.specs.Causes.{IsShown, cause_text};
-ghost use Rattle.result_lines.specs.Tasks.{HasShownCause, HasSource, goes_to_err, is_left_out, is_no_error, is_removal, is_unfinished, kind_verb, line_of, names, place_text, status_of, task_text, verb};
+ghost use Rattle.result_lines.specs.Tasks.{
+  HasShownCause,
+  HasSource,
+  goes_to_err,
+  is_left_out,
+  is_no_error,
+  is_removal,
+  is_unfinished,
+  kind_verb,
+  line_of,
+  names,
+  place_text,
+  status_of,
+  task_text,
+  verb,
+};
 
 use crate::causes::cause_text;
 use s3_model::{Cause, Kind, Mode, OutOfMemory, Outcome, Outcomes, Place, Task, Text};
