@@ -1,5 +1,7 @@
--- What an answer is: a relation between all bytes that came, how the talk ended, and what was answered (RFC 9112, section 2.1).
-use Rattle.std.specs.Prelude.{◌≡◌, ◌≢◌, ℕ, ◌≤◌, Bool, true, false, ◌&&◌, nat_le, nat_lt, List, [], ◌++◌, length, Option, unwrap_or, is_some, if◌then◌else◌, ⊤, codes}
+-- What an answer is: a relation between all bytes that came, how the talk ended, and what was answered (RFC 9112,
+-- section 2.1).
+use Rattle.std.specs.Prelude.{◌≡◌, ◌≢◌, ℕ, ◌≤◌, Bool, true, false, ◌&&◌, nat_le, nat_lt, List, [], ◌++◌, length, Option}
+use Rattle.std.specs.Prelude.{unwrap_or, is_some, if◌then◌else◌, ⊤, codes}
 use Rattle.httparse.specs.Grammar.{ResponseHead, status_code}
 use Rattle.s3_model.specs.Talks.{Ending, Closed, Failed}
 use Rattle.s3_model.specs.Lists.{Buffer}
@@ -9,7 +11,8 @@ use Rattle.s3_model.specs.declared.answers.Why.TheVariants as why
 use Rattle.answer_grammar.specs.declared.framing.Framing.{Framing}
 use Rattle.answer_grammar.specs.declared.framing.Framing.TheVariants as framing
 use Rattle.answer_grammar.specs.Chunks.{ReadsChunks}
-use Rattle.answer_grammar.specs.Head.{ReadsHead, IsFramed, header_lines, first_named, etag_of, micros_of, HasRange, may_keep}
+use Rattle.answer_grammar.specs.Head.{ReadsHead, IsFramed, header_lines, first_named, etag_of, micros_of, HasRange}
+use Rattle.answer_grammar.specs.Head.{may_keep}
 
 -- these bytes stand at the front, and others may stand behind
 abbrev pub Begins : List ℕ → List ℕ → Type 0
@@ -40,7 +43,8 @@ pub record Describes (head_only : Bool) (head : ResponseHead) (framed : Framing)
   pub keep : answered.keep ≡ may_keep head framed
 
 -- The bytes are a head and its body, and what stands behind them counts for nothing.
-pub record IsAnswer (head_only : Bool) (limit : Option ℕ) (got : List ℕ) (ending : Ending) (answered : Answered) (body behind : List ℕ) : Type 0 where
+pub record IsAnswer (head_only : Bool) (limit : Option ℕ) (got : List ℕ) (ending : Ending) (answered : Answered)
+    (body behind : List ℕ) : Type 0 where
   pub head : ResponseHead
   pub rest : List ℕ
   pub reads : ReadsHead got head rest
@@ -53,7 +57,8 @@ pub record IsAnswer (head_only : Bool) (limit : Option ℕ) (got : List ℕ) (en
 
 -- the bytes are this answer with this body, whatever stands behind it
 abbrev pub HasAnswer : Bool → Option ℕ → List ℕ → Ending → Answered → List ℕ → Type 0
-HasAnswer head_only limit got ending answered body = (behind : List ℕ) × IsAnswer head_only limit got ending answered body behind
+HasAnswer head_only limit got ending answered body =
+    (behind : List ℕ) × IsAnswer head_only limit got ending answered body behind
 
 -- the breaks that a talk can have
 abbrev pub IsOfTalk : Why → Type 0

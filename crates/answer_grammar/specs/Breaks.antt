@@ -1,6 +1,7 @@
 -- Why bytes are no answer: a relation between all bytes that came, how the talk ended, and the one reason.
 use Rattle.std.specs.Prelude.{◌≡◌, ◌≢◌, ◌⊎◌, ℕ, ◌<◌, ◌≤◌, Bool, List, [], length, take, Option}
-use Rattle.httparse.specs.Grammar.{ResponseHead, print_response, status_code, ReadsResponse, HasNoResponse, NeverHasResponse, MayBecomeResponse}
+use Rattle.httparse.specs.Grammar.{ResponseHead, print_response, status_code, ReadsResponse, HasNoResponse}
+use Rattle.httparse.specs.Grammar.{NeverHasResponse, MayBecomeResponse}
 use Rattle.s3_model.specs.Talks.{Ending, Closed, Failed, Finished}
 use Rattle.s3_model.specs.declared.answers.Answered.{Answered}
 use Rattle.s3_model.specs.declared.answers.Why.{Why}
@@ -28,7 +29,8 @@ pub record HasUnfitHead (got : List ℕ) : Type 0 where
 pub data BreaksHead (got : List ℕ) (ending : Ending) (reason : Why) : Type 0 where
   no_head : NeverHasResponse (take 65_536 got) → reason ≡ why.NotHttp → BreaksHead got ending reason
   unfit : HasUnfitHead got → reason ≡ why.NotHttp → BreaksHead got ending reason
-  too_long : 65_536 ≤ length got → BeginsHead (take 65_536 got) → reason ≡ why.HeadTooLong → BreaksHead got ending reason
+  too_long : 65_536 ≤ length got → BeginsHead (take 65_536 got) → reason ≡ why.HeadTooLong
+      → BreaksHead got ending reason
   cut : length got < 65_536 → BeginsHead got → ending ≡ Closed → reason ≡ why.EndedEarly → BreaksHead got ending reason
 
 -- the header lines state no one end of the body (RFC 9112, section 6.3)
@@ -39,21 +41,26 @@ HasNoFraming head_only head = (stated : Option ℕ) (framed : Framing) → ¬ (I
 abbrev pub BreaksBody : Framing → ℕ → List ℕ → Ending → Why → Type 0
 BreaksBody framing.NoBody limit rest ending reason = ⊥
 BreaksBody (framing.Length n) limit rest ending reason =
-    ((limit < n) × (reason ≡ why.BodyTooLong limit)) ⊎ ((n ≤ limit) × (length rest < n) × (ending ≡ Closed) × (reason ≡ why.EndedEarly))
+    ((limit < n) × (reason ≡ why.BodyTooLong limit))
+    ⊎ ((n ≤ limit) × (length rest < n) × (ending ≡ Closed) × (reason ≡ why.EndedEarly))
 BreaksBody framing.Chunked limit rest ending reason = BreaksChunks limit rest ending reason
 BreaksBody framing.ToClose limit rest ending reason = (limit < length rest) × (reason ≡ why.BodyTooLong limit)
 
 -- the bytes break off in the head, in what its lines say, or in the body
 pub data Breaks (head_only : Bool) (limit : Option ℕ) (got : List ℕ) (ending : Ending) (reason : Why) : Type 0 where
   in_head : BreaksHead got ending reason → Breaks head_only limit got ending reason
-  in_lines : (head : ResponseHead) (rest : List ℕ) → ReadsHead got head rest → HasNoFraming head_only head → reason ≡ why.BadLength
+  in_lines : (head : ResponseHead) (rest : List ℕ) → ReadsHead got head rest → HasNoFraming head_only head
+      → reason ≡ why.BadLength
       → Breaks head_only limit got ending reason
-  in_body : (head : ResponseHead) (rest : List ℕ) (stated : Option ℕ) (framed : Framing) → ReadsHead got head rest → IsFramed head_only head stated framed
-      → BreaksBody framed (body_limit limit (status_code head)) rest ending reason → Breaks head_only limit got ending reason
+  in_body : (head : ResponseHead) (rest : List ℕ) (stated : Option ℕ) (framed : Framing) → ReadsHead got head rest
+      → IsFramed head_only head stated framed
+      → BreaksBody framed (body_limit limit (status_code head)) rest ending reason
+      → Breaks head_only limit got ending reason
 
 -- A call of the wire failed, or else the bytes break off.
 abbrev pub IsBreak : Bool → Option ℕ → List ℕ → Ending → Why → Type 0
-IsBreak head_only limit got ending reason = ((ending ≡ Failed) × (reason ≡ why.WireFailed)) ⊎ ((ending ≢ Failed) × Breaks head_only limit got ending reason)
+IsBreak head_only limit got ending reason =
+    ((ending ≡ Failed) × (reason ≡ why.WireFailed)) ⊎ ((ending ≢ Failed) × Breaks head_only limit got ending reason)
 
 -- ---- one end
 
@@ -63,12 +70,14 @@ pub data End : Type 0 where
   broken : Why → End
 
 abbrev pub EndsAs : Bool → Option ℕ → List ℕ → Ending → End → Type 0
-EndsAs head_only limit got ending (answer answered body behind) = IsAnswer head_only limit got ending answered body behind
+EndsAs head_only limit got ending (answer answered body behind) =
+    IsAnswer head_only limit got ending answered body behind
 EndsAs head_only limit got ending (broken reason) = IsBreak head_only limit got ending reason
 
 -- the same answer, wherever its body is held, or the same reason
 abbrev pub IsSameEnd : End → End → Type 0
-IsSameEnd (answer one body behind) (answer other same left) = (record one { body = other.body } ≡ other) × (body ≡ same) × (behind ≡ left)
+IsSameEnd (answer one body behind) (answer other same left) =
+    (record one { body = other.body } ≡ other) × (body ≡ same) × (behind ≡ left)
 IsSameEnd (broken reason) (broken other) = reason ≡ other
 IsSameEnd one other = ⊥
 
@@ -81,7 +90,8 @@ OneEnd = (head_only : Bool) (limit : Option ℕ) (got : List ℕ) (ending : Endi
 abbrev pub IsOpen : Bool → Option ℕ → List ℕ → Type 0
 IsOpen head_only limit got =
     IsBreak head_only limit got Closed why.EndedEarly
-    ⊎ ((answered : Answered) × (body : List ℕ) × (is : IsAnswer head_only limit got Closed answered body []) × (is.framed ≡ framing.ToClose))
+    ⊎ ((answered : Answered) × (body : List ℕ) × (is : IsAnswer head_only limit got Closed answered body [])
+    × (is.framed ≡ framing.ToClose))
 
 -- What is open has no end as long as the talk goes on: neither an answer nor a break, so more bytes have to come.
 abbrev pub NoEndYet : Type 0

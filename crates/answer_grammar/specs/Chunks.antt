@@ -1,6 +1,8 @@
 -- A chunked body (RFC 9112, section 7.1), and where one breaks off.
 use Rattle.std.specs.Prelude.{◌≡◌, ◌⊎◌, ℕ, ◌+◌, ◌<◌, ◌≤◌, List, ◌++◌, length, take, All, flat_map}
-use Rattle.httparse.specs.Grammar.{LineEnd, Field, ReadsSection, print_section, HasNoSection, NeverHasSection, MayBecomeSection, ChunkLine, IsChunkLine, print_chunk_line, chunk_size, HasNoChunkLine, NeverHasChunkLine, MayBecomeChunkLine}
+use Rattle.httparse.specs.Grammar.{LineEnd, Field, ReadsSection, print_section, HasNoSection, NeverHasSection}
+use Rattle.httparse.specs.Grammar.{MayBecomeSection, ChunkLine, IsChunkLine, print_chunk_line, chunk_size}
+use Rattle.httparse.specs.Grammar.{HasNoChunkLine, NeverHasChunkLine, MayBecomeChunkLine}
 use Rattle.httparse.specs.Ascii.{crlf_bytes}
 use Rattle.s3_model.specs.Talks.{Ending, Closed}
 use Rattle.s3_model.specs.declared.answers.Why.{Why}
@@ -61,7 +63,8 @@ pub record ReadsChunks (rest body behind : List ℕ) : Type 0 where
 
 -- the bytes can't be what is wanted, whatever follows; or they begin it, and the connection closed
 abbrev pub BreaksOff : (cannot_be begins : Type 0) → Ending → Why → Type 0
-BreaksOff cannot_be begins ending reason = (cannot_be × (reason ≡ why.BadChunk)) ⊎ (begins × (ending ≡ Closed) × (reason ≡ why.EndedEarly))
+BreaksOff cannot_be begins ending reason =
+    (cannot_be × (reason ≡ why.BadChunk)) ⊎ (begins × (ending ≡ Closed) × (reason ≡ why.EndedEarly))
 
 -- no chunk line begins so, or none ends within 1,024 bytes
 abbrev pub CannotBeSize : List ℕ → Type 0
@@ -74,7 +77,8 @@ pub record BeginsSize (after : List ℕ) : Type 0 where
 
 -- whatever follows, no CRLF stands behind so many bytes of content
 abbrev pub CannotBeContent : ℕ → List ℕ → Type 0
-CannotBeContent size after = (content more behind : List ℕ) → length content ≡ size → ¬ (after ++ more ≡ content ++ (crlf_bytes ++ behind))
+CannotBeContent size after =
+    (content more behind : List ℕ) → length content ≡ size → ¬ (after ++ more ≡ content ++ (crlf_bytes ++ behind))
 
 -- some bytes that are missing would make it content with its CRLF
 pub record BeginsContent (size : ℕ) (after : List ℕ) : Type 0 where
@@ -96,11 +100,14 @@ pub record BeginsTrailers (after : List ℕ) : Type 0 where
 -- what breaks off behind chunks that carry so many bytes
 pub data BreaksBehind (limit sum : ℕ) (after : List ℕ) (ending : Ending) (reason : Why) : Type 0 where
   in_size : BreaksOff (CannotBeSize after) (BeginsSize after) ending reason → BreaksBehind limit sum after ending reason
-  too_long : (size : ℕ) (behind : List ℕ) → HasSize after size behind → limit < sum + size → reason ≡ why.BodyTooLong limit
+  too_long : (size : ℕ) (behind : List ℕ) → HasSize after size behind → limit < sum + size
+      → reason ≡ why.BodyTooLong limit
       → BreaksBehind limit sum after ending reason
   in_content : (size : ℕ) (behind : List ℕ) → HasSize after size behind → 0 < size → sum + size ≤ limit
-      → BreaksOff (CannotBeContent size behind) (BeginsContent size behind) ending reason → BreaksBehind limit sum after ending reason
-  in_trailers : (behind : List ℕ) → HasSize after 0 behind → BreaksOff (CannotBeTrailers behind) (BeginsTrailers behind) ending reason
+      → BreaksOff (CannotBeContent size behind) (BeginsContent size behind) ending reason
+      → BreaksBehind limit sum after ending reason
+  in_trailers : (behind : List ℕ) → HasSize after 0 behind
+      → BreaksOff (CannotBeTrailers behind) (BeginsTrailers behind) ending reason
       → BreaksBehind limit sum after ending reason
 
 -- whole chunks within the limit, and behind them what breaks off

@@ -1,18 +1,22 @@
 -- The head of an answer (RFC 9112, sections 2 to 6), and what its header lines say.
-use Rattle.std.specs.Prelude.{◌≡◌, ℕ, ◌*◌, ◌≤◌, Bool, true, false, not, ◌&&◌, ◌||◌, ◌==◌, nat_le, List, [], ◌++◌, length, map, slice_get, Option, Some, None, option_map, option_and_then, if◌then◌else◌, codes, IsTrue}
+use Rattle.std.specs.Prelude.{◌≡◌, ℕ, ◌*◌, ◌≤◌, Bool, true, false, not, ◌&&◌, ◌||◌, ◌==◌, nat_le, List, [], ◌++◌}
+use Rattle.std.specs.Prelude.{length, map, slice_get, Option, Some, None, option_map, option_and_then, if◌then◌else◌}
+use Rattle.std.specs.Prelude.{codes, IsTrue}
 use Rattle.std.specs.List.{list_all}
 use Rattle.std.specs.Char.{is_ascii_graphic}
 use Rattle.std.specs.Str.Parse.{digits_value}
 use Rattle.httparse.specs.Grammar.{ResponseHead, ReadsResponse, print_response, status_code}
 use Rattle.httparse.specs.Spans.{name_and_value}
-use Rattle.http1.specs.Fields.{Header, is_number, values_named, elements_named, content_length, transfer_encoding, has_other_coding, has_option}
+use Rattle.http1.specs.Fields.{Header, is_number, values_named, elements_named, content_length, transfer_encoding}
+use Rattle.http1.specs.Fields.{has_other_coding, has_option}
 use Rattle.http1.specs.declared.fields.ContentLength.TheVariants as Length
 use Rattle.http1.specs.declared.fields.TransferEncoding.TheVariants as Coding
 use Rattle.httpdate.specs.Date.{parse_secs}
 use Rattle.answer_grammar.specs.declared.framing.Framing.{Framing}
 use Rattle.answer_grammar.specs.declared.framing.Framing.TheVariants as framing
 
--- A whole head stands at the front: of at most 65,536 bytes and 100 header lines, with a final status (RFC 9110, section 15).
+-- A whole head stands at the front: of at most 65,536 bytes and 100 header lines, with a final status (RFC 9110,
+-- section 15).
 pub record ReadsHead (got : List ℕ) (head : ResponseHead) (rest : List ℕ) : Type 0 where
   pub reads : ReadsResponse got head rest
   pub small : length (print_response head) ≤ 65_536
@@ -74,11 +78,13 @@ is_etag text = nat_le 1 (length text) && (nat_le (length text) 256 && list_all i
 
 -- the first entity tag (RFC 9110, section 8.8.3), where it is one of those
 abbrev pub etag_of : List Header → Option (List ℕ)
-etag_of headers = option_and_then (λ text. if is_etag text then Some text else None) (first_named (codes "etag") headers)
+etag_of headers =
+    option_and_then (λ text. if is_etag text then Some text else None) (first_named (codes "etag") headers)
 
 -- the first date of the last change (RFC 9110, section 8.8.2), in microseconds since 1970
 abbrev pub micros_of : List Header → Option ℕ
-micros_of headers = option_map (λ seconds. seconds * 1_000_000) (option_and_then parse_secs (first_named (codes "last-modified") headers))
+micros_of headers = option_map (λ seconds. seconds * 1_000_000)
+    (option_and_then parse_secs (first_named (codes "last-modified") headers))
 
 -- the text is `bytes first-last/size` (RFC 9110, section 14.4)
 pub record SpellsRange (text : List ℕ) (range : ℕ × ℕ × ℕ) : Type 0 where
@@ -104,4 +110,5 @@ ends_itself framing.ToClose = false
 
 -- the connection may serve another request (RFC 9112, section 9.3)
 abbrev pub may_keep : ResponseHead → Framing → Bool
-may_keep head framed = ends_itself framed && (head.minor == 1 && not (has_option (codes "close") (elements_named (codes "connection") (header_lines head))))
+may_keep head framed = ends_itself framed
+    && (head.minor == 1 && not (has_option (codes "close") (elements_named (codes "connection") (header_lines head))))

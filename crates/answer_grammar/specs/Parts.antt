@@ -1,5 +1,6 @@
 -- What the parts of the reader answer.
-use Rattle.std.specs.Prelude.{◌≡◌, ◌≢◌, ◌⊎◌, ℕ, ◌≤◌, Bool, true, false, not, ◌==◌, List, [], ◌∷◌, ◌++◌, length, drop, map, Option, Some, None, Result, Ok, Err, IfOk, codes}
+use Rattle.std.specs.Prelude.{◌≡◌, ◌≢◌, ◌⊎◌, ℕ, ◌≤◌, Bool, true, false, not, ◌==◌, List, [], ◌∷◌, ◌++◌, length, drop}
+use Rattle.std.specs.Prelude.{map, Option, Some, None, Result, Ok, Err, IfOk, codes}
 use Rattle.std.specs.List.{list_all}
 use Rattle.std.specs.Borrow.{Bor}
 use Rattle.httparse.specs.Grammar.{ResponseHead, NeverHasResponse}
@@ -13,7 +14,8 @@ use Rattle.answer_grammar.specs.declared.lines.Lines.{Lines}
 use Rattle.answer_grammar.specs.declared.head.Head.{Head}
 use Rattle.answer_grammar.specs.Answer.{Describes}
 use Rattle.answer_grammar.specs.Breaks.{BeginsHead, HasUnfitHead, HasNoFraming}
-use Rattle.answer_grammar.specs.Chunks.{HasSize, CannotBeSize, BeginsSize, HasTrailers, CannotBeTrailers, BeginsTrailers}
+use Rattle.answer_grammar.specs.Chunks.{HasSize, CannotBeSize, BeginsSize, HasTrailers, CannotBeTrailers}
+use Rattle.answer_grammar.specs.Chunks.{BeginsTrailers}
 use Rattle.answer_grammar.specs.Head.{ReadsHead, etag_of}
 
 -- names and values
@@ -54,13 +56,16 @@ pub record IsHeadAt (head_only : Bool) (got : List ℕ) (found : Head) : Type 0 
 pub data RefusesHead (head_only : Bool) (got : List ℕ) (reason : Why) : Type 0 where
   memory : reason ≡ why.Memory → RefusesHead head_only got reason
   not_http : NeverHasResponse got ⊎ HasUnfitHead got → reason ≡ why.NotHttp → RefusesHead head_only got reason
-  bad_length : (head : ResponseHead) (rest : List ℕ) → ReadsHead got head rest → HasNoFraming head_only head → reason ≡ why.BadLength
+  bad_length : (head : ResponseHead) (rest : List ℕ) → ReadsHead got head rest → HasNoFraming head_only head
+      → reason ≡ why.BadLength
       → RefusesHead head_only got reason
 
 -- what a whole head says, or why it says nothing
 abbrev pub SaysOf : Bool → ResponseHead → ℕ → Result Head Why → Type 0
-SaysOf head_only head len (Ok found) = (found.len ≡ len) × Describes head_only head found.framing found.answer × (found.answer.body.bytes ≡ [])
-SaysOf head_only head len (Err reason) = (reason ≡ why.Memory) ⊎ ((reason ≡ why.BadLength) × HasNoFraming head_only head)
+SaysOf head_only head len (Ok found) =
+    (found.len ≡ len) × Describes head_only head found.framing found.answer × (found.answer.body.bytes ≡ [])
+SaysOf head_only head len (Err reason) =
+    (reason ≡ why.Memory) ⊎ ((reason ≡ why.BadLength) × HasNoFraming head_only head)
 
 -- a head, the beginning of one, or why there is none
 abbrev pub ReadsStep : Bool → List ℕ → Result (Option Head) Why → Type 0

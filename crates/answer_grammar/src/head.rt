@@ -1,10 +1,38 @@
 //! Reading the head of an answer.
 
-ghost use Rattle.std.specs.Prelude.{◌≡◌, ◌≢◌, ℕ, ◌≤◌, ◌&&◌, ◌==◌, Bool, true, not, Option, None, length, codes, Ok, IfOk, IfErr, MatchResult};
+ghost use Rattle.std.specs.Prelude.{
+  ◌≡◌,
+  ◌≢◌,
+  ℕ,
+  ◌≤◌,
+  ◌&&◌,
+  ◌==◌,
+  Bool,
+  true,
+  not,
+  Option,
+  None,
+  length,
+  codes,
+  Ok,
+  IfOk,
+  IfErr,
+  MatchResult,
+};
 ghost use Rattle.httparse.specs.Grammar.{ResponseHead, status_code};
 ghost use Rattle.httparse.specs.Spans.{IsResponseOf, IsResponseWithin};
 ghost use Rattle.http1.specs.Fields.{known_fields};
-ghost use Rattle.answer_grammar.specs.Head.{ends_itself, HasRange, StatesLength, first_named, framing_by, has_no_body, header_lines, lengths, micros_of};
+ghost use Rattle.answer_grammar.specs.Head.{
+  ends_itself,
+  HasRange,
+  StatesLength,
+  first_named,
+  framing_by,
+  has_no_body,
+  header_lines,
+  lengths,
+  micros_of,
+};
 ghost use Rattle.answer_grammar.specs.Parts.{RefusesHead, IsCodedBy, IsHeadAt, ReadsStep, SaysOf, pairs};
 
 use crate::fields::{etag_of, range_of};
@@ -143,7 +171,8 @@ fn stated_length(lines: &Lines<'_>, known: &KnownFields) -> Result<Option<u64>, 
 /// Whether the body is in chunks. Other transfer codings are refused.
 fn is_chunked(known: &KnownFields) -> Result<bool, Why>
     ensures value { IfOk result (IsCodedBy known.now) }
-    ensures none { IfErr result (λ reason. (reason ≡ Why.BadLength) × ((chunked : Bool) → ¬ (IsCodedBy known.now chunked))) }
+    ensures none { IfErr result (λ reason. (reason ≡ Why.BadLength)
+        × ((chunked : Bool) → ¬ (IsCodedBy known.now chunked))) }
 {
     match known.transfer_encoding {
         TransferEncoding::Absent => Ok(false),

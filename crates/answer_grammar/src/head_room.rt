@@ -19,9 +19,7 @@ pub struct HeadRoom {
 impl HeadRoom {
     /// A place for the lines of one head at a time.
     pub fn make(alloc: Global) -> Result<HeadRoom, OutOfMemory> {
-        match vec![in alloc; EMPTY_HEADER_SPAN; ALL_LINES] {
-            Ok(spans) => Ok(HeadRoom { spans }),
-            Err(_) => Err(OutOfMemory),
-        }
+        let spans = vec![in alloc; EMPTY_HEADER_SPAN; ALL_LINES]?;
+        Ok(HeadRoom { spans })
     }
 }
