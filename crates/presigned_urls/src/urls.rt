@@ -20,6 +20,17 @@ pub enum PresignFault {
     Memory,
 }
 
+impl From<OutOfMemory> for PresignFault {
+    ghost use Rattle.std.specs.Prelude.{◌≡◌};
+    ghost use Rattle.presigned_urls.specs.declared.urls.PresignFault.TheVariants.{Memory};
+
+    ghost from_gives = { λ _ fault. fault ≡ Memory };
+
+    fn from(_: OutOfMemory) -> PresignFault {
+        PresignFault::Memory
+    }
+}
+
 /// The longest that a presigned URL may be valid, in seconds: seven days.
 const LONGEST: u64 = 604_800;
 
@@ -82,9 +93,10 @@ fn parts_of(
     keys: &Keys,
     moment: u64,
     expires: u64,
-) -> Result<UrlParts, AllocError>
+) -> Result<UrlParts, OutOfMemory>
     requires { moment < 253402300800 }
-    ensures path { IfOk result (λ parts. string_bytes parts.path ≡ encode_path (object_path uri.now.bucket uri.now.key)) }
+    ensures path { IfOk result (λ parts. string_bytes parts.path
+        ≡ encode_path (object_path uri.now.bucket uri.now.key)) }
     ensures query { IfOk result (λ parts. string_bytes parts.query ≡ spec.presigned_query keys.now moment expires) }
     ensures signature { IfOk result (λ parts. string_bytes parts.signature
         ≡ signature keys.now moment (spec.presigned_request uri.now endpoint.now keys.now moment expires)) }
@@ -139,7 +151,8 @@ pub fn presign(
 ) -> Result<Text, PresignFault>
     ensures url { IfOk result (λ url. url ≡ spec.presigned_url uri.now endpoint.now keys.now moment expires) }
     ensures refusal { ForSome (spec.presign_fault moment expires) (λ fault. result ≡ Err fault) }
-    ensures fault { IfErr result (λ fault. fault ≢ PresignFault.Memory → spec.presign_fault moment expires ≡ Some fault) }
+    ensures fault { IfErr result (λ fault. fault ≢ PresignFault.Memory
+        → spec.presign_fault moment expires ≡ Some fault) }
 {
     if expires < 1 || expires > LONGEST {
         return Err(PresignFault::Expires(expires));
@@ -147,15 +160,13 @@ pub fn presign(
     if moment >= YEAR_10000 {
         return Err(PresignFault::Moment);
     }
-    let Ok(parts) = parts_of(alloc, uri, endpoint, keys, moment, expires) else {
-        return Err(PresignFault::Memory);
-    };
+    let parts = parts_of(alloc, uri, endpoint, keys, moment, expires)?;
     let url = join(
         alloc,
         endpoint.written.as_str(),
         parts.path.as_str(),
         parts.query.as_str(),
         parts.signature.as_str(),
-    );
-    url.map_err(|_| PresignFault::Memory)
+    )?;
+    Ok(url)
 }
