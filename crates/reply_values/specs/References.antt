@@ -1,5 +1,6 @@
 -- Character data without markup, and the references in it (XML 1.0, sections 2.4, 4.1 and 4.6).
-use Rattle.std.specs.Prelude.{◌≡◌, ◌≢◌, ◌⊎◌, ◌++◌, ◌∷◌, ◌<◌, ℕ, List, [], length, take, drop, slice_index, codes, encode_utf8}
+use Rattle.std.specs.Prelude.{◌≡◌, ◌≢◌, ◌⊎◌, ◌++◌, ◌∷◌, ◌<◌, ℕ, List, [], length, take, drop, slice_index, codes}
+use Rattle.std.specs.Prelude.{encode_utf8}
 use Rattle.std.specs.Char.{IsScalar}
 use Rattle.reply_values.specs.Numbers.{Writes}
 use Rattle.reply_values.specs.Spelling.{Spells, StartsNoPiece}

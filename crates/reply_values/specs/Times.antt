@@ -1,5 +1,7 @@
--- Times in UTC as `YYYY-MM-DDTHH:MM:SSZ`, which may have a fraction of a second (ISO 8601), on the proleptic Gregorian calendar.
-use Rattle.std.specs.Prelude.{◌≡◌, ◌≤◌, ◌+◌, ◌*◌, ◌/◌, ◌^◌, ◌⊎◌, ◌++◌, ◌∷◌, ℕ, List, [], pos, length, drop, map, slice_index, slice_range, codes}
+-- Times in UTC as `YYYY-MM-DDTHH:MM:SSZ`, which may have a fraction of a second (ISO 8601), on the proleptic Gregorian
+-- calendar.
+use Rattle.std.specs.Prelude.{◌≡◌, ◌≤◌, ◌+◌, ◌*◌, ◌/◌, ◌^◌, ◌⊎◌, ◌++◌, ◌∷◌, ℕ, List, [], pos, length, drop, map}
+use Rattle.std.specs.Prelude.{slice_index, slice_range, codes}
 use Rattle.jiff_core.specs.Calendar.{IsCivilDate, days_from_civil}
 use Rattle.reply_values.specs.Numbers.{Writes}
 
@@ -35,7 +37,8 @@ pub record WritesMicros (fraction : List ℕ) (micros : ℕ) : Type 0 where
 -- what follows the seconds: `Z`, or a point, a fraction and `Z`
 abbrev pub EndsTime : List ℕ → ℕ → Type 0
 EndsTime text micros =
-    ((text ≡ codes "Z") × (micros ≡ 0)) ⊎ ((fraction : List ℕ) × (text ≡ codes "." ++ fraction ++ codes "Z") × WritesMicros fraction micros)
+    ((text ≡ codes "Z") × (micros ≡ 0))
+    ⊎ ((fraction : List ℕ) × (text ≡ codes "." ++ fraction ++ codes "Z") × WritesMicros fraction micros)
 
 -- the text is a time, so many microseconds after 1970-01-01T00:00:00Z
 pub record SpellsTime (text : List ℕ) (moment : ℕ) : Type 0 where
