@@ -1,5 +1,6 @@
 -- What a job asks, and what it needs for it.
-use Rattle.std.specs.Prelude.{◌≡◌, ◌⊎◌, ◌+◌, ◌-◌, ◌^◌, ◌<◌, ◌≤◌, ◌==◌, ℕ, true, List, Option, Some, None, IsSome, if◌then◌else◌}
+use Rattle.std.specs.Prelude.{◌≡◌, ◌⊎◌, ◌+◌, ◌-◌, ◌^◌, ◌<◌, ◌≤◌, ◌==◌, ℕ, true, List, Option, Some, None, IsSome}
+use Rattle.std.specs.Prelude.{if◌then◌else◌}
 use Rattle.std.specs.Arc.{arc_value}
 use Rattle.s3_model.specs.declared.bytes.Part.{Part}
 use Rattle.s3_model.specs.declared.outcomes.JobId.{JobId}
@@ -12,6 +13,7 @@ use Rattle.s3_model.specs.declared.tasks.Kind.TheVariants as kind
 use Rattle.s3_model.specs.declared.tasks.Task.{Task}
 use Rattle.s3_model.specs.Lists.{Reserved}
 use Rattle.run_promise.specs.Schedule.{IsSourceDelete, Origin, Target, op_of}
+use Rattle.run_promise.specs.Planning.{IsPlanning}
 use Rattle.jobs.specs.Holders.{Holder}
 use Rattle.jobs.specs.declared.what.What.{What}
 use Rattle.jobs.specs.declared.what.What.TheVariants as what
@@ -25,13 +27,6 @@ pub record SeenJob : Type 0 where
   pub had : ℕ
 
 -- ---- which requests there are
-
--- the requests that find out what there is
-abbrev pub IsPlanning : Ask → Type 0
-IsPlanning (ask.Head bucket key) = Unit {0}
-IsPlanning (ask.List bucket prefix delimited token) = Unit {0}
-IsPlanning ask.Buckets = Unit {0}
-IsPlanning asked = ⊥
 
 -- the requests of a task's kind, below the threshold and from it on
 abbrev pub IsOfKind : Kind → Op → Type 0

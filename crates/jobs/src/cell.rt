@@ -39,10 +39,8 @@ impl CancelCell {
     {
         let cell = OnceBox::new(alloc);
         let note = cell.note();
-        match Arc::new(alloc, cell) {
-            Ok(first) => Ok(CancelCell { first, note }),
-            Err(_) => Err(OutOfMemory),
-        }
+        let first = Arc::new(alloc, cell)?;
+        Ok(CancelCell { first, note })
     }
 
     /// One more holder of the same cell, who knows what this one knows. `OutOfMemory` comes where no more holders can
@@ -51,13 +49,11 @@ impl CancelCell {
         ensures same { self.new ≡ self.old }
         ensures shared { IfOk result (λ share. share ≡ self.old) }
     {
-        match Arc::try_clone(&self.first) {
-            Ok(first) => Ok(CancelCell {
-                first,
-                note: self.note.again(),
-            }),
-            Err(_) => Err(OutOfMemory),
-        }
+        let first = Arc::try_clone(&self.first)?;
+        Ok(CancelCell {
+            first,
+            note: self.note.again(),
+        })
     }
 
     /// Gives the cell this reason, unless it has one. After want of memory it is as before.
@@ -65,9 +61,7 @@ impl CancelCell {
         ensures kept { OnErr result (self.new ≡ self.old) }
         ensures known { IfOk result (λ _. Keeps self.old self.new) }
     {
-        let Ok(value) = Box::new(alloc, reason) else {
-            return Err(OutOfMemory);
-        };
+        let value = Box::new(alloc, reason)?;
         let _first = self.first.set_as(value, &mut self.note);
         Ok(())
     }

@@ -4,7 +4,6 @@
 mod ask;
 mod carried;
 mod cell;
-mod crossing;
 mod ending;
 mod job;
 mod what;
@@ -12,7 +11,6 @@ mod what;
 pub use ask::ask_of;
 pub use carried::Carried;
 pub use cell::CancelCell;
-pub use crossing::all_cross;
 pub use ending::Ending;
 pub use job::Job;
 pub use what::What;

@@ -8,12 +8,11 @@ use Rattle.s3_model.specs.declared.requests.Ask.{Ask}
 use Rattle.s3_model.specs.declared.tries.Mark.{Mark}
 use Rattle.s3_model.specs.declared.tries.Mark.TheVariants as mark
 use Rattle.s3_model.specs.Talks.{Talk, Note, Ending, Failed, Closed, Finished, Moment, Pause, Began}
-use Rattle.run_promise.specs.Carried.{AreNoted, IsSaid, in_lane, numbered_from, talks_of}
+use Rattle.run_promise.specs.Carried.{AreNoted, IsSaid, in_first, in_lane, numbered_from, talks_of}
 use Rattle.run_promise.specs.Dispatches.{Attempt, Dispatched, last_of, paired}
 use Rattle.shared_lemmas.proofs.Clashes.{false_true as never}
 use Rattle.promise_examples.specs.Alone.{Clause, Shown, Comes, Lanes, UnusedLanes, NothingElse, InTurn, Gained, Noted, Marks, Again, GivenAgain, AtMost, ToTheEnd, Silent, Says, Carries, IsExcused, GoesOn, ClausesAreAll, BreaksAlone, WiresBreakAlone, EachWireBreaksAlone}
 use Rattle.promise_examples.specs.GivenAgain.{bytes}
-use Rattle.promise_examples.specs.Pages.{in_first}
 use Rattle.promise_examples.specs.Reading.{Reads, body_by, signed_body}
 use Rattle.promise_examples.specs.Refused as refused
 use Rattle.promise_examples.specs.Refused.{a_talk, denied_at, lost_at, once, run, sent_at, setting, stored_at}

@@ -10,13 +10,13 @@ use Rattle.s3_model.specs.declared.settings.Limits.{Limits}
 use Rattle.s3_model.specs.declared.tries.Mark.TheVariants as mark
 use Rattle.s3_model.specs.Talks.{Talk, Note, Finished}
 use Rattle.run_promise.specs.Carried as wires
-use Rattle.run_promise.specs.Carried.{IsCarried, MayStop}
+use Rattle.run_promise.specs.Carried.{IsCarried, MayStop, in_first}
 use Rattle.run_promise.specs.Dispatches.{Attempt, Dispatched, dispatches}
 use Rattle.run_promise.specs.Schedule.{IsBeforeAny, Setting, gained_before, most_body}
 use Rattle.shared_lemmas.proofs.Clashes.{false_true as never}
 use Rattle.promise_examples.specs.GivenAgain.{bytes, put, put_job}
 use Rattle.promise_examples.specs.Misfits.{bucket, key}
-use Rattle.promise_examples.specs.Pages.{in_first, list_after, list_job, page_with, talk_of, token}
+use Rattle.promise_examples.specs.Pages.{list_after, list_job, page_with, talk_of, token}
 use Rattle.promise_examples.specs.Plannings as plannings
 use Rattle.promise_examples.specs.Plannings.{both_notes, talk_with_body}
 use Rattle.promise_examples.specs.Reading.{Reads, signed_body}

@@ -10,14 +10,13 @@ use Rattle.s3_model.specs.declared.requests.Op.TheVariants as op
 use Rattle.s3_model.specs.declared.tries.Mark.TheVariants as mark
 use Rattle.s3_model.specs.Talks.{Talk, Note, Moment, Pause, Began}
 use Rattle.run_promise.specs.Carried as wires
-use Rattle.run_promise.specs.Carried.{AreNoted, MayStop, in_lane, numbered_from, talks_of}
+use Rattle.run_promise.specs.Carried.{AreNoted, MayStop, in_first, in_lane, numbered_from, talks_of}
 use Rattle.run_promise.specs.Dispatches.{Attempt, Dispatched}
 use Rattle.run_promise.specs.Schedule.{IsBefore, IsFailed, IsSchedule, gained_before, most_body}
 use Rattle.shared_lemmas.proofs.Clashes.{false_true as never}
 use Rattle.promise_examples.specs.Alone.{Shown, Comes, Lanes, InTurn, GivenAgain, BreaksAlone}
 use Rattle.promise_examples.specs.GivenAgain.{bytes, put, put_job}
 use Rattle.promise_examples.specs.Misfits.{bucket, key}
-use Rattle.promise_examples.specs.Pages.{in_first}
 use Rattle.promise_examples.specs.Reading.{Reads, signed_body}
 use Rattle.promise_examples.specs.Refused as refused
 use Rattle.promise_examples.specs.Refused.{denied_at, path, second_put, second_task, setting, stored_at, task}

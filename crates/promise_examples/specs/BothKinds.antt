@@ -28,6 +28,7 @@ use Rattle.run_promise.specs.Runs.{HasJournal, IsFitting}
 use Rattle.run_promise.specs.Schedule.{job_of}
 use Rattle.run_promise.specs.Traces.{SentRequest, Step, Given, Begin, Serve, Came}
 use Rattle.run_promise.specs.Truthful.{IsDest, Shown}
+use Rattle.run_promise.specs.Carried.{in_first}
 use Rattle.local_files.specs.Calls.{Call, DropTemp, MakeTemp, Remove, Rename, Stamp, WriteAt, written_at}
 use Rattle.world_laws.specs.ExampleTasks as tasks
 use Rattle.world_laws.specs.Promises.{run_of}
@@ -36,7 +37,6 @@ use Rattle.file_laws.specs.FileTasks.{TaskCall}
 use Rattle.file_laws.specs.FileWitnesses.{file_removal}
 use Rattle.file_laws.specs.PlanEnds.{IsPlanCarriedOut}
 use Rattle.promise_examples.specs.Everything.{step}
-use Rattle.promise_examples.specs.Pages.{in_first}
 use Rattle.promise_examples.specs.Reading.{Reads, HasNoStatus, signed_body}
 use Rattle.promise_examples.specs.Services.{object_of, one_bucket}
 

@@ -9,13 +9,12 @@ use Rattle.s3_model.specs.declared.requests.Op.TheVariants as op
 use Rattle.s3_model.specs.declared.tasks.Task.{Task}
 use Rattle.s3_model.specs.declared.tries.Mark.TheVariants as mark
 use Rattle.s3_model.specs.Talks.{Moment, Pause, Began}
-use Rattle.run_promise.specs.Carried.{IsCarried}
+use Rattle.run_promise.specs.Carried.{IsCarried, in_first}
 use Rattle.run_promise.specs.Dispatches.{Dispatched}
 use Rattle.run_promise.specs.Outcomes.{HasOutcome}
 use Rattle.run_promise.specs.Schedule.{IsSchedule}
 use Rattle.promise_examples.specs.Everything.{upload}
 use Rattle.promise_examples.specs.FailedUpload.{failed_run}
-use Rattle.promise_examples.specs.Pages.{in_first}
 use Rattle.promise_examples.specs.Reading.{Reads, HasNoStatus, NeverFailed, signed_body}
 use Rattle.promise_examples.specs.Refused.{a_talk, run, once, lost_at, denied_at, task, whole_run}
 use Rattle.promise_examples.specs.Runs.{Example}

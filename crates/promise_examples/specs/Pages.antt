@@ -1,5 +1,5 @@
 -- A run whose planning lists a bucket in two pages.
-use Rattle.std.specs.Prelude.{◌==◌, ℕ, true, false, List, [], ◌∷◌, Option, Some, None, if◌then◌else◌}
+use Rattle.std.specs.Prelude.{ℕ, true, false, List, [], ◌∷◌, Option, Some, None}
 use Rattle.std.specs.FinMap.{empty}
 use Rattle.s3_model.specs.declared.requests.Ask.{Ask}
 use Rattle.s3_model.specs.declared.requests.Ask.TheVariants as ask
@@ -16,13 +16,10 @@ use Rattle.s3_service.specs.ServiceState.{State, Object, with_object, with_token
 use Rattle.s3_service.specs.Serves.{Replied}
 use Rattle.run_promise.specs.Planning.{Listing, PlansFor}
 use Rattle.run_promise.specs.Traces.{SentRequest, Step, Given, Begin, Serve, Came}
+use Rattle.run_promise.specs.Carried.{in_first}
 use Rattle.promise_examples.specs.Reading.{Reads}
 use Rattle.promise_examples.specs.Services.{object_of, one_bucket}
 use Rattle.promise_examples.specs.Runs.{Example, IsMet}
-
--- what is in the first lane alone
-abbrev pub in_first : {A : Type 0} → List A → ℕ → List A
-in_first given lane = if lane == 0 then given else []
 
 -- ---- the bucket `b`, with an object of one byte under `a`, and one under `c`
 

@@ -51,6 +51,10 @@ numbered_from c k (attempt ∷ attempts) =
 abbrev pub in_lane : ℕ → List Dispatched → List Dispatched
 in_lane lane dispatched = filter (λ (c : Dispatched). c.dispatch.lane == lane) dispatched
 
+-- what is in the first lane alone
+abbrev pub in_first : {A : Type 0} → List A → ℕ → List A
+in_first given lane = if lane == 0 then given else []
+
 -- `Shows ask limit talk class bytes`: the talk has that class for the ask, and its answer that body;
 -- `request_text ask body moment`: the text of a request, signed at that moment
 module _ (Shows : Ask → ℕ → Talk → Class → List ℕ → Type 0) (request_text : Ask → List ℕ → ℕ → List ℕ)
