@@ -3,7 +3,8 @@ use Rattle.std.specs.Prelude.{◌≡◌, ℕ, ◌+◌, ◌<◌, ◌≤◌, List,
 use Rattle.bounded_executor.specs.Exchange.{Exchange, unused, jobs_out, with_given, with_taken}
 use Rattle.bounded_executor.specs.Lane.{LaneState}
 
--- how many jobs may be out in each lane, the workers behind the lanes as they were before, and what was exchanged with each lane
+-- how many jobs may be out in each lane, the workers behind the lanes as they were before, and what was exchanged with
+-- each lane
 pub record DeskState (W J D : Type 0) : Type 0 where
   pub depth : ℕ
   pub workers : List W
@@ -35,7 +36,8 @@ module _ {W J D : Type 0} where
 
   -- a desk of these lanes
   abbrev pub desk_of : ℕ → List (LaneState W J D) → DeskState W J D
-  desk_of depth lanes = record { depth = depth; workers = map (λ l. l.worker) lanes; lanes = map (λ l. l.exchange) lanes }
+  desk_of depth lanes =
+      record { depth = depth; workers = map (λ l. l.worker) lanes; lanes = map (λ l. l.exchange) lanes }
 
 -- each lane has this depth, and no more jobs out
 abbrev pub IsLaneOf : {W J D : Type 0} → ℕ → LaneState W J D → Type 0

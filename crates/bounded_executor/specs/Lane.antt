@@ -18,8 +18,10 @@ pub record LaneState (W J D : Type 0) : Type 0 where
 abbrev pub opened : {W J D : Type 0} → ℕ → W → LaneState W J D
 opened depth worker = record { depth = depth; worker = worker; exchange = unused }
 
--- `out` counts the jobs not taken back, which are at most `depth`; no outcome was taken whose job did not go into the ring
-pub record IsCounted {J D : Type 0} (depth out : ℕ) (outbox : Outbox J) (outcomes : Consumer D Global AnyItems) : Type 0 where
+-- `out` counts the jobs not taken back, which are at most `depth`; no outcome was taken whose job did not go into the
+-- ring
+pub record IsCounted {J D : Type 0} (depth out : ℕ) (outbox : Outbox J)
+    (outcomes : Consumer D Global AnyItems) : Type 0 where
   pub counted : out + length (received outcomes) ≡ length (jobs_given outbox)
   pub at_most_depth : out ≤ depth
   pub behind : length (received outcomes) ≤ length (sent outbox.ring)

@@ -9,7 +9,8 @@ use Rattle.rtrb.specs.declared.consumer.Consumer.{Consumer}
 use Rattle.bounded_executor.specs.declared.outbox.Outbox.{Outbox}
 
 -- two rings with room for `depth`, through which nothing has gone, and a queue with as much room
-pub record AreReady {J D : Type 0} (depth : ℕ) (outbox : Outbox J) (jobs : Consumer J Global AnyItems) (to : Producer D Global AnyItems) (outcomes : Consumer D Global AnyItems) : Type 0 where
+pub record AreReady {J D : Type 0} (depth : ℕ) (outbox : Outbox J) (jobs : Consumer J Global AnyItems)
+    (to : Producer D Global AnyItems) (outcomes : Consumer D Global AnyItems) : Type 0 where
   pub jobs_pair : IsPair outbox.ring jobs
   pub outcomes_pair : IsPair to outcomes
   pub jobs_sent : sent outbox.ring ≡ []

@@ -9,7 +9,8 @@ use Rattle.bounded_executor.specs.declared.station.Station.{Station}
 use Rattle.bounded_executor.specs.Runs.{Runs}
 
 -- the station has the other ends of both rings
-pub record IsLinked {W J D : Type 0} (s : Station W J D) (to : Producer J Global AnyItems) (from : Consumer D Global AnyItems) : Type 0 where
+pub record IsLinked {W J D : Type 0} (s : Station W J D) (to : Producer J Global AnyItems)
+    (from : Consumer D Global AnyItems) : Type 0 where
   pub jobs : IsPair to s.jobs
   pub outcomes : IsPair s.outcomes from
 
@@ -25,7 +26,8 @@ pub record HasServed {W J D : Type 0} (carries : W → J → D → W → Type 0)
   pub ran : Runs carries before.worker (received after.jobs) (sent after.outcomes) after.worker
 
 -- the worker was this one, and the outcome of each job that it carried was taken
-pub record IsSettled {W J D : Type 0} (carries : W → J → D → W → Type 0) (depth : ℕ) (worker : W) (from : Consumer D Global AnyItems) (s : Station W J D) : Type 0 where
+pub record IsSettled {W J D : Type 0} (carries : W → J → D → W → Type 0) (depth : ℕ) (worker : W)
+    (from : Consumer D Global AnyItems) (s : Station W J D) : Type 0 where
   pub ran : Runs carries worker (received s.jobs) (sent s.outcomes) s.worker
   pub taken : sent s.outcomes ≡ received from
   pub capacity : producer_capacity s.outcomes ≡ depth

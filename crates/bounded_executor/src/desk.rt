@@ -67,7 +67,22 @@ impl<W: Worker> Desk<W> {
         workers
     }
 
-    ghost use Rattle.std.specs.Prelude.{◌≡◌, ◌+◌, ◌<◌, ◌≤◌, ◌↔◌, [], length, vec_capacity, IsErr, IfErr, OnErr, OnOk, IfSome, IfNone};
+    ghost use Rattle.std.specs.Prelude.{
+      ◌≡◌,
+      ◌+◌,
+      ◌<◌,
+      ◌≤◌,
+      ◌↔◌,
+      [],
+      length,
+      vec_capacity,
+      IsErr,
+      IfErr,
+      OnErr,
+      OnOk,
+      IfSome,
+      IfNone,
+    };
     ghost use Rattle.bounded_executor.specs.Exchange.{jobs_out};
     ghost use Rattle.bounded_executor.specs.Desk.{lane_of, all_out, gives, takes, TookOne, desk_of, IsDesk};
     ghost use Rattle.bounded_executor.specs.Runs.{EachRuns};

@@ -43,9 +43,14 @@ impl<W: Worker> Model for Lane<W> {
     ghost use Rattle.bounded_executor.specs.Outbox.{jobs_given};
     ghost use Rattle.bounded_executor.specs.Crew.{IsCrewOf};
 
-    ghost view = { λ l. record { depth = l.depth; worker = l.start.value; exchange = record { given = jobs_given l.outbox; taken = received l.outcomes } } };
+    ghost view = { λ l. record {
+      depth = l.depth;
+      worker = l.start.value;
+      exchange = record { given = jobs_given l.outbox; taken = received l.outcomes };
+    } };
 
-    ghost invariant = { λ l. IsCounted l.depth l.out l.outbox l.outcomes × IsCrewOf W.carries l.depth l.start.value l.outbox.ring l.outcomes l.crew };
+    ghost invariant = { λ l. IsCounted l.depth l.out l.outbox l.outcomes
+        × IsCrewOf W.carries l.depth l.start.value l.outbox.ring l.outcomes l.crew };
 }
 
 impl<W: Worker> Lane<W> {
@@ -88,7 +93,8 @@ impl<W: Worker> Lane<W> {
 
     // An outcome that has come, or that of a job carried here.
     pub(crate) fn take(&mut self) -> Option<W::Done>
-        ensures some { IfSome result (λ done. self.new ≡ record self.old { exchange = with_taken self.old.exchange done }) }
+        ensures some { IfSome result (λ done. self.new ≡ record self.old
+            { exchange = with_taken self.old.exchange done }) }
         ensures was_out { IfSome result (λ _. 0 < jobs_out self.old.exchange) }
         ensures none { IfNone result (self.new ≡ self.old) }
     {
@@ -100,7 +106,8 @@ impl<W: Worker> Lane<W> {
 
     // An outcome that has come from the lane's thread, if there is one.
     fn collect(&mut self) -> Option<W::Done>
-        ensures some { IfSome result (λ done. self.new ≡ record self.old { exchange = with_taken self.old.exchange done }) }
+        ensures some { IfSome result (λ done. self.new ≡ record self.old
+            { exchange = with_taken self.old.exchange done }) }
         ensures was_out { IfSome result (λ _. 0 < jobs_out self.old.exchange) }
         ensures none { IfNone result (self.new ≡ self.old) }
     {
@@ -120,7 +127,8 @@ impl<W: Worker> Lane<W> {
 
     // Carries the oldest job here, where no thread does, and takes its outcome.
     fn carry(&mut self) -> Option<W::Done>
-        ensures some { IfSome result (λ done. self.new ≡ record self.old { exchange = with_taken self.old.exchange done }) }
+        ensures some { IfSome result (λ done. self.new ≡ record self.old
+            { exchange = with_taken self.old.exchange done }) }
         ensures was_out { IfSome result (λ _. 0 < jobs_out self.old.exchange) }
         ensures none { IfNone result (self.new ≡ self.old) }
     {
