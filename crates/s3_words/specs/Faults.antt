@@ -1,8 +1,10 @@
 -- The first fault of a command line.
-use Rattle.std.specs.Prelude.{◌<◌, IfSome, ◌&&◌, ◌+◌, ◌++◌, ℕ, Bool, true, false, List, [], ◌∷◌, Option, Some, None, is_none, length, if◌then◌else◌}
+use Rattle.std.specs.Prelude.{◌<◌, IfSome, ◌&&◌, ◌+◌, ◌++◌, ℕ, Bool, true, false, List, [], ◌∷◌, Option, Some, None}
+use Rattle.std.specs.Prelude.{is_none, length, if◌then◌else◌}
 use Rattle.std.specs.Option.{option_or}
 use Rattle.s3_model.specs.declared.faults.WordFault.{WordFault}
-use Rattle.s3_model.specs.declared.faults.WordFault.TheVariants.{NoCommand, UnknownCommand, UnknownOption, NoValue, BadValue, PathCount, Pair, Twice, Endpoint, NoEndpoint}
+use Rattle.s3_model.specs.declared.faults.WordFault.TheVariants.{NoCommand, UnknownCommand, UnknownOption, NoValue}
+use Rattle.s3_model.specs.declared.faults.WordFault.TheVariants.{BadValue, PathCount, Pair, Twice, Endpoint, NoEndpoint}
 use Rattle.s3_model.specs.declared.places.Place.{Place}
 use Rattle.s3_words.specs.declared.commands.Verb.{Verb}
 use Rattle.s3_words.specs.declared.options.OptionName.{OptionName}

@@ -1,5 +1,5 @@
--- The options of the `s3` commands (AWS CLI Command Reference, `s3`): the name of each, the value that it takes, and the
--- commands that take it.
+-- The options of the `s3` commands (AWS CLI Command Reference, `s3`): the name of each, the value that it takes, and
+-- the commands that take it.
 use Rattle.std.specs.Prelude.{ℕ, Bool, true, false, List, [], ◌∷◌, Option, codes, find}
 use Rattle.std.specs.Str.{bytes_eq}
 use denote.Enum.Bare.{sameb}
@@ -7,9 +7,13 @@ use Rattle.s3_words.specs.contracts.options.OptionName.{the_type}
 use Rattle.s3_words.specs.declared.commands.Verb.{Verb}
 use Rattle.s3_words.specs.declared.commands.Verb.TheVariants.{Cp, Mv, Sync, Rm, Ls, Presign}
 use Rattle.s3_words.specs.declared.options.OptionName.{OptionName}
-use Rattle.s3_words.specs.declared.options.OptionName.TheVariants.{EndpointUrl, Region, Profile, Recursive, Exclude, Include, Dryrun, Quiet, OnlyShowErrors, SizeOnly, ExactTimestamps, Delete, ContentType, NoGuessMimeType, NoProgress, ExpiresIn}
+use Rattle.s3_words.specs.declared.options.OptionName.TheVariants.{EndpointUrl, Region, Profile, Recursive, Exclude}
+use Rattle.s3_words.specs.declared.options.OptionName.TheVariants.{Include, Dryrun, Quiet, OnlyShowErrors, SizeOnly}
+use Rattle.s3_words.specs.declared.options.OptionName.TheVariants.{ExactTimestamps, Delete, ContentType}
+use Rattle.s3_words.specs.declared.options.OptionName.TheVariants.{NoGuessMimeType, NoProgress, ExpiresIn}
 use Rattle.s3_words.specs.declared.options.ValueKind.{ValueKind}
-use Rattle.s3_words.specs.declared.options.ValueKind.TheVariants.{NoValue, Url, RegionName, ProfileName, Pattern, MediaType, Seconds}
+use Rattle.s3_words.specs.declared.options.ValueKind.TheVariants.{NoValue, Url, RegionName, ProfileName, Pattern}
+use Rattle.s3_words.specs.declared.options.ValueKind.TheVariants.{MediaType, Seconds}
 
 abbrev pub verb_name : Verb → List ℕ
 verb_name Cp = codes "cp"

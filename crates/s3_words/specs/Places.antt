@@ -1,5 +1,6 @@
 -- The paths of a command: what a path is, how many a command wants, and which of them fit it.
-use Rattle.std.specs.Prelude.{◌&&◌, ◌||◌, ◌==◌, ℕ, Bool, true, false, not, List, [], ◌∷◌, is_none, map, codes, nat_eq, nat_le, if◌then◌else◌}
+use Rattle.std.specs.Prelude.{◌&&◌, ◌||◌, ◌==◌, ℕ, Bool, true, false, not, List, [], ◌∷◌, is_none, map, codes, nat_eq}
+use Rattle.std.specs.Prelude.{nat_le, if◌then◌else◌}
 use Rattle.std.specs.List.{list_any, list_all, starts_with, ends_with}
 use Rattle.std.specs.Str.{bytes_eq}
 use Rattle.s3_model.specs.declared.places.Place.{Place}

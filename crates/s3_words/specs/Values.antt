@@ -1,5 +1,6 @@
 -- What the values of options have to be.
-use Rattle.std.specs.Prelude.{◌&&◌, ◌||◌, ◌==◌, ℕ, Bool, true, false, not, List, Option, Some, None, is_some, length, nat_lt, nat_le, option_map, if◌then◌else◌}
+use Rattle.std.specs.Prelude.{◌&&◌, ◌||◌, ◌==◌, ℕ, Bool, true, false, not, List, Option, Some, None, is_some, length}
+use Rattle.std.specs.Prelude.{nat_lt, nat_le, option_map, if◌then◌else◌}
 use Rattle.std.specs.Char.{is_ascii_alphanumeric}
 use Rattle.std.specs.List.{list_all}
 use Rattle.std.specs.Str.{all_ascii_digits}
@@ -8,7 +9,8 @@ use Rattle.s3_model.specs.declared.faults.WordFault.{WordFault}
 use Rattle.s3_model.specs.declared.faults.WordFault.TheVariants.{BadValue, Endpoint}
 use Rattle.s3_paths.specs.Endpoints.{endpoint_fault}
 use Rattle.s3_words.specs.declared.options.ValueKind.{ValueKind}
-use Rattle.s3_words.specs.declared.options.ValueKind.TheVariants.{NoValue, Url, RegionName, ProfileName, MediaType, Seconds}
+use Rattle.s3_words.specs.declared.options.ValueKind.TheVariants.{NoValue, Url, RegionName, ProfileName, MediaType}
+use Rattle.s3_words.specs.declared.options.ValueKind.TheVariants.{Seconds}
 
 abbrev pub is_empty : List ℕ → Bool
 is_empty text = length text == 0

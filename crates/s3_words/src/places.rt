@@ -3,7 +3,18 @@
 ghost use Rattle.std.specs.Prelude.{◌≡◌, ◌≢◌, ◌≤◌, codes, length, nat_eq, true, OnOk, IfOk, IfErr, Some, None};
 ghost use Rattle.std.specs.List.{ends_with, list_all, list_any};
 ghost use Rattle.s3_words.specs.Commands.{first_of, second_of};
-ghost use Rattle.s3_words.specs.Places.{first_is_single_source, has_key, is_object, is_pair, is_path, is_right_count, is_s3, is_single_source, place_of, wanted};
+ghost use Rattle.s3_words.specs.Places.{
+  first_is_single_source,
+  has_key,
+  is_object,
+  is_pair,
+  is_path,
+  is_right_count,
+  is_s3,
+  is_single_source,
+  place_of,
+  wanted,
+};
 ghost use Rattle.s3_words.specs.Values.{bad_unless};
 
 use crate::commands::Verb;

@@ -3,7 +3,15 @@
 ghost use Rattle.std.specs.Prelude.{◌≡◌, ◌≢◌, OnOk, IfOk, IfErr, Some, None};
 ghost use Rattle.std.specs.List.{list_all};
 ghost use Rattle.s3_words.specs.Endpoints.{IsEndpointOf, IsRead};
-ghost use Rattle.s3_words.specs.Values.{fits, is_media_type, is_printable, is_region, is_region_byte, seconds, value_fault};
+ghost use Rattle.s3_words.specs.Values.{
+  fits,
+  is_media_type,
+  is_printable,
+  is_region,
+  is_region_byte,
+  seconds,
+  value_fault,
+};
 ghost use Rattle.s3_words.specs.declared.options.ValueKind.TheVariants.{Url};
 
 use crate::options::ValueKind;
