@@ -1,5 +1,6 @@
 -- The settings of a run, as a function of the environment's words and the two files.
-use Rattle.std.specs.Prelude.{◌^◌, ◌==◌, ◌||◌, ◌++◌, ℕ, Bool, true, false, List, [], ◌∷◌, Option, Some, None, Result, Ok, Err, length, codes, nat_lt, fold, is_some, option_map, if◌then◌else◌}
+use Rattle.std.specs.Prelude.{◌^◌, ◌==◌, ◌||◌, ◌++◌, ℕ, Bool, true, false, List, [], ◌∷◌, Option, Some, None, Result}
+use Rattle.std.specs.Prelude.{Ok, Err, length, codes, nat_lt, fold, is_some, option_map, if◌then◌else◌}
 use Rattle.std.specs.Option.{option_or}
 use Rattle.std.specs.Str.{bytes_eq}
 use Rattle.std.specs.Str.Lines.{lines}
@@ -103,7 +104,8 @@ access_key id secret token = None
 
 -- the key of the variables, but where the command line named the profile
 abbrev pub key_of_words : EnvWords → Option AccessKey
-key_of_words words = if words.named then None else access_key (usable words.id) (usable words.secret) (usable words.token)
+key_of_words words =
+    if words.named then None else access_key (usable words.id) (usable words.secret) (usable words.token)
 
 -- the values of a section that make an access key
 pub record KeyValues : Type 0 where
@@ -119,7 +121,8 @@ key_values found section = record {
 }
 
 abbrev pub key_of_values : KeyValues → Option AccessKey
-key_of_values values = access_key (usable (text_of values.id)) (usable (text_of values.secret)) (usable (text_of values.token))
+key_of_values values =
+    access_key (usable (text_of values.id)) (usable (text_of values.secret)) (usable (text_of values.token))
 
 -- the variables first, whole, then the file, whole
 abbrev pub key_from : EnvWords → KeyValues → Option AccessKey
@@ -134,7 +137,8 @@ line_fault credentials line = option_map (BadLine credentials) line
 -- another profile than `default` has to stand in one of the files
 abbrev pub is_known_profile : List ℕ → List ℕ → List ℕ → Bool
 is_known_profile profile config credentials =
-    bytes_eq profile (codes "default") || has_section (config_section profile) (lines config) || has_section profile (lines credentials)
+    bytes_eq profile (codes "default") || has_section (config_section profile) (lines config)
+    || has_section profile (lines credentials)
 
 abbrev pub profile_fault : Bool → List ℕ → Option ProfileFault
 profile_fault known profile = if known then None else Some (NoProfile profile)
@@ -156,8 +160,10 @@ abbrev pub unless : Option ProfileFault → Result Settings ProfileFault → Res
 unless None settings = settings
 unless (Some fault) settings = Err fault
 
--- The first of the faults, in this order: a bad line of the config file, one of the credentials file, an unknown profile, an amount out of its form, no key, no region. Without one, the settings.
-abbrev pub answer_by : Option ℕ → Option ℕ → Bool → List ℕ → Option Misread → Option AccessKey → Option (List ℕ) → Config → Result Settings ProfileFault
+-- The first of the faults, in this order: a bad line of the config file, one of the credentials file, an unknown
+-- profile, an amount out of its form, no key, no region. Without one, the settings.
+abbrev pub answer_by : Option ℕ → Option ℕ → Bool → List ℕ → Option Misread → Option AccessKey → Option (List ℕ)
+    → Config → Result Settings ProfileFault
 answer_by bad_config bad_credentials known profile bad key region config =
     unless (line_fault false bad_config)
     (unless (line_fault true bad_credentials)
@@ -168,8 +174,11 @@ answer_by bad_config bad_credentials known profile bad key region config =
 -- the same, where these are the profile and its values
 abbrev pub answer_of : EnvWords → List ℕ → List ℕ → List ℕ → ConfigValues → KeyValues → Result Settings ProfileFault
 answer_of words config credentials profile values keys =
-    answer_by (bad_line config) (bad_line credentials) (is_known_profile profile config credentials) profile (first_misread values) (key_from words keys) (region_from words values) (config_of values)
+    answer_by (bad_line config) (bad_line credentials) (is_known_profile profile config credentials) profile
+    (first_misread values) (key_from words keys) (region_from words values) (config_of values)
 
 abbrev pub answer : EnvWords → List ℕ → List ℕ → Result Settings ProfileFault
 answer words config credentials =
-    answer_of words config credentials (profile_of words) (config_values (readings config) (config_section (profile_of words))) (key_values (readings credentials) (profile_of words))
+    answer_of words config credentials (profile_of words)
+    (config_values (readings config) (config_section (profile_of words)))
+    (key_values (readings credentials) (profile_of words))

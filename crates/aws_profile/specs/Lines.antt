@@ -1,6 +1,9 @@
--- The lines of a settings file, and of what kind each is (AWS CLI User Guide, "Configuration and credential file settings").
--- The lines themselves are std's `lines`: each ends with LF or CR LF, and what stands behind the last LF is one unless it is empty.
-use Rattle.std.specs.Prelude.{◌-◌, ◌==◌, ◌||◌, ◌&&◌, ℕ, Bool, not, List, Option, Some, None, length, take, drop, slice_index, nat_lt, if◌then◌else◌}
+-- The lines of a settings file, and of what kind each is (AWS CLI User Guide, "Configuration and credential file
+-- settings").
+-- The lines themselves are std's `lines`: each ends with LF or CR LF, and what stands behind the last LF is one unless
+-- it is empty.
+use Rattle.std.specs.Prelude.{◌-◌, ◌==◌, ◌||◌, ◌&&◌, ℕ, Bool, not, List, Option, Some, None, length, take, drop}
+use Rattle.std.specs.Prelude.{slice_index, nat_lt, if◌then◌else◌}
 use Rattle.std.specs.List.{list_any, list_all, before_first, after_first, position_or_len, suffix_len}
 use Rattle.std.specs.Str.{is_utf8}
 
@@ -52,7 +55,8 @@ pub data LineKind : Type 0 where
 -- what follows the `[` of a section line: a name of at least one byte, and then `]` alone
 abbrev pub section_line : List ℕ → LineKind
 section_line text =
-    if list_any is_closing text && nat_lt 0 (length (before_first is_closing text)) && length (after_first is_closing text) == 0
+    if list_any is_closing text && nat_lt 0 (length (before_first is_closing text))
+    && length (after_first is_closing text) == 0
     then Section (before_first is_closing text) else Bad
 
 abbrev pub setting_line : Option Assignment → LineKind
@@ -67,7 +71,8 @@ kind_by first line =
     else if is_blank first then Indented line
     else setting_line (assignment line)
 
--- A line of spaces and tabs, and a comment, are skipped. A line that begins with `[` is a section's or bad, one that begins with a space or a tab is indented, and every other is `name = value` or bad.
+-- A line of spaces and tabs, and a comment, are skipped. A line that begins with `[` is a section's or bad, one that
+-- begins with a space or a tab is indented, and every other is `name = value` or bad.
 abbrev pub kind_of : List ℕ → LineKind
 kind_of line =
     if not (is_utf8 line) then Bad

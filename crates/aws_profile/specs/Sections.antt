@@ -1,5 +1,6 @@
 -- What the lines of a settings file say, each by the section and the setting above it.
-use Rattle.std.specs.Prelude.{◌&&◌, ◌+◌, ℕ, Bool, true, false, List, [], ◌∷◌, Option, Some, None, option_map, codes, if◌then◌else◌}
+use Rattle.std.specs.Prelude.{◌&&◌, ◌+◌, ℕ, Bool, true, false, List, [], ◌∷◌, Option, Some, None, option_map, codes}
+use Rattle.std.specs.Prelude.{if◌then◌else◌}
 use Rattle.std.specs.List.{list_any, filter_map}
 use Rattle.std.specs.Option.{option_or}
 use Rattle.std.specs.Str.{bytes_eq}
@@ -36,7 +37,8 @@ pub data Reading : Type 0 where
   States : Stated → Reading
 
 abbrev pub states : ℕ → List ℕ → Place → Assignment → Reading
-states line section place assigned = States (record { line = line; section = section; place = place; name = assigned.name; value = assigned.value })
+states line section place assigned =
+    States (record { line = line; section = section; place = place; name = assigned.name; value = assigned.value })
 
 -- a setting before the first section is wrong
 abbrev pub reading_of_setting : ℕ → Option (List ℕ) → Assignment → Reading
@@ -48,9 +50,11 @@ abbrev pub reading_of_nested : ℕ → List ℕ → Option Assignment → Readin
 reading_of_nested line section None = Wrong
 reading_of_nested line section (Some assigned) = states line section place.S3 assigned
 
--- an indented line is wrong where no setting stands above it in its section, and says nothing under another setting than `s3`
+-- an indented line is wrong where no setting stands above it in its section, and says nothing under another setting
+-- than `s3`
 abbrev pub reading_of_indented : ℕ → Option (List ℕ) → Option (List ℕ) → List ℕ → Reading
-reading_of_indented line (Some section) (Some parent) text = if bytes_eq parent (codes "s3") then reading_of_nested line section (assignment text) else Nothing
+reading_of_indented line (Some section) (Some parent) text =
+    if bytes_eq parent (codes "s3") then reading_of_nested line section (assignment text) else Nothing
 reading_of_indented line section parent text = Wrong
 
 abbrev pub reading_of : ℕ → Above → LineKind → Reading
@@ -63,7 +67,8 @@ reading_of line above Bad = Wrong
 -- what each line says, where these lines are counted from a number and stand below this
 abbrev pub readings_from : ℕ → Above → List (List ℕ) → List Reading
 readings_from line above [] = []
-readings_from line above (text ∷ texts) = reading_of line above (kind_of text) ∷ readings_from (line + 1) (above_next above (kind_of text)) texts
+readings_from line above (text ∷ texts) =
+    reading_of line above (kind_of text) ∷ readings_from (line + 1) (above_next above (kind_of text)) texts
 
 abbrev pub readings : List ℕ → List Reading
 readings file = readings_from 1 nothing_above (lines file)
@@ -102,7 +107,8 @@ same_place place.S3 place.S3 = true
 same_place other another = false
 
 abbrev pub is_stated : List ℕ → Place → List ℕ → Stated → Bool
-is_stated section place name stated = bytes_eq stated.section section && same_place stated.place place && bytes_eq stated.name name
+is_stated section place name stated =
+    bytes_eq stated.section section && same_place stated.place place && bytes_eq stated.name name
 
 -- the last that passes a test
 abbrev pub last_that : {X : Type 0} → (X → Bool) → List X → Option X

@@ -22,4 +22,5 @@ config_shown values = record {
 }
 
 abbrev pub keys_shown : keys.KeyValues → KeyValues
-keys_shown values = record { id = value_shown values.id; secret = value_shown values.secret; token = value_shown values.token }
+keys_shown values =
+    record { id = value_shown values.id; secret = value_shown values.secret; token = value_shown values.token }

@@ -34,12 +34,14 @@ slot_shown slot = record { place = slot.place; name = slot.name.now; found = opt
 -- the slot after one line
 abbrev pub taken : List ℕ → Reading → Filled → Filled
 taken section (States stated) slot =
-    if is_stated section slot.place slot.name stated then record { place = slot.place; name = slot.name; found = Some (value_of stated) } else slot
+    if is_stated section slot.place slot.name stated
+    then record { place = slot.place; name = slot.name; found = Some (value_of stated) } else slot
 taken section other slot = slot
 
 -- the slot after all lines
 abbrev pub filled : List ℕ → List Reading → Filled → Filled
-filled section found slot = record { place = slot.place; name = slot.name; found = option_or (value_in found section slot.place slot.name) slot.found }
+filled section found slot = record
+    { place = slot.place; name = slot.name; found = option_or (value_in found section slot.place slot.name) slot.found }
 
 -- the slots before and after one line
 abbrev pub Takes : List ℕ → Reading → List Slot → List Slot → Type 0

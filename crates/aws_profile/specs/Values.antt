@@ -1,5 +1,6 @@
 -- What the values of settings stand for: texts of visible ASCII, counts and sizes.
-use Rattle.std.specs.Prelude.{◌*◌, ◌^◌, ◌==◌, ◌&&◌, ◌||◌, ℕ, Bool, not, List, Option, Some, None, length, drop, codes, nat_lt, nat_le, unwrap_or, option_and_then, if◌then◌else◌}
+use Rattle.std.specs.Prelude.{◌*◌, ◌^◌, ◌==◌, ◌&&◌, ◌||◌, ℕ, Bool, not, List, Option, Some, None, length, drop, codes}
+use Rattle.std.specs.Prelude.{nat_lt, nat_le, unwrap_or, option_and_then, if◌then◌else◌}
 use Rattle.std.specs.Char.{is_ascii_digit}
 use Rattle.std.specs.List.{list_all, before_first, position_or_len}
 use Rattle.std.specs.Str.{str_eq_ignore_ascii_case}

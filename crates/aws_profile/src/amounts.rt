@@ -3,7 +3,17 @@
 ghost use Rattle.std.specs.Prelude.{◌≡◌, ◌^◌, ◌<◌, length, not, position};
 ghost use Rattle.std.specs.List.{before_first, position_or_len};
 ghost use Rattle.std.specs.Str.{str_eq_ignore_ascii_case};
-ghost use Rattle.aws_profile.specs.Values.{amount, digits_in, factor_of, fitting, is_other, is_unit, number, size, unit_in};
+ghost use Rattle.aws_profile.specs.Values.{
+  amount,
+  digits_in,
+  factor_of,
+  fitting,
+  is_other,
+  is_unit,
+  number,
+  size,
+  unit_in,
+};
 
 /// What a number counts.
 #[derive(Clone, Copy)]

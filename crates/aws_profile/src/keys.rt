@@ -3,7 +3,15 @@
 ghost use Rattle.std.specs.Prelude.{◌≡◌, Some, IfOk, option_copied, option_map};
 ghost use Rattle.std.specs.List.{list_all};
 ghost use Rattle.std.specs.Option.{option_or};
-ghost use Rattle.aws_profile.specs.Answers.{access_key, key_from, key_of_values, key_of_words, keys_made, region_from, text_of};
+ghost use Rattle.aws_profile.specs.Answers.{
+  access_key,
+  key_from,
+  key_of_values,
+  key_of_words,
+  keys_made,
+  region_from,
+  text_of,
+};
 ghost use Rattle.aws_profile.specs.ShownKeys.{key_shown};
 ghost use Rattle.aws_profile.specs.ShownValues.{config_shown, keys_shown, value_shown};
 ghost use Rattle.aws_profile.specs.Values.{is_visible, is_visible_byte, usable};
