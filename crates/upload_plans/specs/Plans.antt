@@ -1,5 +1,6 @@
 -- What copying one local file up comes to (AWS CLI Command Reference, `s3 cp`).
-use Rattle.std.specs.Prelude.{◌≢◌, ◌||◌, ◌==◌, ◌++◌, ℕ, Bool, false, List, [], Option, Some, None, length, codes, nat_eq, nat_le, nat_lt, if◌then◌else◌}
+use Rattle.std.specs.Prelude.{◌≢◌, ◌||◌, ◌==◌, ◌++◌, ℕ, Bool, false, List, [], Option, Some, None, length, codes}
+use Rattle.std.specs.Prelude.{nat_eq, nat_le, nat_lt, if◌then◌else◌}
 use Rattle.std.specs.List.{ends_with}
 use Rattle.std.specs.Str.{chars}
 use Rattle.path_filters.specs.Filters.{is_kept}

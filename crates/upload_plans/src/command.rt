@@ -1,7 +1,18 @@
 //! Which commands are done by now, and the places that such a command names.
 
 ghost use Rattle.std.specs.Prelude.{◌≡◌};
-ghost use Rattle.upload_plans.specs.Commands.{CopiesUp, bucket_of, is_copy, is_listing, is_presign, is_unbuilt, is_unbuilt_copy, key_of, reads_object, source_path};
+ghost use Rattle.upload_plans.specs.Commands.{
+  CopiesUp,
+  bucket_of,
+  is_copy,
+  is_listing,
+  is_presign,
+  is_unbuilt,
+  is_unbuilt_copy,
+  key_of,
+  reads_object,
+  source_path,
+};
 
 use s3_model::Place;
 use s3_words::{Command, Verb};

@@ -6,7 +6,17 @@ ghost use Rattle.std.specs.Str.{chars};
 ghost use Rattle.path_filters.specs.Filters.{is_kept};
 ghost use Rattle.s3_model.specs.ContentTypes.{content_type_of, last_name};
 ghost use Rattle.upload_plans.specs.Commands.{CopiesUp, bucket_of, key_of, source_path};
-ghost use Rattle.upload_plans.specs.Plans.{HasNoMemory, added_name, content_for, fate_of, file_fate, kept_fate, planned_task, takes_name, task_fate};
+ghost use Rattle.upload_plans.specs.Plans.{
+  HasNoMemory,
+  added_name,
+  content_for,
+  fate_of,
+  file_fate,
+  kept_fate,
+  planned_task,
+  takes_name,
+  task_fate,
+};
 
 use crate::command::{Places, places_of};
 use path_names::last_name;
