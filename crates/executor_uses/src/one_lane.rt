@@ -104,7 +104,8 @@ fn take_all<R: Wait>(rt: &R, desk: &mut Desk<Doubler>, doubles: &mut Vec<u64>)
 }
 
 impl Boss<Doubler> for OneLane {
-    ghost may_direct = { λ boss lanes depth. (lanes ≡ 1) × (1 ≤ depth) × (boss.doubles.items ≡ []) × (vec_len boss.jobs ≤ vec_capacity boss.doubles) };
+    ghost may_direct = { λ boss lanes depth. (lanes ≡ 1) × (1 ≤ depth) × (boss.doubles.items ≡ [])
+        × (vec_len boss.jobs ≤ vec_capacity boss.doubles) };
 
     ghost directs = { λ before lanes after. IsOneExchange lanes before.jobs.items after.doubles.items };
 
