@@ -6,9 +6,8 @@ use Rattle.s3_model.specs.declared.answers.Class.{Class}
 use Rattle.s3_model.specs.declared.answers.Listed.{Listed}
 use Rattle.s3_model.specs.Talks.{Talk}
 use Rattle.run_promise.specs.Dispatches.{Dispatched}
-use Rattle.run_promise.specs.Planning.{Need}
+use Rattle.run_promise.specs.Planning.{IsPlanning, Need}
 use Rattle.run_promise.specs.Planning as planning
-use Rattle.world_laws.specs.Tasks.{IsPlanning}
 use Rattle.listings.specs.Asked.{Asked, dispatched_at, dispatched_from}
 use Rattle.listing_promise.specs.Listings.{AreQuestions, AskQuestions}
 

@@ -20,7 +20,7 @@ use Rattle.world_laws.proofs.Promises.{promise_holds}
 use Rattle.s3_outside.specs.Files.{SeenFiles}
 use Rattle.answer_classes.specs.Showing.{HasStatus, Shows}
 use Rattle.attempts.specs.Attempts.{text_of}
-use Rattle.upload_promise.specs.Shown.{CallFailed, KeepsPromise, in_first, shown_by}
+use Rattle.upload_promise.specs.Shown.{CallFailed, KeepsPromise, shown_by}
 use Rattle.upload_promise.proofs.PromiseLemmas.{one_valid, status_is}
 use Rattle.listings.specs.Asked.{AreAsked, Asked, dispatched_from, events_from}
 use Rattle.listings.proofs.CarriedLaw.{requests_are_carried}

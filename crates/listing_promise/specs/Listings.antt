@@ -1,8 +1,7 @@
 -- What the requests of a listing ask.
 use Rattle.std.specs.Prelude.{List, [], ◌∷◌}
-use Rattle.run_promise.specs.Planning.{Need}
+use Rattle.run_promise.specs.Planning.{IsPlanning, Need}
 use Rattle.run_promise.specs.Planning as planning
-use Rattle.world_laws.specs.Tasks.{IsPlanning}
 use Rattle.listings.specs.Asked.{Asked}
 
 -- each of them asks for a head, a page, or the buckets

@@ -18,11 +18,12 @@ use Rattle.s3_model.specs.Talks.{Talk, Note, Moment, Began}
 use Rattle.run_promise.specs.Carried.{AreNoted, IsCarried, IsSaid, Numbered, WouldGoOn, in_lane, mark_of, numbered_from, talks_of}
 use Rattle.run_promise.specs.Dispatches.{Attempt, Dispatched, last_of}
 use Rattle.run_promise.specs.Schedule.{IsBefore, Setting, most_body}
+use Rattle.run_promise.specs.Carried.{in_first}
 use Rattle.answer_classes.specs.Showing.{Shows}
 use Rattle.attempts.specs.Attempts.{text_of}
 use Rattle.attempts.proofs.SaidLemmas.{marked, said}
 use Rattle.listings.specs.Asked.{AreAsked, Asked, IsAsked, IsAttempt, attempts_of, dispatched_at, dispatched_from, events_from, job_of}
-use Rattle.listings.specs.Carried.{RequestsAreCarried, in_first}
+use Rattle.listings.specs.Carried.{RequestsAreCarried}
 use Rattle.listings.proofs.CarriedLemmas.{comes_in, in_lane_first, in_lane_other, nothing_else_in, pairs_from, shown, talk_of, talks_are, talks_from}
 
 none_in : {X : Type 0} (x : X) → Contains [] x → ⊥

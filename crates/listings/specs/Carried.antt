@@ -1,17 +1,13 @@
 -- The requests of a listing are carried, as a run's promise says it.
-use Rattle.std.specs.Prelude.{◌≡◌, ◌≤◌, ◌==◌, ℕ, Bool, true, List, [], None, if◌then◌else◌}
+use Rattle.std.specs.Prelude.{◌≡◌, ◌≤◌, ℕ, Bool, true, List, None}
 use Rattle.s3_model.specs.declared.places.Endpoint.{Endpoint}
 use Rattle.s3_model.specs.declared.settings.Keys.{Keys}
 use Rattle.s3_model.specs.Talks.{Talk, Note}
-use Rattle.run_promise.specs.Carried.{IsCarried}
+use Rattle.run_promise.specs.Carried.{IsCarried, in_first}
 use Rattle.run_promise.specs.Schedule.{Setting}
 use Rattle.answer_classes.specs.Showing.{Shows}
 use Rattle.attempts.specs.Attempts.{text_of}
 use Rattle.listings.specs.Asked.{AreAsked, Asked, dispatched_from, events_from}
-
--- in the first lane, and nothing in the others
-abbrev pub in_first : {A : Type 0} → List A → ℕ → List A
-in_first given lane = if lane == 0 then given else []
 
 -- Where a run makes one attempt of each request, requests that were given and attempted one after the other are carried
 -- by the first wire, and nothing else is.

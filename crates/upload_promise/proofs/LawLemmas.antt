@@ -17,9 +17,10 @@ use Rattle.run_promise.specs.Outcomes.{HasOutcome}
 use Rattle.run_promise.specs.Schedule.{IsSchedule, is_small}
 use Rattle.run_promise.specs.Runs.{moments}
 use Rattle.run_promise.specs.Truthful.{Shown, IsTruthful, IsDoneWhereWilling}
+use Rattle.run_promise.specs.Planning.{IsPlanning}
 use Rattle.world_laws.specs.Completeness.{AreCallsCounted, AreSourcesThere}
 use Rattle.world_laws.specs.Promises.{AreFilesLeft, IsByRequests, IsOrderly}
-use Rattle.world_laws.specs.Tasks.{AreApart, HasSource, IsPlanning}
+use Rattle.world_laws.specs.Tasks.{AreApart, HasSource}
 use Rattle.world_laws.proofs.Completeness.{orderly_is_done}
 use Rattle.world_laws.proofs.Promises.{promise_holds}
 

@@ -22,7 +22,7 @@ use Rattle.s3_model.specs.Files.{FileStore, HeldFile, is_folder, is_listed}
 use Rattle.s3_model.specs.Talks.{Talk, Note, Moment, Began}
 use Rattle.s3_model.specs.Validity.{IsValidConfig, IsValidLimits, IsWithin}
 use Rattle.run_promise.specs.Buffers.{KeepsBuffers}
-use Rattle.run_promise.specs.Carried.{IsCarried, SaysAll, IsPrefixOf}
+use Rattle.run_promise.specs.Carried.{IsCarried, SaysAll, IsPrefixOf, in_first}
 use Rattle.run_promise.specs.Dispatches.{Attempt, Dispatched}
 use Rattle.run_promise.specs.Outcomes.{HasOutcome, ReadsSource}
 use Rattle.run_promise.specs.Schedule.{IsSchedule, bytes_of, is_small, most_body, source_bytes}
@@ -36,7 +36,7 @@ use Rattle.s3_outside.specs.declared.files.Shape.TheVariants as shape
 use Rattle.upload_promise.specs.Puts.{AreIdle, IsJudged, stored, refused, open_ended, unread}
 use Rattle.upload_promise.specs.Sources.{AreFirstBytes}
 use Rattle.upload_promise.specs.Uploads.{Carries, IsReadCause, IsTalked, Uploads, put_events, upload_ask, upload_task}
-use Rattle.upload_promise.specs.Shown.{CallFailed, KeepsPromise, in_first, one_attempt, shown_by, tells_file_failed}
+use Rattle.upload_promise.specs.Shown.{CallFailed, KeepsPromise, one_attempt, shown_by, tells_file_failed}
 use Rattle.upload_promise.proofs.JobLemmas.{Planned, each, first_only, in_none, no_buffers, no_jobs, no_schedule, put_alone, put_buffers, put_schedule, put_with, setting_of}
 use Rattle.upload_promise.proofs.LawLemmas.{AreAlone, IsOrdered, done_where_willing, truthful}
 use Rattle.upload_promise.proofs.OutcomeLemmas.{judged_for, silent_for, tells, unread_for}

@@ -18,9 +18,9 @@ use Rattle.s3_model.specs.Talks.{Talk, Note, Moment, Began}
 use Rattle.run_promise.specs.Dispatches.{Attempt, Dispatched, last_of, paired}
 use Rattle.run_promise.specs.Schedule.{Setting, most_body}
 use Rattle.run_promise.specs.Carried.{IsCarried, IsSaid, AreNoted, Numbered, in_lane, numbered_from, talks_of, mark_of}
+use Rattle.run_promise.specs.Carried.{in_first}
 use Rattle.shared_lemmas.proofs.Clashes.{none_is_some, some_is}
 use Rattle.upload_promise.specs.Puts.{AreIdle, IsJudged, stored, refused, open_ended, unread}
-use Rattle.upload_promise.specs.Shown.{in_first}
 use Rattle.upload_promise.specs.Uploads.{put_events, upload_ask}
 use Rattle.upload_promise.proofs.JobLemmas.{Planned, each, first_only, in_none, in_one, put_dispatch, put_with, setting_of}
 

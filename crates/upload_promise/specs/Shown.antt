@@ -1,5 +1,5 @@
 -- What a run of at most one small upload shows of itself, and what it promises.
-use Rattle.std.specs.Prelude.{◌≡◌, ◌==◌, ℕ, Bool, true, false, List, [], Option, Some, None, slice_get, if◌then◌else◌}
+use Rattle.std.specs.Prelude.{◌≡◌, ◌==◌, ℕ, Bool, true, false, List, [], Option, Some, None, slice_get}
 use Rattle.s3_model.specs.declared.requests.Ask.{Ask}
 use Rattle.s3_model.specs.declared.answers.Class.{Class}
 use Rattle.s3_model.specs.declared.outcomes.Cause.{Cause}
@@ -16,16 +16,13 @@ use Rattle.run_promise.specs.Dispatches.{Dispatched}
 use Rattle.run_promise.specs.Schedule.{Setting}
 use Rattle.run_promise.specs.Settled.{IsSettingOf, cause_of, is_memory}
 use Rattle.run_promise.specs.Truthful.{Shown, IsTruthful, IsDoneWhereWilling}
+use Rattle.run_promise.specs.Carried.{in_first}
 use Rattle.s3_outside.specs.Files.{SeenFiles}
 use Rattle.upload_promise.specs.Uploads.{IsReadCause}
 
 -- each request is tried once
 abbrev pub one_attempt : Config → Config
 one_attempt config = record config { attempts = 1 }
-
--- what is in the first lane alone
-abbrev pub in_first : {A : Type 0} → List A → ℕ → List A
-in_first given lane = if lane == 0 then given else []
 
 -- the outcome of a task that reads no object says that a file call failed, that its file gave fewer bytes, or that
 -- memory ran out

@@ -28,12 +28,13 @@ use Rattle.run_promise.specs.Fits.{request_at}
 use Rattle.run_promise.specs.Schedule.{Setting, AreETags, Gained, HasReply, IsTaskAsk, IsUpload, Known, Target, asked_range, gained_before, is_small, job_of, source_bytes}
 use Rattle.run_promise.specs.Traces.{SentRequest, Step, TraceEvent, Serve, Steps, state_after, states, events_of, event_of}
 use Rattle.run_promise.specs.Truthful.{IsAlone}
+use Rattle.run_promise.specs.Planning.{IsPlanning}
 use Rattle.shared_lemmas.proofs.Clashes.{some_is}
 use Rattle.shared_lemmas.proofs.Lists.{head_is, tail_is}
 use Rattle.shared_lemmas.proofs.Maps.{get-insert_other, get-insert_same, key_decided, text_exact}
 use Rattle.shared_lemmas.proofs.Members.{found_or_not, Has}
 use Rattle.world_laws.specs.Premises.{HasCome}
-use Rattle.world_laws.specs.Tasks.{AreQuestions, IsPlanning, IsScheduled, IsTraceOf}
+use Rattle.world_laws.specs.Tasks.{AreQuestions, IsScheduled, IsTraceOf}
 use Rattle.world_laws.proofs.Early as early
 use Rattle.world_laws.proofs.Early.{reached}
 use Rattle.world_laws.proofs.Fitting as fitting

@@ -26,8 +26,9 @@ use Rattle.world_laws.specs.Premises.{HasSucceeded}
 use Rattle.world_laws.specs.Destinations.{AllThatChange}
 use Rattle.world_laws.specs.SmallTransfers.{AsksPut, AsksCopy, AsksDelete}
 use Rattle.world_laws.specs.Multipart.{IsCreated, CompletesHere, AreParts, AreCopiedParts}
-use Rattle.world_laws.specs.Tasks.{IsPlanning, IsScheduled}
+use Rattle.world_laws.specs.Tasks.{IsScheduled}
 use Rattle.run_promise.specs.Outcomes.{deciding}
+use Rattle.run_promise.specs.Planning.{IsPlanning}
 use Rattle.world_laws.proofs.Jobs.{job_is}
 use Rattle.world_laws.proofs.PieceCounts.{pieces_are_one}
 use Rattle.world_laws.proofs.Rows as rows

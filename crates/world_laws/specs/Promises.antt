@@ -22,7 +22,8 @@ use Rattle.run_promise.specs.Schedule.{Setting, IsSchedule, is_small}
 use Rattle.run_promise.specs.Truthful.{Shown, FitsShown, HasOutcomes, HoldsOver}
 use Rattle.world_laws.specs.Premises.{AreGiven, HasCome}
 use Rattle.run_promise.specs.Runs.{Run, moments}
-use Rattle.world_laws.specs.Tasks.{AreApart, HasSource, IsPlanning, MayBeNew}
+use Rattle.run_promise.specs.Planning.{IsPlanning}
+use Rattle.world_laws.specs.Tasks.{AreApart, HasSource, MayBeNew}
 
 -- a task that requests decide: its destination is an object, and a removal moves nothing
 pub record IsByRequests (task : Task) : Type 0 where

@@ -4,7 +4,6 @@ use Rattle.std.specs.Prelude.{length, slice_get}
 use Rattle.std.specs.Bool.{OnTrue}
 use Rattle.std.specs.FinMap.{get}
 use Rattle.s3_model.specs.declared.requests.Ask.{Ask}
-use Rattle.s3_model.specs.declared.requests.Ask.TheVariants as ask
 use Rattle.s3_model.specs.declared.requests.Op.TheVariants as op
 use Rattle.s3_model.specs.declared.answers.Class.{Class}
 use Rattle.s3_model.specs.declared.answers.Class.TheVariants as class
@@ -30,6 +29,7 @@ use Rattle.run_promise.specs.Endings.{Excused, Scene, IsNew, IsGone, IsGoneOrThe
 use Rattle.run_promise.specs.Truthful.{IsDest, IsMovedSource, IsExternal, IsOldAfter}
 use Rattle.world_laws.specs.Premises.{BeginsWith, AreGiven, HasCome}
 use Rattle.run_promise.specs.Runs.{Run, moments, HasEndedBy, IsFitting}
+use Rattle.run_promise.specs.Planning.{IsPlanning}
 use Rattle.world_laws.specs.Premises.{HasSucceeded, AllRefused}
 use Rattle.world_laws.specs.SmallTransfers.{HasSize}
 
@@ -39,13 +39,6 @@ pub record AreApart (tasks : List Task) : Type 0 where
       → slice_get tasks n ≡ Some b → IsObject a.dest bucket key → IsObject b.dest bucket key → m ≡ n
   pub sources : (m n : ℕ) (a b : Task) (bucket key : List ℕ) → slice_get tasks m ≡ Some a → slice_get tasks n ≡ Some b
       → a.moves ≡ true → IsSource a.source bucket key → IsObject b.dest bucket key → ⊥
-
--- planning asks for heads, pages and buckets
-abbrev pub IsPlanning : Ask → Type 0
-IsPlanning (ask.Head bucket key) = Unit {0}
-IsPlanning (ask.List bucket prefix delimited token) = Unit {0}
-IsPlanning ask.Buckets = Unit {0}
-IsPlanning asked = ⊥
 
 -- each of these jobs asks such
 abbrev pub AreQuestions : List Dispatched → Type 0
