@@ -145,12 +145,12 @@ answer_not_failed asked answered (inr wanting) = memory_clash wanting.0
 same_uncertain : (a b : Why) → class.Uncertain a ≡ class.Uncertain b → a ≡ b
 same_uncertain a b is = cc
 
-final_status : (request : exchange.Request) (first last : Buffer) (talk : Talk) (kept : Bool) (answered : Answered)
+final_status : (request : exchange.RawRequest) (first last : Buffer) (talk : Talk) (kept : Bool) (answered : Answered)
     → exchange.IsExchange request first last (talked.Answered answered) talk kept → 200 ≤ answered.status
 final_status request first last talk kept answered e = let a = e.answered.is_answer in subst (λ (n : ℕ). 200 ≤ n) (sym a.says.status) a.reads.final
 
 -- a call is judged to have failed only where the exchange says so
-pub failed_call : (request : exchange.Request) (first last : Buffer) (talk : Talk) (kept : Bool) (asked : Ask) (result : Talked) (shown : Class)
+pub failed_call : (request : exchange.RawRequest) (first last : Buffer) (talk : Talk) (kept : Bool) (asked : Ask) (result : Talked) (shown : Class)
     → exchange.IsExchange request first last result talk kept → IsJudged asked result shown → shown ≡ class.Uncertain why.WireFailed → result ≡ talked.Broken why.WireFailed
 failed_call request first last talk kept asked (talked.Answered answered) shown e j is =
     absurd (answer_not_failed asked answered (subst (λ (c : Class). IsClassed asked answered c) is (j.classed (final_status request first last talk kept answered e))))

@@ -23,7 +23,7 @@ pub record IsSigned (endpoint : Endpoint) (keys : Keys) (asked : Ask) (body head
   pub signed : head ++ body ≡ text_of endpoint keys asked body moment
 
 -- the exchange for a request with that head
-abbrev pub exchange_of : SignedRequest → (keep : Bool) → (head : List ℕ) → exchange.Request
+abbrev pub exchange_of : SignedRequest → (keep : Bool) → (head : List ℕ) → exchange.RawRequest
 exchange_of r keep head = record {
   endpoint = r.endpoint;
   bytes = head ++ r.body;

@@ -17,7 +17,7 @@ use Rattle.answer_grammar.specs.Answer.{Begins, IsAnswer, IsOfTalk}
 use Rattle.answer_grammar.specs.Breaks.{BreaksHead, no_head, unfit, too_long, cut, BreaksBody, Breaks, in_head, in_lines, in_body, IsBreak}
 use Rattle.answer_grammar.specs.Chunks.{BreaksOff, BreaksBehind}
 use Rattle.answer_grammar.specs.Chunks as chunks
-use Rattle.http_exchange.specs.Exchange.{IsExchange, Request, InPieces, IsOpenByLine}
+use Rattle.http_exchange.specs.Exchange.{IsExchange, RawRequest, InPieces, IsOpenByLine}
 use Rattle.http_exchange.specs.Steps.{IsAsked, Receives, ends_kept, talked_of}
 use Rattle.http_exchange.specs.Seen.{hears, with_talk}
 
@@ -165,7 +165,7 @@ one_broken : (reason other : Why) → talked.Broken reason ≡ talked.Broken oth
 one_broken reason other e = cc
 
 -- what was heard in a talk that has only its request
-pub exchanged : (request : Request) (before after : Buffer) (behind : List ℕ) (talk : Talk) (got : List ℕ) (ending : Ending) (is_entire : Bool) (done : Unit {0}) (result : Result Answered Why)
+pub exchanged : (request : RawRequest) (before after : Buffer) (behind : List ℕ) (talk : Talk) (got : List ℕ) (ending : Ending) (is_entire : Bool) (done : Unit {0}) (result : Result Answered Why)
     → is_entire ≡ eqb (length behind) 0 → IsAsked {T = Unit {0}} {E = Fault} request.endpoint request.bytes (Ok done) talk
     → Receives request.head_only request.limit behind before after result got ending
     → IsExchange request before after (talked_of result) (hears got ending talk) (ends_kept request.keep is_entire result)

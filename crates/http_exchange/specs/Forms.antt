@@ -5,8 +5,10 @@ use Rattle.s3_model.specs.declared.answers.Why.{Why}
 use Rattle.s3_model.specs.declared.answers.Why.TheVariants as why
 
 -- the form with its length, the beginning of one, or that there is none
-abbrev pub ReadsForm : (Has : List ℕ → ℕ → List ℕ → Type 0) → (CannotBe Begins : List ℕ → Type 0) → List ℕ → Result (Option (ℕ × ℕ)) Why → Type 0
-ReadsForm Has CannotBe Begins bytes (Ok (Some found)) = (found.0 ≤ length bytes) × Has bytes found.1 (drop found.0 bytes)
+abbrev pub ReadsForm : (Has : List ℕ → ℕ → List ℕ → Type 0) → (CannotBe Begins : List ℕ → Type 0) → List ℕ
+    → Result (Option (ℕ × ℕ)) Why → Type 0
+ReadsForm Has CannotBe Begins bytes (Ok (Some found)) =
+    (found.0 ≤ length bytes) × Has bytes found.1 (drop found.0 bytes)
 ReadsForm Has CannotBe Begins bytes (Ok None) = Begins bytes × (length bytes < 1_024)
 ReadsForm Has CannotBe Begins bytes (Err reason) = (reason ≡ why.BadChunk) × CannotBe bytes
 

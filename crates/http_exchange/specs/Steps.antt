@@ -1,5 +1,6 @@
 -- What each step of a talk does to the wire's log.
-use Rattle.std.specs.Prelude.{◌≡◌, ◌≢◌, ◌⊎◌, ℕ, ◌+◌, ◌<◌, ◌≤◌, ◌&&◌, Bool, true, false, List, [], ◌++◌, length, min, take, drop, Option, option_map, Result, Ok, Err, OnOk, OnErr, IfErr, slice_range}
+use Rattle.std.specs.Prelude.{◌≡◌, ◌≢◌, ◌⊎◌, ℕ, ◌+◌, ◌<◌, ◌≤◌, ◌&&◌, Bool, true, false, List, [], ◌++◌, length, min}
+use Rattle.std.specs.Prelude.{take, drop, Option, option_map, Result, Ok, Err, OnOk, OnErr, IfErr, slice_range}
 use Rattle.s3_model.specs.Counts.{Rose}
 use Rattle.s3_model.specs.Talks.{Talk, Ending, Failed, Closed, Finished, WireLog}
 use Rattle.s3_model.specs.Lists.{Buffer}
@@ -36,7 +37,8 @@ Sends bytes before after (Err _) =
     (count : ℕ) × (after ≡ option_map (last_talk (λ talk. fails (sends (take count bytes) talk))) before)
 
 -- a talk that so far has only the request
-pub record IsAsked {T E : Type 0} (endpoint : Endpoint) (bytes : List ℕ) (result : Result T E) (talk : Talk) : Type 0 where
+pub record IsAsked {T E : Type 0} (endpoint : Endpoint) (bytes : List ℕ) (result : Result T E)
+    (talk : Talk) : Type 0 where
   pub host : talk.host ≡ endpoint.host
   pub port : talk.port ≡ endpoint.port
   pub sent : Begins talk.sent bytes
@@ -44,9 +46,11 @@ pub record IsAsked {T E : Type 0} (endpoint : Endpoint) (bytes : List ℕ) (resu
   pub whole : OnOk result ((talk.sent ≡ bytes) × (talk.ending ≡ Finished))
   pub failed : OnErr result (talk.ending ≡ Failed)
 
-abbrev pub Asks : {T E : Type 0} → Endpoint → List ℕ → Option WireLog → Option WireLog → (faults_before faults_after : ℕ) → Result T E → Type 0
+abbrev pub Asks : {T E : Type 0} → Endpoint → List ℕ → Option WireLog → Option WireLog
+    → (faults_before faults_after : ℕ) → Result T E → Type 0
 Asks endpoint bytes before after faults_before faults_after result =
-    (talk : Talk) × IsSeenAfter (with_talk talk) before after faults_before faults_after × IsAsked endpoint bytes result talk
+    (talk : Talk) × IsSeenAfter (with_talk talk) before after faults_before faults_after
+    × IsAsked endpoint bytes result talk
 
 -- ---- what is heard
 
@@ -58,7 +62,8 @@ Hears before after P =
 -- the unread bytes grew by a piece, none at the end of the connection
 abbrev pub TakesPiece : List ℕ → List ℕ → Result ℕ Why → List ℕ → Ending → Type 0
 TakesPiece before after (Ok count) got ending =
-    (after ≡ before ++ got) × (length got ≡ count) × (count ≤ 16_384) × (count ≡ 0 → ending ≡ Closed) × (0 < count → ending ≡ Finished)
+    (after ≡ before ++ got) × (length got ≡ count) × (count ≤ 16_384) × (count ≡ 0 → ending ≡ Closed)
+    × (0 < count → ending ≡ Finished)
 TakesPiece before after (Err reason) got ending = (got ≡ []) × (reason ≡ why.WireFailed) × (ending ≡ Failed)
 
 -- the bytes at the front of a buffer, behind which so many were taken
@@ -79,7 +84,8 @@ IsBegun before bytes = (part : List ℕ) × (bytes ≡ before ++ part) × LacksL
 -- lines were added: at most one piece has the end of one
 abbrev pub TakesLines : List ℕ → List ℕ → Result Bool Why → List ℕ → Ending → Type 0
 TakesLines before after (Ok true) got ending =
-    (after ≡ before ++ got) × LacksLineEnd got × (length after < 65_536) × (ending ≡ Closed) × InPieces (IsBegun before) before got ending
+    (after ≡ before ++ got) × LacksLineEnd got × (length after < 65_536) × (ending ≡ Closed)
+    × InPieces (IsBegun before) before got ending
 TakesLines before after (Ok false) got ending =
     (after ≡ before ++ got) × (0 < length got) × (ending ≡ Finished) × InPieces (IsBegun before) before got Finished
 TakesLines before after (Err reason) got ending =
@@ -94,43 +100,55 @@ NoHead head_only got ending reason =
 
 -- a head was read, and the bytes behind it are left
 abbrev pub HeadComes : Bool → List ℕ → Result Head Why → List ℕ → Ending → Type 0
-HeadComes head_only after (Ok found) got ending = (window : List ℕ) × (more : List ℕ) × (got ≡ window ++ more) × IsHeadAt head_only window found × (after ≡ drop found.len window ++ more) × (ending ≡ Finished)
+HeadComes head_only after (Ok found) got ending = (window : List ℕ) × (more : List ℕ) × (got ≡ window ++ more)
+    × IsHeadAt head_only window found × (after ≡ drop found.len window ++ more) × (ending ≡ Finished)
 HeadComes head_only after (Err reason) got ending = FailsOr (NoHead head_only got) ending reason
 
-pub record TakesHead (head_only : Bool) (after : List ℕ) (result : Result Head Why) (got : List ℕ) (ending : Ending) : Type 0 where
+pub record TakesHead (head_only : Bool) (after : List ℕ) (result : Result Head Why) (got : List ℕ)
+    (ending : Ending) : Type 0 where
   pub pieces : InPieces BeginsByLine [] got ending
   pub comes : HeadComes head_only after result got ending
 
 -- ---- the body
 
 -- a form was read, and the bytes behind it are left; or a call failed, or the bytes break off
-abbrev pub FormComes : (Has : List ℕ → ℕ → List ℕ → Type 0) → (CannotBe Begins : List ℕ → Type 0) → (before after : List ℕ) → Result ℕ Why → List ℕ → Ending → Type 0
+abbrev pub FormComes : (Has : List ℕ → ℕ → List ℕ → Type 0) → (CannotBe Begins : List ℕ → Type 0)
+    → (before after : List ℕ) → Result ℕ Why → List ℕ → Ending → Type 0
 FormComes Has CannotBe Begins before after (Ok value) got ending = Has (before ++ got) value after × (ending ≡ Finished)
-FormComes Has CannotBe Begins before after (Err reason) got ending = FailsOr (BreaksOff (CannotBe (before ++ got)) (Begins (before ++ got))) ending reason
+FormComes Has CannotBe Begins before after (Err reason) got ending =
+    FailsOr (BreaksOff (CannotBe (before ++ got)) (Begins (before ++ got))) ending reason
 
-pub record TakesForm (Has : List ℕ → ℕ → List ℕ → Type 0) (CannotBe Begins : List ℕ → Type 0) (before after : List ℕ) (result : Result ℕ Why) (got : List ℕ) (ending : Ending) : Type 0 where
+pub record TakesForm (Has : List ℕ → ℕ → List ℕ → Type 0) (CannotBe Begins : List ℕ → Type 0) (before after : List ℕ)
+    (result : Result ℕ Why) (got : List ℕ) (ending : Ending) : Type 0 where
   pub pieces : InPieces Begins before got ending
   pub comes : FormComes Has CannotBe Begins before after result got ending
 
 -- so many bytes were moved to the body
-abbrev pub ContentComes : ℕ → (before after : List ℕ) → (body_before body_after : List ℕ) → Result Unit Why → List ℕ → Ending → Type 0
+abbrev pub ContentComes : ℕ → (before after : List ℕ) → (body_before body_after : List ℕ) → Result Unit Why → List ℕ
+    → Ending → Type 0
 ContentComes size before after body_before body_after (Ok _) got ending =
-    (content : List ℕ) × (length content ≡ size) × (before ++ got ≡ content ++ after) × (body_after ≡ body_before ++ content) × (ending ≡ Finished)
+    (content : List ℕ) × (length content ≡ size) × (before ++ got ≡ content ++ after)
+    × (body_after ≡ body_before ++ content) × (ending ≡ Finished)
 ContentComes size before after body_before body_after (Err reason) got ending =
-    FailsOr (λ ending reason. (length (before ++ got) < size) × (ending ≡ Closed) × (reason ≡ why.EndedEarly)) ending reason
+    FailsOr (λ ending reason. (length (before ++ got) < size) × (ending ≡ Closed) × (reason ≡ why.EndedEarly)) ending
+    reason
 
-pub record TakesContent (size : ℕ) (before after body_before body_after : List ℕ) (result : Result Unit Why) (got : List ℕ) (ending : Ending) : Type 0 where
+pub record TakesContent (size : ℕ) (before after body_before body_after : List ℕ) (result : Result Unit Why)
+    (got : List ℕ) (ending : Ending) : Type 0 where
   pub pieces : InPieces (λ bytes. length bytes < size) before got ending
   pub comes : ContentComes size before after body_before body_after result got ending
 
 -- content and its CRLF
-abbrev pub ChunkComes : ℕ → (before after : List ℕ) → (body_before body_after : List ℕ) → Result Unit Why → List ℕ → Ending → Type 0
+abbrev pub ChunkComes : ℕ → (before after : List ℕ) → (body_before body_after : List ℕ) → Result Unit Why → List ℕ
+    → Ending → Type 0
 ChunkComes size before after body_before body_after (Ok _) got ending =
-    (content : List ℕ) × (length content ≡ size) × (before ++ got ≡ content ++ (crlf_bytes ++ after)) × (body_after ≡ body_before ++ content) × (ending ≡ Finished)
+    (content : List ℕ) × (length content ≡ size) × (before ++ got ≡ content ++ (crlf_bytes ++ after))
+    × (body_after ≡ body_before ++ content) × (ending ≡ Finished)
 ChunkComes size before after body_before body_after (Err reason) got ending =
     FailsOr (BreaksOff (CannotBeContent size (before ++ got)) (BeginsContent size (before ++ got))) ending reason
 
-pub record TakesChunk (size : ℕ) (before after body_before body_after : List ℕ) (result : Result Unit Why) (got : List ℕ) (ending : Ending) : Type 0 where
+pub record TakesChunk (size : ℕ) (before after body_before body_after : List ℕ) (result : Result Unit Why)
+    (got : List ℕ) (ending : Ending) : Type 0 where
   pub pieces : InPieces (BeginsContent size) before got ending
   pub comes : ChunkComes size before after body_before body_after result got ending
 
@@ -143,26 +161,33 @@ body_room framing.ToClose limit = limit
 
 -- the bytes behind the head begin a body, or are one that the connection's end may end
 abbrev pub IsOpenBody : Framing → ℕ → List ℕ → Type 0
-IsOpenBody framed limit rest = BreaksBody framed limit rest Closed why.EndedEarly ⊎ ((framed ≡ framing.ToClose) × (length rest ≤ limit))
+IsOpenBody framed limit rest =
+    BreaksBody framed limit rest Closed why.EndedEarly ⊎ ((framed ≡ framing.ToClose) × (length rest ≤ limit))
 
 abbrev pub BodyComes : Framing → ℕ → (before after body : List ℕ) → Result Unit Why → List ℕ → Ending → Type 0
-BodyComes framed limit before after body (Ok _) got ending = HasBody framed (before ++ got) ending body after × (length body ≤ limit) × (ending ≢ Failed)
-BodyComes framed limit before after body (Err reason) got ending = FailsOr (BreaksBody framed limit (before ++ got)) ending reason
+BodyComes framed limit before after body (Ok _) got ending =
+    HasBody framed (before ++ got) ending body after × (length body ≤ limit) × (ending ≢ Failed)
+BodyComes framed limit before after body (Err reason) got ending =
+    FailsOr (BreaksBody framed limit (before ++ got)) ending reason
 
-pub record TakesBody (framed : Framing) (limit : ℕ) (before after body : List ℕ) (result : Result Unit Why) (got : List ℕ) (ending : Ending) : Type 0 where
+pub record TakesBody (framed : Framing) (limit : ℕ) (before after body : List ℕ) (result : Result Unit Why)
+    (got : List ℕ) (ending : Ending) : Type 0 where
   pub pieces : InPieces (IsOpenBody framed limit) before got ending
   pub comes : BodyComes framed limit before after body result got ending
 
 -- ---- the answer
 
 -- an answer, with its body where it belongs and these bytes behind it, or a break
-abbrev pub AnswerComes : Bool → Option ℕ → (behind : List ℕ) → Buffer → Buffer → Result Answered Why → List ℕ → Ending → Type 0
+abbrev pub AnswerComes : Bool → Option ℕ → (behind : List ℕ) → Buffer → Buffer → Result Answered Why → List ℕ → Ending
+    → Type 0
 AnswerComes head_only limit behind before after (Ok answered) got ending =
-    (body : List ℕ) × IsAnswer head_only limit got ending answered body behind × Delivers limit answered body before after
+    (body : List ℕ) × IsAnswer head_only limit got ending answered body behind
+    × Delivers limit answered body before after
 AnswerComes head_only limit behind before after (Err reason) got ending =
     ((reason ≡ why.Memory) × (ending ≢ Failed)) ⊎ IsBreak head_only limit got ending reason
 
-pub record Receives (head_only : Bool) (limit : Option ℕ) (behind : List ℕ) (before after : Buffer) (result : Result Answered Why) (got : List ℕ) (ending : Ending) : Type 0 where
+pub record Receives (head_only : Bool) (limit : Option ℕ) (behind : List ℕ) (before after : Buffer)
+    (result : Result Answered Why) (got : List ℕ) (ending : Ending) : Type 0 where
   pub pieces : InPieces (IsOpenByLine head_only limit) [] got ending
   pub comes : AnswerComes head_only limit behind before after result got ending
 
@@ -174,7 +199,8 @@ AnswerFilled head most before after there held (Ok answered) got ending =
 AnswerFilled head most before after there held (Err reason) got ending =
     ((reason ≡ why.Memory) × (ending ≢ Failed)) ⊎ FailsOr (BreaksBody head.framing most (before ++ got)) ending reason
 
-pub record FillsPlace (head : Head) (most : ℕ) (before after there : List ℕ) (result : Result Answered Why) (got : List ℕ) (ending : Ending) : Type 0 where
+pub record FillsPlace (head : Head) (most : ℕ) (before after there : List ℕ) (result : Result Answered Why)
+    (got : List ℕ) (ending : Ending) : Type 0 where
   pub pieces : InPieces (IsOpenBody head.framing most) before got ending
   pub comes : AnswerFilled head most before after there head.answer.body.bytes result got ending
 
@@ -182,7 +208,8 @@ abbrev pub held_body : Result Answered Why → List ℕ
 held_body (Ok answered) = answered.body.bytes
 held_body (Err reason) = []
 
-pub record FillsAnswer (head : Head) (most : ℕ) (before after : List ℕ) (result : Result Answered Why) (got : List ℕ) (ending : Ending) : Type 0 where
+pub record FillsAnswer (head : Head) (most : ℕ) (before after : List ℕ) (result : Result Answered Why) (got : List ℕ)
+    (ending : Ending) : Type 0 where
   pub pieces : InPieces (IsOpenBody head.framing most) before got ending
   pub comes : AnswerFilled head most before after (held_body result) (held_body result) result got ending
 

@@ -1,7 +1,14 @@
 //! What is read whole within a chunked body, whatever the pieces that it comes in.
 
 ghost use Rattle.std.specs.Prelude.{◌≡◌, ◌<◌, ℕ, List, length};
-ghost use Rattle.answer_grammar.specs.Chunks.{HasSize, CannotBeSize, BeginsSize, HasTrailers, CannotBeTrailers, BeginsTrailers};
+ghost use Rattle.answer_grammar.specs.Chunks.{
+  HasSize,
+  CannotBeSize,
+  BeginsSize,
+  HasTrailers,
+  CannotBeTrailers,
+  BeginsTrailers,
+};
 ghost use Rattle.http_exchange.specs.Forms.{ReadsForm, HasLineEnd, CannotBeLineEnd, BeginsLineEnd};
 ghost use Rattle.http_exchange.specs.Steps.{HasWireCause, Hears, TakesForm};
 

@@ -5,8 +5,17 @@ ghost use Rattle.std.specs.Option.{option_map};
 ghost use Rattle.s3_model.specs.Counts.{Rose};
 ghost use Rattle.answer_grammar.specs.Answer.{IsOfTalk, body_limit, goes_into, is_success};
 ghost use Rattle.s3_outside.specs.Wire.{is_kept};
-ghost use Rattle.http_exchange.specs.Exchange.{IfBroken, Exchanges, Request};
-ghost use Rattle.http_exchange.specs.Steps.{FillsPlace, FillsAnswer, HasWireCause, Hears, Receives, body_room, ends_kept, talked_of};
+ghost use Rattle.http_exchange.specs.Exchange.{IfBroken, Exchanges, RawRequest};
+ghost use Rattle.http_exchange.specs.Steps.{
+  FillsPlace,
+  FillsAnswer,
+  HasWireCause,
+  Hears,
+  Receives,
+  body_room,
+  ends_kept,
+  talked_of,
+};
 
 use crate::body::take_body;
 use crate::receive::take_head;
@@ -48,7 +57,7 @@ pub fn exchange<W: Wire>(
     into: &mut Bytes,
 ) -> Talked
     requires { IfSome limit (λ most. most ≤ into.old.room) }
-    ensures talk { let request : Request = record {
+    ensures talk { let request : RawRequest = record {
       endpoint = endpoint.now;
       bytes = head.now ++ body.now;
       head_only = head_only;

@@ -2,7 +2,7 @@ use Rattle.std.proofs.Common.{◌≡◌, ℕ, List, ◌++◌, ◌∙◌, eqb, le
 use Rattle.std.specs.Option.{option_map}
 use Rattle.s3_model.specs.declared.answers.Talked.{Talked}
 use Rattle.s3_outside.specs.Wire.{is_kept}
-use Rattle.http_exchange.specs.Exchange.{IsExchange, Request}
+use Rattle.http_exchange.specs.Exchange.{IsExchange, RawRequest}
 use Rattle.http_exchange.specs.Seen.{hears}
 use Rattle.http_exchange.specs.Steps.{ends_kept}
 use Rattle.http_exchange.proofs.ExchangeLemmas.{exchanged, kept_after, kept_well}
@@ -13,7 +13,7 @@ pub returns-in-Ok-clause-talk : goal.returns-in-Ok-clause-talk
 returns-in-Ok-clause-talk g c =
     let a = c.in-Ok.ensures.talk in
     let h = c.receive-answer.ensures.heard in
-    let request : Request = record { endpoint = c.args.endpoint.now; bytes = c.args.head.now ++ c.args.body.now; head_only = c.args.head_only; limit = c.args.limit; keep = c.args.keep } in
+    let request : RawRequest = record { endpoint = c.args.endpoint.now; bytes = c.args.head.now ++ c.args.body.now; head_only = c.args.head_only; limit = c.args.limit; keep = c.args.keep } in
     let behind = c.receive-answer.new.room.incoming in
     let entire = c.is_empty-is_entire.result in
     let kept = ends_kept c.args.keep entire c.receive-answer.result in
