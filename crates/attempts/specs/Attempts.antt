@@ -26,6 +26,10 @@ pub record SignedRequest : Type 0 where
   pub body : List ℕ
   pub limit : Option ℕ
 
+abbrev pub signed_request : Endpoint → Keys → Ask → (body : List ℕ) → (limit : Option ℕ) → SignedRequest
+signed_request endpoint keys asked body limit =
+    record { endpoint = endpoint; keys = keys; asked = asked; body = body; limit = limit }
+
 -- the text of a request to this service, signed with these keys at that moment
 abbrev pub text_of : Endpoint → Keys → Ask → (body : List ℕ) → (moment : ℕ) → List ℕ
 text_of endpoint keys asked body moment = request_text asked endpoint keys moment body

@@ -3,7 +3,7 @@
 ghost use Rattle.std.specs.Prelude.{◌≡◌, ◌≢◌, ◌≤◌, false, true, Some, None, IfSome, IfOk, OnErr};
 ghost use Rattle.s3_model.specs.Counts.{Rose};
 ghost use Rattle.answer_dates.specs.Dates.{HasDates};
-ghost use Rattle.attempts.specs.Attempts.{IfMade, IsGet, IsOfSomeTalk, IsSilent, Makes, SignedRequest};
+ghost use Rattle.attempts.specs.Attempts.{IfMade, IsGet, IsOfSomeTalk, IsSilent, Makes, signed_request};
 ghost use Rattle.run_promise.specs.Gains.{Gains};
 ghost use Rattle.attempts.specs.Steps.{IsAnsweredBy, IsSigned};
 ghost use Rattle.answer_classes.specs.Showing.{is_head};
@@ -71,14 +71,9 @@ fn send<W: Wire>(
     keep: bool,
 ) -> Class
     requires limit { IfSome limit (λ most. IsGet ask.now × (most ≤ into.old.room)) }
-    ensures answered { let request : SignedRequest = record {
-      endpoint = client.old.endpoint;
-      keys = client.old.signer;
-      asked = ask.now;
-      body = payload.now;
-      limit = limit;
-    } in IsAnsweredBy request keep head.now (W.seen wire.old) (W.seen wire.new) (W.alive wire.new)
-        (W.faults wire.old) (W.faults wire.new) into.old into.new result }
+    ensures answered { IsAnsweredBy (signed_request client.old.endpoint client.old.signer ask.now payload.now limit)
+        keep head.now (W.seen wire.old) (W.seen wire.new) (W.alive wire.new) (W.faults wire.old) (W.faults wire.new)
+        into.old into.new result }
     ensures dated { HasDates result }
     ensures failed { result ≡ Class.Uncertain Why.WireFailed → Rose (W.faults wire.old) (W.faults wire.new) }
     ensures later { W.faults wire.old ≤ W.faults wire.new }
@@ -124,13 +119,9 @@ pub fn attempt<W: Wire>(
     keep: bool,
 ) -> Attempted
     requires limit { IfSome limit (λ most. IsGet ask.now × (most ≤ into.old.room)) }
-    ensures gained { let request : SignedRequest = record {
-      endpoint = client.old.endpoint;
-      keys = client.old.signer;
-      asked = ask.now;
-      body = payload.now;
-      limit = limit;
-    } in Gains (W.seen wire.old) (W.seen wire.new) (Makes request result into.new.bytes) }
+    ensures gained { Gains (W.seen wire.old) (W.seen wire.new)
+        (Makes (signed_request client.old.endpoint client.old.signer ask.now payload.now limit)
+        result into.new.bytes) }
     ensures classed { IfMade result (λ shown. IsOfSomeTalk ask.now limit shown into.new.bytes) }
     ensures dated { IfMade result HasDates }
     ensures kept { IfMade result (λ shown. keep ≡ false → W.alive wire.new ≢ Some true) }

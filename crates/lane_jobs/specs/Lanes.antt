@@ -1,5 +1,6 @@
 -- What a lane does for one job: its attempts, the pauses before them, and the ending.
-use Rattle.std.specs.Prelude.{◌≡◌, ◌⊎◌, ◌+◌, ◌<◌, ◌≤◌, ◌++◌, ℕ, true, false, List, [], ◌∷◌, Option, Some, None, IfSome, IsSome, length, map, max, slice_get}
+use Rattle.std.specs.Prelude.{◌≡◌, ◌⊎◌, ◌+◌, ◌<◌, ◌≤◌, ◌++◌, ℕ, true, false, List, [], ◌∷◌, Option, Some, None, IfSome}
+use Rattle.std.specs.Prelude.{IsSome, length, map, max, slice_get}
 use Rattle.s3_model.specs.declared.answers.Class.{Class}
 use Rattle.s3_model.specs.declared.answers.Class.TheVariants as class
 use Rattle.s3_model.specs.declared.bytes.Part.{Part}
@@ -15,7 +16,7 @@ use Rattle.s3_model.specs.Classes.{is_tried_again}
 use Rattle.s3_model.specs.Talks.{Talk, Note, Pause, WireLog}
 use Rattle.run_promise.specs.Carried.{mark_of, pauses_before}
 use Rattle.run_promise.specs.Dispatches.{last_of}
-use Rattle.attempts.specs.Attempts.{IsOfSomeTalk, IsOneTalk, IsSilent, SignedRequest}
+use Rattle.attempts.specs.Attempts.{IsOfSomeTalk, IsOneTalk, IsSilent, SignedRequest, signed_request}
 use Rattle.run_promise.specs.Gains.{Gains}
 use Rattle.attempts.specs.Payloads.{body_of}
 use Rattle.attempts.specs.declared.send.Attempted.{Attempted}
@@ -45,7 +46,8 @@ abbrev pub IsNotedBefore : (number : ℕ) → List Talk → List Note → Type 0
 IsNotedBefore number talks notes = (talks ≡ []) × (notes ≡ noted_before number)
 
 -- one attempt of that number: its pause, and then one talk that shows this class
-pub record IsMade (r : SignedRequest) (number : ℕ) (shown : Class) (place : List ℕ) (talks : List Talk) (notes : List Note)
+pub record IsMade (r : SignedRequest) (number : ℕ) (shown : Class) (place : List ℕ) (talks : List Talk)
+    (notes : List Note)
     : Type 0 where
   pub own : List Note
   pub paused : notes ≡ noted_before number ++ own
@@ -124,7 +126,8 @@ IsGained r place (ending.Gained said) = IsOfSomeTalk r.asked r.limit (class.Succ
 IsGained r place ended = Unit {0}
 
 -- The attempts of one giving of a job, with the classes of their talks, each once, and the ending that they come to.
-pub record Carries (r : SignedRequest) (had most : ℕ) (gave : Option Reason) (place : List ℕ) (before after : Option WireLog)
+pub record Carries (r : SignedRequest) (had most : ℕ) (gave : Option Reason) (place : List ℕ)
+    (before after : Option WireLog)
     (tries : List Mark) (ended : Ending) : Type 0 where
   pub classes : List Class
   pub marks : tries ≡ map mark_of classes
@@ -157,8 +160,7 @@ most_attempts attempts had = max attempts (had + 1)
 
 -- a request to the lane's service, with this body
 abbrev pub request_to : {W : Type 0} → SeenLane W → Ask → (body : List ℕ) → (limit : Option ℕ) → SignedRequest
-request_to lane asked body limit =
-    record { endpoint = lane.endpoint; keys = lane.keys; asked = asked; body = body; limit = limit }
+request_to lane asked body limit = signed_request lane.endpoint lane.keys asked body limit
 
 -- a request with the bytes of this part, for a piece of that length
 abbrev pub request_for : {W : Type 0} → SeenLane W → Ask → Option Part → (length : ℕ) → SignedRequest

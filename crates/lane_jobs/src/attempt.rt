@@ -3,7 +3,7 @@
 ghost use Rattle.std.specs.Prelude.{◌≡◌, ◌≤◌, ◌+◌, ◌-◌, ◌^◌, [], None, IfSome, map, min};
 ghost use Rattle.s3_model.specs.Talks.{Pause};
 ghost use Rattle.run_promise.specs.Carried.{pauses_before};
-ghost use Rattle.attempts.specs.Attempts.{IfMade, IsGet, IsOfSomeTalk, SignedRequest};
+ghost use Rattle.attempts.specs.Attempts.{IfMade, IsGet, IsOfSomeTalk, signed_request};
 ghost use Rattle.run_promise.specs.Gains.{Gains};
 ghost use Rattle.lane_jobs.specs.Lanes.{Attempts, IsNotedBefore, Looks, ending_of, noted_before};
 
@@ -66,13 +66,9 @@ pub(crate) fn attempt_once<W: Wire>(
 ) -> Attempted
     requires limit { IfSome limit (λ most. IsGet ask.now × (most ≤ into.old.room)) }
     requires number { number ≤ 10 }
-    ensures gained { let request : SignedRequest = record {
-      endpoint = client.old.endpoint;
-      keys = client.old.signer;
-      asked = ask.now;
-      body = payload.now;
-      limit = limit;
-    } in Gains (W.seen wire.old) (W.seen wire.new) (Attempts request number result into.new.bytes) }
+    ensures gained { Gains (W.seen wire.old) (W.seen wire.new)
+        (Attempts (signed_request client.old.endpoint client.old.signer ask.now payload.now limit)
+        number result into.new.bytes) }
     ensures classed { IfMade result (λ shown. IsOfSomeTalk ask.now limit shown into.new.bytes) }
     ensures later { W.faults wire.old ≤ W.faults wire.new }
     ensures endpoint { client.new.endpoint ≡ client.old.endpoint }

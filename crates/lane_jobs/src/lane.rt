@@ -51,7 +51,12 @@ impl<W> Model for Lane<W> {
 
     ghost Value = { SeenLane W };
 
-    ghost view = { λ l. record { wire = l.wire; endpoint = l.client.endpoint; keys = l.client.signer; attempts = l.attempts } };
+    ghost view = { λ l. record {
+      wire = l.wire;
+      endpoint = l.client.endpoint;
+      keys = l.client.signer;
+      attempts = l.attempts;
+    } };
 
     ghost invariant = { λ l. IsWithin 1 l.attempts 10 };
 }

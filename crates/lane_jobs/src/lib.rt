@@ -2,10 +2,8 @@
 #![tactic(auto)]
 
 mod attempt;
-mod crossing;
 mod lane;
 mod tries;
 
-pub use crossing::lane_crosses;
 pub use jobs::{CancelCell, Carried, Ending, Job, What, ask_of};
 pub use lane::Lane;

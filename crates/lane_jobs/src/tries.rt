@@ -1,7 +1,7 @@
 //! The attempts of one job.
 
 ghost use Rattle.std.specs.Prelude.{◌≡◌, ◌≤◌, ◌<◌, [], None, IfSome, IsSome};
-ghost use Rattle.attempts.specs.Attempts.{IsGet, SignedRequest};
+ghost use Rattle.attempts.specs.Attempts.{IsGet, signed_request};
 ghost use Rattle.lane_jobs.specs.Lanes.{Carries, KeepsCell, ending_by, reason_of};
 
 use crate::attempt::{attempt_once, ending_of, look};
@@ -46,14 +46,8 @@ pub(crate) fn make_attempts<W: Wire>(
     requires limit { IfSome limit (λ most. IsGet ask.now × (most ≤ into.old.room)) }
     requires left { had < most }
     requires most { most ≤ 10 }
-    ensures carried { let request : SignedRequest = record {
-      endpoint = client.old.endpoint;
-      keys = client.old.signer;
-      asked = ask.now;
-      body = payload.now;
-      limit = limit;
-    } in Carries request had most (reason_of cell.new) into.new.bytes (W.seen wire.old) (W.seen wire.new) result.tries
-        result.ending }
+    ensures carried { Carries (signed_request client.old.endpoint client.old.signer ask.now payload.now limit) had
+        most (reason_of cell.new) into.new.bytes (W.seen wire.old) (W.seen wire.new) result.tries result.ending }
     ensures stopped { IsSome (reason_of cell.old) → result.tries ≡ [] }
     ensures cell { KeepsCell cell.old cell.new }
     ensures later { W.faults wire.old ≤ W.faults wire.new }

@@ -14,7 +14,7 @@ use Rattle.s3_model.specs.Talks.{Talk, Note}
 use Rattle.run_promise.specs.Carried.{mark_of}
 use Rattle.run_promise.specs.Dispatches.{Attempt, Dispatched}
 use Rattle.run_promise.specs.Schedule.{most_body, op_of}
-use Rattle.attempts.specs.Attempts.{IsOneTalk, IsSilent, SignedRequest}
+use Rattle.attempts.specs.Attempts.{IsOneTalk, IsSilent, SignedRequest, signed_request}
 
 -- ---- requests
 
@@ -77,7 +77,7 @@ dispatched_from place number (a ∷ rest) = dispatched_at place number a ∷ dis
 -- ---- the wire
 
 abbrev pub request_for : Endpoint → Keys → Ask → SignedRequest
-request_for endpoint keys asked = record { endpoint = endpoint; keys = keys; asked = asked; body = []; limit = None }
+request_for endpoint keys asked = signed_request endpoint keys asked [] None
 
 -- the talk of this attempt was made, with the class of its mark; where memory ran out that is wanted
 pub record IsAttempt (endpoint : Endpoint) (keys : Keys) (wanting : Bool) (asked : Ask) (attempt : Attempt)

@@ -15,7 +15,8 @@ use Rattle.run_promise.specs.Planning.{Need}
 use Rattle.run_promise.specs.Planning as planning
 use Rattle.run_promise.specs.Schedule.{most_body}
 use Rattle.answer_classes.specs.Showing.{Shows}
-use Rattle.list_walk.specs.Pages.{Gathered, IsRefusedPage, Walk, gathered_from, gathered_with, nothing, refusal_of, with_page}
+use Rattle.list_walk.specs.Pages.{Gathered, IsRefusedPage, Walk, gathered_from, gathered_with, nothing, refusal_of}
+use Rattle.list_walk.specs.Pages.{with_page}
 use Rattle.listings.specs.Asked.{AreAsked, Asked, IsGiven, dispatched_from, events_from}
 use Rattle.listings.specs.Faults.{IsFailed, fault_of}
 use Rattle.listings.specs.declared.fault.ListingFault.{ListingFault}
