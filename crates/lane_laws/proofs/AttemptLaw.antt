@@ -1,6 +1,6 @@
 -- What the dispatch of a job shows of its attempts.
 use Rattle.shared_lemmas.proofs.Clashes.{none_is_some, some_is}
-use Rattle.std.proofs.Common.{◌≡◌, ◌∙◌, ◌⊎◌, ◌+◌, ◌<◌, ◌≤◌, ◌++◌, ℕ, zero, suc, Bool, true, false, List, [], ◌∷◌, Option, Some, None, refl, sym, ap, subst, inl, inr, map, length, slice_get, arith}
+use Rattle.std.proofs.Common.{◌≡◌, ◌∙◌, ◌+◌, ◌<◌, ◌++◌, ℕ, zero, suc, List, [], ◌∷◌, Some, refl, sym, ap, subst, map, length, slice_get, arith}
 use Rattle.s3_model.specs.declared.answers.Class.{Class}
 use Rattle.s3_model.specs.Talks.{Talk, Note}
 use Rattle.run_promise.specs.Carried.{mark_of}

@@ -1,6 +1,6 @@
 -- What the wire of a lane noted: before each attempt its pause and a moment, and pauses that no attempt follows where memory ran out.
 use Rattle.shared_lemmas.proofs.Members.{Has, has, has-append_cases}
-use Rattle.std.proofs.Common.{◌≡◌, ◌∙◌, ◌⊎◌, ◌+◌, ◌-◌, ◌<◌, ◌≤◌, ◌++◌, ℕ, zero, suc, Bool, true, false, List, [], ◌∷◌, Option, Some, None, refl, sym, ap, subst, inl, inr, map, length, slice_get, Contains, append_assoc, append-nil, arith}
+use Rattle.std.proofs.Common.{◌≡◌, ◌∙◌, ◌⊎◌, ◌+◌, ◌-◌, ◌≤◌, ◌++◌, ℕ, Bool, true, false, List, [], ◌∷◌, Option, refl, sym, ap, subst, inl, inr, map, length, append_assoc, append-nil, arith}
 use Rattle.std.specs.Prelude.{filter_map, count_by, cond, flat_map, min, nat_le, unwrap_or, ◌^◌, if◌then◌else◌}
 use Rattle.std.proofs.lemmas.List.{length-append}
 use Rattle.std.proofs.lemmas.List.Elements.{filter_map-append}
@@ -10,7 +10,7 @@ use Rattle.s3_model.specs.declared.places.Endpoint.{Endpoint}
 use Rattle.s3_model.specs.declared.settings.Keys.{Keys}
 use Rattle.s3_model.specs.Talks.{Talk, Note, Moment, Pause, Began}
 use Rattle.answer_classes.specs.Showing.{Shows}
-use Rattle.attempts.specs.Attempts.{IsSilent, SignedRequest, text_of}
+use Rattle.attempts.specs.Attempts.{SignedRequest, text_of}
 use Rattle.attempts.proofs.SaidLemmas.{said}
 use Rattle.jobs.specs.declared.ending.Ending.{Ending}
 use Rattle.jobs.specs.declared.ending.Ending.TheVariants as ending
@@ -18,7 +18,7 @@ use Rattle.lane_jobs.specs.Lanes.{AreBehind, AreMade, IsWithoutTalk, noted_befor
 use Rattle.run_promise.specs.Carried.{AreNoted, Numbered, mark_of, numbered_from, pause_of, pauses_before}
 use Rattle.run_promise.specs.Dispatches.{Attempt, Dispatched}
 use Rattle.run_promise.specs.Schedule.{Setting, most_body}
-use Rattle.lane_laws.specs.Runs.{AreCarriedJobs, Giving, IsCarriedJob, RanOut, dispatched_of}
+use Rattle.lane_laws.specs.Runs.{AreCarriedJobs, Giving, RanOut, dispatched_of}
 use Rattle.lane_laws.proofs.AttemptLaw.{attempts_are, attempts_of}
 
 abbrev pauses : List Note → List ℕ

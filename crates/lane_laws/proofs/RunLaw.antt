@@ -1,18 +1,14 @@
 -- All that is said of jobs that lanes carried.
 use Rattle.shared_lemmas.proofs.Clashes.{none_is_some, some_is}
-use Rattle.shared_lemmas.proofs.Lists.{no_cons}
 use Rattle.shared_lemmas.proofs.Members.{Has, contains_of, has, has-filter, kept, mapped}
-use Rattle.std.proofs.Common.{◌≡◌, ◌≢◌, ◌∙◌, ◌⊎◌, ◌==◌, ◌+◌, ◌<◌, ◌≤◌, ◌++◌, ℕ, zero, suc, Bool, true, false, cond, List, [], ◌∷◌, Option, Some, None, refl, sym, ap, subst, inl, inr, map, filter, get_or, length, slice_get, Contains, AllPairs, arith}
-use Rattle.std.specs.Prelude.{IfSome, IsSome, count_by, flat_map, max, unwrap_or}
+use Rattle.std.proofs.Common.{◌≡◌, ◌∙◌, ◌⊎◌, ◌==◌, ◌+◌, ◌<◌, ◌≤◌, ◌++◌, ℕ, Bool, true, false, cond, List, [], ◌∷◌, Option, Some, refl, sym, ap, subst, inl, inr, map, get_or, length, slice_get, Contains, arith}
+use Rattle.std.specs.Prelude.{IfSome, IsSome, count_by, flat_map, unwrap_or}
 use Rattle.s3_model.specs.declared.answers.Class.{Class}
 use Rattle.s3_model.specs.declared.answers.Class.TheVariants as class
-use Rattle.s3_model.specs.declared.answers.Reply.{Reply}
-use Rattle.s3_model.specs.declared.answers.Why.{Why}
 use Rattle.s3_model.specs.declared.answers.Why.TheVariants as why
 use Rattle.s3_model.specs.declared.outcomes.Event.{Event}
 use Rattle.s3_model.specs.declared.places.Endpoint.{Endpoint}
 use Rattle.s3_model.specs.declared.settings.Keys.{Keys}
-use Rattle.s3_model.specs.declared.tries.Mark.{Mark}
 use Rattle.s3_model.specs.declared.tries.Mark.TheVariants as mark
 use Rattle.s3_model.specs.Classes.{is_tried_again}
 use Rattle.s3_model.specs.Replies.{IsSameClass}
@@ -21,10 +17,9 @@ use Rattle.answer_classes.specs.Showing.{Shows}
 use Rattle.answer_classes.proofs.OneShown.{one_shown}
 use Rattle.attempts.specs.Attempts.{HasClass, SignedRequest, text_of}
 use Rattle.jobs.specs.declared.ending.Ending.{Ending}
-use Rattle.jobs.specs.declared.ending.Ending.TheVariants as ending
-use Rattle.lane_jobs.specs.Lanes.{EndsByCell, EndsByClass, EndsByMemory, ending_of, most_attempts}
+use Rattle.lane_jobs.specs.Lanes.{ending_of, most_attempts}
 use Rattle.run_promise.specs.Carried.{AreNoted, IsCarried, MayStop, WouldGoOn, in_lane, mark_of, numbered_from, talks_of}
-use Rattle.run_promise.specs.Dispatches.{Attempt, Dispatched, last_of, paired}
+use Rattle.run_promise.specs.Dispatches.{Attempt, Dispatched, last_of}
 use Rattle.run_promise.specs.Schedule.{Setting, most_body}
 use Rattle.lane_laws.specs.Runs.{AreCarriedJobs, Giving, HaveCauses, IsCarriedJob, IsCutShort, IsJournal, JobsAreCarried, RanOut, dispatched_of, given_to}
 use Rattle.lane_laws.proofs.AttemptLaw.{as_many, at_place, index_below, index_last, last_index, talks_same}
