@@ -64,10 +64,7 @@ fn status_message(status: u16) -> &'static str
 fn status_code(alloc: Global, status: u16) -> Result<Text, OutOfMemory>
     ensures { IfOk result (λ text. text ≡ decimal status) }
 {
-    match format!(in alloc; "{status}") {
-        Ok(text) => Ok(Text::from(text)),
-        Err(_) => Err(OutOfMemory),
-    }
+    Ok(Text::from(format!(in alloc; "{status}")?))
 }
 
 /// A refusal by its status alone.

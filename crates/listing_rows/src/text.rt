@@ -14,10 +14,8 @@ use std::alloc::Global;
 fn add(rows: &mut String, row: &Text) -> Result<(), OutOfMemory>
     ensures { OnOk result (string_bytes rows.new ≡ string_bytes rows.old ++ row.now) }
 {
-    match rows.push_str(row.as_str()) {
-        Ok(()) => Ok(()),
-        Err(_) => Err(OutOfMemory),
-    }
+    rows.push_str(row.as_str())?;
+    Ok(())
 }
 
 fn object_row(alloc: Global, recursive: bool, entry: &Entry) -> Result<Text, OutOfMemory>

@@ -68,10 +68,7 @@ fn shown(alloc: Global, row: &Row) -> Result<Text, OutOfMemory> {
     let keys = keys(alloc, row.1)?;
     match presign(alloc, &uri, &endpoint, &keys, row.2, row.3) {
         Ok(url) => Ok(url),
-        Err(fault) => match format!(in alloc; "{fault:?}") {
-            Ok(text) => Ok(Text::from(text)),
-            Err(_) => Err(OutOfMemory),
-        },
+        Err(fault) => Ok(Text::from(format!(in alloc; "{fault:?}")?)),
     }
 }
 
