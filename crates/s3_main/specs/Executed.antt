@@ -20,7 +20,8 @@ use Rattle.s3_main.specs.declared.execution.Executed.{Executed}
 use Rattle.s3_main.specs.declared.run.Fatal.{Fatal}
 use Rattle.s3_main.specs.declared.run.Fatal.TheVariants as fatal
 use Rattle.s3_main.specs.declared.run.Run.{Run}
-use Rattle.s3_main.specs.Plans.{HasNoTask, HasOneOutcome, HasPlan, HasUploaded, IsFate, Wants, Works, skips_of, warnings_of}
+use Rattle.s3_main.specs.Plans.{HasNoTask, HasOneOutcome, HasPlan, HasUploaded, IsFate, Wants, Works, skips_of}
+use Rattle.s3_main.specs.Plans.{warnings_of}
 use Rattle.s3_main.specs.Own.{IsOwn, Own}
 use Rattle.s3_main.specs.Runs.{IsNothingPlanned, IsUnplanned, fatal_status}
 use Rattle.s3_main.specs.Texts.{HasTexts, IsLineOf}

@@ -1,5 +1,6 @@
 -- What a run comes to: its status, what it prints, and what it promises.
-use Rattle.std.specs.Prelude.{◌≡◌, ◌≢◌, ◌⊎◌, ℕ, Bool, true, false, List, [], ◌∷◌, Option, Some, None, IfSome, length, if◌then◌else◌}
+use Rattle.std.specs.Prelude.{◌≡◌, ◌≢◌, ◌⊎◌, ℕ, Bool, true, false, List, [], ◌∷◌, Option, Some, None, IfSome, length}
+use Rattle.std.specs.Prelude.{if◌then◌else◌}
 use Rattle.result_lines.specs.Causes.{IsShown}
 use Rattle.result_lines.specs.Faults.{IsListingFault, memory_line}
 use Rattle.result_lines.specs.Tasks.{status_of}

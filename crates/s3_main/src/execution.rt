@@ -8,7 +8,18 @@ ghost use Rattle.upload_plans.specs.Plans.{HasNoMemory};
 ghost use Rattle.run_promise.specs.Gains.{Gains};
 ghost use Rattle.upload_promise.specs.Sources.{LooksAt};
 ghost use Rattle.s3_main.specs.Begun.{lists_in, mode_in, path_in};
-ghost use Rattle.s3_main.specs.Executed.{DoesOn, EndsAs, GoesOn, HasLineOf, HasNoUpload, HasStatusOf, IsUnseen, MayUpload, MayWant, OrMemory};
+ghost use Rattle.s3_main.specs.Executed.{
+  DoesOn,
+  EndsAs,
+  GoesOn,
+  HasLineOf,
+  HasNoUpload,
+  HasStatusOf,
+  IsUnseen,
+  MayUpload,
+  MayWant,
+  OrMemory,
+};
 ghost use Rattle.s3_main.specs.Plans.{IsFate, IsUpload, path_of};
 ghost use Rattle.s3_main.specs.Runs.{GoesAs, StopsFor, StopsPlanning, Undertakes};
 ghost use Rattle.s3_main.specs.Settings.{AsksOnly};
