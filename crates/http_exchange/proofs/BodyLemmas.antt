@@ -1,6 +1,6 @@
 -- Content that comes in pieces, and the CRLF behind it.
-use Rattle.std.proofs.Common.{◌≡◌, ◌≢◌, ◌⊎◌, ℕ, ◌-◌, ◌<◌, ◌≤◌, List, [], ◌∷◌, ◌++◌, length, take, drop, replicate, get_or, sym, refl, ap, subst, ◌∙◌, arith, append_assoc, inl, inr, length-append, Result, Ok, Err}
-use Rattle.std.proofs.lemmas.List.{take-append-drop, length-replicate}
+use Rattle.std.proofs.Common.{◌≡◌, ◌≢◌, ◌⊎◌, ℕ, ◌-◌, ◌<◌, ◌≤◌, List, [], ◌∷◌, ◌++◌, length, replicate, get_or, sym, refl, ap, subst, ◌∙◌, arith, append_assoc, inl, inr, length-append, Result, Ok, Err}
+use Rattle.std.proofs.lemmas.List.{length-replicate}
 use Rattle.httparse.specs.Ascii.{crlf_bytes}
 use Rattle.s3_model.specs.Talks.{Ending, Failed, Finished}
 use Rattle.s3_model.specs.declared.answers.Why.{Why}
@@ -13,10 +13,10 @@ use Rattle.http_exchange.specs.Exchange.{InPieces}
 use Rattle.http_exchange.specs.Steps.{ContentComes, IsOpenBody, TakesBody, TakesContent, TakesChunk, TakesForm}
 use Rattle.http_exchange.proofs.PieceLemmas.{pieces_as, pieces_after, joined, finished_fine}
 
--- some bytes more, of which the first n are moved
-pub shifted : (before got more content kept next : List ℕ) (n : ℕ) → before ++ got ≡ content ++ kept → next ≡ kept ++ more → before ++ (got ++ more) ≡ (content ++ take n next) ++ drop n next
-shifted before got more content kept next n split grew =
-    joined before got content kept more split ∙ ap (λ (b : List ℕ). content ++ b) (sym grew ∙ sym (take-append-drop n next)) ∙ sym (append_assoc content (take n next) (drop n next))
+-- some bytes more, of which the first ones were moved
+pub grown : (before got more content kept added after : List ℕ) → before ++ got ≡ content ++ kept → kept ≡ [] → more ≡ added ++ after → before ++ (got ++ more) ≡ (content ++ added) ++ after
+grown before got more content kept added after split empty came =
+    joined before got content kept more split ∙ ap (λ (b : List ℕ). content ++ (b ++ more)) empty ∙ ap (λ (b : List ℕ). content ++ b) came ∙ sym (append_assoc content added after)
 
 no_bytes : (bytes : List ℕ) → length bytes < 1 → bytes ≡ []
 no_bytes [] none = refl

@@ -6,4 +6,5 @@ pub mod ExchangeLemmas
 pub mod IncomingLemmas
 pub mod LineLemmas
 pub mod PieceLemmas
+pub mod StraightLemmas
 pub mod TalkLemmas

@@ -1,6 +1,6 @@
 -- Bytes that come in pieces.
-use Rattle.std.proofs.Common.{◌≡◌, ◌≢◌, ℕ, ◌≤◌, List, [], ◌++◌, length, sym, refl, ap, subst, ◌∙◌, append_assoc, inl, inr, Err, arith}
-use Rattle.std.proofs.lemmas.List.{append-nil}
+use Rattle.std.proofs.Common.{◌≡◌, ◌≢◌, ℕ, ◌≤◌, List, [], ◌++◌, length, take, drop, sym, refl, ap, subst, ◌∙◌, append_assoc, inl, inr, Err, arith}
+use Rattle.std.proofs.lemmas.List.{append-nil, take-append-drop}
 use Rattle.s3_model.specs.Talks.{Ending, Failed, Closed, Finished}
 use Rattle.s3_model.specs.declared.answers.Why.{Why}
 use Rattle.s3_model.specs.declared.answers.Why.TheVariants as why
@@ -22,6 +22,11 @@ finished_fine ending finished failed = clash (sym finished ∙ failed)
 -- one call more, made while P held
 pub one_more : (P : List ℕ → Type 0) (before got more : List ℕ) → P (before ++ got) → length more ≤ 16_384 → InPieces P before (got ++ more) Finished
 one_more P before got more holds small = inr (got, more, refl, small, holds)
+
+-- one call more, of whose bytes P held of all but the last ones
+pub last_piece : (P : List ℕ → Type 0) (before got more : List ℕ) (n : ℕ) → P (before ++ (got ++ take n more)) → length (drop n more) ≤ 16_384 → InPieces P before (got ++ more) Finished
+last_piece P before got more n holds small =
+    inr (got ++ take n more, drop n more, ap (λ (b : List ℕ). got ++ b) (sym (take-append-drop n more)) ∙ sym (append_assoc got (take n more) (drop n more)), small, holds)
 
 pub nothing_more : (before got more : List ℕ) → more ≡ [] → before ++ (got ++ more) ≡ before ++ got
 nothing_more before got more none = ap (λ (b : List ℕ). before ++ (got ++ b)) none ∙ ap (λ (b : List ℕ). before ++ b) (append-nil got)

@@ -36,8 +36,8 @@ pub record RawRequest : Type 0 where
 
 -- ---- in pieces
 
--- Before the last call P held of the bytes that stood there. The call took at most 16,384; where the talk closed or
--- failed in it, it took none, and P holds of all. In a talk that goes on there may have been no call.
+-- P holds of the bytes that stand there without the last ones, at most 16,384 of what the last call took. Where the
+-- talk closed or failed in it, it took none, and P holds of all. In a talk that goes on there may have been no call.
 abbrev pub InPieces : (List ℕ → Type 0) → List ℕ → List ℕ → Ending → Type 0
 InPieces P before got Finished =
     (got ≡ []) ⊎ ((first : List ℕ) × (last : List ℕ) × (got ≡ first ++ last) × (length last ≤ 16_384)

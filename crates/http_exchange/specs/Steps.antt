@@ -1,6 +1,6 @@
 -- What each step of a talk does to the wire's log.
-use Rattle.std.specs.Prelude.{◌≡◌, ◌≢◌, ◌⊎◌, ℕ, ◌+◌, ◌<◌, ◌≤◌, ◌&&◌, Bool, true, false, List, [], ◌++◌, length, min}
-use Rattle.std.specs.Prelude.{take, drop, Option, option_map, Result, Ok, Err, OnOk, OnErr, IfErr, slice_range}
+use Rattle.std.specs.Prelude.{◌≡◌, ◌≢◌, ◌⊎◌, ℕ, ◌+◌, ◌<◌, ◌≤◌, ◌&&◌, Bool, true, false, List, [], ◌++◌, length}
+use Rattle.std.specs.Prelude.{min, max, take, drop, Option, option_map, Result, Ok, Err, OnOk, OnErr, IfErr, slice_range}
 use Rattle.s3_model.specs.Counts.{Rose}
 use Rattle.s3_model.specs.Talks.{Talk, Ending, Failed, Closed, Finished, WireLog}
 use Rattle.s3_model.specs.Lists.{Buffer}
@@ -59,12 +59,25 @@ abbrev pub Hears : Option WireLog → Option WireLog → (List ℕ → Ending �
 Hears before after P =
     (got : List ℕ) × (ending : Ending) × (after ≡ option_map (last_talk (hears got ending)) before) × P got ending
 
--- the unread bytes grew by a piece, none at the end of the connection
-abbrev pub TakesPiece : List ℕ → List ℕ → Result ℕ Why → List ℕ → Ending → Type 0
-TakesPiece before after (Ok count) got ending =
-    (after ≡ before ++ got) × (length got ≡ count) × (count ≤ 16_384) × (count ≡ 0 → ending ≡ Closed)
+-- bytes grew by what came, at most so many, and none at the end of the connection
+abbrev pub TakesBytes : ℕ → List ℕ → List ℕ → Result ℕ Why → List ℕ → Ending → Type 0
+TakesBytes most before after (Ok count) got ending =
+    (after ≡ before ++ got) × (length got ≡ count) × (count ≤ most) × (count ≡ 0 → ending ≡ Closed)
     × (0 < count → ending ≡ Finished)
-TakesPiece before after (Err reason) got ending = (got ≡ []) × (reason ≡ why.WireFailed) × (ending ≡ Failed)
+TakesBytes most before after (Err reason) got ending = (got ≡ []) × (reason ≡ why.WireFailed) × (ending ≡ Failed)
+
+-- the unread bytes grew by a piece
+abbrev pub TakesPiece : List ℕ → List ℕ → Result ℕ Why → List ℕ → Ending → Type 0
+TakesPiece before after result got ending = TakesBytes 16_384 before after result got ending
+
+-- a body that misses so many bytes grew by what came of them; what came behind them is unread
+abbrev pub TakesMore : ℕ → (after body_before body_after : List ℕ) → Result ℕ Why → List ℕ → Ending → Type 0
+TakesMore missing after body_before body_after (Ok count) got ending =
+    (content : List ℕ) × (got ≡ content ++ after) × (body_after ≡ body_before ++ content) × (length got ≡ count)
+    × (length content ≡ min count missing) × (count ≤ max missing 16_384) × (count ≡ 0 → ending ≡ Closed)
+    × (0 < count → ending ≡ Finished)
+TakesMore missing after body_before body_after (Err reason) got ending =
+    (got ≡ []) × (reason ≡ why.WireFailed) × (ending ≡ Failed)
 
 -- the bytes at the front of a buffer, behind which so many were taken
 abbrev pub filled : {E : Type 0} → List ℕ → ℕ → Result ℕ E → List ℕ

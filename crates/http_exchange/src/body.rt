@@ -7,6 +7,7 @@ ghost use Rattle.http_exchange.specs.Steps.{HasWireCause, Hears, TakesBody, Take
 use crate::chunked::take_chunks;
 use crate::incoming::Incoming;
 use crate::room::AnswerRoom;
+use crate::straight::take_more;
 use answer_grammar::Framing;
 use s3_model::{Bytes, Why};
 use s3_outside::Wire;
@@ -71,10 +72,11 @@ pub(crate) fn take_content<W: Wire>(
 {
     let mut left = size - incoming.move_to(body, size);
     while left > 0 {
-        if incoming.refill(wire)? == 0 {
+        let count = take_more(wire, incoming, body, left)?;
+        if count == 0 {
             return Err(Why::EndedEarly);
         }
-        left -= incoming.move_to(body, left);
+        left -= count.min(left);
     }
     Ok(())
 }
@@ -93,16 +95,12 @@ fn take_to_close<W: Wire>(
     ensures cause { HasWireCause (W.faults wire.old) (W.faults wire.new) result }
     ensures room_kept { body.new.room ≡ body.old.room }
 {
-    let mut left = limit;
-    loop {
-        let count = incoming.bytes().len();
-        if count > left {
-            return Err(Why::BodyTooLong(limit as u64));
-        }
-        incoming.move_to(body, count);
-        left -= count;
-        if incoming.refill(wire)? == 0 {
+    incoming.move_to(body, limit);
+    while incoming.bytes().is_empty() {
+        let missing = limit - body.as_slice().len();
+        if take_more(wire, incoming, body, missing)? == 0 {
             return Ok(());
         }
     }
+    Err(Why::BodyTooLong(limit as u64))
 }

@@ -8,8 +8,8 @@ use s3_outside::Wire;
 use std::alloc::Global;
 use std::marker::Model;
 
-/// The greatest number of bytes that are taken at once.
-const PIECE: usize = 16_384;
+/// The greatest number of bytes that are taken at once with what may stand behind the answer.
+pub(crate) const PIECE: usize = 16_384;
 
 /// Room for the bytes of a head, and behind them a piece.
 const ROOM: usize = 81_920;
@@ -70,14 +70,12 @@ impl Incoming {
     pub(crate) fn make(alloc: Global) -> Result<Incoming, OutOfMemory>
         ensures { IfOk result (λ made. made ≡ []) }
     {
-        match vec![in alloc; 0u8; ROOM] {
-            Ok(buffer) => Ok(Incoming {
-                buffer,
-                start: 0,
-                end: 0,
-            }),
-            Err(_) => Err(OutOfMemory),
-        }
+        let buffer = vec![in alloc; 0u8; ROOM]?;
+        Ok(Incoming {
+            buffer,
+            start: 0,
+            end: 0,
+        })
     }
 
     /// Forgets the bytes.

@@ -8,6 +8,7 @@ mod incoming;
 mod receive;
 mod room;
 mod send;
+mod straight;
 mod talk;
 
 pub use room::AnswerRoom;

@@ -37,8 +37,9 @@ const ERROR_LIMIT: u64 = 65_536;
 /// `head_only` says that the request is a HEAD. Under `Some(limit)` the body of a 2xx answer goes to `into`, which is
 /// cleared first, and has at most `limit` bytes; under `None` it has at most 8,388,608. Any other body has at most
 /// 65,536 bytes. A head has at most 65,536 bytes and 100 header lines. Bytes are taken in pieces of at most 16,384, and
-/// none once they decide. The connection is kept exactly where `keep` is true, the answer allows it and no byte stands
-/// behind it. `room` serves one exchange after the other.
+/// none once they decide. Where at least a piece of the body or of a chunk is still to come, up to 262,144 bytes of it
+/// are taken straight into its place in one call. The connection is kept exactly where `keep` is true, the answer allows
+/// it and no byte stands behind it. `room` serves one exchange after the other.
 ///
 /// # Errors
 ///
