@@ -2,4 +2,8 @@
 #![tactic(auto)]
 
 #[cfg(test)]
+mod cut_tests;
+#[cfg(test)]
+mod large_tests;
+#[cfg(test)]
 mod tests;

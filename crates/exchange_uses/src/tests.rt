@@ -6,11 +6,11 @@ use s3_outside::{ScriptWire, TalkEnding, TalkRecord, WireCall};
 use std::alloc::{AllocError, Global};
 use std::test::*;
 
-const HEAD: &[u8; 18] = b"PUT / HTTP/1.1\r\n\r\n";
+pub(crate) const HEAD: &[u8; 18] = b"PUT / HTTP/1.1\r\n\r\n";
 
 /// What is expected of one answer.
 #[derive(Clone, Copy)]
-enum Want {
+pub(crate) enum Want {
     /// The status, the stated length and the body.
     Answer(u16, Option<u64>, &'static str),
     Break(Why),
@@ -198,7 +198,7 @@ static LONG: [(&str, &str, usize, &str, Want); 9] = [
 const PART: &str =
     "HTTP/1.1 206 Partial Content\r\nETag: \"abc\"\r\nETag: \"def\"\r\nContent-Range: bytes 2-6/11\r\nLast-Modified: Sun, 06 Nov 1994 08:49:37 GMT\r\nContent-Length: 5\r\n\r\nhello";
 
-fn endpoint(alloc: Global) -> Result<Endpoint, Fail> {
+pub(crate) fn endpoint(alloc: Global) -> Result<Endpoint, Fail> {
     Ok(Endpoint {
         host: Text::of(alloc, "localhost")?,
         port: 9000,
@@ -207,7 +207,7 @@ fn endpoint(alloc: Global) -> Result<Endpoint, Fail> {
 }
 
 /// A wire that plays this answer, by at most so many bytes a call, and whose listed calls fail.
-fn wire(
+pub(crate) fn wire(
     alloc: Global,
     answer: &[u8],
     most: usize,
@@ -258,27 +258,6 @@ fn answers_come_in_pieces_of_any_size(rt: HostRuntime) -> Result<(), Fail> {
                 return Err(Fail::from(*answer));
             }
         }
-    }
-    Ok(())
-}
-
-#[test]
-fn answers_that_are_cut_end_early(rt: HostRuntime) -> Result<(), Fail> {
-    let mut room = AnswerRoom::make(rt.alloc())?;
-    let (answer, _) = ANSWERS[22];
-    let last = answer.len() - 1;
-    for count in 0..last {
-        let cut = &answer.as_bytes()[..count];
-        let mut wire = wire(rt.alloc(), cut, 7, &[])?;
-        assert!(rt;
-            comes_to(
-                rt.alloc(),
-                &mut wire,
-                &mut room,
-                false,
-                Break(Why::EndedEarly)
-            )?
-        );
     }
     Ok(())
 }
