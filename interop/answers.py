@@ -3,10 +3,14 @@
     python3 interop/answers.py rows swift=FOLDER ceph=FOLDER > crates/answer_rows/stdin
     python3 interop/answers.py classes < crates/answer_rows/stdin > crates/answer_rows/stdout
 
-Rows are the lines of a table of classes, each with its class written by hand, and answers that services gave. A FOLDER has INDEX.tsv and, of each line there, NAME.txt: every byte that a service sent for one request. Heads and
-bodies are read by http.client, documents by xml.etree, as far as Amazon S3's documents and RFC 9110 to 9112 go.
+Rows are the lines of a table of classes, each with its class written by hand, and answers that services gave. A FOLDER
+has INDEX.tsv and, of each line there, NAME.txt: every byte that a service sent for one request, up to 65,536. An answer
+that was longer stands cut, as it was recorded. Where its body is nothing but zero bytes, as its entity tag (the MD5 of the
+whole body) says, it stands a second time, whole. Heads and bodies are read by http.client, documents by xml.etree, as far
+as Amazon S3's documents and RFC 9110 to 9112 go.
 """
 import datetime
+import hashlib
 import http.client
 import io
 import os
@@ -14,6 +18,9 @@ import re
 import sys
 import xml.etree.ElementTree as ElementTree
 
+RECORDED = 65536
+DOCUMENT_LIMIT = 8388608
+LARGE_GET = 41943040
 AGAIN = ("SlowDown", "ServiceUnavailable", "RequestTimeout")
 MESSAGES = {400: "Bad Request", 403: "Forbidden", 404: "Not Found", 412: "Precondition Failed"}
 ETAG = re.compile(rb"[\x21-\x7e]{1,256}\Z")
@@ -130,8 +137,11 @@ def written(data):
 
 def row_bytes(text):
     def one(match):
-        return {"r": "\r", "n": "\n"}.get(match.group(1)) or chr(int(match.group(1)[1:], 16))
-    return re.sub(r"\\(r|n|x[0-9a-f]{2})", one, text).encode("latin-1")
+        word = match.group(1)
+        if word[0] == "z":
+            return "\0" * int(word[1:-1])
+        return {"r": "\r", "n": "\n"}.get(word) or chr(int(word[1:], 16))
+    return re.sub(r"\\(r|n|x[0-9a-f]{2}|z[0-9]+;)", one, text).encode("latin-1")
 
 
 def operation(method, target, copies):
@@ -163,7 +173,7 @@ def copies(folder, name, noted):
 
 
 def recorded(service, folder):
-    """The rows of one service: answers that are whole, to requests that the product makes."""
+    """The rows of one service: answers to requests that the product makes, whole or cut where the recording ends."""
     lines = open(os.path.join(folder, "INDEX.tsv"), encoding="utf-8").read().splitlines()
     column = lines[0].split("\t").index("request")
     for line in lines[1:]:
@@ -178,9 +188,28 @@ def recorded(service, folder):
         row = "%s/%s" % (service, name)
         if of and 0 < len(data) < 16384:
             yield "%s %s %s" % (row, of, spelled(data))
+        elif of and len(data) == RECORDED:
+            yield from cut(row, of, data)
+
+
+def cut(row, of, data):
+    """The rows of an answer whose recording was cut; a Get of 40 MiB takes that much."""
+    head, _, body = data.partition(b"\r\n\r\n")
+    length = re.search(rb"\r\ncontent-length: *([0-9]+)", head, re.I)
+    if of == "Get" and length and int(length.group(1)) == LARGE_GET:
+        of = "LargeGet"
+    yield "%s %s %s" % (row, of, spelled(data))
+    etag = re.search(rb'\r\netag: *"([0-9a-f]{32})"', head, re.I)
+    if length and etag and not body.strip(b"\0"):
+        body = bytes(int(length.group(1)))
+        if hashlib.md5(body).hexdigest().encode() == etag.group(1):
+            yield "%s-whole %s %s" % (row, of, spelled(head + b"\r\n\r\n" + body))
 
 
 def spelled(data):
+    head, _, zeros = data.partition(bytes(1024))
+    if not zeros.strip(b"\0") and zeros:
+        return spelled(head) + "\\z%d;" % (len(data) - len(head))
     return written(data).replace("\\x0d", "\\r").replace("\\x0a", "\\n")
 
 
@@ -196,8 +225,8 @@ class Played:
         return io.BytesIO(self.data)
 
 
-def read_answer(data, of):
-    """The answer's status, header lines and body."""
+def read_answer(data, of, limit):
+    """The answer's status, header lines and body, which has at most `limit` bytes."""
     first = re.match(rb"HTTP/1\.[01] ([0-9]{3})[ \r\n]", data)
     if not first or int(first.group(1)) < 200:
         raise Broken("NotHttp")
@@ -208,6 +237,8 @@ def read_answer(data, of):
         answer.begin()
         fields = [(name.lower(), value) for name, value in answer.headers.raw_items()]
         judge_length(fields)
+        if of != "Head" and int(stated(fields) or 0) > limit:
+            raise Broken("BodyTooLong")
         return answer.status, fields, answer.read()
     except http.client.IncompleteRead:
         raise Broken("EndedEarly")
@@ -220,6 +251,10 @@ def judge_length(fields):
         raise Broken("BadLength")
     if codings and (codings != ["chunked"] or lengths):
         raise Broken("BadLength")
+
+
+def stated(fields):
+    return first(fields, "content-length")
 
 
 def first(fields, name):
@@ -431,8 +466,10 @@ def success(of, status, fields, body):
 
 
 def class_of(data, of):
+    limit = LARGE_GET if of == "LargeGet" else DOCUMENT_LIMIT
+    of = "Get" if of == "LargeGet" else of
     try:
-        status, fields, body = read_answer(data, of)
+        status, fields, body = read_answer(data, of, limit)
     except Broken as why:
         return "open: %s (again)" % why
     if status < 300:

@@ -1,9 +1,12 @@
 //! Reads answers, one a line, and prints after each what it means for its request.
 //!
-//! A line has a name, the operation of the request, and the bytes that came, parted by one space. In the bytes `\r` and
-//! `\n` stand for themselves as in Rust, and `\x` with two hexadecimal digits for any other byte. The answer is followed
-//! by the end of the connection. After its class stands `again` where the request would be tried again.
+//! A line has a name, the operation of the request, and the bytes that came, parted by one space. `LargeGet` is a Get
+//! that takes 40 MiB into a place of its own. In the bytes `\r` and `\n` stand for themselves as in Rust, `\x` with two
+//! hexadecimal digits for any other byte, and `\z` with a number and a semicolon for so many zero bytes. The answer is
+//! followed by the end of the connection. After its class stands `again` where the request would be tried again.
 #![tactic(auto)]
+
+ghost use Rattle.std.specs.Prelude.{◌≤◌, IfOk, IfSome};
 
 mod requests;
 mod row_bytes;
@@ -13,7 +16,7 @@ use answer_classes::{again, classify, is_head};
 use http_exchange::{AnswerRoom, exchange};
 use requests::request_named;
 use row_bytes::bytes_of;
-use s3_model::{Ask, Bytes, Class, Endpoint, Text};
+use s3_model::{Ask, Bytes, Class, Endpoint, OutOfMemory, Text};
 use s3_outside::ScriptWire;
 use shown::push_class;
 use std::alloc::{AllocError, Global};
@@ -27,19 +30,28 @@ fn endpoint(alloc: Global) -> Result<Endpoint, AllocError> {
     })
 }
 
+/// A place for a body within the limit.
+fn place_for(alloc: Global, limit: Option<u64>) -> Result<Bytes, OutOfMemory>
+    ensures { IfOk result (λ place. IfSome limit (λ most. most ≤ place.room)) }
+{
+    match limit {
+        Some(most) => Bytes::make(alloc, most),
+        None => Bytes::make(alloc, 0),
+    }
+}
+
 /// The class of an answer, which is read from a wire that plays it.
 fn class_of(
     alloc: Global,
     room: &mut AnswerRoom,
     ask: &Ask,
+    limit: Option<u64>,
     answer: Vec<u8>,
-) -> Result<Class, AllocError> {
+) -> Result<Class, OutOfMemory> {
     let endpoint = endpoint(alloc)?;
     let answers = vec![in alloc; answer]?;
     let mut wire = ScriptWire::make(alloc, answers, Vec::new(alloc), 0);
-    let Ok(mut into) = Bytes::make(alloc, 0) else {
-        return Err(AllocError);
-    };
+    let mut into = place_for(alloc, limit)?;
     let talked = exchange(
         alloc,
         &mut wire,
@@ -49,14 +61,22 @@ fn class_of(
         b"",
         is_head(ask),
         true,
-        None,
+        limit,
         &mut into,
     );
     Ok(classify(alloc, ask, talked))
 }
 
+/// How many bytes the request of an operation takes into a place of its own.
+fn limit_of(operation: &str) -> Option<u64> {
+    match operation {
+        "LargeGet" => Some(41_943_040),
+        _ => None,
+    }
+}
+
 /// What a row means; no more than its name where it is none.
-fn answer_of(alloc: Global, room: &mut AnswerRoom, line: &str) -> Result<String, AllocError> {
+fn answer_of(alloc: Global, room: &mut AnswerRoom, line: &str) -> Result<String, OutOfMemory> {
     let (name, rest) = line.split_once(' ').unwrap_or((line, ""));
     let (operation, written) = rest.split_once(' ').unwrap_or((rest, ""));
     let mut text = format!(in alloc; "{name} {operation}")?;
@@ -66,7 +86,7 @@ fn answer_of(alloc: Global, room: &mut AnswerRoom, line: &str) -> Result<String,
     let Some(answer) = bytes_of(alloc, written)? else {
         return Ok(text);
     };
-    let class = class_of(alloc, room, &ask, answer)?;
+    let class = class_of(alloc, room, &ask, limit_of(operation), answer)?;
     text.push_str(" => ")?;
     push_class(alloc, &mut text, &class)?;
     if again(&class) {
@@ -82,7 +102,9 @@ fn main(rt: HostRuntime) -> io::Result<()> {
     };
     for line in rt.lines(alloc) {
         let line = line?;
-        let answer = answer_of(alloc, &mut room, line.as_str())?;
+        let Ok(answer) = answer_of(alloc, &mut room, line.as_str()) else {
+            return Err(AllocError.into());
+        };
         println!(rt; "{answer}")?;
     }
     Ok(())

@@ -18,7 +18,7 @@ fn whole_named(
     let etag = text(alloc, "\"e\"")?;
     Ok(match operation {
         "Head" => Some(Ask::Head { bucket, key }),
-        "Get" => Some(Ask::Get {
+        "Get" | "LargeGet" => Some(Ask::Get {
             bucket,
             key,
             etag,

@@ -36,6 +36,28 @@ fn escaped(piece: &[u8]) -> Option<(u8, &[u8])> {
     }
 }
 
+/// How many zero bytes stand at the front of what follows a backslash, and what is behind them.
+fn zeros(piece: &str) -> Option<(usize, &str)> {
+    let (digits, rest) = piece.strip_prefix('z')?.split_once(';')?;
+    let count = digits.parse::<usize>().ok()?;
+    Some((count, rest))
+}
+
+/// Adds what follows a backslash; false where it is no escape.
+fn push_piece(bytes: &mut Vec<u8>, piece: &str) -> Result<bool, AllocError> {
+    if let Some((count, rest)) = zeros(piece) {
+        bytes.resize(bytes.len().saturating_add(count), 0)?;
+        bytes.extend_from_slice(rest.as_bytes())?;
+        return Ok(true);
+    }
+    let Some((byte, rest)) = escaped(piece.as_bytes()) else {
+        return Ok(false);
+    };
+    bytes.push(byte)?;
+    bytes.extend_from_slice(rest)?;
+    Ok(true)
+}
+
 /// The bytes that are written so; None where an escape is none.
 pub(crate) fn bytes_of(alloc: Global, written: &str) -> Result<Option<Vec<u8>>, AllocError> {
     let mut bytes = Vec::new(alloc);
@@ -44,11 +66,9 @@ pub(crate) fn bytes_of(alloc: Global, written: &str) -> Result<Option<Vec<u8>>, 
         bytes.extend_from_slice(plain.as_bytes())?;
     }
     for piece in pieces {
-        let Some((byte, rest)) = escaped(piece.as_bytes()) else {
+        if !push_piece(&mut bytes, piece)? {
             return Ok(None);
-        };
-        bytes.push(byte)?;
-        bytes.extend_from_slice(rest)?;
+        }
     }
     Ok(Some(bytes))
 }
