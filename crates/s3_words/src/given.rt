@@ -74,10 +74,8 @@ pub(crate) fn copy_of(
     let Some(text) = value_of(roles, option) else {
         return Ok(None);
     };
-    match Text::of(alloc, text) {
-        Ok(text) => Ok(Some(text)),
-        Err(_) => Err(WordFault::Memory),
-    }
+    let copy = Text::of(alloc, text).map_err(|_| WordFault::Memory)?;
+    Ok(Some(copy))
 }
 
 pub(crate) fn times_of(roles: &[Role<'_>]) -> Times
@@ -149,13 +147,10 @@ fn push_filter(alloc: Global, filters: &mut Filters, given: Given<'_>) -> Result
     ensures ok { OnOk result (IsOneMore (given_shown given.entry) filters.old filters.new) }
     ensures fault { IfErr result (λ fault. fault ≡ WordFault.Memory) }
 {
-    let Ok(pattern) = Pattern::read(alloc, given.pattern) else {
-        return Err(WordFault::Memory);
-    };
-    match filters.push(given.keep, pattern) {
-        Ok(()) => Ok(()),
-        Err(_) => Err(WordFault::Memory),
-    }
+    let pattern = Pattern::read(alloc, given.pattern).map_err(|_| WordFault::Memory)?;
+    filters
+        .push(given.keep, pattern)
+        .map_err(|_| WordFault::Memory)
 }
 
 /// Adds the filter that a word gives, where it gives one.

@@ -52,10 +52,8 @@ pub(crate) fn read_place(alloc: Global, at: usize, text: &str) -> Result<Place, 
     if text.is_empty() || text == "-" {
         return Err(WordFault::BadValue(at));
     }
-    match Text::of(alloc, text) {
-        Ok(path) => Ok(Place::File { path }),
-        Err(_) => Err(WordFault::Memory),
-    }
+    let path = Text::of(alloc, text).map_err(|_| WordFault::Memory)?;
+    Ok(Place::File { path })
 }
 
 fn is_s3(text: &str) -> bool

@@ -48,10 +48,7 @@ impl<'a> Reader<'a> {
             (λ fault. fault ≢ WordFault.Memory → text_fault at (Path text.now) ≡ Some fault) }
     {
         let place = read_place(alloc, at, text)?;
-        match self.places.push(place) {
-            Ok(()) => Ok(()),
-            Err(_) => Err(WordFault::Memory),
-        }
+        self.places.push(place).map_err(|_| WordFault::Memory)
     }
 
     fn keep_value(
@@ -105,10 +102,7 @@ impl<'a> Reader<'a> {
         }
         self.keep(alloc, at, role)?;
         self.expected = self.expected.next(role);
-        match self.roles.push(role) {
-            Ok(()) => Ok(()),
-            Err(_) => Err(WordFault::Memory),
-        }
+        self.roles.push(role).map_err(|_| WordFault::Memory)
     }
 
     /// Reads all words behind the command, up to the first that has a fault.
