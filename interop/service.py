@@ -84,9 +84,22 @@ def run_group(command, heard, **how):
             heard(line)
         return running.wait()
     except BaseException:
-        os.killpg(running.pid, signal.SIGTERM)
-        running.wait()
+        end_group(running)
         raise
+
+
+def end_group(running):
+    """Interrupts what a command started, so that it removes its folders; what does not end in 10 seconds is killed."""
+    for number in (signal.SIGINT, signal.SIGKILL):
+        try:
+            os.killpg(running.pid, number)
+            running.wait(timeout=10)
+            return
+        except ProcessLookupError:
+            running.wait()
+            return
+        except subprocess.TimeoutExpired:
+            pass
 
 
 def interrupt(*_):
