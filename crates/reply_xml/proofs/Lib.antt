@@ -1,3 +1,4 @@
+pub mod BreakLemmas
 pub mod ChildLemmas
 pub mod ContentLemmas
 pub mod DocumentLemmas

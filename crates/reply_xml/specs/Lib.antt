@@ -1,3 +1,4 @@
+pub mod Breaks
 pub mod Children
 pub mod Contents
 pub mod Documents

@@ -3,6 +3,7 @@
 ghost use Rattle.std.specs.Prelude.{◌≡◌, ◌≢◌, ◌++◌, ◌<◌, ◌≤◌, ◌+◌, ◌-◌, ◌∷◌, ℕ, Bool, List, [], Err, IfOk, OnOk, IfErr, OnErr, MatchOption, codes, length, drop, take};
 ghost use Rattle.reply_xml.specs.Contents.{Content};
 ghost use Rattle.reply_xml.specs.Documents.{BeginsDocument, EndsAt, IsDocument, MayDeclare, NamesRoot, ReadsSpace};
+ghost use Rattle.reply_xml.specs.Breaks.{Breaks, HasRoot, IfBroken, Stands};
 ghost use Rattle.reply_xml.specs.Faults.{IfRefused};
 ghost use Rattle.reply_xml.specs.Places.{BeginsOtherwise, HasOtherRoot, LacksName, LacksRoot};
 ghost use Rattle.reply_xml.specs.Tags.{ReadsTag};
@@ -108,9 +109,11 @@ impl<'a> Reader<'a> {
         ensures begins { IfOk result (λ parts. BeginsDocument root.now doc.now parts.1.closed parts.0.rest.now) }
         ensures room { IfOk result (λ parts. parts.1.room ≡ 15) }
         ensures named { IfOk result (λ parts. parts.1.name.now ≡ root.now) }
+        ensures size { IfOk result (λ parts. parts.0.size ≡ length doc.now) }
         ensures shorter { IfOk result (λ parts. length parts.0.rest.now ≤ length doc.now) }
         ensures refused { IfRefused result ((closed : Bool) (rest : List ℕ) →
             ¬ (BeginsDocument root.now doc.now closed rest)) }
+        ensures broken { IfBroken result (Breaks root.now doc.now) }
         ensures other { (place : ℕ) → BeginsOtherwise root.now doc.now place →
             result ≡ Err (DocFault.NotADocument place) }
     {
@@ -143,6 +146,8 @@ impl<'a> Reader<'a> {
         ensures refused { IfRefused result (¬ (ReadsSpace self.now.rest.now [])) }
         ensures behind { (more : List ℕ) → ReadsSpace self.now.rest.now more → more ≢ [] →
             result ≡ Err (DocFault.NotADocument (size - length more)) }
+        ensures broken { IfBroken result (λ reason. (more : List ℕ) × ReadsSpace self.now.rest.now more × (more ≢ [])
+            × Stands size (length more) reason) }
     {
         let (_, rest) = split_run(Sort::Space, self.rest);
         if !rest.is_empty() {

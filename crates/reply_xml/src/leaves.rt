@@ -7,6 +7,7 @@ ghost use Rattle.reply_values.specs.Times.{SpellsTime};
 ghost use Rattle.reply_values.proofs.NumberLemmas.{SpellsNumber-same, SpellsTruth-same};
 ghost use Rattle.reply_values.proofs.TimeValues.{SpellsTime-same};
 ghost use Rattle.reply_xml.specs.Children.{HasForm, IsFormed, IsPlain};
+ghost use Rattle.reply_xml.specs.Breaks.{IfBroken};
 ghost use Rattle.reply_xml.specs.Faults.{IfRefused};
 ghost use Rattle.reply_xml.specs.Meaning.{meaning_of};
 
@@ -28,7 +29,8 @@ pub trait Leaf {
     /// The value that the text of an element spells.
     fn value_of(alloc: Global, of: Element, text: Meaning<'_>) -> Result<Self::Value, DocFault>
         ensures value { IfOk result (spells of (meaning_of text.entry)) }
-        ensures refused { IfRefused result ((value : Self.Value) → ¬ (spells of (meaning_of text.entry) value)) };
+        ensures refused { IfRefused result ((value : Self.Value) → ¬ (spells of (meaning_of text.entry) value)) }
+        ensures unbroken { IfBroken result (λ reason. ⊥) };
 
     ghost alone: { (of : Element) (text : List ℕ) (v w : Self.Value) →
         spells of text v → spells of text w → w ≡ v };
@@ -48,6 +50,7 @@ fn has_form(element: Element, text: &str) -> bool
 fn text_of(alloc: Global, text: Meaning<'_>) -> Result<Text, DocFault>
     ensures value { IfOk result (λ found. found ≡ meaning_of text.entry) }
     ensures memory { IfRefused result ⊥ }
+    ensures unbroken { IfBroken result (λ reason. ⊥) }
 {
     match text.into_text(alloc) {
         Ok(text) => Ok(text),

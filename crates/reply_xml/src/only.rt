@@ -3,6 +3,7 @@
 ghost use Rattle.std.specs.Prelude.{◌≡◌, ◌≤◌, ℕ, List, IfOk, OnOk, length, true, None, Option, IsSome};
 ghost use Rattle.reply_xml.specs.Children.{IsLeafOf};
 ghost use Rattle.reply_xml.specs.Contents.{Content, is_the};
+ghost use Rattle.reply_xml.specs.Breaks.{BreaksElement, IfBroken};
 ghost use Rattle.reply_xml.specs.Faults.{IfRefused};
 ghost use Rattle.reply_xml.specs.Reading.{Advances, LeafLeft, Stops};
 
@@ -39,6 +40,8 @@ impl<'a> Reader<'a> {
         ensures no_longer { length self.new.rest.now ≤ length self.old.rest.now }
         ensures refused { IfRefused result (Stops (LeafLeft (L.spells element) element found.old)
             child.now self.old.rest.now) }
+        ensures size { self.new.size ≡ self.old.size }
+        ensures broken { IfBroken result (λ reason. BreaksElement self.old.size reason child.now self.old.rest.now) }
     {
         if found.is_some() {
             return Err(DocFault::Twice(element));

@@ -3,6 +3,7 @@
 ghost use Rattle.std.specs.Prelude.{◌≡◌, ◌≤◌, ℕ, List, IfOk, OnOk, length};
 ghost use Rattle.reply_xml.specs.Contents.{Content, Only};
 ghost use Rattle.reply_xml.specs.Documents.{IsOf};
+ghost use Rattle.reply_xml.specs.Breaks.{Breaks, BreaksElement, BreaksIn, IfBroken};
 ghost use Rattle.reply_xml.specs.Faults.{IfRefused, IsFault};
 ghost use Rattle.reply_xml.specs.Places.{BeginsOtherwise, HasBytesBehind};
 ghost use Rattle.reply_xml.specs.Reading.{Advances, HoldsAs, HoldsNone, ReadsAs, ReadsNone, Stops};
@@ -22,12 +23,16 @@ pub trait Parts: Drop {
         ensures value { OnOk result (Advances (left self.old) (left self.new)
             child.now reader.old.rest.now reader.new.rest.now) }
         ensures no_longer { length reader.new.rest.now ≤ length reader.old.rest.now }
-        ensures refused { IfRefused result (Stops (left self.old) child.now reader.old.rest.now) };
+        ensures refused { IfRefused result (Stops (left self.old) child.now reader.old.rest.now) }
+        ensures size { reader.new.size ≡ reader.old.size }
+        ensures broken { IfBroken result (λ reason.
+            BreaksElement reader.old.size reason child.now reader.old.rest.now) };
 
     /// The value, where nothing more stands inside; the first part that is missing otherwise.
     fn whole(self, alloc: Global) -> Result<Self::Whole, DocFault>
         ensures value { IfOk result (λ whole. (text : List ℕ) → left self (Only text) whole) }
-        ensures refused { IfRefused result ((text : List ℕ) (whole : Self.Whole) → ¬ (left self (Only text) whole)) };
+        ensures refused { IfRefused result ((text : List ℕ) (whole : Self.Whole) → ¬ (left self (Only text) whole)) }
+        ensures unbroken { IfBroken result (λ reason. ⊥) };
 }
 
 impl<'a> Reader<'a> {
@@ -37,6 +42,8 @@ impl<'a> Reader<'a> {
             parent.now self.old.rest.now self.new.rest.now whole) }
         ensures no_longer { length self.new.rest.now ≤ length self.old.rest.now }
         ensures refused { IfRefused result (HoldsNone (P.left parts) parent.now self.old.rest.now) }
+        ensures size { self.new.size ≡ self.old.size }
+        ensures broken { IfBroken result (λ reason. BreaksIn self.old.size reason parent.now self.old.rest.now) }
     {
         let mut parts = parts;
         'children: while let Some(child) = self.next_child(parent)? {
@@ -53,6 +60,8 @@ impl<'a> Reader<'a> {
             child.now self.old.rest.now self.new.rest.now whole) }
         ensures no_longer { length self.new.rest.now ≤ length self.old.rest.now }
         ensures refused { IfRefused result (ReadsNone (P.left parts) child.now self.old.rest.now) }
+        ensures size { self.new.size ≡ self.old.size }
+        ensures broken { IfBroken result (λ reason. BreaksElement self.old.size reason child.now self.old.rest.now) }
     {
         let tag = self.tag(child)?;
         self.inside(&tag, parts)
@@ -68,6 +77,7 @@ pub fn read_document<P: Parts>(
 ) -> Result<P::Whole, DocFault>
     ensures value { IfOk result (λ whole. IsOf root.now (P.left parts) doc.now whole) }
     ensures refused { IfRefused result ((whole : P.Whole) → ¬ (IsOf root.now (P.left parts) doc.now whole)) }
+    ensures broken { IfBroken result (Breaks root.now doc.now) }
     ensures other_root { (place : ℕ) → BeginsOtherwise root.now doc.now place →
         result ≡ Err (DocFault.NotADocument place) }
     ensures behind { (place : ℕ) → HasBytesBehind root.now (P.left parts) doc.now place →

@@ -1,9 +1,10 @@
 //! A document that is read from its front.
 
-ghost use Rattle.std.specs.Prelude.{◌∷◌, ◌≡◌, ◌≤◌, ◌<◌, ◌+◌, ℕ, List, Option, IfOk, OnOk, length, Bool, false, IfSome, OnSome, IfNone};
+ghost use Rattle.std.specs.Prelude.{◌∷◌, ◌≡◌, ◌≤◌, ◌<◌, ◌+◌, ◌-◌, ℕ, List, Option, IfOk, OnOk, length, Bool, false, IfSome, OnSome, IfNone};
 ghost use Rattle.std.specs.Bool.{MatchBool};
 ghost use Rattle.reply_xml.specs.Contents.{Content, ReadsText, ReadsInner};
 ghost use Rattle.reply_xml.specs.Children.{IsLeafOf};
+ghost use Rattle.reply_xml.specs.Breaks.{BreaksElement, BreaksIn, IfBroken, LeavesTagEnd, LeavesText, OnBroken, Stands};
 ghost use Rattle.reply_xml.specs.Faults.{IfRefused};
 ghost use Rattle.reply_xml.specs.Tags.{ReadsTag, ReadsTagEnd, ReadsEndTag};
 ghost use Rattle.reply_xml.specs.Meaning.{meaning_of};
@@ -40,7 +41,7 @@ pub struct Tag<'a> {
 pub struct Reader<'a> {
     pub alloc: Global,
     /// The length of the document in bytes.
-    pub(crate) size: usize,
+    pub size: usize,
     /// What is left of it.
     pub rest: &'a [u8],
     ghost fits: { length rest.now ≤ size },
@@ -61,6 +62,7 @@ impl<'a> Reader<'a> {
     /// The place where so many bytes are left.
     pub(crate) fn place(&self, left: usize) -> usize
         requires { left ≤ length self.now.rest.now }
+        ensures { result ≡ self.now.size - left }
     {
         self.size - left
     }
@@ -71,6 +73,9 @@ impl<'a> Reader<'a> {
             IsUnescaped raw (meaning_of found)) }
         ensures no_longer { length self.new.rest.now ≤ length self.old.rest.now }
         ensures refused { IfRefused result ((text rest : List ℕ) → ¬ (ReadsText text self.old.rest.now (60 ∷ rest))) }
+        ensures size { self.new.size ≡ self.old.size }
+        ensures broken { IfBroken result (λ reason. (left : ℕ) × LeavesText self.old.rest.now left
+            × Stands self.old.size left reason) }
     {
         let (text, rest) = split_run(Sort::Text, self.rest);
         if rest.is_empty() {
@@ -92,6 +97,8 @@ impl<'a> Reader<'a> {
     /// The fault of a text that no `<` follows.
     fn last_text_fault(&self, text: &[u8]) -> DocFault
         requires { length text.now ≤ length self.now.rest.now }
+        ensures { OnBroken result (λ reason. (left : ℕ) × (left ≤ length self.now.rest.now)
+            × Stands self.now.size left reason) }
     {
         match text_fault(text, true) {
             TextFault::Ends(place) => {
@@ -111,6 +118,8 @@ impl<'a> Reader<'a> {
         ensures no_longer { length self.new.rest.now ≤ length self.old.rest.now }
         ensures refused { IfRefused result ((inner : Content) (rest : List ℕ) →
             ¬ (ReadsInner parent.now.closed inner parent.now.room parent.now.name.now self.old.rest.now rest)) }
+        ensures size { self.new.size ≡ self.old.size }
+        ensures broken { IfBroken result (λ reason. BreaksIn self.old.size reason parent.now self.old.rest.now) }
     {
         if parent.closed {
             return Ok(None);
@@ -140,6 +149,9 @@ impl<'a> Reader<'a> {
         ensures no_longer { length self.new.rest.now ≤ length self.old.rest.now }
         ensures refused { IfRefused result ((closed : Bool) (rest : List ℕ) →
             ¬ (ReadsTagEnd closed self.old.rest.now rest)) }
+        ensures size { self.new.size ≡ self.old.size }
+        ensures broken { IfBroken result (λ reason. (left : ℕ) × LeavesTagEnd self.old.rest.now left
+            × Stands self.old.size left reason) }
     {
         let (closed, rest) = match after_tag_end(self.rest) {
             Ok(parts) => parts,
@@ -162,6 +174,9 @@ impl<'a> Reader<'a> {
         ensures refused { IfRefused result ((before : List ℕ) → AtEnd parent.now before self.old.rest.now →
             (inner : Content) (rest : List ℕ) →
             ¬ (ReadsInner parent.now.closed inner parent.now.room parent.now.name.now before rest)) }
+        ensures size { self.new.size ≡ self.old.size }
+        ensures broken { IfBroken result (λ reason. (before : List ℕ) → AtEnd parent.now before self.old.rest.now →
+            BreaksIn self.old.size reason parent.now before) }
     {
         if parent.closed {
             return Ok(());
@@ -191,6 +206,8 @@ impl<'a> Reader<'a> {
             child.now self.old.rest.now self.new.rest.now value) }
         ensures no_longer { length self.new.rest.now ≤ length self.old.rest.now }
         ensures refused { IfRefused result (ReadsNone (IsLeafOf (L.spells of)) child.now self.old.rest.now) }
+        ensures size { self.new.size ≡ self.old.size }
+        ensures broken { IfBroken result (λ reason. BreaksElement self.old.size reason child.now self.old.rest.now) }
     {
         let tag = self.tag(child)?;
         if tag.closed {
@@ -212,6 +229,8 @@ impl<'a> Reader<'a> {
         ensures value { OnOk result (ReadsSome child.now self.old.rest.now self.new.rest.now) }
         ensures no_longer { length self.new.rest.now ≤ length self.old.rest.now }
         ensures refused { IfRefused result ((rest : List ℕ) → ¬ (ReadsSome child.now self.old.rest.now rest)) }
+        ensures size { self.new.size ≡ self.old.size }
+        ensures broken { IfBroken result (λ reason. BreaksElement self.old.size reason child.now self.old.rest.now) }
     {
         let tag = self.tag(child)?;
         self.skip_content(&tag)
@@ -222,6 +241,8 @@ impl<'a> Reader<'a> {
         ensures value { OnOk result (HoldsSome tag.now self.old.rest.now self.new.rest.now) }
         ensures no_longer { length self.new.rest.now ≤ length self.old.rest.now }
         ensures refused { IfRefused result ((rest : List ℕ) → ¬ (HoldsSome tag.now self.old.rest.now rest)) }
+        ensures size { self.new.size ≡ self.old.size }
+        ensures broken { IfBroken result (λ reason. BreaksIn self.old.size reason tag.now self.old.rest.now) }
     {
         let mut inner = *tag;
         let mut outer = Vec::new(self.alloc);

@@ -4,6 +4,7 @@ ghost use Rattle.std.specs.Prelude.{◌≡◌, ◌≤◌, ℕ, List, None, Optio
 ghost use Rattle.s3_model.specs.declared.places.Entry.{Entry};
 ghost use Rattle.s3_replies.specs.Buckets.{BucketLeft, BucketsLeft, HasBucket, HasBuckets, HasEachBucket, IsBucketList, ListLeft};
 ghost use Rattle.reply_xml.specs.Contents.{Content};
+ghost use Rattle.reply_xml.specs.Breaks.{Breaks, IfBroken};
 ghost use Rattle.reply_xml.specs.Faults.{IfRefused, IsFault};
 ghost use Rattle.reply_xml.specs.Places.{BeginsOtherwise, HasBytesBehind};
 
@@ -122,6 +123,7 @@ impl Parts for BucketList {
 pub fn read_buckets(alloc: Global, doc: &[u8]) -> Result<Entries, DocFault>
     ensures value { IfOk result (λ rows. IsBucketList doc.now rows.items) }
     ensures refused { IfRefused result ((entries : List Entry) → ¬ (IsBucketList doc.now entries)) }
+    ensures broken { IfBroken result (Breaks (codes "ListAllMyBucketsResult") doc.now) }
     ensures other_root { (place : ℕ) → BeginsOtherwise (codes "ListAllMyBucketsResult") doc.now place →
         result ≡ Err (DocFault.NotADocument place) }
     ensures behind { (place : ℕ) → HasBytesBehind (codes "ListAllMyBucketsResult") HasBuckets doc.now place →

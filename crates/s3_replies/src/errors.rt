@@ -3,6 +3,7 @@
 ghost use Rattle.std.specs.Prelude.{◌≡◌, ◌≤◌, ℕ, List, None, Option, Err, IfOk, OnOk, codes, length};
 ghost use Rattle.s3_replies.specs.Errors.{ErrorLeft, HasError, IsError};
 ghost use Rattle.reply_xml.specs.Contents.{Content};
+ghost use Rattle.reply_xml.specs.Breaks.{Breaks, IfBroken};
 ghost use Rattle.reply_xml.specs.Faults.{IfRefused, IsFault};
 ghost use Rattle.reply_xml.specs.Places.{BeginsOtherwise, HasBytesBehind};
 
@@ -45,6 +46,7 @@ impl Parts for ErrorFields {
 pub fn read_error(alloc: Global, doc: &[u8]) -> Result<(Text, Text), DocFault>
     ensures value { IfOk result (IsError doc.now) }
     ensures refused { IfRefused result ((error : List ℕ × List ℕ) → ¬ (IsError doc.now error)) }
+    ensures broken { IfBroken result (Breaks (codes "Error") doc.now) }
     ensures other_root { (place : ℕ) → BeginsOtherwise (codes "Error") doc.now place →
         result ≡ Err (DocFault.NotADocument place) }
     ensures behind { (place : ℕ) → HasBytesBehind (codes "Error") HasError doc.now place →

@@ -1,6 +1,7 @@
 //! The first bad key of a page that is refused.
 
-ghost use Rattle.std.specs.Prelude.{◌≡◌, ◌≤◌, length};
+ghost use Rattle.std.specs.Prelude.{◌≡◌, ◌≤◌, IfSome, length};
+ghost use Rattle.reply_xml.specs.Breaks.{OnBroken};
 
 use crate::pages::judge_key;
 use reply_xml::{Child, DocFault, Element, Meaning, Reader, Tag};
@@ -129,7 +130,9 @@ fn names_url(alloc: Global, doc: &[u8]) -> bool {
 }
 
 /// The fault of the first bad key or prefix at the front.
-fn key_fault(alloc: Global, front: &[u8], url: bool) -> Option<DocFault> {
+fn key_fault(alloc: Global, front: &[u8], url: bool) -> Option<DocFault>
+    ensures { IfSome result (λ fault. OnBroken fault (λ reason. ⊥)) }
+{
     let mut leaves = Leaves::open(alloc, front)?;
     for _leaf in 0..front.len() {
         let Ok(Some((element, text))) = leaves.next() else {
@@ -145,7 +148,8 @@ fn key_fault(alloc: Global, front: &[u8], url: bool) -> Option<DocFault> {
 /// The first fault of a page that has this one where so many bytes are left. A key before it may be bad, by an encoding
 /// that is named behind it.
 pub(crate) fn first_fault(alloc: Global, doc: &[u8], left: usize, fault: DocFault) -> DocFault
-    ensures { fault ≡ DocFault.Memory → result ≡ DocFault.Memory }
+    ensures memory { fault ≡ DocFault.Memory → result ≡ DocFault.Memory }
+    ensures broken { OnBroken result (λ reason. reason ≡ fault) }
 {
     if fault == DocFault::Memory {
         return fault;

@@ -3,6 +3,7 @@
 ghost use Rattle.std.specs.Prelude.{◌≡◌, ◌≤◌, ℕ, List, [], None, Option, IfOk, OnOk, length, codes, true, refl};
 ghost use Rattle.reply_xml.specs.Contents.{Content, is_the};
 ghost use Rattle.reply_xml.specs.declared.elements.Element.TheVariants as element;
+ghost use Rattle.reply_xml.specs.Breaks.{BreaksElement, BreaksIn, IfBroken};
 ghost use Rattle.reply_xml.specs.Faults.{IfRefused};
 ghost use Rattle.reply_xml.specs.Reading.{Advances, HoldsAs, HoldsNone, Stops};
 ghost use Rattle.s3_replies.specs.Listing.{EncodingLeft, HasPage, ObjectLeft, ObjectsLeft, Page, PageLeft, PrefixesLeft};
@@ -84,6 +85,8 @@ fn take_object<'a>(
         child.now reader.old.rest.now reader.new.rest.now) }
     ensures no_longer { length reader.new.rest.now ≤ length reader.old.rest.now }
     ensures refused { IfRefused result (Stops (ObjectsLeft rows.old.items) child.now reader.old.rest.now) }
+    ensures size { reader.new.size ≡ reader.old.size }
+    ensures broken { IfBroken result (λ reason. BreaksElement reader.old.size reason child.now reader.old.rest.now) }
 {
     let object = ObjectFields {
         key: None,
@@ -109,6 +112,8 @@ fn take_prefix<'a>(
         child.now reader.old.rest.now reader.new.rest.now) }
     ensures no_longer { length reader.new.rest.now ≤ length reader.old.rest.now }
     ensures refused { IfRefused result (Stops (PrefixesLeft rows.old.items) child.now reader.old.rest.now) }
+    ensures size { reader.new.size ≡ reader.old.size }
+    ensures broken { IfBroken result (λ reason. BreaksElement reader.old.size reason child.now reader.old.rest.now) }
 {
     let only: Only<FormedText> = Only {
         element: Element::Prefix,
@@ -150,6 +155,8 @@ fn take_encoding<'a>(
         child.now reader.old.rest.now reader.new.rest.now) }
     ensures no_longer { length reader.new.rest.now ≤ length reader.old.rest.now }
     ensures refused { IfRefused result (Stops (EncodingLeft url.old) child.now reader.old.rest.now) }
+    ensures size { reader.new.size ≡ reader.old.size }
+    ensures broken { IfBroken result (λ reason. BreaksElement reader.old.size reason child.now reader.old.rest.now) }
 {
     if *url {
         return Err(DocFault::Twice(Element::EncodingType));
@@ -247,6 +254,7 @@ pub(crate) fn written_page<'a>(reader: &mut Reader<'a>, root: &Tag<'a>) -> Resul
     ensures value { IfOk result (HoldsAs HasPage root.now reader.old.rest.now reader.new.rest.now) }
     ensures no_longer { length reader.new.rest.now ≤ length reader.old.rest.now }
     ensures refused { IfRefused result (HoldsNone HasPage root.now reader.old.rest.now) }
+    ensures broken { IfBroken result (λ reason. BreaksIn reader.old.size reason root.now reader.old.rest.now) }
 {
     let fields = PageFields {
         more: None,

@@ -4,6 +4,7 @@ ghost use Rattle.std.specs.Prelude.{◌≡◌, ℕ, List, Err, IfOk, OnOk, codes
 ghost use Rattle.reply_xml.specs.Children.{HasLeaf, HasOnly, IsPlain};
 ghost use Rattle.reply_xml.specs.declared.elements.Element.TheVariants as elements;
 ghost use Rattle.reply_xml.specs.Documents.{IsOf};
+ghost use Rattle.reply_xml.specs.Breaks.{Breaks, IfBroken};
 ghost use Rattle.reply_xml.specs.Faults.{IfRefused, IsFault};
 ghost use Rattle.reply_xml.specs.Places.{BeginsOtherwise, HasBytesBehind};
 ghost use Rattle.s3_replies.specs.Results.{copy_root, IsCompleted, IsCopied, IsCreated};
@@ -22,6 +23,7 @@ fn only_leaf<L: Leaf>(
     ensures value { IfOk result (IsOf root.now (HasOnly (L.spells element) element) doc.now) }
     ensures refused { IfRefused result ((value : L.Value) →
         ¬ (IsOf root.now (HasOnly (L.spells element) element) doc.now value)) }
+    ensures broken { IfBroken result (Breaks root.now doc.now) }
     ensures other_root { (place : ℕ) → BeginsOtherwise root.now doc.now place →
         result ≡ Err (DocFault.NotADocument place) }
     ensures behind { (place : ℕ) → HasBytesBehind root.now (HasOnly (L.spells element) element) doc.now place →
@@ -38,6 +40,7 @@ fn only_leaf<L: Leaf>(
 pub fn read_created(alloc: Global, doc: &[u8]) -> Result<Text, DocFault>
     ensures value { IfOk result (IsCreated doc.now) }
     ensures refused { IfRefused result ((id : List ℕ) → ¬ (IsCreated doc.now id)) }
+    ensures broken { IfBroken result (Breaks (codes "InitiateMultipartUploadResult") doc.now) }
     ensures other_root { (place : ℕ) → BeginsOtherwise (codes "InitiateMultipartUploadResult") doc.now place →
         result ≡ Err (DocFault.NotADocument place) }
     ensures behind { (place : ℕ) →
@@ -56,6 +59,7 @@ pub fn read_created(alloc: Global, doc: &[u8]) -> Result<Text, DocFault>
 pub fn read_completed(alloc: Global, doc: &[u8]) -> Result<(), DocFault>
     ensures value { OnOk result ((etag : List ℕ) × IsCompleted doc.now etag) }
     ensures refused { IfRefused result ((etag : List ℕ) → ¬ (IsCompleted doc.now etag)) }
+    ensures broken { IfBroken result (Breaks (codes "CompleteMultipartUploadResult") doc.now) }
     ensures other_root { (place : ℕ) → BeginsOtherwise (codes "CompleteMultipartUploadResult") doc.now place →
         result ≡ Err (DocFault.NotADocument place) }
     ensures behind { (place : ℕ) →
@@ -70,6 +74,7 @@ pub fn read_completed(alloc: Global, doc: &[u8]) -> Result<(), DocFault>
 pub fn read_copied(alloc: Global, doc: &[u8], part: bool) -> Result<Text, DocFault>
     ensures value { IfOk result (IsCopied part doc.now) }
     ensures refused { IfRefused result ((etag : List ℕ) → ¬ (IsCopied part doc.now etag)) }
+    ensures broken { IfBroken result (Breaks (copy_root part) doc.now) }
     ensures other_root { (place : ℕ) → BeginsOtherwise (copy_root part) doc.now place →
         result ≡ Err (DocFault.NotADocument place) }
     ensures behind { (place : ℕ) → HasBytesBehind (copy_root part) (HasLeaf elements.ETag) doc.now place →

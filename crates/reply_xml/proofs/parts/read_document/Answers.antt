@@ -2,6 +2,8 @@ use Rattle.std.proofs.Common.{◌∙◌, Err, ap, sym}
 use Rattle.reply_xml.proofs.FaultLemmas.{Tells-map, err_same, fault_past, not_err, refused_past, same_fault, untold}
 use Rattle.reply_xml.proofs.WholeLemmas.{behind_root, behind_there, no_root, no_inside, no_whole, whole}
 use Rattle.reply_xml.specs.declared.faults.DocFault.TheVariants as fault
+use Rattle.reply_xml.specs.Breaks.{BehindRoot, InRoot}
+use Rattle.reply_xml.proofs.BreakLemmas.{broken_past, sized}
 use Rattle.reply_xml.proofs.parts.read_document.Goals as goal
 
 pub returns-in-Err-clause-refused : goal.returns-in-Err-clause-refused
@@ -61,3 +63,22 @@ pub returns-clause-behind : goal.returns-clause-behind
 returns-clause-behind g c place b =
     let space = behind_there (g.P.Parts.left c.args.parts) c.args.root.now c.args.doc.now _ _ place c.in-Ok.parts.1 _ c.in-Ok.ensures.begins c.in-Ok.ensures.room c.in-Ok.ensures.named c.in_ok-whole.ensures.value b in
     absurd (not_err _ _ (c.in_ok-close.ensures.behind b.more space b.some))
+
+pub returns-in_err-whole-clause-broken : goal.returns-in_err-whole-clause-broken
+returns-in_err-whole-clause-broken g c =
+    broken_past c.from_residual.result c.in_err-whole.field-0.0 c.from_residual.ensures.1
+    (
+    λ reason b. InRoot c.in-Ok.parts.1 _ (record { begins = c.in-Ok.ensures.begins; room = c.in-Ok.ensures.room; name = c.in-Ok.ensures.named })
+    (sized _ _ reason _ _ c.in-Ok.ensures.size b)
+    )
+    c.in_err-whole.ensures.broken
+
+pub returns-in_err-close-clause-broken : goal.returns-in_err-close-clause-broken
+returns-in_err-close-clause-broken g c =
+    let held = c.in_ok-whole.ensures.value in
+    broken_past c.from_residual-in_err-close.result c.in_err-close.field-0.0 c.from_residual-in_err-close.ensures.1
+    (
+    λ reason h. BehindRoot c.in-Ok.parts.1 _ _ h.0 (record { begins = c.in-Ok.ensures.begins; room = c.in-Ok.ensures.room; name = c.in-Ok.ensures.named })
+    (held.0, held.1) h.1 h.2 h.3
+    )
+    c.in_err-close.ensures.broken

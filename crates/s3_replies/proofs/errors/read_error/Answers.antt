@@ -2,6 +2,7 @@ use Rattle.std.proofs.Common.{◌∙◌, [], ap, sym, unwrap_or}
 use Rattle.reply_xml.proofs.FaultLemmas.{err_past, err_same, fault_past, not_err, refused_past}
 use Rattle.s3_replies.proofs.ErrorLemmas.{error_behind, error_found, error_told}
 use Rattle.reply_xml.specs.declared.faults.DocFault.TheVariants as fault
+use Rattle.reply_xml.proofs.BreakLemmas.{broken_past}
 use Rattle.s3_replies.proofs.errors.read_error.Goals as goal
 
 pub returns-in_err-code-clause-refused : goal.returns-in_err-code-clause-refused
@@ -34,3 +35,7 @@ returns-in-Some-clause-behind c place b = absurd (c.in_ok-code.ensures.behind pl
 
 pub returns-in-None-clause-behind : goal.returns-in-None-clause-behind
 returns-in-None-clause-behind c place b = absurd (c.in_ok-code.ensures.behind place (error_behind c.args.doc.now place b))
+
+pub returns-in_err-code-clause-broken : goal.returns-in_err-code-clause-broken
+returns-in_err-code-clause-broken c =
+    broken_past c.from_residual.result c.in_err-code.field-0.0 c.from_residual.ensures.1 (λ reason b. b) c.in_err-code.ensures.broken

@@ -1,6 +1,7 @@
 use Rattle.std.proofs.Common.{codes, refl}
 use Rattle.reply_xml.proofs.FaultLemmas.{refused_past}
 use Rattle.s3_replies.proofs.PageLemmas.{encoding_advanced, encoding_none, encoding_twice}
+use Rattle.reply_xml.proofs.BreakLemmas.{broken_past}
 use Rattle.s3_replies.proofs.listing.take_encoding.Goals as goal
 
 pub returns-then-url-clause-refused : goal.returns-then-url-clause-refused
@@ -16,3 +17,7 @@ pub returns-clause-value : goal.returns-clause-value
 returns-clause-value c =
     let found = c.in_ok-leaf.ensures.value in
     encoding_advanced c.args.url.now c.args.child.now c.args.reader.now.rest.now c.leaf.new.self.rest.now found.2.0 c.if-url.false c.requires found.2.2 (found.0, found.1, found.2.1)
+
+pub returns-in_err-leaf-clause-broken : goal.returns-in_err-leaf-clause-broken
+returns-in_err-leaf-clause-broken c =
+    broken_past c.from_residual.result c.in_err-leaf.field-0.0 c.from_residual.ensures.1 (λ reason b. b) c.in_err-leaf.ensures.broken

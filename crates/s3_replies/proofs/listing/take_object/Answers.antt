@@ -3,6 +3,7 @@ use Rattle.s3_replies.specs.Listing.{HasObject}
 use Rattle.reply_xml.proofs.FaultLemmas.{refused_past}
 use Rattle.s3_replies.proofs.EachLemmas.{each_advanced, each_stopped}
 use Rattle.s3_replies.proofs.ObjectLemmas.{HasObject-same, object_closed, object_opened}
+use Rattle.reply_xml.proofs.BreakLemmas.{broken_past}
 use Rattle.s3_replies.proofs.listing.take_object.Goals as goal
 
 pub returns-in_err-row-clause-refused : goal.returns-in_err-row-clause-refused
@@ -18,3 +19,7 @@ returns-clause-value c =
     each_advanced HasObject element.Contents c.args.rows.now.items c.push.new.self.items c.args.child.now c.args.reader.now.rest.now c.element.new.self.rest.now c.in_ok-row.row
     c.requires c.in-Ok.ensures.items HasObject-same
     (object_closed c.args.child.now c.args.reader.now.rest.now c.element.new.self.rest.now c.in_ok-row.row c.in_ok-row.ensures.value)
+
+pub returns-in_err-row-clause-broken : goal.returns-in_err-row-clause-broken
+returns-in_err-row-clause-broken c =
+    broken_past c.from_residual.result c.in_err-row.field-0.0 c.from_residual.ensures.1 (λ reason b. b) c.in_err-row.ensures.broken

@@ -5,6 +5,8 @@ use Rattle.s3_replies.specs.Listing.{HasListing, HasPage}
 use Rattle.reply_xml.proofs.FaultLemmas.{Tells-map, err_same, fault_past, not_err, refused_past, same_fault, told_instead, untold}
 use Rattle.reply_xml.proofs.WholeLemmas.{behind_root, inside_root, no_root, no_whole, whole}
 use Rattle.s3_replies.proofs.ListingLemmas.{no_listing, said_there}
+use Rattle.reply_xml.specs.Breaks.{BehindRoot, Breaks, InRoot}
+use Rattle.reply_xml.proofs.BreakLemmas.{OnBroken-map, broken_past, broken_told, sized}
 use Rattle.s3_replies.proofs.pages.read_list.Goals as goal
 
 pub returns-in-Err-clause-refused : goal.returns-in-Err-clause-refused
@@ -12,7 +14,7 @@ returns-in-Err-clause-refused c = Tells-map c.in-Err.fault (λ none listed l. no
 
 pub returns-in-Err-written_page-clause-refused : goal.returns-in-Err-written_page-clause-refused
 returns-in-Err-written_page-clause-refused c =
-    told_instead _ c.in-Err-written_page.fault c.first_fault.result c.first_fault.ensures
+    told_instead _ c.in-Err-written_page.fault c.first_fault.result c.first_fault.ensures.memory
     (
     Tells-map c.in-Err-written_page.fault
     (
@@ -25,7 +27,7 @@ returns-in-Err-written_page-clause-refused c =
 
 pub returns-in-Err-listed-clause-refused : goal.returns-in-Err-listed-clause-refused
 returns-in-Err-listed-clause-refused c =
-    told_instead _ c.in-Err-listed.fault c.first_fault-in-Err-listed.result c.first_fault-in-Err-listed.ensures
+    told_instead _ c.in-Err-listed.fault c.first_fault-in-Err-listed.result c.first_fault-in-Err-listed.ensures.memory
     (
     Tells-map c.in-Err-listed.fault
     (no_listing c.args.doc.now _ _ c.in-Ok.parts.1 c.in-Ok-written_page.page c.in-Ok.ensures.begins c.in-Ok.ensures.room c.in-Ok.ensures.named c.in-Ok-written_page.ensures.value)
@@ -72,7 +74,7 @@ returns-in-Err-written_page-clause-behind c place b =
     let there = behind_root HasListing (codes "ListBucketResult") c.args.doc.now _ place c.in-Ok.parts.1 c.in-Ok.ensures.begins c.in-Ok.ensures.room c.in-Ok.ensures.named b in
     untold c.first_fault.result (fault.NotADocument place)
     (
-    told_instead ⊥ c.in-Err-written_page.fault c.first_fault.result c.first_fault.ensures
+    told_instead ⊥ c.in-Err-written_page.fault c.first_fault.result c.first_fault.ensures.memory
     (Tells-map c.in-Err-written_page.fault (λ none. none b.at_end there.2.0 (there.0, there.1, there.2.1)) c.in-Err-written_page.ensures.refused)
     )
 
@@ -82,7 +84,7 @@ returns-in-Err-listed-clause-behind c place b =
     let says = (said_there _ _ b.at_end c.in-Ok.parts.1 c.in-Ok-written_page.page b.value c.in-Ok-written_page.ensures.value there).0 in
     untold c.first_fault-in-Err-listed.result (fault.NotADocument place)
     (
-    told_instead ⊥ c.in-Err-listed.fault c.first_fault-in-Err-listed.result c.first_fault-in-Err-listed.ensures
+    told_instead ⊥ c.in-Err-listed.fault c.first_fault-in-Err-listed.result c.first_fault-in-Err-listed.ensures.memory
     (Tells-map c.in-Err-listed.fault (λ none. none b.value says) c.in-Err-listed.ensures.refused)
     )
 
@@ -100,3 +102,30 @@ returns-clause-behind c place b =
     let ends = (said_there _ _ b.at_end c.in-Ok.parts.1 c.in-Ok-written_page.page b.value c.in-Ok-written_page.ensures.value there).1 in
     let space = subst (λ (t : List ℕ). ReadsSpace t b.more) ends b.space in
     absurd (not_err _ _ (c.in_ok-close.ensures.behind b.more space b.some))
+
+pub returns-in-Err-written_page-clause-broken : goal.returns-in-Err-written_page-clause-broken
+returns-in-Err-written_page-clause-broken c =
+    broken_told (Breaks (codes "ListBucketResult") c.args.doc.now) c.in-Err-written_page.fault c.first_fault.result c.first_fault.ensures.broken
+    (
+    OnBroken-map c.in-Err-written_page.fault
+    (
+    λ reason b. InRoot c.in-Ok.parts.1 _ (record { begins = c.in-Ok.ensures.begins; room = c.in-Ok.ensures.room; name = c.in-Ok.ensures.named })
+    (sized _ _ reason _ _ c.in-Ok.ensures.size b)
+    )
+    c.in-Err-written_page.ensures.broken
+    )
+
+pub returns-in-Err-listed-clause-broken : goal.returns-in-Err-listed-clause-broken
+returns-in-Err-listed-clause-broken c =
+    broken_told (Breaks (codes "ListBucketResult") c.args.doc.now) c.in-Err-listed.fault c.first_fault-in-Err-listed.result c.first_fault-in-Err-listed.ensures.broken
+    (OnBroken-map c.in-Err-listed.fault (λ reason none. absurd none) c.in-Err-listed.ensures.unbroken)
+
+pub returns-in_err-close-clause-broken : goal.returns-in_err-close-clause-broken
+returns-in_err-close-clause-broken c =
+    let held = c.in-Ok-written_page.ensures.value in
+    broken_past c.from_residual.result c.in_err-close.field-0.0 c.from_residual.ensures.1
+    (
+    λ reason h. BehindRoot c.in-Ok.parts.1 _ _ h.0 (record { begins = c.in-Ok.ensures.begins; room = c.in-Ok.ensures.room; name = c.in-Ok.ensures.named })
+    (held.0, held.1) h.1 h.2 h.3
+    )
+    c.in_err-close.ensures.broken

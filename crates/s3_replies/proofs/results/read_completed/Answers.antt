@@ -1,5 +1,6 @@
 use Rattle.reply_xml.proofs.FaultLemmas.{err_past, err_same, fault_past, not_err}
 use Rattle.reply_xml.specs.declared.faults.DocFault.TheVariants as fault
+use Rattle.reply_xml.proofs.BreakLemmas.{broken_past}
 use Rattle.s3_replies.proofs.results.read_completed.Goals as goal
 
 pub returns-in_err-_etag-clause-other_root : goal.returns-in_err-_etag-clause-other_root
@@ -15,3 +16,7 @@ returns-in_err-_etag-clause-behind c place b =
 
 pub returns-clause-behind : goal.returns-clause-behind
 returns-clause-behind c place b = absurd (c.in_ok-_etag.ensures.behind place b)
+
+pub returns-in_err-_etag-clause-broken : goal.returns-in_err-_etag-clause-broken
+returns-in_err-_etag-clause-broken c =
+    broken_past c.from_residual.result c.in_err-_etag.field-0.0 c.from_residual.ensures.1 (λ reason b. b) c.in_err-_etag.ensures.broken

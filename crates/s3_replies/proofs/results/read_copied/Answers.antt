@@ -4,6 +4,7 @@ use Rattle.reply_xml.specs.Places.{BeginsOtherwise, HasBytesBehind}
 use Rattle.reply_xml.specs.Children.{HasLeaf}
 use Rattle.reply_xml.specs.declared.elements.Element.TheVariants as element
 use Rattle.s3_replies.specs.Results.{IsCopied, copy_root}
+use Rattle.reply_xml.specs.Breaks.{Breaks, IfBroken}
 use Rattle.s3_replies.proofs.results.read_copied.Goals as goal
 
 pub returns-then-part-clause-value : goal.returns-then-part-clause-value
@@ -35,3 +36,11 @@ returns-then-part-clause-behind c place b =
 pub returns-clause-behind : goal.returns-clause-behind
 returns-clause-behind c place b =
     c.only_leaf-2.ensures.behind place (subst (λ (part : Bool). HasBytesBehind (copy_root part) (HasLeaf element.ETag) c.args.doc.now place) c.if-part.false b)
+
+pub returns-then-part-clause-broken : goal.returns-then-part-clause-broken
+returns-then-part-clause-broken c =
+    subst (λ (part : Bool). IfBroken c.only_leaf.result (Breaks (copy_root part) c.args.doc.now)) (sym c.if-part.true) c.only_leaf.ensures.broken
+
+pub returns-clause-broken : goal.returns-clause-broken
+returns-clause-broken c =
+    subst (λ (part : Bool). IfBroken c.only_leaf-2.result (Breaks (copy_root part) c.args.doc.now)) (sym c.if-part.false) c.only_leaf-2.ensures.broken

@@ -1,4 +1,7 @@
 use Rattle.reply_xml.proofs.ContentLemmas.{closed_end, no_open_end, open_end}
+use Rattle.std.proofs.Common.{ap}
+use Rattle.reply_xml.specs.declared.faults.DocFault.TheVariants as fault
+use Rattle.reply_xml.specs.Breaks.{AtEndTag}
 use Rattle.reply_xml.proofs.reader.Reader.end.Goals as goal
 
 pub returns-then-parent-clause-value : goal.returns-then-parent-clause-value
@@ -9,3 +12,8 @@ returns-in-Ok-clause-value c before at = open_end c.args.parent.now before _ _ c
 
 pub returns-in-Err-clause-refused : goal.returns-in-Err-clause-refused
 returns-in-Err-clause-refused c before at inner rest r = no_open_end c.args.parent.now before _ rest inner c.if-parent.false at c.in-Err.ensures.refused r
+
+pub returns-in-Err-clause-broken : goal.returns-in-Err-clause-broken
+returns-in-Err-clause-broken c before at =
+    AtEndTag _ c.in-Err.left c.if-parent.false at (record { none = c.in-Err.ensures.refused; within = c.in-Err.ensures.left })
+    (ap (λ n. fault.NotADocument n) c.place.ensures)

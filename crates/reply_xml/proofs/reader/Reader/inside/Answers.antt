@@ -1,7 +1,9 @@
-use Rattle.std.proofs.Common.{refl, arith}
+use Rattle.std.proofs.Common.{refl, arith, ◌∙◌}
 use Rattle.reply_xml.proofs.FaultLemmas.{refused_past}
 use Rattle.reply_xml.proofs.OpenLemmas.{iff_past}
 use Rattle.reply_xml.proofs.TakeLemmas.{advanced, stopped, ended, at_end_left}
+use Rattle.reply_xml.specs.Breaks.{Behind}
+use Rattle.reply_xml.proofs.BreakLemmas.{broken_past, child_breaks, sized}
 use Rattle.reply_xml.proofs.reader.Reader.inside.Goals as goal
 
 pub returns-in_err-child-clause-refused : goal.returns-in_err-child-clause-refused
@@ -16,6 +18,10 @@ children-preserved g c =
       no_longer = omega (arith, c.in_ok-child.ensures.no_longer, c.in_ok-take.ensures.no_longer);
       same = λ rest whole. iff_past (c.children.invariant.same rest whole)
           (advanced (g.P.Parts.left c.children.parts) (g.P.Parts.left c.take.new.self) c.args.parent.now c.in-Some.child _ _ _ rest whole now.apart now.child c.in_ok-take.ensures.value);
+      size = c.in_ok-take.ensures.size ∙ now.size ∙ c.children.invariant.size;
+      broken = λ reason b. let element = c.in_ok-take.ensures.value in
+          c.children.invariant.broken reason
+          (sized _ _ reason _ _ (c.in_ok-take.ensures.size ∙ now.size) (Behind c.in-Some.child _ _ now.apart now.child (element.0, element.1) b));
     }
 
 pub returns-in_err-take-clause-refused : goal.returns-in_err-take-clause-refused
@@ -51,3 +57,29 @@ returns-clause-value g c =
     let ends = c.in_ok-end.ensures.value _ now.end in
     (c.children.invariant.same _ c.in_ok-whole.whole).1
     ((ended (g.P.Parts.left c.children.parts) c.args.parent.now _ _ _ c.in_ok-whole.whole ends).1 (refl, c.in_ok-whole.ensures.value ends.0))
+
+pub returns-in_err-child-clause-broken : goal.returns-in_err-child-clause-broken
+returns-in_err-child-clause-broken g c =
+    broken_past c.from_residual.result c.in_err-child.field-0.0 c.from_residual.ensures.1 (λ reason b. c.children.invariant.broken reason b)
+    c.in_err-child.ensures.broken
+
+pub returns-in_err-take-clause-broken : goal.returns-in_err-take-clause-broken
+returns-in_err-take-clause-broken g c =
+    let now = rw c.in-Some.is at c.in_ok-child.ensures in
+    broken_past c.from_residual-in_err-take.result c.in_err-take.field-0.0 c.from_residual-in_err-take.ensures.1
+    (
+    λ reason b. c.children.invariant.broken reason
+    (sized _ _ reason _ _ now.size (child_breaks _ reason c.args.parent.now c.in-Some.child _ _ now.apart now.child b))
+    )
+    c.in_err-take.ensures.broken
+
+pub returns-in_err-whole-clause-broken : goal.returns-in_err-whole-clause-broken
+returns-in_err-whole-clause-broken g c =
+    broken_past c.from_residual-in_err-whole.result c.in_err-whole.field-0.0 c.from_residual-in_err-whole.ensures.1 (λ reason none. absurd none)
+    c.in_err-whole.ensures.unbroken
+
+pub returns-in_err-end-clause-broken : goal.returns-in_err-end-clause-broken
+returns-in_err-end-clause-broken g c =
+    let now = rw c.in_default.is at c.in_ok-child.ensures in
+    broken_past c.from_residual-in_err-end.result c.in_err-end.field-0.0 c.from_residual-in_err-end.ensures.1
+    (λ reason b. c.children.invariant.broken reason (sized _ _ reason _ _ now.size (b _ now.end))) c.in_err-end.ensures.broken

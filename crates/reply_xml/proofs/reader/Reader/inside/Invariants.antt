@@ -1,4 +1,6 @@
-use Rattle.std.proofs.Common.{◌≤◌, ◌↔◌, ℕ, List, length}
+use Rattle.std.proofs.Common.{◌≡◌, ◌≤◌, ◌↔◌, ℕ, List, length}
+use Rattle.reply_xml.specs.declared.faults.DocFault.{DocFault}
+use Rattle.reply_xml.specs.Breaks.{BreaksIn}
 use Rattle.reply_xml.specs.Reading.{HoldsAs}
 use Rattle.reply_xml.proofs.reader.Reader.inside.Given as goal
 
@@ -6,6 +8,8 @@ abbrev pub invariant-children : goal.invariant-children
 invariant-children g l = record {
   no_longer : length l.self.rest.now ≤ length l.fn.self.rest.now;
   same : (rest : List ℕ) (whole : _) → HoldsAs (g.P.Parts.left l.fn.parts) l.fn.parent l.fn.self.rest.now rest whole ↔ HoldsAs (g.P.Parts.left l.parts) l.fn.parent l.self.rest.now rest whole;
+  size : l.self.size ≡ l.fn.self.size;
+  broken : (reason : DocFault) → BreaksIn l.self.size reason l.fn.parent l.self.rest.now → BreaksIn l.fn.self.size reason l.fn.parent l.fn.self.rest.now;
 }
 
 abbrev pub decreases-children : goal.decreases-children

@@ -1,6 +1,9 @@
-use Rattle.std.proofs.Common.{arith}
+use Rattle.std.proofs.Common.{arith, ap, ◌-◌, ◌∙◌, refl}
 use Rattle.reply_xml.proofs.FaultLemmas.{refused_past}
 use Rattle.reply_xml.proofs.ContentLemmas.{inner_open, content_begins, child_there, at_closed, at_open}
+use Rattle.reply_xml.specs.declared.faults.DocFault.TheVariants as fault
+use Rattle.reply_xml.specs.Breaks.{AtStart, AtText, TooLow}
+use Rattle.reply_xml.proofs.BreakLemmas.{broken_past}
 use Rattle.reply_xml.proofs.reader.Reader.next_child.Goals as goal
 
 pub returns-in_err-text-clause-refused : goal.returns-in_err-text-clause-refused
@@ -25,3 +28,18 @@ pub returns-in-Err-clause-refused : goal.returns-in-Err-clause-refused
 returns-in-Err-clause-refused c inner rest r =
     let child = child_there inner _ _ _ _ _ rest c.in_ok-text.ensures.value.1 c.if-at_end_tag.ensures (inner_open _ inner _ _ _ rest c.if-parent.false r) in
     c.in-Err.ensures.refused child.1 child.2 child.3 child.4
+
+pub returns-in_err-text-clause-broken : goal.returns-in_err-text-clause-broken
+returns-in_err-text-clause-broken c =
+    broken_past c.from_residual.result c.in_err-text.field-0.0 c.from_residual.ensures.1
+    (λ reason t. AtText t.0 c.if-parent.false t.1 t.2) c.in_err-text.ensures.broken
+
+pub returns-in-Err-clause-broken : goal.returns-in-Err-clause-broken
+returns-in-Err-clause-broken c =
+    AtStart c.in_ok-text.ensures.value.0 _ c.in-Err.left c.if-parent.false c.in_ok-text.ensures.value.1 c.if-at_end_tag.ensures
+    (record { none = c.in-Err.ensures.refused; within = c.in-Err.ensures.left })
+    (ap (λ n. fault.NotADocument n) (c.place.ensures ∙ ap (λ s. s - c.in-Err.left) c.in_ok-text.ensures.size))
+
+pub returns-then-parent-eq0-clause-broken : goal.returns-then-parent-eq0-clause-broken
+returns-then-parent-eq0-clause-broken c =
+    TooLow c.in_ok-text.ensures.value.0 _ _ _ c.if-parent.false c.in_ok-text.ensures.value.1 c.in-Ok.ensures.value (omega arith) refl

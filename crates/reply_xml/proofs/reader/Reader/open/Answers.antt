@@ -1,7 +1,8 @@
-use Rattle.std.proofs.Common.{Err, ap, ⊎_elim}
+use Rattle.std.proofs.Common.{Err, ap, ⊎_elim, refl}
 use Rattle.reply_xml.specs.declared.faults.DocFault.TheVariants as fault
 use Rattle.reply_xml.proofs.FaultLemmas.{err_same, not_err}
 use Rattle.reply_xml.proofs.DocumentLemmas.{otherwise_at, root_begins, root_end}
+use Rattle.reply_xml.specs.Breaks.{InRootTag, NoRoot}
 use Rattle.reply_xml.proofs.reader.Reader.open.Goals as goal
 
 pub returns-in-Err-after_tag_end-clause-refused : goal.returns-in-Err-after_tag_end-clause-refused
@@ -33,3 +34,11 @@ returns-clause-other c place o =
     ⊎_elim (λ other. not_err _ _ (c.in-Ok.ensures.other place other))
     (⊎_elim (λ lacks. not_err _ _ (c.in-Ok.ensures.bare place lacks)) (λ lacks. not_err _ _ (c.in-Ok.ensures.nameless place lacks))) o
     )
+
+pub returns-in-Err-clause-broken : goal.returns-in-Err-clause-broken
+returns-in-Err-clause-broken c = NoRoot _ c.in-Err.ensures.refused refl
+
+pub returns-in-Err-after_tag_end-clause-broken : goal.returns-in-Err-after_tag_end-clause-broken
+returns-in-Err-after_tag_end-clause-broken c =
+    InRootTag _ c.in-Err-after_tag_end.left c.in-Ok.ensures.value
+    (record { none = c.in-Err-after_tag_end.ensures.refused; within = c.in-Err-after_tag_end.ensures.left }) refl

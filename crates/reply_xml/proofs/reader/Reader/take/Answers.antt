@@ -1,6 +1,7 @@
 use Rattle.std.proofs.Common.{◌∙◌, sym}
 use Rattle.reply_xml.proofs.FaultLemmas.{refused_past}
 use Rattle.reply_xml.proofs.TakeLemmas.{leaf_taken_at, leaf_bad_at, leaf_twice_at}
+use Rattle.reply_xml.proofs.BreakLemmas.{broken_past}
 use Rattle.reply_xml.proofs.reader.Reader.take.Goals as goal
 
 pub returns-then-is_some-clause-refused : goal.returns-then-is_some-clause-refused
@@ -17,3 +18,7 @@ pub returns-clause-value : goal.returns-clause-value
 returns-clause-value g c =
     leaf_taken_at (g.L.Leaf.spells c.args.element) c.args.element c.args.found.now c.args.child.now c.args.self.now.rest.now c.leaf.new.self.rest.now c.in_ok-leaf.field-0
     (g.met.L.Leaf.alone c.args.element) (sym c.is_some.ensures ∙ c.if-is_some.false) c.requires c.in_ok-leaf.ensures.value
+
+pub returns-in_err-leaf-clause-broken : goal.returns-in_err-leaf-clause-broken
+returns-in_err-leaf-clause-broken g c =
+    broken_past c.from_residual.result c.in_err-leaf.field-0.0 c.from_residual.ensures.1 (λ reason b. b) c.in_err-leaf.ensures.broken

@@ -7,6 +7,7 @@ use Rattle.reply_xml.proofs.FaultLemmas.{refused_past, refused_so}
 use Rattle.reply_xml.proofs.TakeLemmas.{part_advanced, part_stopped, stops_there}
 use Rattle.s3_replies.proofs.EachLemmas.{each_started}
 use Rattle.s3_replies.proofs.BucketLemmas.{list_advanced, list_stopped}
+use Rattle.reply_xml.proofs.BreakLemmas.{broken_past}
 use Rattle.s3_replies.proofs.buckets.BucketListParts.take.Goals as goal
 
 pub returns-then-not-is_the-clause-refused : goal.returns-then-not-is_the-clause-refused
@@ -35,3 +36,7 @@ returns-clause-value c =
     (each_started HasBucket element.Bucket c.make.result.items c.args.child.now c.args.reader.now.rest.now c.element.new.self.rest.now c.in_ok-element.field-0.items c.make.ensures).1
     c.in_ok-element.ensures.value
     ))
+
+pub returns-in_err-element-clause-broken : goal.returns-in_err-element-clause-broken
+returns-in_err-element-clause-broken c =
+    broken_past c.from_residual.result c.in_err-element.field-0.0 c.from_residual.ensures.1 (λ reason b. b) c.in_err-element.ensures.broken

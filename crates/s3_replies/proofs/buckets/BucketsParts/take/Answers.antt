@@ -7,6 +7,7 @@ use Rattle.reply_xml.proofs.FaultLemmas.{refused_past, refused_so}
 use Rattle.reply_xml.proofs.TakeLemmas.{part_advanced, part_stopped, stops_there}
 use Rattle.s3_replies.proofs.EachLemmas.{each_advanced, each_stopped}
 use Rattle.s3_replies.proofs.BucketLemmas.{HasBucket-same, bucket_closed, bucket_opened}
+use Rattle.reply_xml.proofs.BreakLemmas.{broken_past}
 use Rattle.s3_replies.proofs.buckets.BucketsParts.take.Goals as goal
 
 pub returns-then-not-is_the-clause-refused : goal.returns-then-not-is_the-clause-refused
@@ -30,3 +31,7 @@ returns-clause-value c =
     (each_advanced HasBucket element.Bucket c.args.self.now.rows.items c.push.new.self.items c.args.child.now c.args.reader.now.rest.now c.element.new.self.rest.now row
     (sym c.is_the.ensures ∙ c.if-not-is_the.false) (c.push.ensures.items ∙ ap (λ rows. rows ++ row ∷ []) c.reserve.ensures.items) HasBucket-same
     (bucket_closed c.args.child.now c.args.reader.now.rest.now c.element.new.self.rest.now row refl (c.from.ensures ∙ c.new.ensures.bytes) c.in_ok-key.ensures.value))
+
+pub returns-in_err-key-clause-broken : goal.returns-in_err-key-clause-broken
+returns-in_err-key-clause-broken c =
+    broken_past c.from_residual.result c.in_err-key.field-0.0 c.from_residual.ensures.1 (λ reason b. b) c.in_err-key.ensures.broken

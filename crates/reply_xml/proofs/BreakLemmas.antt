@@ -1,0 +1,119 @@
+-- Where a document leaves the grammar, from the innermost element outwards.
+use Rattle.std.proofs.Common.{◌≡◌, ◌++◌, ◌⊎◌, ◌∙◌, ℕ, false, Result, Ok, Err, List, [], ◌∷◌, inl, inr, refl, subst, sym, ⊎_elim}
+use Rattle.std.specs.Result.{IsErrAnd}
+use Rattle.reply_xml.specs.declared.faults.DocFault.{DocFault}
+use Rattle.reply_xml.specs.declared.faults.DocFault.TheVariants as fault
+use Rattle.reply_xml.specs.declared.reader.Child.{Child}
+use Rattle.reply_xml.specs.declared.reader.Tag.{Tag}
+use Rattle.reply_xml.specs.Breaks.{BreaksElement, BreaksIn, BehindLeaf, BehindName, BehindTag, Behind, IfBroken, InLeaf, InTag, Inside, OnBroken}
+use Rattle.reply_xml.specs.Reading.{EndsContent, HoldsSome, IsTagOf, NamesChild, ReadsOpen, ReadsSome}
+use Rattle.reply_xml.proofs.OpenLemmas.{child_begins, element_of, open_in, open_out, some_before}
+use Rattle.reply_xml.specs.Contents.{Only}
+
+pub OnBroken-map : {P Q : DocFault → Type 0} (e : DocFault) → ((reason : DocFault) → P reason → Q reason) → OnBroken e P → OnBroken e Q
+OnBroken-map fault.Memory f h = tt
+OnBroken-map (fault.NotADocument n) f h = f (fault.NotADocument n) h
+OnBroken-map (fault.Missing element) f h = tt
+OnBroken-map (fault.Twice element) f h = tt
+OnBroken-map fault.BadNumber f h = tt
+OnBroken-map fault.BadTime f h = tt
+OnBroken-map fault.BadEscape f h = tt
+OnBroken-map fault.TooDeep f h = f fault.TooDeep h
+OnBroken-map (fault.BadText element) f h = tt
+
+-- a fault that is handed on
+pub broken_past : {U : Type 0} {P Q : DocFault → Type 0} (r : Result U DocFault) (e : DocFault) → IsErrAnd r (λ f. f ≡ e)
+    → ((reason : DocFault) → P reason → Q reason) → OnBroken e P → IfBroken r Q
+broken_past {U} {P} {Q} (Ok x) e h f b = absurd h
+broken_past {U} {P} {Q} (Err other) e h f b = subst (λ (d : DocFault). OnBroken d Q) (sym h) (OnBroken-map e f b)
+
+-- an answer that is handed on whole
+pub broken_so : {T : Type 0} {P Q : DocFault → Type 0} (r : Result T DocFault) → ((reason : DocFault) → P reason → Q reason)
+    → IfBroken r P → IfBroken r Q
+broken_so (Ok x) f h = tt
+broken_so (Err e) f h = OnBroken-map e f h
+
+-- the size of the document stays
+pub sized : (size other : ℕ) (reason : DocFault) (tag : Tag) (bytes : List ℕ) → other ≡ size → BreaksIn other reason tag bytes
+    → BreaksIn size reason tag bytes
+sized size other reason tag bytes same b = subst (λ (s : ℕ). BreaksIn s reason tag bytes) same b
+
+pub element_sized : (size other : ℕ) (reason : DocFault) (child : Child) (bytes : List ℕ) → other ≡ size
+    → BreaksElement other reason child bytes → BreaksElement size reason child bytes
+element_sized size other reason child bytes same b = subst (λ (s : ℕ). BreaksElement s reason child bytes) same b
+
+-- an element breaks inside another one
+pub child_breaks : (size : ℕ) (reason : DocFault) (tag : Tag) (child : Child) (bytes from : List ℕ) → tag.closed ≡ false
+    → NamesChild tag.room bytes child from → BreaksElement size reason child from → BreaksIn size reason tag bytes
+child_breaks size reason tag child bytes from plain names (BehindName left leaves stands) = InTag child from left plain names leaves stands
+child_breaks size reason tag child bytes from plain names (BehindTag inner at is breaks) = Inside child inner from at plain names is breaks
+child_breaks size reason tag child bytes from plain names (BehindLeaf inner at text end left is unclosed reads leaves stands) =
+    InLeaf child inner from at text end left plain names is unclosed reads leaves stands
+
+-- what is left of open elements breaks, the innermost last
+abbrev pub BreaksOuter : (size : ℕ) (reason : DocFault) → List Tag → List ℕ → Type 0
+BreaksOuter size reason [] bytes = ⊥
+BreaksOuter size reason (tag ∷ tags) bytes =
+    BreaksOuter size reason tags bytes ⊎ ((at : List ℕ) × ReadsOpen tags bytes at × BreaksIn size reason tag at)
+
+-- the same of an element and those around it
+abbrev pub BreaksOpen : (size : ℕ) (reason : DocFault) → Tag → List Tag → List ℕ → Type 0
+BreaksOpen size reason inner outer bytes =
+    BreaksIn size reason inner bytes ⊎ ((at : List ℕ) × HoldsSome inner bytes at × BreaksOuter size reason outer at)
+
+pub breaks_in : (size : ℕ) (reason : DocFault) (tags : List Tag) (tag : Tag) (bytes : List ℕ) → BreaksOpen size reason tag tags bytes
+    → BreaksOuter size reason (tags ++ tag ∷ []) bytes
+breaks_in size reason [] tag bytes b = ⊎_elim (λ i. inr (bytes, refl, i)) (λ o. absurd o.2) b
+breaks_in size reason (outer ∷ tags) tag bytes b =
+    ⊎_elim (λ i. inl (breaks_in size reason tags tag bytes (inl i)))
+    (
+    λ o. ⊎_elim (λ more. inl (breaks_in size reason tags tag bytes (inr (o.0, o.1, more))))
+    (λ here. inr (here.0, open_in tags tag bytes o.0 here.0 o.1 here.1, here.2)) o.2
+    )
+    b
+
+pub breaks_out : (size : ℕ) (reason : DocFault) (tags : List Tag) (tag : Tag) (bytes : List ℕ)
+    → BreaksOuter size reason (tags ++ tag ∷ []) bytes → BreaksOpen size reason tag tags bytes
+breaks_out size reason [] tag bytes b =
+    ⊎_elim (λ none. absurd none) (λ o. inl (subst (λ (t : List ℕ). BreaksIn size reason tag t) o.1 o.2)) b
+breaks_out size reason (outer ∷ tags) tag bytes b =
+    ⊎_elim
+    (λ more. ⊎_elim (λ i. inl i) (λ o. inr (o.0, o.1, inl o.2)) (breaks_out size reason tags tag bytes more))
+    (λ o. let out = open_out tags tag bytes o.0 o.1 in inr (out.0, out.1, inr (o.0, out.2, o.2))) b
+
+-- an element inside begins
+pub opened_in : (size : ℕ) (reason : DocFault) (outer items : List Tag) (inner within : Tag) (child : Child) (here from at : List ℕ)
+    → inner.closed ≡ false → NamesChild inner.room here child from → IsTagOf child within from at → items ≡ outer ++ inner ∷ []
+    → BreaksOpen size reason within items at → BreaksOpen size reason inner outer here
+opened_in size reason outer items inner within child here from at plain names is e b =
+    ⊎_elim (λ i. inl (Inside child within from at plain names is i))
+    (
+    λ o. let out = breaks_out size reason outer inner o.0 (subst (λ (ts : List Tag). BreaksOuter size reason ts o.0) e o.2) in
+    ⊎_elim
+    (λ i. inl (Behind child from o.0 plain names (o.1.0, element_of child within o.1.0 from at o.0 is o.1.1) i))
+    (λ p. inr (p.0, some_before inner within here at p.0 plain (child_begins inner.room here from at child within names is) o.0 o.1 p.1, p.2)) out
+    )
+    b
+
+-- and an element ends
+pub opened_out : (size : ℕ) (reason : DocFault) (outer items : List Tag) (inner parent : Tag) (here from : List ℕ)
+    → EndsContent inner here from → items ≡ outer ++ parent ∷ [] → BreaksOpen size reason parent outer from
+    → BreaksOpen size reason inner items here
+opened_out size reason outer items inner parent here from ends e b =
+    inr (from, (Only ends.0, ends.1), subst (λ (ts : List Tag). BreaksOuter size reason ts from) (sym e) (breaks_in size reason outer parent from b))
+
+pub open_sized : (size other : ℕ) (reason : DocFault) (tag : Tag) (tags : List Tag) (bytes : List ℕ) → other ≡ size
+    → BreaksOpen other reason tag tags bytes → BreaksOpen size reason tag tags bytes
+open_sized size other reason tag tags bytes same b = subst (λ (s : ℕ). BreaksOpen s reason tag tags bytes) same b
+
+-- a fault that is told instead of another one, which is the same where the grammar is left
+pub broken_told : (P : DocFault → Type 0) (e f : DocFault) → OnBroken f (λ reason. reason ≡ e) → OnBroken e P → OnBroken f P
+broken_told P e fault.Memory same h = tt
+broken_told P e (fault.NotADocument n) same h = subst (λ (d : DocFault). OnBroken d P) (sym same) h
+broken_told P e (fault.Missing element) same h = tt
+broken_told P e (fault.Twice element) same h = tt
+broken_told P e fault.BadNumber same h = tt
+broken_told P e fault.BadTime same h = tt
+broken_told P e fault.BadEscape same h = tt
+broken_told P e fault.TooDeep same h = subst (λ (d : DocFault). OnBroken d P) (sym same) h
+broken_told P e (fault.BadText element) same h = tt
