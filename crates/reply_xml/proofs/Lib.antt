@@ -4,6 +4,7 @@ pub mod ContentLemmas
 pub mod DocumentLemmas
 pub mod FaultLemmas
 pub mod LeafLemmas
+pub mod LeaveLemmas
 pub mod OpenLemmas
 pub mod Rows
 pub mod RunLemmas

@@ -53,3 +53,7 @@ ReadsRun-whole of bytes i h inside = record {
 pub no_run : (of : Sort) (bytes run rest : List ℕ) → BeginsOutside (is_of of) bytes → ReadsRun of run bytes rest → (run ≡ []) × (rest ≡ bytes)
 no_run of bytes run rest ends r =
     ReadsRun-same of [] run bytes bytes rest (record { split = refl; inside = All-from_get_or (λ b. is_of of b ≡ true) [] 0 (λ i h. absurd (omega (arith, h))); ends = ends }) r
+
+-- where the run is empty, the first byte is of another sort
+pub no_run_begins : (of : Sort) (bytes run rest : List ℕ) → ReadsRun of run bytes rest → run ≡ [] → BeginsOutside (is_of of) bytes
+no_run_begins of bytes run rest r none = subst (BeginsOutside (is_of of)) (sym (r.split ∙ ap (λ front. front ++ rest) none)) r.ends

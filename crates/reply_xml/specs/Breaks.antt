@@ -1,5 +1,5 @@
 -- Where a document leaves the grammar: what stands in front reads as texts and elements, and what stands here does not.
-use Rattle.std.specs.Prelude.{◌≡◌, ◌≢◌, ◌≤◌, ◌-◌, ⊤, ℕ, Bool, false, Result, Ok, Err, List, [], ◌∷◌, length}
+use Rattle.std.specs.Prelude.{◌≡◌, ◌≢◌, ◌-◌, ⊤, ℕ, Bool, false, Result, Ok, Err, List, [], ◌∷◌, length}
 use Rattle.reply_xml.specs.declared.faults.DocFault.{DocFault}
 use Rattle.reply_xml.specs.declared.faults.DocFault.TheVariants as fault
 use Rattle.reply_xml.specs.declared.reader.Child.{Child}
@@ -7,37 +7,19 @@ use Rattle.reply_xml.specs.declared.reader.Tag.{Tag}
 use Rattle.reply_xml.specs.Contents.{ReadsText}
 use Rattle.reply_xml.specs.Documents.{BeginsDocument, NamesRoot, ReadsSpace}
 use Rattle.reply_xml.specs.Reading.{AtEnd, HoldsSome, IsTagOf, NamesChild, ReadsSome}
-use Rattle.reply_xml.specs.Tags.{NamesTag, ReadsEndTag, ReadsTag, ReadsTagEnd}
+use Rattle.reply_xml.specs.Leaves.{LeavesEndTag, LeavesStart, LeavesTagEnd, LeavesText}
+use Rattle.reply_xml.specs.Tags.{NamesTag}
 
 -- the fault stands where so many bytes are left of a document of this size
 abbrev pub Stands : (size left : ℕ) → DocFault → Type 0
 Stands size left reason = reason ≡ fault.NotADocument (size - left)
 
--- a text stands here that no tag follows, or that is none; so many bytes are left where it breaks off
-pub record LeavesText (bytes : List ℕ) (left : ℕ) : Type 0 where
-  pub none : (text rest : List ℕ) → ¬ (ReadsText text bytes (60 ∷ rest))
-  pub within : left ≤ length bytes
-
--- no start tag or empty-element tag stands here
-pub record LeavesStart (bytes : List ℕ) (left : ℕ) : Type 0 where
-  pub none : (closed : Bool) (name rest : List ℕ) → ¬ (ReadsTag closed name bytes rest)
-  pub within : left ≤ length bytes
-
--- a tag does not go on like this behind its name
-pub record LeavesTagEnd (bytes : List ℕ) (left : ℕ) : Type 0 where
-  pub none : (closed : Bool) (rest : List ℕ) → ¬ (ReadsTagEnd closed bytes rest)
-  pub within : left ≤ length bytes
-
--- the end tag of an element with this name does not stand here
-pub record LeavesEndTag (name bytes : List ℕ) (left : ℕ) : Type 0 where
-  pub none : (rest : List ℕ) → ¬ (ReadsEndTag name bytes rest)
-  pub within : left ≤ length bytes
-
 -- What stands behind the tag of an element leaves the grammar: at a text, at the tag of an element inside or behind its
 -- name, inside such an element, behind its text where it is a leaf, behind the whole element, or at the end tag. On the
 -- level below the sixteenth no element may stand.
 pub data BreaksIn (size : ℕ) (reason : DocFault) : Tag → List ℕ → Type 0 where
-  AtText : {tag : Tag} {bytes : List ℕ} (left : ℕ) → tag.closed ≡ false → LeavesText bytes left → Stands size left reason
+  AtText : {tag : Tag} {bytes : List ℕ} (left : ℕ) → tag.closed ≡ false → LeavesText bytes left
+      → Stands size left reason
       → BreaksIn size reason tag bytes
   AtStart : {tag : Tag} {bytes : List ℕ} (text at : List ℕ) (left : ℕ) → tag.closed ≡ false → ReadsText text bytes at
       → ((more : List ℕ) → ¬ (at ≡ 60 ∷ 47 ∷ more)) → LeavesStart at left → Stands size left reason

@@ -30,6 +30,15 @@ abbrev pub EndsIn : TextFault → ℕ → Type 0
 EndsIn (text_fault.Ends place) size = place ≤ size
 EndsIn other size = ⊤
 
+-- P, where a text cannot go on behind this place
+abbrev pub OnEnds : TextFault → (ℕ → Type 0) → Type 0
+OnEnds (text_fault.Ends place) P = P place
+OnEnds other P = ⊤
+
+abbrev pub IfEnds : {T : Type 0} → Result T TextFault → (ℕ → Type 0) → Type 0
+IfEnds (Ok value) P = ⊤
+IfEnds (Err fault) P = OnEnds fault P
+
 abbrev pub EndsWithin : {T : Type 0} → Result T TextFault → ℕ → Type 0
 EndsWithin (Ok value) size = ⊤
 EndsWithin (Err fault) size = EndsIn fault size

@@ -3,7 +3,7 @@
 ghost use Rattle.std.specs.Prelude.{◌≡◌, ◌≢◌, ◌++◌, ◌<◌, ◌≤◌, ◌+◌, ◌-◌, ◌∷◌, ℕ, Bool, List, [], Err, IfOk, OnOk, IfErr, OnErr, MatchOption, codes, length, drop, take};
 ghost use Rattle.reply_xml.specs.Contents.{Content};
 ghost use Rattle.reply_xml.specs.Documents.{BeginsDocument, EndsAt, IsDocument, MayDeclare, NamesRoot, ReadsSpace};
-ghost use Rattle.reply_xml.specs.Breaks.{Breaks, HasRoot, IfBroken, Stands};
+ghost use Rattle.reply_xml.specs.Breaks.{Breaks, IfBroken, Stands};
 ghost use Rattle.reply_xml.specs.Faults.{IfRefused};
 ghost use Rattle.reply_xml.specs.Places.{BeginsOtherwise, HasOtherRoot, LacksName, LacksRoot};
 ghost use Rattle.reply_xml.specs.Tags.{ReadsTag};

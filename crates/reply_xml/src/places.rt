@@ -2,6 +2,7 @@
 
 ghost use Rattle.std.specs.Prelude.{◌≡◌, ◌≢◌, ◌≤◌, length};
 ghost use Rattle.std.specs.Bool.{MatchBool};
+ghost use Rattle.std.specs.Str.{IsUtf8};
 
 pub(crate) fn is_same(one: &[u8], other: &[u8]) -> bool
     ensures { MatchBool result (one.now ≡ other.now) (one.now ≢ other.now) }
@@ -28,7 +29,8 @@ fn is_lead(byte: u8) -> bool {
 
 /// How many bytes at the front are UTF-8, or the beginning of a text that is.
 pub(crate) fn utf8_front(bytes: &[u8]) -> usize
-    ensures { result ≤ length bytes.now }
+    ensures most { result ≤ length bytes.now }
+    ensures whole { IsUtf8 bytes.now → result ≡ length bytes.now }
 {
     let Err(fault) = std::str::from_utf8(bytes) else {
         return bytes.len();

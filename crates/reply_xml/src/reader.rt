@@ -4,7 +4,9 @@ ghost use Rattle.std.specs.Prelude.{◌∷◌, ◌≡◌, ◌≤◌, ◌<◌, �
 ghost use Rattle.std.specs.Bool.{MatchBool};
 ghost use Rattle.reply_xml.specs.Contents.{Content, ReadsText, ReadsInner};
 ghost use Rattle.reply_xml.specs.Children.{IsLeafOf};
-ghost use Rattle.reply_xml.specs.Breaks.{BreaksElement, BreaksIn, IfBroken, LeavesTagEnd, LeavesText, OnBroken, Stands};
+ghost use Rattle.reply_xml.specs.Breaks.{BreaksElement, BreaksIn, IfBroken, OnBroken, Stands};
+ghost use Rattle.reply_xml.specs.Leaves.{LeavesTagEnd, LeavesText};
+ghost use Rattle.std.specs.Str.{IsUtf8};
 ghost use Rattle.reply_xml.specs.Faults.{IfRefused};
 ghost use Rattle.reply_xml.specs.Tags.{ReadsTag, ReadsTagEnd, ReadsEndTag};
 ghost use Rattle.reply_xml.specs.Meaning.{meaning_of};
@@ -97,8 +99,8 @@ impl<'a> Reader<'a> {
     /// The fault of a text that no `<` follows.
     fn last_text_fault(&self, text: &[u8]) -> DocFault
         requires { length text.now ≤ length self.now.rest.now }
-        ensures { OnBroken result (λ reason. (left : ℕ) × (left ≤ length self.now.rest.now)
-            × Stands self.now.size left reason) }
+        ensures { OnBroken result (λ reason. (size : ℕ) × (size ≤ length text.now) × (IsUtf8 text.now → size ≡ length text.now)
+            × Stands self.now.size (length self.now.rest.now - size) reason) }
     {
         match text_fault(text, true) {
             TextFault::Ends(place) => {

@@ -1,6 +1,7 @@
 //! Tags, with their attributes.
 
 ghost use Rattle.std.specs.Prelude.{◌≡◌, ◌<◌, ◌≤◌, ◌∷◌, ℕ, Bool, Err, List, length, IfOk, IfErr, OnErr, IfSome, MatchOption};
+ghost use Rattle.reply_xml.specs.Leaves.{LeavesAttribute, LeavesEndTag, LeavesName, LeavesStart, LeavesTagEnd, LeavesValue};
 ghost use Rattle.reply_xml.specs.Tags.{NameEnds, NamesTag, ReadsAttribute, ReadsEndTag, ReadsGap, ReadsName, ReadsTag, ReadsTagEnd, ReadsValue, ends_name};
 ghost use Rattle.reply_xml.specs.Runs.{BeginsOutside, is_name_byte};
 
@@ -25,6 +26,7 @@ pub(crate) fn split_name(bytes: &[u8]) -> Result<(&[u8], &[u8]), usize>
     ensures shorter { IfOk result (λ parts. length parts.1.now < length bytes.now) }
     ensures left { IfErr result (λ left. left ≤ length bytes.now) }
     ensures refused { OnErr result ((name rest : List ℕ) → ¬ (ReadsName name bytes.now rest)) }
+    ensures leaves { IfErr result (λ left. LeavesName bytes.now left) }
     ensures outside { BeginsOutside is_name_byte bytes.now → result ≡ Err (length bytes.now) }
 {
     let (name, rest) = split_run(Sort::Name, bytes);
@@ -40,6 +42,7 @@ fn after_value(bytes: &[u8]) -> Result<&[u8], usize>
     ensures shorter { IfOk result (λ rest. length rest.now < length bytes.now) }
     ensures left { IfErr result (λ left. left ≤ length bytes.now) }
     ensures refused { OnErr result ((rest : List ℕ) → ¬ (ReadsValue bytes.now rest)) }
+    ensures leaves { IfErr result (λ left. LeavesValue bytes.now left) }
 {
     let Some((quote, inside)) = bytes.split_first() else {
         return Err(bytes.len());
@@ -64,6 +67,7 @@ fn after_attribute(bytes: &[u8]) -> Result<&[u8], usize>
     ensures shorter { IfOk result (λ rest. length rest.now < length bytes.now) }
     ensures left { IfErr result (λ left. left ≤ length bytes.now) }
     ensures refused { OnErr result ((rest : List ℕ) → ¬ (ReadsAttribute bytes.now rest)) }
+    ensures leaves { IfErr result (λ left. LeavesAttribute bytes.now left) }
 {
     let (_, equals) = split_name(bytes)?;
     let Some(value) = after_byte(b'=', equals) else {
@@ -79,6 +83,7 @@ pub(crate) fn after_tag_end(bytes: &[u8]) -> Result<(bool, &[u8]), usize>
     ensures shorter { IfOk result (λ parts. length parts.1.now < length bytes.now) }
     ensures left { IfErr result (λ left. left ≤ length bytes.now) }
     ensures refused { OnErr result ((closed : Bool) (rest : List ℕ) → ¬ (ReadsTagEnd closed bytes.now rest)) }
+    ensures leaves { IfErr result (λ left. LeavesTagEnd bytes.now left) }
 {
     let mut here = bytes;
     'attributes: loop {
@@ -112,6 +117,7 @@ pub(crate) fn split_start(bytes: &[u8]) -> Result<(&[u8], &[u8]), usize>
     ensures shorter { IfOk result (λ parts. length parts.1.now < length bytes.now) }
     ensures left { IfErr result (λ left. left ≤ length bytes.now) }
     ensures refused { OnErr result ((closed : Bool) (name rest : List ℕ) → ¬ (ReadsTag closed name bytes.now rest)) }
+    ensures leaves { IfErr result (λ left. LeavesStart bytes.now left) }
     ensures unnamed { OnErr result ((name rest : List ℕ) → NamesTag name bytes.now rest → ¬ (NameEnds rest)) }
     ensures named { IfErr result (λ left. (name rest : List ℕ) → NamesTag name bytes.now rest → left ≡ length rest) }
     ensures ended { IfOk result (λ parts. NameEnds parts.1.now) }
@@ -138,6 +144,7 @@ pub(crate) fn after_end_tag<'a>(name: &[u8], bytes: &'a [u8]) -> Result<&'a [u8]
     ensures shorter { IfOk result (λ rest. length rest.now < length bytes.now) }
     ensures left { IfErr result (λ left. left ≤ length bytes.now) }
     ensures refused { OnErr result ((rest : List ℕ) → ¬ (ReadsEndTag name.now bytes.now rest)) }
+    ensures leaves { IfErr result (λ left. LeavesEndTag name.now bytes.now left) }
 {
     let Some(at_slash) = after_byte(b'<', bytes) else {
         return Err(bytes.len());

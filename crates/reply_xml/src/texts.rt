@@ -2,7 +2,7 @@
 
 ghost use Rattle.std.specs.Prelude.{◌≡◌, ℕ, List, IfOk, length};
 ghost use Rattle.std.specs.Str.{IsUtf8};
-ghost use Rattle.reply_xml.specs.Faults.{EndsIn, EndsWithin, TellsText};
+ghost use Rattle.reply_xml.specs.Faults.{EndsIn, EndsWithin, IfEnds, OnEnds, TellsText};
 ghost use Rattle.reply_xml.specs.Meaning.{meaning_of};
 ghost use Rattle.reply_values.specs.References.{IsUnescaped};
 
@@ -52,6 +52,7 @@ pub(crate) fn read_meaning<'a>(alloc: Global, bytes: &'a [u8]) -> Result<Meaning
     ensures value { IfOk result (λ found. IsUtf8 bytes.now × IsUnescaped bytes.now (meaning_of found)) }
     ensures refused { TellsText result (IsUtf8 bytes.now → (text : List ℕ) → ¬ (IsUnescaped bytes.now text)) }
     ensures place { EndsWithin result (length bytes.now) }
+    ensures broken { IfEnds result (λ place. ¬ (IsUtf8 bytes.now)) }
 {
     let Ok(raw) = std::str::from_utf8(bytes) else {
         return Err(text_fault(bytes, false));
@@ -69,7 +70,8 @@ pub(crate) fn read_meaning<'a>(alloc: Global, bytes: &'a [u8]) -> Result<Meaning
 /// The first fault of a text that is not UTF-8, or, where it is the `last`, that no `<` follows. A reference that the
 /// end of the document cuts short is not a bad one where more bytes could complete it.
 pub(crate) fn text_fault(bytes: &[u8], last: bool) -> TextFault
-    ensures { EndsIn result (length bytes.now) }
+    ensures place { EndsIn result (length bytes.now) }
+    ensures whole { OnEnds result (λ place. IsUtf8 bytes.now → place ≡ length bytes.now) }
 {
     let (raw, whole) = match std::str::from_utf8(bytes) {
         Ok(raw) => (raw, true),

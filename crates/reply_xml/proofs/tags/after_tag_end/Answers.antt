@@ -1,6 +1,8 @@
-use Rattle.std.proofs.Common.{Bool, List, ℕ, arith, sym, ◌∙◌}
+use Rattle.std.proofs.Common.{Bool, List, ℕ, arith, sym, ◌∙◌, refl}
 use Rattle.reply_xml.specs.Tags.{ReadsTagEnd}
 use Rattle.reply_xml.proofs.TagLemmas.{no_tag_end-slash, goes_on, tag_end_past, tag_end_before, OnErr-any, none_from_test, some_from_test}
+use Rattle.reply_xml.specs.Leaves.{BadAttribute, NoSpace, NoTagEnd}
+use Rattle.reply_xml.proofs.LeaveLemmas.{leaves_past, tag_leaves_before}
 use Rattle.reply_xml.proofs.tags.after_tag_end.Goals as goal
 
 pub returns-in-None-clause-refused : goal.returns-in-None-clause-refused
@@ -28,4 +30,42 @@ attributes-preserved c = record {
     λ r. tag_end_past closed _ _ _ _ rest c.split_run.ensures.value c.in_default.ensures.value c.in_default-after_byte.ensures.value c.in_ok-here.ensures.value
         ((c.attributes.invariant.same closed rest).1 r),
   );
+  leaves = λ left l. c.attributes.invariant.leaves left
+      (tag_leaves_before _ _ _ _ left c.split_run.ensures.value (some_from_test _ (sym c.is_empty.ensures ∙ c.if-is_empty.false)) c.in_ok-here.ensures.value l);
 }
+
+pub returns-in-None-clause-leaves : goal.returns-in-None-clause-leaves
+returns-in-None-clause-leaves c =
+    c.attributes.invariant.leaves _
+    (record {
+      count = 0;
+      at = _;
+      attributes = refl;
+      leaves = NoTagEnd _ _ _ c.split_run.ensures.value c.in-Some-after_byte.ensures.value c.in-None.ensures.value refl;
+    })
+
+pub returns-then-is_empty-clause-leaves : goal.returns-then-is_empty-clause-leaves
+returns-then-is_empty-clause-leaves c =
+    c.attributes.invariant.leaves _
+    (record {
+      count = 0;
+      at = _;
+      attributes = refl;
+      leaves = NoSpace _ _ c.split_run.ensures.value c.in_default.ensures.value c.in_default-after_byte.ensures.value
+          (none_from_test _ (sym c.is_empty.ensures ∙ c.if-is_empty.true)) refl;
+    })
+
+pub returns-in_err-here-clause-leaves : goal.returns-in_err-here-clause-leaves
+returns-in_err-here-clause-leaves c =
+    leaves_past c.from_residual.result c.in_err-here.field-0.0 c.from_residual.ensures.1
+    (
+    λ left l. c.attributes.invariant.leaves left
+    (record {
+      count = 0;
+      at = _;
+      attributes = refl;
+      leaves = BadAttribute _ _ c.split_run.ensures.value c.in_default.ensures.value c.in_default-after_byte.ensures.value
+          (some_from_test _ (sym c.is_empty.ensures ∙ c.if-is_empty.false)) l;
+    })
+    )
+    c.in_err-here.ensures.leaves

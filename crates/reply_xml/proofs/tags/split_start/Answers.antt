@@ -1,10 +1,12 @@
-use Rattle.std.proofs.Common.{List, ℕ, ap, length, sym, subst, ◌∙◌}
+use Rattle.std.proofs.Common.{List, ℕ, ap, length, sym, subst, ◌∙◌, refl}
 use Rattle.reply_xml.proofs.TagLemmas.{first_none, first_of, tag_end_of, no_tag_end-first, no_tag_end-none, NamesTag-of, no_name_end-first, no_name_end-none}
 use Rattle.reply_xml.specs.Tags.{NameEnds, NamesTag, ReadsName}
 use Rattle.reply_xml.proofs.TagLemmas.{IfErr-any, OnErr-any, err_given}
 use Rattle.reply_xml.proofs.FaultLemmas.{err_same, not_err}
 use Rattle.reply_xml.specs.Runs.{BeginsOutside, is_name_byte}
 use Rattle.reply_xml.proofs.RunLemmas.{parts_same}
+use Rattle.reply_xml.specs.Leaves.{NoNameEnd, NoTag, NoTagName}
+use Rattle.reply_xml.proofs.LeaveLemmas.{leaves_past}
 use Rattle.reply_xml.proofs.tags.split_start.Goals as goal
 
 pub returns-in_default-first-clause-refused : goal.returns-in_default-first-clause-refused
@@ -95,3 +97,21 @@ pub returns-clause-ended : goal.returns-clause-ended
 returns-clause-ended c =
     let first = first_of _ _ c.in-Some-first.ensures.value in
     (_, first.0, first.1, sym c.ends_name.ensures ∙ c.if-not-ends_name.false)
+
+pub returns-in_default-clause-leaves : goal.returns-in_default-clause-leaves
+returns-in_default-clause-leaves c = NoTag c.in_default.ensures.value refl
+
+pub returns-in_err-name-clause-leaves : goal.returns-in_err-name-clause-leaves
+returns-in_err-name-clause-leaves c =
+    leaves_past c.from_residual.result c.in_err-name.field-0.0 c.from_residual.ensures.1 (λ left l. NoTagName _ c.in-Some.ensures.value l) c.in_err-name.ensures.leaves
+
+pub returns-in_default-first-clause-leaves : goal.returns-in_default-first-clause-leaves
+returns-in_default-first-clause-leaves c =
+    let none = first_none _ c.in_default-first.ensures.value in
+    NoNameEnd _ _ (record { at_name = _; opens = c.in-Some.ensures.value; named = c.in_ok-name.ensures.value }) (no_name_end-none _ none) (sym (ap length none))
+
+pub returns-then-not-ends_name-clause-leaves : goal.returns-then-not-ends_name-clause-leaves
+returns-then-not-ends_name-clause-leaves c =
+    let first = first_of _ _ c.in-Some-first.ensures.value in
+    NoNameEnd _ _ (record { at_name = _; opens = c.in-Some.ensures.value; named = c.in_ok-name.ensures.value })
+    (no_name_end-first _ _ _ first.1 (sym c.ends_name.ensures ∙ c.if-not-ends_name.true)) refl

@@ -3,6 +3,7 @@ use Rattle.std.proofs.lemmas.Bool.{eq-eqb, false≢true}
 use Rattle.reply_values.specs.References.{IsUnescaped}
 use Rattle.reply_values.proofs.ReferenceLemmas.{Lacks, lacks_from}
 use Rattle.reply_values.proofs.UnescapeLemmas.{plain_run}
+use Rattle.reply_xml.proofs.LeaveLemmas.{OnEnds-any}
 use Rattle.reply_xml.proofs.texts.read_meaning.Goals as goal
 
 pub returns-then-not-contains-clause-value : goal.returns-then-not-contains-clause-value
@@ -14,3 +15,6 @@ returns-then-not-contains-clause-value c =
 pub returns-in-Err-Bad-clause-refused : goal.returns-in-Err-Bad-clause-refused
 returns-in-Err-Bad-clause-refused c utf8 text s =
     c.in-Err-Bad.ensures.refused c.in-Err-Bad.field-0-0 (ap Err c.in-Err-Bad.field-0-is) text (subst (λ (b : List ℕ). IsUnescaped b text) (sym c.in-Ok.ensures.cases.0) s)
+
+pub returns-in_default-clause-broken : goal.returns-in_default-clause-broken
+returns-in_default-clause-broken c = OnEnds-any c.text_fault.result (λ place. c.in_default.ensures.cases.0)

@@ -15,5 +15,5 @@ returns-in-Err-clause-refused c before at inner rest r = no_open_end c.args.pare
 
 pub returns-in-Err-clause-broken : goal.returns-in-Err-clause-broken
 returns-in-Err-clause-broken c before at =
-    AtEndTag _ c.in-Err.left c.if-parent.false at (record { none = c.in-Err.ensures.refused; within = c.in-Err.ensures.left })
+    AtEndTag _ c.in-Err.left c.if-parent.false at c.in-Err.ensures.leaves
     (ap (λ n. fault.NotADocument n) c.place.ensures)

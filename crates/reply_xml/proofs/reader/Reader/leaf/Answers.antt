@@ -59,5 +59,5 @@ returns-in_err-value-clause-broken g c =
 pub returns-in-Err-clause-broken : goal.returns-in-Err-clause-broken
 returns-in-Err-clause-broken g c =
     BehindLeaf c.in_ok-tag.tag _ _ _ c.in-Err.left c.in_ok-tag.ensures.value c.if-tag.false c.in_ok-text.ensures.value.1
-    (record { none = c.in-Err.ensures.refused; within = c.in-Err.ensures.left })
+    c.in-Err.ensures.leaves
     (ap (λ n. fault.NotADocument n) (c.place.ensures ∙ ap (λ s. s - c.in-Err.left) (c.in_ok-text.ensures.size ∙ c.in_ok-tag.ensures.size)))

@@ -37,7 +37,7 @@ returns-in_err-text-clause-broken c =
 pub returns-in-Err-clause-broken : goal.returns-in-Err-clause-broken
 returns-in-Err-clause-broken c =
     AtStart c.in_ok-text.ensures.value.0 _ c.in-Err.left c.if-parent.false c.in_ok-text.ensures.value.1 c.if-at_end_tag.ensures
-    (record { none = c.in-Err.ensures.refused; within = c.in-Err.ensures.left })
+    c.in-Err.ensures.leaves
     (ap (λ n. fault.NotADocument n) (c.place.ensures ∙ ap (λ s. s - c.in-Err.left) c.in_ok-text.ensures.size))
 
 pub returns-then-parent-eq0-clause-broken : goal.returns-then-parent-eq0-clause-broken

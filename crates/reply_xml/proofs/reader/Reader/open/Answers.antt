@@ -41,4 +41,4 @@ returns-in-Err-clause-broken c = NoRoot _ c.in-Err.ensures.refused refl
 pub returns-in-Err-after_tag_end-clause-broken : goal.returns-in-Err-after_tag_end-clause-broken
 returns-in-Err-after_tag_end-clause-broken c =
     InRootTag _ c.in-Err-after_tag_end.left c.in-Ok.ensures.value
-    (record { none = c.in-Err-after_tag_end.ensures.refused; within = c.in-Err-after_tag_end.ensures.left }) refl
+    c.in-Err-after_tag_end.ensures.leaves refl

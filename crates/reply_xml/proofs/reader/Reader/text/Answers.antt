@@ -1,9 +1,11 @@
-use Rattle.std.proofs.Common.{sym, ◌∙◌, ap, arith}
+use Rattle.std.proofs.Common.{sym, ◌∙◌, ap, arith, List, ℕ, refl, subst}
 use Rattle.reply_xml.proofs.FaultLemmas.{Tells-any, bad_told, ends_told}
 use Rattle.reply_xml.proofs.ContentLemmas.{no_meaning, no_text_at_end}
 use Rattle.reply_xml.proofs.TagLemmas.{none_from_test}
 use Rattle.reply_xml.specs.declared.faults.DocFault.TheVariants as fault
 use Rattle.reply_xml.proofs.BreakLemmas.{OnBroken-map}
+use Rattle.reply_xml.specs.Leaves.{NoTagBehind, NotUtf8}
+use Rattle.reply_xml.proofs.LeaveLemmas.{ends_at, ends_within, text_ends}
 use Rattle.reply_xml.proofs.reader.Reader.text.Goals as goal
 
 pub returns-then-is_empty-clause-refused : goal.returns-then-is_empty-clause-refused
@@ -18,25 +20,14 @@ returns-in-Err-BadReference-clause-refused c text rest r = no_meaning _ _ _ text
 
 pub returns-then-is_empty-clause-broken : goal.returns-then-is_empty-clause-broken
 returns-then-is_empty-clause-broken c =
-    OnBroken-map c.last_text_fault.result
-    (
-    λ reason h. (
-      h.0,
-      record {
-        none = λ text rest r. no_text_at_end _ _ _ text rest c.split_run.ensures.value (none_from_test _ (sym c.is_empty.ensures ∙ c.if-is_empty.true)) r;
-        within = h.1;
-      },
-      h.2,
-    )
-    )
-    c.last_text_fault.ensures
+    let run = text_ends _ _ _ c.split_run.ensures.value (none_from_test _ (sym c.is_empty.ensures ∙ c.if-is_empty.true)) in
+    OnBroken-map c.last_text_fault.result (λ reason h. (_, NoTagBehind h.0 _ run h.1 h.2 refl, h.3)) c.last_text_fault.ensures
 
 pub returns-in-Err-Ends-clause-broken : goal.returns-in-Err-Ends-clause-broken
-returns-in-Err-Ends-clause-broken c = (
-  _,
-  record {
-    none = λ text rest r. no_meaning _ _ _ text _ c.split_run.ensures.value (ends_told c.in-Err-Ends.field-0 _ c.in-Err-Ends.field-0-is c.in-Err-Ends.ensures.refused) r;
-    within = omega arith;
-  },
-  ap (λ n. fault.NotADocument n) c.place.ensures,
-)
+returns-in-Err-Ends-clause-broken c =
+    let fails = c.in-Err-Ends in (
+      _,
+      NotUtf8 fails.place _ _ c.split_run.ensures.value (ends_at _ fails.field-0 fails.place fails.field-0-is fails.ensures.broken)
+          (ends_within fails.field-0 fails.place _ fails.field-0-is fails.ensures.place) refl,
+      ap (λ n. fault.NotADocument n) (rw fails.field-0-is at c.place.ensures),
+    )

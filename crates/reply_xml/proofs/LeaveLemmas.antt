@@ -1,0 +1,49 @@
+-- Where bytes leave a production, from its parts.
+use Rattle.std.proofs.Common.{◌≡◌, ◌≢◌, ◌≤◌, ℕ, suc, List, [], Result, Ok, Err, IfErr, subst, sym}
+use Rattle.std.specs.Result.{IsErrAnd}
+use Rattle.reply_xml.specs.declared.runs.Sort.TheVariants as sort
+use Rattle.reply_xml.specs.declared.texts.TextFault.{TextFault}
+use Rattle.reply_xml.specs.declared.texts.TextFault.TheVariants as text_fault
+use Rattle.reply_xml.specs.Faults.{EndsIn, OnEnds}
+use Rattle.reply_xml.specs.Leaves.{LeavesTagEnd}
+use Rattle.reply_xml.specs.Runs.{ReadsRun}
+use Rattle.reply_xml.specs.Tags.{ReadsAttribute, ReadsName}
+
+-- the place of a part is handed on
+pub leaves_past : {T : Type 0} {P Q : ℕ → Type 0} (r : Result T ℕ) (e : ℕ) → IsErrAnd r (λ d. d ≡ e) → ((left : ℕ) → P left → Q left)
+    → P e → IfErr r Q
+leaves_past {T} {P} {Q} (Ok x) e h f p = absurd h
+leaves_past {T} {P} {Q} (Err d) e h f p = subst Q (sym h) (f e p)
+
+pub leaves_so : {T : Type 0} {P Q : ℕ → Type 0} (r : Result T ℕ) → ((left : ℕ) → P left → Q left) → IfErr r P → IfErr r Q
+leaves_so (Ok x) f h = tt
+leaves_so (Err d) f h = f d h
+
+-- an attribute was read
+pub tag_leaves_before : (here space at next : List ℕ) (left : ℕ) → ReadsRun sort.Space space here at → space ≢ [] → ReadsAttribute at next
+    → LeavesTagEnd next left → LeavesTagEnd here left
+tag_leaves_before here space at next left run some a l = record {
+  count = suc l.count;
+  at = l.at;
+  attributes = (at, next, record { space = space; run = run; some = some }, a, l.attributes);
+  leaves = l.leaves;
+}
+
+-- the place of a text
+pub OnEnds-any : {P : ℕ → Type 0} (e : TextFault) → ((place : ℕ) → P place) → OnEnds e P
+OnEnds-any (text_fault.Ends place) f = f place
+OnEnds-any text_fault.BadReference f = tt
+OnEnds-any text_fault.Memory f = tt
+
+pub ends_at : (P : ℕ → Type 0) (e : TextFault) (place : ℕ) → e ≡ text_fault.Ends place → OnEnds e P → P place
+ends_at P e place same h = subst (λ (f : TextFault). OnEnds f P) same h
+
+pub ends_within : (e : TextFault) (place size : ℕ) → e ≡ text_fault.Ends place → EndsIn e size → place ≤ size
+ends_within e place size same h = subst (λ (f : TextFault). EndsIn f size) same h
+
+-- a text that ends with the bytes, and a name that is this one
+pub text_ends : (text bytes rest : List ℕ) → ReadsRun sort.Text text bytes rest → rest ≡ [] → ReadsRun sort.Text text bytes []
+text_ends text bytes rest run none = subst (λ (r : List ℕ). ReadsRun sort.Text text bytes r) none run
+
+pub same_name : (found name bytes rest : List ℕ) → found ≡ name → ReadsName found bytes rest → ReadsName name bytes rest
+same_name found name bytes rest same named = subst (λ (n : List ℕ). ReadsName n bytes rest) same named

@@ -1,0 +1,72 @@
+-- Where bytes leave a production: they read as its parts up to a place, and the next part does not stand there. The place
+-- is told by the number of bytes that are left.
+use Rattle.std.specs.Prelude.{◌≡◌, ◌≢◌, ◌≤◌, ◌-◌, ℕ, List, [], ◌∷◌, length}
+use Rattle.std.specs.Str.{IsUtf8}
+use Rattle.reply_xml.specs.declared.runs.Sort.TheVariants as sort
+use Rattle.reply_xml.specs.Runs.{BeginsOutside, ReadsRun, is_name_byte}
+use Rattle.reply_xml.specs.Tags.{NameEnds, NamesTag, ReadsAttributes, ReadsName}
+
+-- the bytes do not begin with this one
+abbrev pub Lacks : ℕ → List ℕ → Type 0
+Lacks byte bytes = (more : List ℕ) → ¬ (bytes ≡ byte ∷ more)
+
+-- no name stands here
+pub record LeavesName (bytes : List ℕ) (left : ℕ) : Type 0 where
+  pub outside : BeginsOutside is_name_byte bytes
+  pub at : left ≡ length bytes
+
+-- a value in quotes does not stand here: no quote begins it, some of its bytes are not UTF-8, or no quote ends it
+pub data LeavesValue (bytes : List ℕ) (left : ℕ) : Type 0 where
+  NoQuote : Lacks 34 bytes → Lacks 39 bytes → left ≡ length bytes → LeavesValue bytes left
+  NoValue : (quote size : ℕ) (inside value at : List ℕ) → bytes ≡ quote ∷ inside
+      → ReadsRun (sort.Value quote) value inside at → ¬ (IsUtf8 value) → size ≤ length value
+      → left ≡ length inside - size → LeavesValue bytes left
+  NoEndQuote : (quote : ℕ) (inside value at : List ℕ) → bytes ≡ quote ∷ inside
+      → ReadsRun (sort.Value quote) value inside at → Lacks quote at → left ≡ length at → LeavesValue bytes left
+
+-- an attribute does not stand here: its name, the `=` or its value
+pub data LeavesAttribute (bytes : List ℕ) (left : ℕ) : Type 0 where
+  NoName : LeavesName bytes left → LeavesAttribute bytes left
+  NoEquals : (name at : List ℕ) → ReadsName name bytes at → Lacks 61 at → left ≡ length at → LeavesAttribute bytes left
+  BadValue : (name at value : List ℕ) → ReadsName name bytes at → at ≡ 61 ∷ value → LeavesValue value left
+      → LeavesAttribute bytes left
+
+-- behind white space neither the end of a tag stands nor an attribute
+pub data LeavesAttributes (bytes : List ℕ) (left : ℕ) : Type 0 where
+  NoSpace : (space at : List ℕ) → ReadsRun sort.Space space bytes at → Lacks 62 at → Lacks 47 at → space ≡ []
+      → left ≡ length at → LeavesAttributes bytes left
+  NoTagEnd : (space at last : List ℕ) → ReadsRun sort.Space space bytes at → at ≡ 47 ∷ last → Lacks 62 last
+      → left ≡ length last → LeavesAttributes bytes left
+  BadAttribute : (space at : List ℕ) → ReadsRun sort.Space space bytes at → Lacks 62 at → Lacks 47 at → space ≢ []
+      → LeavesAttribute at left → LeavesAttributes bytes left
+
+-- a tag does not go on like this behind its name and so many attributes
+pub record LeavesTagEnd (bytes : List ℕ) (left : ℕ) : Type 0 where
+  pub count : ℕ
+  pub at : List ℕ
+  pub attributes : ReadsAttributes count bytes at
+  pub leaves : LeavesAttributes at left
+
+-- no tag of an element begins here: no `<`, no name, or none that ends as one of a tag
+pub data LeavesStart (bytes : List ℕ) (left : ℕ) : Type 0 where
+  NoTag : Lacks 60 bytes → left ≡ length bytes → LeavesStart bytes left
+  NoTagName : (more : List ℕ) → bytes ≡ 60 ∷ more → LeavesName more left → LeavesStart bytes left
+  NoNameEnd : (name at : List ℕ) → NamesTag name bytes at → ¬ (NameEnds at) → left ≡ length at → LeavesStart bytes left
+
+-- The end tag of an element with this name does not stand here: not its `<`, its `/`, a name or the `>`. Where another
+-- name stands, the fault stands in it or behind it.
+pub data LeavesEndTag (name bytes : List ℕ) (left : ℕ) : Type 0 where
+  NoEndTag : Lacks 60 bytes → left ≡ length bytes → LeavesEndTag name bytes left
+  NoSlash : (more : List ℕ) → bytes ≡ 60 ∷ more → Lacks 47 more → left ≡ length more → LeavesEndTag name bytes left
+  NoEndName : (more : List ℕ) → bytes ≡ 60 ∷ 47 ∷ more → LeavesName more left → LeavesEndTag name bytes left
+  OtherName : (size : ℕ) (more found at : List ℕ) → bytes ≡ 60 ∷ 47 ∷ more → ReadsName found more at → found ≢ name
+      → size ≤ length found → left ≡ length more - size → LeavesEndTag name bytes left
+  NoEnd : (more space at close : List ℕ) → bytes ≡ 60 ∷ 47 ∷ more → ReadsName name more at
+      → ReadsRun sort.Space space at close → Lacks 62 close → left ≡ length close → LeavesEndTag name bytes left
+
+-- a text does not stand here: no tag follows it, or some of its bytes are not UTF-8
+pub data LeavesText (bytes : List ℕ) (left : ℕ) : Type 0 where
+  NoTagBehind : (size : ℕ) (text : List ℕ) → ReadsRun sort.Text text bytes [] → size ≤ length text
+      → (IsUtf8 text → size ≡ length text) → left ≡ length bytes - size → LeavesText bytes left
+  NotUtf8 : (size : ℕ) (text at : List ℕ) → ReadsRun sort.Text text bytes at → ¬ (IsUtf8 text) → size ≤ length text
+      → left ≡ length bytes - size → LeavesText bytes left
