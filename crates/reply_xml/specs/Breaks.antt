@@ -8,7 +8,7 @@ use Rattle.reply_xml.specs.Contents.{ReadsText}
 use Rattle.reply_xml.specs.Documents.{BeginsDocument, NamesRoot, ReadsSpace}
 use Rattle.reply_xml.specs.Reading.{AtEnd, HoldsSome, IsTagOf, NamesChild, ReadsSome}
 use Rattle.reply_xml.specs.Leaves.{LeavesEndTag, LeavesStart, LeavesTagEnd, LeavesText}
-use Rattle.reply_xml.specs.Tags.{NamesTag}
+use Rattle.reply_xml.specs.Tags.{NameEnds, NamesTag}
 
 -- the fault stands where so many bytes are left of a document of this size
 abbrev pub Stands : (size left : ℕ) → DocFault → Type 0
@@ -25,7 +25,7 @@ pub data BreaksIn (size : ℕ) (reason : DocFault) : Tag → List ℕ → Type 0
       → ((more : List ℕ) → ¬ (at ≡ 60 ∷ 47 ∷ more)) → LeavesStart at left → Stands size left reason
       → BreaksIn size reason tag bytes
   TooLow : {tag : Tag} {bytes : List ℕ} (text at name rest : List ℕ) → tag.closed ≡ false → ReadsText text bytes at
-      → NamesTag name at rest → tag.room ≡ 0 → reason ≡ fault.TooDeep → BreaksIn size reason tag bytes
+      → NamesTag name at rest → NameEnds rest → tag.room ≡ 0 → reason ≡ fault.TooDeep → BreaksIn size reason tag bytes
   InTag : {tag : Tag} {bytes : List ℕ} (child : Child) (from : List ℕ) (left : ℕ) → tag.closed ≡ false
       → NamesChild tag.room bytes child from → LeavesTagEnd from left → Stands size left reason
       → BreaksIn size reason tag bytes

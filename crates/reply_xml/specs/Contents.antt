@@ -10,7 +10,8 @@ use Rattle.reply_values.specs.References.{IsUnescaped}
 use Rattle.reply_xml.specs.Runs.{ReadsRun}
 use Rattle.reply_xml.specs.Tags.{ReadsTag, ReadsEndTag}
 
--- What stands between two tags: a text, or a text, an element, and what follows it. Texts are as they stand in the bytes.
+-- What stands between two tags: a text, or a text, an element, and what follows it. Texts are as they stand in the
+-- bytes.
 pub data Content : Type 0 where
   Only : (text : List ℕ) → Content
   Then : (text : List ℕ) (child : Option Element) (inner more : Content) → Content
@@ -23,7 +24,8 @@ pub record ReadsText (text bytes rest : List ℕ) : Type 0 where
   pub unescaped : IsUnescaped text meaning
 
 -- a text and the tag of an element; Inside says what follows the tag
-pub record ReadsChild (Inside : Bool → (name bytes rest : List ℕ) → Type 0) (text : List ℕ) (child : Option Element) (bytes rest : List ℕ) : Type 0 where
+pub record ReadsChild (Inside : Bool → (name bytes rest : List ℕ) → Type 0)
+    (text : List ℕ) (child : Option Element) (bytes rest : List ℕ) : Type 0 where
   pub at_tag : List ℕ
   pub before : ReadsText text bytes at_tag
   pub closed : Bool
@@ -35,15 +37,20 @@ pub record ReadsChild (Inside : Bool → (name bytes rest : List ℕ) → Type 0
 
 -- The content and the end tag of an element with this name. Inside it stand elements on at most `room` levels.
 abbrev pub ReadsContent : Content → ℕ → (name bytes rest : List ℕ) → Type 0
-ReadsContent (Only text) room name bytes rest = (at_end : List ℕ) × ReadsText text bytes at_end × ReadsEndTag name at_end rest
+ReadsContent (Only text) room name bytes rest =
+    (at_end : List ℕ) × ReadsText text bytes at_end × ReadsEndTag name at_end rest
 ReadsContent (Then text child inner more) room name bytes rest =
     (0 < room)
-    × ((next : List ℕ) × ReadsChild (λ closed tag from to. MatchBool closed ((inner ≡ Only []) × (to ≡ from)) (ReadsContent inner (room - 1) tag from to)) text child bytes next
+    × ((next : List ℕ)
+    × ReadsChild (λ closed tag from to. MatchBool closed ((inner ≡ Only []) × (to ≡ from))
+    (ReadsContent inner (room - 1) tag from to)) text child bytes next
     × ReadsContent more room name next rest)
 
--- what stands behind the tag of an element: nothing of its own where the tag is closed, else its content and its end tag
+-- what stands behind the tag of an element: nothing of its own where the tag is closed, else its content and its end
+-- tag
 abbrev pub ReadsInner : Bool → Content → ℕ → (name bytes rest : List ℕ) → Type 0
-ReadsInner closed inner room name bytes rest = MatchBool closed ((inner ≡ Only []) × (rest ≡ bytes)) (ReadsContent inner room name bytes rest)
+ReadsInner closed inner room name bytes rest =
+    MatchBool closed ((inner ≡ Only []) × (rest ≡ bytes)) (ReadsContent inner room name bytes rest)
 
 -- the place of an element in their table
 abbrev pub row_of : Element → ℕ

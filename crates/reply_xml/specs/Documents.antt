@@ -28,7 +28,8 @@ pub record ReadsDeclaration (bytes rest : List ℕ) : Type 0 where
 
 -- a declaration, or none
 abbrev pub MayDeclare : List ℕ → List ℕ → Type 0
-MayDeclare bytes rest = ReadsDeclaration bytes rest ⊎ ((rest ≡ bytes) × ((after : List ℕ) → ¬ (bytes ≡ codes "<?xml" ++ after)))
+MayDeclare bytes rest =
+    ReadsDeclaration bytes rest ⊎ ((rest ≡ bytes) × ((after : List ℕ) → ¬ (bytes ≡ codes "<?xml" ++ after)))
 
 -- the bytes up to the content of the root
 pub record BeginsDocument (root bytes : List ℕ) (closed : Bool) (rest : List ℕ) : Type 0 where

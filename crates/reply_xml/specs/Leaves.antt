@@ -1,5 +1,5 @@
--- Where bytes leave a production: they read as its parts up to a place, and the next part does not stand there. The place
--- is told by the number of bytes that are left.
+-- Where bytes leave a production: they read as its parts up to a place, and the next part does not stand there. The
+-- place is told by the number of bytes that are left.
 use Rattle.std.specs.Prelude.{◌≡◌, ◌≢◌, ◌≤◌, ◌-◌, ℕ, List, [], ◌∷◌, length}
 use Rattle.std.specs.Str.{IsUtf8}
 use Rattle.reply_xml.specs.declared.runs.Sort.TheVariants as sort

@@ -5,7 +5,8 @@ use Rattle.reply_xml.specs.Documents.{BeginsDocument, NamesRoot, ReadsSpace}
 use Rattle.reply_xml.specs.Runs.{BeginsOutside, is_name_byte}
 use Rattle.reply_xml.specs.Tags.{NameEnds}
 
--- The bytes begin as a document up to the name of its root, which is another one than this, or behind which no tag goes on. The fault stands at the end of that name.
+-- The bytes begin as a document up to the name of its root, which is another one than this, or behind which no tag goes
+-- on. The fault stands at the end of that name.
 pub record HasOtherRoot (root bytes : List ℕ) (place : ℕ) : Type 0 where
   pub name : List ℕ
   pub rest : List ℕ
@@ -32,8 +33,10 @@ pub record LacksName (bytes : List ℕ) (place : ℕ) : Type 0 where
 abbrev pub BeginsOtherwise : (root bytes : List ℕ) → ℕ → Type 0
 BeginsOtherwise root bytes place = HasOtherRoot root bytes place ⊎ LacksRoot bytes place ⊎ LacksName bytes place
 
--- A whole root with a value stands in the bytes, and behind it white space and then more. The fault stands where more begins.
-pub record HasBytesBehind {V : Type 0} (root : List ℕ) (Means : Content → V → Type 0) (bytes : List ℕ) (place : ℕ) : Type 0 where
+-- A whole root with a value stands in the bytes, and behind it white space and then more. The fault stands where more
+-- begins.
+pub record HasBytesBehind {V : Type 0} (root : List ℕ) (Means : Content → V → Type 0)
+    (bytes : List ℕ) (place : ℕ) : Type 0 where
   pub closed : Bool
   pub at_content : List ℕ
   pub begins : BeginsDocument root bytes closed at_content

@@ -27,7 +27,9 @@ pub record IsTagOf (child : Child) (tag : Tag) (bytes rest : List ℕ) : Type 0 
 
 -- The content ends at this place: none stands in a closed tag, and in another one the end tag begins behind a text.
 abbrev pub AtEnd : Tag → (before at : List ℕ) → Type 0
-AtEnd tag before at = MatchBool tag.closed (at ≡ before) ((text : List ℕ) × ReadsText text before at × (more : List ℕ) × (at ≡ 60 ∷ 47 ∷ more))
+AtEnd tag before at =
+    MatchBool tag.closed (at ≡ before)
+    ((text : List ℕ) × ReadsText text before at × (more : List ℕ) × (at ≡ 60 ∷ 47 ∷ more))
 
 -- the content ends here, with no element in what is left of it
 abbrev pub EndsContent : Tag → List ℕ → List ℕ → Type 0
@@ -39,7 +41,8 @@ HoldsSome tag bytes rest = (inner : Content) × ReadsInner tag.closed inner tag.
 
 -- what stands behind the tag has the value
 abbrev pub HoldsAs : {V : Type 0} → (Content → V → Type 0) → Tag → List ℕ → List ℕ → V → Type 0
-HoldsAs Means tag bytes rest value = (inner : Content) × ReadsInner tag.closed inner tag.room tag.name.now bytes rest × Means inner value
+HoldsAs Means tag bytes rest value =
+    (inner : Content) × ReadsInner tag.closed inner tag.room tag.name.now bytes rest × Means inner value
 
 -- nothing that stands behind the tag has a value
 abbrev pub HoldsNone : {V : Type 0} → (Content → V → Type 0) → Tag → List ℕ → Type 0
@@ -53,7 +56,8 @@ ReadsOpen (tag ∷ tags) bytes rest = (at : List ℕ) × ReadsOpen tags bytes at
 -- what stands behind the name of an element: the rest of its tag, the content and the end tag
 abbrev pub ReadsElement : Child → Content → List ℕ → List ℕ → Type 0
 ReadsElement child inner bytes rest =
-    (closed : Bool) × (at : List ℕ) × ReadsTagEnd closed bytes at × ReadsInner closed inner child.room child.name.now at rest
+    (closed : Bool) × (at : List ℕ) × ReadsTagEnd closed bytes at
+    × ReadsInner closed inner child.room child.name.now at rest
 
 abbrev pub ReadsSome : Child → List ℕ → List ℕ → Type 0
 ReadsSome child bytes rest = (inner : Content) × ReadsElement child inner bytes rest
@@ -66,11 +70,13 @@ ReadsAs Means child bytes rest value = (inner : Content) × ReadsElement child i
 abbrev pub ReadsNone : {V : Type 0} → (Content → V → Type 0) → Child → List ℕ → Type 0
 ReadsNone {V} Means child bytes = (rest : List ℕ) (value : V) → ¬ (ReadsAs Means child bytes rest value)
 
--- An element is read. With it the content has a value in the first sense exactly where what follows has it in the second.
+-- An element is read. With it the content has a value in the first sense exactly where what follows has it in the
+-- second.
 abbrev pub Advances : {V : Type 0} → (Before After : Content → V → Type 0) → Child → List ℕ → List ℕ → Type 0
 Advances {V} Before After child bytes rest =
     (inner : Content) × ReadsElement child inner bytes rest
-    × ((text : List ℕ) (more : Content) (value : V) → Before (Then text child.element inner more) value ↔ After more value)
+    × ((text : List ℕ) (more : Content) (value : V)
+    → Before (Then text child.element inner more) value ↔ After more value)
 
 -- with this element no content has a value
 abbrev pub Stops : {V : Type 0} → (Before : Content → V → Type 0) → Child → List ℕ → Type 0

@@ -13,7 +13,9 @@ is_between least most byte = nat_le least byte && nat_le byte most
 
 -- the bytes of names: letters, digits, `_`, `-`, `.` and `:`
 abbrev pub is_name_byte : ℕ → Bool
-is_name_byte byte = is_between 97 122 byte || (is_between 65 90 byte || (is_between 48 58 byte || (byte == 45 || (byte == 46 || byte == 95))))
+is_name_byte byte =
+    is_between 97 122 byte
+    || (is_between 65 90 byte || (is_between 48 58 byte || (byte == 45 || (byte == 46 || byte == 95))))
 
 -- the bytes of a sort; text ends at `<`, and the value of an attribute at its quote or at `<`
 abbrev pub is_of : Sort → ℕ → Bool

@@ -39,7 +39,8 @@ pub record ReadsGap (bytes rest : List ℕ) : Type 0 where
 -- so many attributes, each behind white space
 abbrev pub ReadsAttributes : ℕ → List ℕ → List ℕ → Type 0
 ReadsAttributes zero bytes rest = rest ≡ bytes
-ReadsAttributes (suc n) bytes rest = (at : List ℕ) × (next : List ℕ) × ReadsGap bytes at × ReadsAttribute at next × ReadsAttributes n next rest
+ReadsAttributes (suc n) bytes rest =
+    (at : List ℕ) × (next : List ℕ) × ReadsGap bytes at × ReadsAttribute at next × ReadsAttributes n next rest
 
 -- how a start tag ends, and how an empty-element tag ends
 abbrev pub tag_close : Bool → List ℕ

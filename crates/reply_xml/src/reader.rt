@@ -1,6 +1,7 @@
 //! A document that is read from its front.
 
-ghost use Rattle.std.specs.Prelude.{◌∷◌, ◌≡◌, ◌≤◌, ◌<◌, ◌+◌, ◌-◌, ℕ, List, Option, IfOk, OnOk, length, Bool, false, IfSome, OnSome, IfNone};
+ghost use Rattle.std.specs.Prelude.{◌∷◌, ◌≡◌, ◌≤◌, ◌<◌, ◌+◌, ◌-◌, ℕ, List, Option};
+ghost use Rattle.std.specs.Prelude.{IfOk, OnOk, length, Bool, false, IfSome, OnSome, IfNone};
 ghost use Rattle.std.specs.Bool.{MatchBool};
 ghost use Rattle.reply_xml.specs.Contents.{Content, ReadsText, ReadsInner};
 ghost use Rattle.reply_xml.specs.Children.{IsLeafOf};
@@ -10,7 +11,8 @@ ghost use Rattle.std.specs.Str.{IsUtf8};
 ghost use Rattle.reply_xml.specs.Faults.{IfRefused};
 ghost use Rattle.reply_xml.specs.Tags.{ReadsTag, ReadsTagEnd, ReadsEndTag};
 ghost use Rattle.reply_xml.specs.Meaning.{meaning_of};
-ghost use Rattle.reply_xml.specs.Reading.{AtEnd, EndsContent, IsTagOf, HoldsSome, NamesChild, ReadsAs, ReadsNone, ReadsSome};
+ghost use Rattle.reply_xml.specs.Reading.{AtEnd, EndsContent, IsTagOf, HoldsSome, NamesChild};
+ghost use Rattle.reply_xml.specs.Reading.{ReadsAs, ReadsNone, ReadsSome};
 ghost use Rattle.reply_values.specs.References.{IsUnescaped};
 
 use crate::elements::{Element, element_named};
@@ -29,7 +31,8 @@ pub struct Child<'a> {
     pub room: usize,
 }
 
-/// The start tag of an element, or where it is closed its empty-element tag. On `room` levels elements may stand inside.
+/// The start tag of an element, or where it is closed its empty-element tag. On `room` levels elements may stand
+/// inside.
 #[derive(Clone, Copy)]
 pub struct Tag<'a> {
     pub name: &'a [u8],

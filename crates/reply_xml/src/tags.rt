@@ -1,8 +1,11 @@
 //! Tags, with their attributes.
 
-ghost use Rattle.std.specs.Prelude.{◌≡◌, ◌<◌, ◌≤◌, ◌∷◌, ℕ, Bool, Err, List, length, IfOk, IfErr, OnErr, IfSome, MatchOption};
-ghost use Rattle.reply_xml.specs.Leaves.{LeavesAttribute, LeavesEndTag, LeavesName, LeavesStart, LeavesTagEnd, LeavesValue};
-ghost use Rattle.reply_xml.specs.Tags.{NameEnds, NamesTag, ReadsAttribute, ReadsEndTag, ReadsGap, ReadsName, ReadsTag, ReadsTagEnd, ReadsValue, ends_name};
+ghost use Rattle.std.specs.Prelude.{◌≡◌, ◌<◌, ◌≤◌, ◌∷◌, ℕ, Bool, Err, List};
+ghost use Rattle.std.specs.Prelude.{length, IfOk, IfErr, OnErr, IfSome, MatchOption};
+ghost use Rattle.reply_xml.specs.Leaves.{LeavesAttribute, LeavesEndTag, LeavesName, LeavesStart};
+ghost use Rattle.reply_xml.specs.Leaves.{LeavesTagEnd, LeavesValue};
+ghost use Rattle.reply_xml.specs.Tags.{NameEnds, NamesTag, ReadsAttribute, ReadsEndTag, ReadsGap, ReadsName};
+ghost use Rattle.reply_xml.specs.Tags.{ReadsTag, ReadsTagEnd, ReadsValue, ends_name};
 ghost use Rattle.reply_xml.specs.Runs.{BeginsOutside, is_name_byte};
 
 use crate::places::{common_front, is_same, utf8_front};

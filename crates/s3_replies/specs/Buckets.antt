@@ -28,7 +28,9 @@ IsBucketList = IsOf (codes "ListAllMyBucketsResult") HasBuckets
 
 -- what is left to be found of one bucket, of the buckets, and of their list
 abbrev pub BucketLeft : Option (List ℕ) → Option ℕ → Content → List ℕ × ℕ → Type 0
-BucketLeft name created content value = LeafLeft (IsFormed element.Name) element.Name name content value.0 × LeafLeft SpellsTime element.CreationDate created content value.1
+BucketLeft name created content value =
+    LeafLeft (IsFormed element.Name) element.Name name content value.0
+    × LeafLeft SpellsTime element.CreationDate created content value.1
 
 abbrev pub BucketsLeft : List Entry → Content → List Entry → Type 0
 BucketsLeft rows content entries = EachLeft HasBucket rows (named element.Bucket content) entries

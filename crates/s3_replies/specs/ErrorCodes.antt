@@ -7,7 +7,8 @@ use Rattle.s3_replies.specs.declared.codes.ErrorCode.TheVariants as code
 
 unfoldable pub code_names : List (List ℕ × ErrorCode)
 code_names =
-    (codes "InternalError", code.InternalError) ∷ (codes "PreconditionFailed", code.PreconditionFailed) ∷ (codes "RequestTimeout", code.RequestTimeout)
+    (codes "InternalError", code.InternalError) ∷ (codes "PreconditionFailed", code.PreconditionFailed)
+    ∷ (codes "RequestTimeout", code.RequestTimeout)
     ∷ (codes "ServiceUnavailable", code.ServiceUnavailable) ∷ (codes "SlowDown", code.SlowDown) ∷ []
 
 -- the code of a name, compared whole

@@ -10,11 +10,15 @@ use Rattle.reply_xml.specs.Reading.{AtMostLeft, LeafLeft}
 abbrev pub HasError : Content → List ℕ × List ℕ → Type 0
 HasError content value =
     HasLeaf element.Code content value.0
-    × ((message : Option (List ℕ)) × AtMostOnce (IsLeafOf (IsFormed element.Message)) (named element.Message content) message × (value.1 ≡ unwrap_or message []))
+    × ((message : Option (List ℕ))
+    × AtMostOnce (IsLeafOf (IsFormed element.Message)) (named element.Message content) message
+    × (value.1 ≡ unwrap_or message []))
 
 abbrev pub IsError : List ℕ → List ℕ × List ℕ → Type 0
 IsError = IsOf (codes "Error") HasError
 
 -- what is left to be found of a code and a message
 abbrev pub ErrorLeft : (code message : Option (List ℕ)) → Content → List ℕ × Option (List ℕ) → Type 0
-ErrorLeft code message content value = LeafLeft (IsFormed element.Code) element.Code code content value.0 × AtMostLeft (IsFormed element.Message) element.Message message content value.1
+ErrorLeft code message content value =
+    LeafLeft (IsFormed element.Code) element.Code code content value.0
+    × AtMostLeft (IsFormed element.Message) element.Message message content value.1

@@ -40,7 +40,8 @@ pub record Page : Type 0 where
 
 pub record HasPage (content : Content) (page : Page) : Type 0 where
   pub more : Once (IsLeafOf SpellsTruth) (named element.IsTruncated content) page.more
-  pub token : AtMostOnce (IsLeafOf (IsFormed element.NextContinuationToken)) (named element.NextContinuationToken content) page.token
+  pub token : AtMostOnce (IsLeafOf (IsFormed element.NextContinuationToken))
+      (named element.NextContinuationToken content) page.token
   pub encoding : HasEncoding (named element.EncodingType content) page.url
   pub entries : Each HasObject (named element.Contents content) page.entries
   pub prefixes : Each (HasLeaf element.Prefix) (named element.CommonPrefixes content) page.prefixes
@@ -81,16 +82,20 @@ abbrev pub ObjectsLeft : List Entry → Content → List Entry → Type 0
 ObjectsLeft rows content entries = EachLeft HasObject rows (named element.Contents content) entries
 
 abbrev pub PrefixesLeft : List (List ℕ) → Content → List (List ℕ) → Type 0
-PrefixesLeft rows content prefixes = EachLeft (HasLeaf element.Prefix) rows (named element.CommonPrefixes content) prefixes
+PrefixesLeft rows content prefixes =
+    EachLeft (HasLeaf element.Prefix) rows (named element.CommonPrefixes content) prefixes
 
 abbrev pub PageLeft : Option Bool → Option (List ℕ) → Bool → List Entry → List (List ℕ) → Content → Page → Type 0
 PageLeft more token url entries prefixes content page =
-    (LeafLeft SpellsTruth element.IsTruncated more content page.more × AtMostLeft (IsFormed element.NextContinuationToken) element.NextContinuationToken token content page.token)
+    (LeafLeft SpellsTruth element.IsTruncated more content page.more
+    × AtMostLeft (IsFormed element.NextContinuationToken) element.NextContinuationToken token content page.token)
     × (EncodingLeft url content page.url
     × (ObjectsLeft entries content page.entries × PrefixesLeft prefixes content page.prefixes))
 
 -- what is left to be found of an object
 abbrev pub ObjectLeft : Option (List ℕ) → Option ℕ → Option (List ℕ) → Option ℕ → Content → Entry → Type 0
 ObjectLeft key modified etag size content entry =
-    (LeafLeft (IsFormed element.Key) element.Key key content entry.key × LeafLeft SpellsTime element.LastModified modified content entry.micros)
-    × (LeafLeft (IsFormed element.ETag) element.ETag etag content entry.etag × LeafLeft SpellsNumber element.Size size content entry.size)
+    (LeafLeft (IsFormed element.Key) element.Key key content entry.key
+    × LeafLeft SpellsTime element.LastModified modified content entry.micros)
+    × (LeafLeft (IsFormed element.ETag) element.ETag etag content entry.etag
+    × LeafLeft SpellsNumber element.Size size content entry.size)

@@ -27,4 +27,6 @@ abbrev pub OneUpload : Type 0
 OneUpload = (doc a b : List ℕ) → IsCreated doc a → IsCreated doc b → b ≡ a
 
 abbrev pub OneEntityTag : Type 0
-OneEntityTag = (doc a b : List ℕ) → (IsCompleted doc a → IsCompleted doc b → b ≡ a) × ((part : Bool) → IsCopied part doc a → IsCopied part doc b → b ≡ a)
+OneEntityTag =
+    (doc a b : List ℕ) → (IsCompleted doc a → IsCompleted doc b → b ≡ a)
+    × ((part : Bool) → IsCopied part doc a → IsCopied part doc b → b ≡ a)

@@ -1,4 +1,5 @@
--- The documents that name an upload or an entity tag (Amazon S3 API Reference: CreateMultipartUpload, CompleteMultipartUpload, CopyObject and UploadPartCopy).
+-- The documents that name an upload or an entity tag (Amazon S3 API Reference: CreateMultipartUpload,
+-- CompleteMultipartUpload, CopyObject and UploadPartCopy).
 use Rattle.std.specs.Prelude.{ℕ, Bool, true, false, List, codes}
 use Rattle.reply_xml.specs.declared.elements.Element.TheVariants as element
 use Rattle.reply_xml.specs.Documents.{IsOf}

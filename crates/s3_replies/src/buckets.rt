@@ -2,7 +2,8 @@
 
 ghost use Rattle.std.specs.Prelude.{◌≡◌, ◌≤◌, ℕ, List, None, Option, Err, IfOk, OnOk, codes, length};
 ghost use Rattle.s3_model.specs.declared.places.Entry.{Entry};
-ghost use Rattle.s3_replies.specs.Buckets.{BucketLeft, BucketsLeft, HasBucket, HasBuckets, HasEachBucket, IsBucketList, ListLeft};
+ghost use Rattle.s3_replies.specs.Buckets.{BucketLeft, BucketsLeft, HasBucket, HasBuckets};
+ghost use Rattle.s3_replies.specs.Buckets.{HasEachBucket, IsBucketList, ListLeft};
 ghost use Rattle.reply_xml.specs.Contents.{Content};
 ghost use Rattle.reply_xml.specs.Breaks.{Breaks, IfBroken};
 ghost use Rattle.reply_xml.specs.Faults.{IfRefused, IsFault};

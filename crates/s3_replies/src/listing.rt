@@ -6,7 +6,8 @@ ghost use Rattle.reply_xml.specs.declared.elements.Element.TheVariants as elemen
 ghost use Rattle.reply_xml.specs.Breaks.{BreaksElement, BreaksIn, IfBroken};
 ghost use Rattle.reply_xml.specs.Faults.{IfRefused};
 ghost use Rattle.reply_xml.specs.Reading.{Advances, HoldsAs, HoldsNone, Stops};
-ghost use Rattle.s3_replies.specs.Listing.{EncodingLeft, HasPage, ObjectLeft, ObjectsLeft, Page, PageLeft, PrefixesLeft};
+ghost use Rattle.s3_replies.specs.Listing.{EncodingLeft, HasPage, ObjectLeft, ObjectsLeft};
+ghost use Rattle.s3_replies.specs.Listing.{Page, PageLeft, PrefixesLeft};
 
 use reply_xml::{
     Child, DocFault, Element, FormedText, Leaf, Meaning, Number, Only, Parts, Reader, Tag, Time,

@@ -42,4 +42,4 @@ returns-in-Err-clause-broken c =
 
 pub returns-then-parent-eq0-clause-broken : goal.returns-then-parent-eq0-clause-broken
 returns-then-parent-eq0-clause-broken c =
-    TooLow c.in_ok-text.ensures.value.0 _ _ _ c.if-parent.false c.in_ok-text.ensures.value.1 c.in-Ok.ensures.value (omega arith) refl
+    TooLow c.in_ok-text.ensures.value.0 _ _ _ c.if-parent.false c.in_ok-text.ensures.value.1 c.in-Ok.ensures.value c.in-Ok.ensures.ended (omega arith) refl
