@@ -1,9 +1,10 @@
 //! Examples of wires, outputs, the environment and files, in memory and of the system.
 
+use s3_model::Text;
 use s3_outside::{
-    DiskFiles, Env, EnvFault, Failed, FileTable, Files, MemEnv, MemFile, MemFiles, MemSink,
-    RealEnv, S3_LIMITS, ScriptWire, Shape, Sink, SocketWire, StdSink, TalkEnding, TalkRecord, Wire,
-    WireCall,
+    DiskFiles, Env, EnvFault, Failed, FileFault, FileTable, Files, MemEnv, MemFile, MemFiles,
+    MemSink, RealEnv, S3_LIMITS, ScriptWire, Shape, Sink, SocketWire, StdSink, TalkEnding,
+    TalkRecord, Wire, WireCall,
 };
 use std::alloc::{AllocError, Global};
 use std::fs;
@@ -332,6 +333,137 @@ fn a_file_on_disk_is_read(rt: HostRuntime) -> Result<(), Fail> {
     have_reads(&mut files, &DISK_READS)?;
     fs::remove_file(&rt, "hello.bin")?;
     assert!(rt; is_recent(shape));
+    Ok(())
+}
+
+// Makes a file of four bytes in two pieces, the second first, and sets its time. The path of its temporary file.
+fn make_file<F: Files>(files: &mut F, alloc: Global, dest: &str) -> Result<Text, FileFault> {
+    let temp = files.make_temp(alloc, dest)?;
+    let Ok(path) = temp.path.copy() else {
+        return Err(FileFault::Memory);
+    };
+    let is_made = files.write_at(&temp, 2, b"cd").is_ok()
+        && files.write_at(&temp, 0, b"ab").is_ok()
+        && files.kind(dest) == Ok(Shape::Absent)
+        && files.rename(temp, dest).is_ok()
+        && files.stamp(dest, 1_369_353_600_000_007).is_ok();
+    if is_made {
+        Ok(path)
+    } else {
+        Err(FileFault::Failed)
+    }
+}
+
+// Whether a file that was made is there, with its bytes and its time, and its folder when it is removed again.
+fn is_made<F: Files>(files: &mut F, folder: &str, path: &str) -> bool {
+    let made = Shape::File {
+        size: 4,
+        micros: 1_369_353_600_000_007,
+    };
+    files.kind(path) == Ok(made)
+        && read_three(files, path, 1) == Ok((3, b'b'))
+        && files.remove(path).is_ok()
+        && files.remove(path) == Err(Failed)
+        && files.kind(path) == Ok(Shape::Absent)
+        && files.kind(folder) == Ok(Shape::Folder)
+}
+
+#[test]
+fn a_file_is_made_and_removed(rt: HostRuntime) -> Result<(), Fail> {
+    let alloc = rt.alloc();
+    let mut memory = files(alloc, &[], &[])?;
+    let temp = make_file(&mut memory, alloc, "f/g/k.bin");
+    assert!(rt; temp.is_ok_and(|path| path.as_str() == "f/g/k.bin.00000000.s3part"));
+    assert!(rt; is_made(&mut memory, "f/g", "f/g/k.bin"));
+    let mut disk = DiskFiles::new(rt.clone()?);
+    let temp = make_file(&mut disk, alloc, "f/g/k.bin");
+    assert!(rt; temp.is_ok_and(|path| path.as_str() == "f/g/k.bin.00000000.s3part"));
+    assert!(rt; is_made(&mut disk, "f/g", "f/g/k.bin"));
+    fs::remove_dir_all(&rt, "f")?;
+    Ok(())
+}
+
+static BLOCKED: [(&str, u32); 5] = [("d", 1), ("d/a/b", 3), ("d/a/b/c", 3), ("e", 1), ("d/", 2)];
+
+// A destination with something else in its way is the fault.
+fn have_obstacles<F: Files>(files: &mut F, alloc: Global) -> Result<(), Fail> {
+    for (dest, length) in &BLOCKED {
+        match files.make_temp(alloc, *dest) {
+            Err(FileFault::Blocked { length: found }) if found == *length => {}
+            _ => return Err(Fail::from(*dest)),
+        }
+    }
+    Ok(())
+}
+
+#[test]
+fn a_file_on_the_way_and_a_folder_are_named(rt: HostRuntime) -> Result<(), Fail> {
+    have_obstacles(&mut files(rt.alloc(), &[], &[])?, rt.alloc())?;
+    fs::create_dir_all(&rt, "d")?;
+    fs::create_dir_all(&rt, "e")?;
+    fs::write(&rt, "d/a", "hello")?;
+    have_obstacles(&mut DiskFiles::new(rt.clone()?), rt.alloc())?;
+    fs::remove_dir_all(&rt, "d")?;
+    fs::remove_dir_all(&rt, "e")?;
+    Ok(())
+}
+
+// The names of a folder, and how many are no text.
+fn named<F: Files>(files: &mut F, alloc: Global, folder: &str) -> Result<(usize, u64), FileFault> {
+    let found = files.names(alloc, folder)?;
+    let known = |name: &Text| matches!(name.as_str(), "a" | "b");
+    if found.names.as_slice().iter().all(known) {
+        Ok((found.names.len(), found.unnamed))
+    } else {
+        Err(FileFault::Failed)
+    }
+}
+
+#[test]
+fn a_folder_has_its_names(rt: HostRuntime) -> Result<(), Fail> {
+    let alloc = rt.alloc();
+    let mut table = table(alloc)?;
+    table.put_file(alloc, "d/b/c", MemFile::new(b"x".to_vec(alloc)?, 1))?;
+    let mut memory = MemFiles::make(alloc, table, vec![in alloc; 1]?, Vec::new(alloc));
+    assert!(rt; named(&mut memory, alloc, "d") == Ok((2, 1)));
+    assert!(rt; named(&mut memory, alloc, "d") == Err(FileFault::Failed));
+    fs::create_dir_all(&rt, "d/b/c")?;
+    fs::write(&rt, "d/a", "hello")?;
+    assert!(rt; named(&mut DiskFiles::new(rt.clone()?), alloc, "d") == Ok((2, 0)));
+    fs::remove_dir_all(&rt, "d")?;
+    Ok(())
+}
+
+static UNMADE: [(usize, Result<(), FileFault>); 4] = [
+    (0, Err(FileFault::Failed)),
+    (2, Err(FileFault::Failed)),
+    (4, Err(FileFault::Failed)),
+    (9, Ok(())),
+];
+
+#[test]
+fn a_failed_call_leaves_the_destination(rt: HostRuntime) -> Result<(), Fail> {
+    for (failing, answer) in &UNMADE {
+        let mut files = files(rt.alloc(), &[*failing], &[])?;
+        let made = make_file(&mut files, rt.alloc(), "k");
+        assert!(rt; made.map(|_| ()) == *answer);
+        assert!(rt; files.table().file("k").is_some() == answer.is_ok());
+    }
+    Ok(())
+}
+
+// A file that changed since it was looked at is a fault, and so is a folder.
+#[test]
+fn a_changed_file_on_disk_is_a_fault(rt: HostRuntime) -> Result<(), Fail> {
+    fs::write(&rt, "changed.bin", "hello")?;
+    let mut files = DiskFiles::new(rt.clone()?);
+    assert!(rt; is_recent(files.kind("changed.bin")));
+    fs::write(&rt, "changed.bin", "hell")?;
+    assert!(rt; read_three(&mut files, "changed.bin", 0) == Err(Failed));
+    assert!(rt; files.kind("changed.bin").is_ok());
+    assert!(rt; read_three(&mut files, "changed.bin", 0) == Ok((3, b'h')));
+    assert!(rt; read_three(&mut files, ".", 0) == Err(Failed));
+    fs::remove_file(&rt, "changed.bin")?;
     Ok(())
 }
 

@@ -1,4 +1,4 @@
-mod Below
 mod LastTalk
+pub mod MadeLemmas
 pub mod SeenLemmas
-mod TextMaps
+pub mod TempLemmas

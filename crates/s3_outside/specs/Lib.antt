@@ -1,9 +1,8 @@
 pub mod Env
+pub mod FileCalls
 pub mod Files
 pub mod MemFiles
 pub mod Sink
-pub mod StoreCode
 pub mod TalkLog
-pub mod TextMap
 pub mod Seen
 pub mod Wire

@@ -1,81 +1,286 @@
 //! The files of the system.
 
-ghost use Rattle.std.specs.Prelude.{◌≡◌, None};
+ghost use Rattle.std.specs.Prelude.{◌≡◌, ◌≢◌, ◌≤◌, None, IfOk, IfErr, IfSome, length};
 ghost use Rattle.std.specs.Io.{ReadsAtMost};
+ghost use Rattle.s3_outside.specs.FileCalls.{HasRisen, IsTempPath, NamesFront};
 
-use crate::files::{Files, Shape};
+use crate::disk_paths::{make_folders, names_on_disk, obstacle_on_disk, shape_on_disk};
+use crate::disk_sources::{DiskSource, Look};
+use crate::file_faults::blocked;
+use crate::files::{FileFault, Files, Names, Shape, Temp};
+use crate::temp_paths::temp_path;
 use crate::wire::{Failed, count_fault};
-use std::fs::{self, File, Metadata};
-use std::io::{self, ErrorKind, Read, Seek, SeekFrom};
+use s3_model::Text;
+use std::alloc::Global;
+use std::collections::BTreeMap;
+use std::fs::{self, FileTimes, OpenFile, OpenOptions};
+use std::io::{self, ErrorKind, Seek, SeekFrom, Write};
 use std::rt;
-use std::time::UNIX_EPOCH;
+use std::time::{Duration, UNIX_EPOCH};
 
 /// The files of the system, of which nothing is seen.
+///
+/// Links are followed. Only regular files are opened. A file of which `kind` said what it is, is read only while it
+/// has that size and that time, when it is opened and after its last piece; else the read is a fault. A destination is
+/// never opened for writing, and a temporary file never opens what is there. The last file that was read stays open
+/// until its last piece, and the last temporary file until it is renamed or dropped.
 #[derive(Drop)]
-pub struct DiskFiles<R> {
+pub struct DiskFiles<R: rt::Files> {
     runtime: R,
+    looks: BTreeMap<String, Look>,
+    source: Option<DiskSource<R::File>>,
+    temp: Option<OpenTemp<R::File>>,
+    drawn: u32,
     faults: u64,
 }
 
-impl<R: rt::Files> DiskFiles<R> {
+#[derive(Drop)]
+struct OpenTemp<F> {
+    path: Text,
+    file: F,
+}
+
+impl<R: rt::Files + AllocGlobal + Clone + Drop> DiskFiles<R> {
     pub fn new(runtime: R) -> DiskFiles<R>
         ensures { ⟦<DiskFiles<R> as Files>⟧.faults result ≡ 0 }
     {
-        DiskFiles { runtime, faults: 0 }
+        let looks = BTreeMap::new(runtime.alloc());
+        DiskFiles {
+            runtime,
+            looks,
+            source: None,
+            temp: None,
+            drawn: 0,
+            faults: 0,
+        }
+    }
+
+    // What stands at a path, which is kept for its reads.
+    fn look(&mut self, path: &str) -> io::Result<Shape>
+        ensures faults { self.new.faults ≡ self.old.faults }
+    {
+        let shape = shape_on_disk(&self.runtime, path)?;
+        if let Shape::File { size, micros } = shape {
+            let owned = String::from_str(self.runtime.alloc(), path)?;
+            if self.looks.insert(owned, Look { size, micros }).is_err() {
+                return Err(io::Error::from(ErrorKind::OutOfMemory));
+            }
+        }
+        Ok(shape)
+    }
+
+    fn read(&mut self, path: &str, at: u64, into: &mut [u8]) -> io::Result<usize>
+        ensures bound { ReadsAtMost result into.new }
+        ensures length { length into.new ≡ length into.old }
+        ensures faults { self.new.faults ≡ self.old.faults }
+    {
+        let mut source = match self.source.take() {
+            Some(open) if open.is_of(path) => open,
+            _ => DiskSource::open(&self.runtime, path, self.looks.get(path).copied())?,
+        };
+        let (count, is_last) = source.read(at, into)?;
+        if !is_last {
+            self.source = Some(source);
+        }
+        Ok(count)
+    }
+
+    // An empty file beside the destination, at a path where nothing was.
+    fn make(&mut self, alloc: Global, dest: &str) -> io::Result<Temp>
+        ensures path { IfOk result (λ temp. IsTempPath dest.now temp.path) }
+        ensures apart { IfOk result (λ temp. temp.path ≢ dest.now) }
+        ensures faults { self.new.faults ≡ self.old.faults }
+    {
+        if shape_on_disk(&self.runtime, dest)? == Shape::Other {
+            return Err(io::Error::from(ErrorKind::AlreadyExists));
+        }
+        make_folders(&self.runtime, dest)?;
+        for _ in 0..u32::MAX {
+            if let Some(temp) = self.draw(alloc, dest)? {
+                return Ok(temp);
+            }
+        }
+        Err(io::Error::from(ErrorKind::AlreadyExists))
+    }
+
+    // The same at the path with the next number. None where something was there.
+    fn draw(&mut self, alloc: Global, dest: &str) -> io::Result<Option<Temp>>
+        ensures path { IfOk result (λ made. IfSome made (λ temp. IsTempPath dest.now temp.path)) }
+        ensures apart { IfOk result (λ made. IfSome made (λ temp. temp.path ≢ dest.now)) }
+        ensures faults { self.new.faults ≡ self.old.faults }
+    {
+        let Ok(path) = temp_path(alloc, dest, self.drawn) else {
+            return Err(io::Error::from(ErrorKind::OutOfMemory));
+        };
+        self.drawn = self.drawn.wrapping_add(1);
+        if path.as_str() != dest && self.create(&path)? {
+            Ok(Some(Temp { path }))
+        } else {
+            Ok(None)
+        }
+    }
+
+    // Makes the file and keeps it open. Whether nothing was there.
+    fn create(&mut self, path: &Text) -> io::Result<bool>
+        ensures faults { self.new.faults ≡ self.old.faults }
+        ensures drawn { self.new.drawn ≡ self.old.drawn }
+    {
+        let Ok(kept) = path.copy() else {
+            return Err(io::Error::from(ErrorKind::OutOfMemory));
+        };
+        let mut options = OpenOptions::new();
+        options.write(true).create_new(true);
+        match options.open(&self.runtime, path.as_str()) {
+            Ok(file) => {
+                self.temp = Some(OpenTemp { path: kept, file });
+                Ok(true)
+            }
+            Err(e) if e.kind() == ErrorKind::AlreadyExists => Ok(false),
+            Err(e) => Err(e),
+        }
+    }
+
+    fn write(&mut self, temp: &Text, at: u64, bytes: &[u8]) -> io::Result<()>
+        ensures faults { self.new.faults ≡ self.old.faults }
+    {
+        let mut open = match self.temp.take() {
+            Some(open) if open.path.as_str() == temp.as_str() => open,
+            _ => self.open_temp(temp)?,
+        };
+        open.file.seek(SeekFrom::Start(at))?;
+        open.file.write_all(bytes)?;
+        self.temp = Some(open);
+        Ok(())
+    }
+
+    fn open_temp(&self, temp: &Text) -> io::Result<OpenTemp<R::File>> {
+        let Ok(path) = temp.copy() else {
+            return Err(io::Error::from(ErrorKind::OutOfMemory));
+        };
+        let mut options = OpenOptions::new();
+        options.write(true);
+        let file = options.open(&self.runtime, temp.as_str())?;
+        Ok(OpenTemp { path, file })
+    }
+
+    // What is neither a file nor absent is never replaced.
+    fn replace(&mut self, temp: &str, dest: &str) -> io::Result<()>
+        ensures faults { self.new.faults ≡ self.old.faults }
+    {
+        self.temp = None;
+        self.looks.remove(dest);
+        match shape_on_disk(&self.runtime, dest)? {
+            Shape::Absent | Shape::File { .. } => fs::rename(&self.runtime, temp, dest),
+            Shape::Folder | Shape::Other => Err(io::Error::from(ErrorKind::AlreadyExists)),
+        }
+    }
+
+    fn set_time(&self, path: &str, micros: u64) -> io::Result<()> {
+        let Shape::File { .. } = shape_on_disk(&self.runtime, path)? else {
+            return Err(io::Error::from(ErrorKind::InvalidInput));
+        };
+        let Some(time) = UNIX_EPOCH.checked_add(Duration::from_micros(micros)) else {
+            return Err(io::Error::from(ErrorKind::InvalidInput));
+        };
+        fs::open(&self.runtime, path)?.set_times(FileTimes::new().set_modified(time))
+    }
+
+    // Why a call did not succeed: what is in the way of its destination, or a fault.
+    fn refusal(&mut self, dest: &str) -> FileFault
+        ensures front { NamesFront dest.now result }
+        ensures memory { result ≢ FileFault.Memory }
+        ensures later { self.old.faults ≤ self.new.faults }
+        ensures failed { HasRisen self.old.faults self.new.faults result }
+    {
+        match obstacle_on_disk(&self.runtime, dest) {
+            Some(length) => blocked(length, &mut self.faults),
+            None => {
+                count_fault(&mut self.faults);
+                FileFault::Failed
+            }
+        }
     }
 }
 
-impl<R: rt::Files> Files for DiskFiles<R> {
+impl<R: rt::Files + AllocGlobal + Clone + Drop> Files for DiskFiles<R> {
     ghost seen = { λ _. None };
 
     ghost faults = { λ f. f.faults };
 
     /// What is not found, or lies below a file, is absent; a link is what it leads to.
     fn kind(&mut self, path: &str) -> Result<Shape, Failed> {
-        match shape_on_disk(&self.runtime, path) {
+        match self.look(path) {
             Ok(shape) => Ok(shape),
             Err(_) => Err(count_fault(&mut self.faults)),
         }
     }
 
     fn read_at(&mut self, path: &str, at: u64, into: &mut [u8]) -> Result<usize, Failed> {
-        match read_on_disk(&self.runtime, path, at, into) {
+        match self.read(path, at, into) {
             Ok(count) => Ok(count),
             Err(_) => Err(count_fault(&mut self.faults)),
         }
     }
-}
 
-fn shape_on_disk(runtime: &impl rt::Files, path: &str) -> io::Result<Shape> {
-    match fs::metadata(runtime, path) {
-        Ok(found) if found.is_dir() => Ok(Shape::Folder),
-        Ok(found) if found.is_file() => Ok(Shape::File {
-            size: found.len(),
-            micros: micros_of(&found)?,
-        }),
-        Ok(_) => Ok(Shape::Other),
-        Err(e) if is_absent(e.kind()) => Ok(Shape::Absent),
-        Err(e) => Err(e),
+    fn names(&mut self, alloc: Global, folder: &str) -> Result<Names, FileFault> {
+        match names_on_disk(&self.runtime, alloc, folder) {
+            Ok(names) => Ok(names),
+            Err(e) if e.kind() == ErrorKind::OutOfMemory => Err(FileFault::Memory),
+            Err(_) => {
+                count_fault(&mut self.faults);
+                Err(FileFault::Failed)
+            }
+        }
     }
-}
 
-pub(crate) fn is_absent(kind: ErrorKind) -> bool {
-    kind == ErrorKind::NotFound || kind == ErrorKind::NotADirectory
-}
+    fn make_temp(&mut self, alloc: Global, dest: &str) -> Result<Temp, FileFault> {
+        if let Some(length) = obstacle_on_disk(&self.runtime, dest) {
+            return Err(blocked(length, &mut self.faults));
+        }
+        match self.make(alloc, dest) {
+            Ok(temp) => Ok(temp),
+            Err(e) if e.kind() == ErrorKind::OutOfMemory => Err(FileFault::Memory),
+            Err(_) => Err(self.refusal(dest)),
+        }
+    }
 
-// The time of the last change, in microseconds since 1970, cut down; 0 where it was before.
-fn micros_of(found: &Metadata) -> io::Result<u64> {
-    let micros = found
-        .modified()?
-        .duration_since(UNIX_EPOCH)
-        .map_or(0, |since| since.as_micros());
-    Ok(u64::try_from(micros).unwrap_or(u64::MAX))
-}
+    fn write_at(&mut self, temp: &Temp, at: u64, bytes: &[u8]) -> Result<(), Failed> {
+        match self.write(&temp.path, at, bytes) {
+            Ok(()) => Ok(()),
+            Err(_) => Err(count_fault(&mut self.faults)),
+        }
+    }
 
-fn read_on_disk(runtime: &impl rt::Files, path: &str, at: u64, into: &mut [u8]) -> io::Result<usize>
-    ensures { ReadsAtMost result into.new }
-{
-    let mut file = File::open(runtime, path)?;
-    file.seek(SeekFrom::Start(at))?;
-    file.read(into)
+    fn rename(&mut self, temp: Temp, dest: &str) -> Result<(), (Temp, FileFault)> {
+        match self.replace(temp.path.as_str(), dest) {
+            Ok(()) => Ok(()),
+            Err(_) => {
+                let refusal = self.refusal(dest);
+                Err((temp, refusal))
+            }
+        }
+    }
+
+    fn drop_temp(&mut self, temp: Temp) -> Result<(), Failed> {
+        self.temp = None;
+        match fs::remove_file(&self.runtime, temp.path.as_str()) {
+            Ok(()) => Ok(()),
+            Err(_) => Err(count_fault(&mut self.faults)),
+        }
+    }
+
+    fn remove(&mut self, path: &str) -> Result<(), Failed> {
+        self.looks.remove(path);
+        match fs::remove_file(&self.runtime, path) {
+            Ok(()) => Ok(()),
+            Err(_) => Err(count_fault(&mut self.faults)),
+        }
+    }
+
+    fn stamp(&mut self, path: &str, micros: u64) -> Result<(), Failed> {
+        match self.set_time(path, micros) {
+            Ok(()) => Ok(()),
+            Err(_) => Err(count_fault(&mut self.faults)),
+        }
+    }
 }

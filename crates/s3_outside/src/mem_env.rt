@@ -7,29 +7,13 @@ ghost use Rattle.s3_model.specs.Validity.{IsValidLimits};
 ghost use Rattle.s3_outside.specs.Env.{sets, puts, asks};
 ghost use Rattle.s3_outside.specs.Seen.{IsSeenAfter};
 
+use crate::content::Content;
 use crate::env::{Env, EnvFault, MOST_FILE_BYTES};
-use crate::text_map::TextMap;
 use crate::wire::count_fault;
+use file_table::TextMap;
 use s3_model::{Limits, OutOfMemory, Text};
 use std::alloc::Global;
 use std::marker::Model;
-
-// What a file holds. Contracts see the list of its bytes.
-#[derive(Debug, Drop)]
-struct Content {
-    bytes: Vec<u8>,
-}
-
-impl Model for Content {
-    ghost use Rattle.std.specs.Prelude.{List, ℕ};
-    ghost use Rattle.s3_outside.specs.StoreCode.{text_code};
-
-    ghost Value = { List ℕ };
-
-    ghost coded = { text_code };
-
-    ghost view = { λ c. c.bytes.items };
-}
 
 /// An environment in memory. The calls of `file` whose numbers `failing` lists, counted from 0, fail.
 #[derive(Debug, Drop)]
@@ -99,7 +83,7 @@ impl MemEnv {
         ensures limits { ⟦<MemEnv as Env>⟧.allows self.new ≡ ⟦<MemEnv as Env>⟧.allows self.old }
         ensures faults { ⟦<MemEnv as Env>⟧.faults self.new ≡ ⟦<MemEnv as Env>⟧.faults self.old }
     {
-        self.files.insert(alloc, path, Content { bytes })
+        self.files.insert(alloc, path, Content::new(bytes))
     }
 
     /// The paths of the files that were asked for, in order.
@@ -163,8 +147,8 @@ impl Env for MemEnv {
         let is_failing = self.is_next_failing();
         self.record(path);
         match self.files.get(path) {
-            Some(file) if !is_failing && file.bytes.len() <= MOST_FILE_BYTES => {
-                match file.bytes.to_vec(alloc) {
+            Some(file) if !is_failing && file.as_slice().len() <= MOST_FILE_BYTES => {
+                match file.as_slice().to_vec(alloc) {
                     Ok(copy) => Ok(Some(copy)),
                     Err(_) => Err(EnvFault::Memory),
                 }

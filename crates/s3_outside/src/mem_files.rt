@@ -5,14 +5,22 @@ ghost use Rattle.s3_model.specs.Counts.{Rose};
 ghost use Rattle.s3_outside.specs.Seen.{IsSeenAfter};
 ghost use Rattle.s3_outside.specs.Files.{called};
 
-use crate::file_table::FileTable;
-use crate::files::{FileNote, Files, Shape};
+use crate::file_notes::{
+    drop_note, kind_note, make_note, names_note, read_note, remove_note, rename_note, stamp_note,
+    write_note,
+};
+use crate::files::{FileFault, FileNote, Files, Names, Shape, Temp};
+use crate::table_calls::{names_in, read_in, shape_in};
+use crate::table_changes::{make_in, remove_in, rename_in, stamp_in, write_in};
 use crate::wire::{Failed, count_fault};
-use s3_model::{OutOfMemory, Text};
+use file_table::FileTable;
+use s3_model::OutOfMemory;
 use std::alloc::Global;
 
 /// Files in memory. The calls of `failing` fail, and the reads of `short` answer at most so many bytes; calls are
-/// counted from 0. Files and calls are seen as long as there is memory for them, but never where a read is short.
+/// counted from 0. The numbers in the names of temporary files are drawn from 0 on, in one row over all calls; one
+/// whose path is taken, or is the destination, is passed over. Files and calls are seen as long as there is memory for
+/// them, but never where a read is short.
 #[derive(Debug, Drop)]
 pub struct MemFiles {
     alloc: Global,
@@ -21,6 +29,7 @@ pub struct MemFiles {
     is_seen: bool,
     failing: Vec<usize>,
     short: Vec<(usize, usize)>,
+    drawn: u32,
     count: usize,
     faults: u64,
 }
@@ -46,6 +55,7 @@ impl MemFiles {
             is_seen: short.is_empty(),
             failing,
             short,
+            drawn: 0,
             count: 0,
             faults: 0,
         }
@@ -67,7 +77,9 @@ impl MemFiles {
 
     // The number of this call, and whether it is listed to fail.
     fn next_call(&mut self) -> (usize, bool)
-        ensures seen { ⟦<MemFiles as Files>⟧.seen self.new ≡ ⟦<MemFiles as Files>⟧.seen self.old }
+        ensures table { self.new.table ≡ self.old.table }
+        ensures calls { self.new.calls.items ≡ self.old.calls.items }
+        ensures told { self.new.is_seen ≡ self.old.is_seen }
         ensures faults { self.new.faults ≡ self.old.faults }
     {
         let number = self.count;
@@ -104,35 +116,6 @@ impl MemFiles {
     }
 }
 
-fn kind_note(
-    alloc: Global,
-    path: &str,
-    answer: Result<Shape, Failed>,
-) -> Result<FileNote, OutOfMemory>
-    ensures { IfOk result (λ note. note ≡ FileNote.Kind path.now answer) }
-{
-    let path = Text::of(alloc, path)?;
-    Ok(FileNote::Kind { path, answer })
-}
-
-fn read_note(
-    alloc: Global,
-    path: &str,
-    at: u64,
-    room: usize,
-    answer: Result<usize, Failed>,
-) -> Result<FileNote, OutOfMemory>
-    ensures { IfOk result (λ note. note ≡ FileNote.ReadAt path.now at room answer) }
-{
-    let path = Text::of(alloc, path)?;
-    Ok(FileNote::ReadAt {
-        path,
-        at,
-        room,
-        answer,
-    })
-}
-
 impl Files for MemFiles {
     ghost use Rattle.s3_outside.specs.MemFiles.{seen_files};
 
@@ -145,7 +128,7 @@ impl Files for MemFiles {
         let answer = if is_failing {
             Err(count_fault(&mut self.faults))
         } else {
-            Ok(self.table.shape(path))
+            Ok(shape_in(&self.table, path))
         };
         self.record(kind_note(self.alloc, path, answer));
         answer
@@ -159,11 +142,111 @@ impl Files for MemFiles {
         } else {
             self.most(number).min(room)
         };
-        let answer = match self.table.read(path, at, &mut into[..most]) {
+        let answer = match read_in(&self.table, path, at, &mut into[..most]) {
             Some(count) if !is_failing => Ok(count),
             _ => Err(count_fault(&mut self.faults)),
         };
         self.record(read_note(self.alloc, path, at, room, answer));
+        answer
+    }
+
+    fn names(&mut self, alloc: Global, folder: &str) -> Result<Names, FileFault> {
+        let (_, is_failing) = self.next_call();
+        let answer = names_in(&self.table, &mut self.faults, alloc, is_failing, folder);
+        let fault = match &answer {
+            Ok(_) => None,
+            Err(fault) => Some(*fault),
+        };
+        self.record(names_note(self.alloc, folder, fault));
+        answer
+    }
+
+    fn make_temp(&mut self, alloc: Global, dest: &str) -> Result<Temp, FileFault> {
+        let (_, is_failing) = self.next_call();
+        let answer = make_in(
+            &mut self.table,
+            &mut self.drawn,
+            &mut self.faults,
+            alloc,
+            is_failing,
+            dest,
+        );
+        self.record(make_note(self.alloc, dest, &answer));
+        answer
+    }
+
+    fn write_at(&mut self, temp: &Temp, at: u64, bytes: &[u8]) -> Result<(), Failed> {
+        let (_, is_failing) = self.next_call();
+        let path = temp.path.as_str();
+        let answer = write_in(
+            &mut self.table,
+            &mut self.faults,
+            self.alloc,
+            is_failing,
+            path,
+            at,
+            bytes,
+        );
+        self.record(write_note(self.alloc, path, at, bytes, answer));
+        answer
+    }
+
+    fn rename(&mut self, temp: Temp, dest: &str) -> Result<(), (Temp, FileFault)> {
+        let (_, is_failing) = self.next_call();
+        let path = temp.path.as_str();
+        let answer = rename_in(
+            &mut self.table,
+            &mut self.faults,
+            self.alloc,
+            is_failing,
+            path,
+            dest,
+        );
+        self.record(rename_note(self.alloc, path, dest, answer));
+        match answer {
+            Ok(()) => Ok(()),
+            Err(fault) => Err((temp, fault)),
+        }
+    }
+
+    fn drop_temp(&mut self, temp: Temp) -> Result<(), Failed> {
+        let (_, is_failing) = self.next_call();
+        let path = temp.path.as_str();
+        let answer = remove_in(
+            &mut self.table,
+            &mut self.faults,
+            self.alloc,
+            is_failing,
+            path,
+        );
+        self.record(drop_note(self.alloc, path, answer));
+        answer
+    }
+
+    fn remove(&mut self, path: &str) -> Result<(), Failed> {
+        let (_, is_failing) = self.next_call();
+        let answer = remove_in(
+            &mut self.table,
+            &mut self.faults,
+            self.alloc,
+            is_failing,
+            path,
+        );
+        self.record(remove_note(self.alloc, path, answer));
+        answer
+    }
+
+    fn stamp(&mut self, path: &str, micros: u64) -> Result<(), Failed> {
+        let (_, is_failing) = self.next_call();
+        let answer = stamp_in(
+            &mut self.table,
+            &mut self.faults,
+            self.alloc,
+            is_failing,
+            path,
+            micros,
+        );
+        self.record(stamp_note(self.alloc, path, micros, answer));
         answer
     }
 }

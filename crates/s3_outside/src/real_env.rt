@@ -3,7 +3,7 @@
 ghost use Rattle.std.specs.Prelude.{◌≡◌, ◌≤◌, None, IfOk, IfSome, length};
 ghost use Rattle.s3_outside.specs.declared.real_env.TheConstants.{S3_LIMITS};
 
-use crate::disk_files::is_absent;
+use crate::disk_paths::is_absent;
 use crate::env::{Env, EnvFault, MOST_FILE_BYTES};
 use crate::wire::count_fault;
 use s3_model::{Limits, OutOfMemory, Text};

@@ -16,6 +16,7 @@ append_asks : (path : List ℕ) (calls more : List FileNote) → AskFor path cal
 append_asks path [] more asks others = others
 append_asks path (note.Kind asked answer ∷ calls) more asks others = (asks.0, append_asks path calls more asks.1 others)
 append_asks path (note.ReadAt asked at room answer ∷ calls) more asks others = (asks.0, append_asks path calls more asks.1 others)
+append_asks path (other ∷ calls) more asks others = absurd asks
 
 pub looks_none : (path : List ℕ) (files : Option SeenFiles) → LooksAt path files files
 looks_none path None = tt

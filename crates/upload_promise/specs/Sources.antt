@@ -11,6 +11,7 @@ abbrev pub AskFor : List ℕ → List FileNote → Type 0
 AskFor path [] = Unit {0}
 AskFor path (note.Kind asked answer ∷ calls) = (asked ≡ path) × AskFor path calls
 AskFor path (note.ReadAt asked at room answer ∷ calls) = (asked ≡ path) × AskFor path calls
+AskFor path (other ∷ calls) = ⊥
 
 -- the files are the same after the call, as far as they are still seen
 abbrev pub Keeps : Option SeenFiles → Option SeenFiles → Type 0

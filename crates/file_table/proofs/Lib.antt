@@ -1,0 +1,9 @@
+pub mod Below
+pub mod FolderLemmas
+pub mod Fronts
+pub mod Keys
+pub mod NameLemmas
+pub mod Pasted
+pub mod ShownLemmas
+pub mod Stores
+pub mod TextMaps

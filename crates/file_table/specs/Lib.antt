@@ -1,0 +1,5 @@
+pub mod Folders
+pub mod Names
+pub mod StoreCode
+pub mod Table
+pub mod TextMap

@@ -1,0 +1,12 @@
+//! Files and folders in memory, and what calls make of them.
+#![tactic(auto)]
+
+mod file;
+mod folders;
+mod names;
+mod table;
+mod text_map;
+
+pub use file::MemFile;
+pub use table::{FileTable, TableFault};
+pub use text_map::TextMap;

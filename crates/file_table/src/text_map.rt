@@ -1,0 +1,172 @@
+//! Maps from texts.
+
+ghost use Rattle.std.specs.Prelude.{
+  ◌≡◌,
+  ◌<◌,
+  ◌≤◌,
+  ◌⊎◌,
+  ◌↔◌,
+  ℕ,
+  List,
+  IfOk,
+  IsSome,
+  OnOk,
+  OnErr,
+  OnSome,
+  IfNone,
+  Some,
+  string_bytes,
+};
+ghost use Rattle.std.specs.Option.{is_some, option_copied};
+ghost use Rattle.std.specs.List.{list_any};
+ghost use Rattle.std.specs.String.{string_cmp};
+ghost use Rattle.std.specs.BTreeMap as tree;
+ghost use Rattle.std.specs.FinMap.{get, insert, remove, empty, keys};
+ghost use Rattle.file_table.specs.Names.{IsNamedIn};
+ghost use Rattle.s3_model.specs.Files.{is_below, ends_in_slash as ends_slash};
+
+use crate::names::{NameSet, add_name};
+use s3_model::{OutOfMemory, Text, Texts};
+use std::alloc::Global;
+use std::collections::BTreeMap;
+use std::marker::Model;
+use std::mem;
+
+/// A map from texts, in byte order. Contracts see the finite map.
+#[derive(Debug, Drop)]
+pub struct TextMap<V> {
+    inner: BTreeMap<String, V>,
+}
+
+impl<V> Model for TextMap<V> {
+    ghost use Rattle.std.specs.Coded.{coded_ℕ, coded_list};
+    ghost use Rattle.std.specs.FinMap.{code};
+    ghost use Rattle.s3_model.specs.Maps.{MapOf};
+    ghost use Rattle.file_table.specs.TextMap.{text_map};
+
+    ghost Value = { MapOf V };
+
+    ghost coded = { code (coded_list coded_ℕ) V.code };
+
+    ghost view = { λ m. text_map m.inner.entries };
+}
+
+impl<V: Drop> TextMap<V> {
+    /// An empty map, which takes no memory.
+    pub fn make(alloc: Global) -> Self
+        ensures { result ≡ empty }
+    {
+        TextMap {
+            inner: BTreeMap::new(alloc),
+        }
+    }
+
+    pub fn get(&self, key: &str) -> Option<&V>
+        ensures { option_copied result ≡ get self.now key.now }
+    {
+        self.inner.get(key)
+    }
+
+    /// Whether there is a value at a key.
+    pub fn has(&self, key: &str) -> bool
+        ensures { result ≡ is_some (get self.now key.now) }
+    {
+        self.get(key).is_some()
+    }
+
+    /// Puts a value at a key, in the place of one that is there.
+    pub fn insert(&mut self, alloc: Global, key: &str, value: V) -> Result<(), OutOfMemory>
+        ensures put { OnOk result (self.new ≡ insert self.old key.now value) }
+        ensures same { OnErr result (self.new ≡ self.old) }
+    {
+        let Ok(owned) = String::from_str(alloc, key) else {
+            return Err(OutOfMemory);
+        };
+        match self.inner.insert(owned, value) {
+            Ok(_) => Ok(()),
+            Err(_) => Err(OutOfMemory),
+        }
+    }
+
+    /// Puts a value in the place of the one at a key, without memory, and gives this back. None where there is none.
+    pub fn replace(&mut self, key: &str, value: V) -> Option<V>
+        ensures old { result ≡ get self.old key.now }
+        ensures put { OnSome result (self.new ≡ insert self.old key.now value) }
+        ensures same { IfNone result (self.new ≡ self.old) }
+    {
+        let Some(place) = self.inner.get_mut(key) else {
+            return None;
+        };
+        Some(mem::replace(place, value))
+    }
+
+    /// Takes out the value at a key.
+    pub fn remove(&mut self, key: &str) -> Option<V>
+        ensures taken { result ≡ get self.old key.now }
+        ensures removed { self.new ≡ remove self.old key.now }
+    {
+        self.inner.remove(key)
+    }
+
+    /// Adds the names that the keys show in a folder.
+    pub(crate) fn add_names(
+        &self,
+        alloc: Global,
+        folder: &str,
+        found: &mut NameSet,
+    ) -> Result<(), OutOfMemory>
+        ensures added { OnOk result ((name : List ℕ) → IsSome (get found.new name) ↔ (IsSome (get found.old name) ⊎
+            ((key : List ℕ) × IsSome (get self.now key) × IsNamedIn folder.now name key))) }
+    {
+        for key in self.inner.keys() {
+            add_name(alloc, folder, key.as_str(), found)?;
+        }
+        Ok(())
+    }
+
+    /// The keys, copied.
+    pub(crate) fn texts(&self, alloc: Global) -> Result<Texts, OutOfMemory>
+        ensures { IfOk result (λ texts. texts.items ≡ keys self.now) }
+    {
+        let mut texts = Texts::make(alloc);
+        for key in self.inner.keys() {
+            let text = Text::of(alloc, key.as_str())?;
+            texts.reserve(1)?;
+            texts.push(text);
+        }
+        Ok(texts)
+    }
+
+    /// Whether some key is a path below that folder.
+    pub fn has_below(&self, folder: &str) -> bool
+        ensures { result ≡ list_any (is_below folder.now) (keys self.now) }
+    {
+        any_below(folder, &self.inner)
+    }
+}
+
+fn any_below<V>(folder: &str, map: &BTreeMap<String, V>) -> bool
+    ensures below { result ≡ list_any (λ k. is_below folder.now (string_bytes k)) (tree.keys map.now) }
+    ensures ordered { tree.IsOrdered string_cmp map.now }
+{
+    map.keys()
+        .any(|path| is_path_below(folder.as_bytes(), path.as_bytes()))
+}
+
+fn is_path_below(folder: &[u8], path: &[u8]) -> bool
+    ensures { result ≡ is_below folder.now path.now }
+{
+    if !path.starts_with(folder) {
+        return false;
+    }
+    ends_in_slash(folder) || (folder.len() < path.len() && path[folder.len()] == b'/')
+}
+
+pub(crate) fn ends_in_slash(path: &[u8]) -> bool
+    ensures { result ≡ ends_slash path.now }
+{
+    match path {
+        [.., last] => *last == b'/',
+        [] => false,
+    }
+}
