@@ -5,7 +5,7 @@ from typing import NamedTuple
 
 import commands
 import listings
-from lines import STORED, lost, refused
+from lines import STORED, WRONG_SIGNATURE, lost, refused
 from programs import LARGE, line_of
 from service import free_ports
 
@@ -46,9 +46,6 @@ class Answer(NamedTuple):
 
 
 TAKEN = Answer(200)
-WRONG_SIGNATURE = (
-    "The request signature we calculated does not match the signature you provided. Check your key and signing method."
-)
 WRONG_REGION = "The authorization header is malformed; the region 'eu-west-1' is wrong; expecting 'us-east-1'"
 
 class Refusal(NamedTuple):

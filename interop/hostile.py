@@ -1,19 +1,22 @@
 """Servers of one misbehaviour each, on real sockets: what the program prints of a copy to each of them."""
 
 import hashlib
+import hmac
 import socket
 import struct
 import threading
 import time
 from concurrent.futures import ThreadPoolExecutor
+from datetime import datetime, timezone
 from typing import Callable, NamedTuple
 
-from lines import STORED, Outcome, lost, refused
+from lines import STORED, WRONG_SIGNATURE, Outcome, lost, refused
 from programs import LARGE, line_of
 from service import KEYS
 
 SMALL, BIG = "small.txt", "large.bin"
 FILES = {SMALL: b"hello\n", BIG: LARGE}
+SECRET = KEYS["AWS_SECRET_ACCESS_KEY"]
 
 # ---- what a server does with one connection
 
@@ -38,7 +41,7 @@ def field(head, name):
 
 
 def take_request(peer, piece=65_536, rest_before=lambda at: None):
-    """A whole request, whose body has to have the length and the SHA-256 that its head states."""
+    """The head of a whole request, whose body has to have the length and the SHA-256 that its head states."""
     head, body = take_head(peer)
     parts, at, length = [body], len(body), int(field(head, "content-length"))
     while at < length:
@@ -49,6 +52,7 @@ def take_request(peer, piece=65_536, rest_before=lambda at: None):
         at += len(parts[-1])
     if hashlib.sha256(b"".join(parts)).hexdigest() != field(head, "x-amz-content-sha256"):
         raise ConnectionError("the body is another one")
+    return head
 
 
 def hold(peer):
@@ -123,6 +127,42 @@ def reads_with_pauses(peer):
 
 def reads_nothing(peer):
     time.sleep(180)
+
+
+def keyed(key, text):
+    return hmac.new(key, text.encode(), hashlib.sha256).digest()
+
+
+def signature(head, secret):
+    """The signature of a request without a query (Amazon S3 API Reference, "Authenticating Requests")."""
+    method, path, _ = head.partition("\r\n")[0].split(" ")
+    said = field(head, "authorization").removeprefix("AWS4-HMAC-SHA256 ").split(", ")
+    credential, names = said[0].partition("=")[2], said[1].partition("=")[2]
+    scope = credential.partition("/")[2]
+    fields = "".join(f"{name}:{field(head, name)}\n" for name in names.split(";"))
+    canonical = "\n".join([method, path, "", fields, names, field(head, "x-amz-content-sha256")])
+    digest = hashlib.sha256(canonical.encode()).hexdigest()
+    key = ("AWS4" + secret).encode()
+    for part in scope.split("/"):
+        key = keyed(key, part)
+    return keyed(key, f"AWS4-HMAC-SHA256\n{field(head, 'x-amz-date')}\n{scope}\n{digest}").hex()
+
+
+def looks(secret, ahead=0):
+    """A service that knows one secret, and whose clock is so many seconds ahead; it allows for 15 minutes."""
+
+    def serve(peer):
+        head = take_request(peer)
+        date = datetime.strptime(field(head, "x-amz-date"), "%Y%m%dT%H%M%SZ").replace(tzinfo=timezone.utc)
+        if abs(time.time() + ahead - date.timestamp()) > 15 * 60:
+            peer.sendall(TOO_SKEWED)
+        elif not field(head, "authorization").endswith("Signature=" + signature(head, secret)):
+            peer.sendall(NO_MATCH)
+        else:
+            peer.sendall(EMPTY)
+        hold(peer)
+
+    return serve
 
 
 class Server:
@@ -220,13 +260,26 @@ def with_lines(count):
 
 FORBIDDEN = "403 Forbidden"
 EMPTY = head(OK, "content-length: 0")
-ERROR = b"<?xml version='1.0'?>\n<Error><Code>AccessDenied</Code><Message>Access Denied.</Message></Error>"
+
+
+def error(code, message):
+    return f"<?xml version='1.0'?>\n<Error><Code>{code}</Code><Message>{message}</Message></Error>".encode()
+
+
+def denies(document):
+    return head(FORBIDDEN, f"content-length: {len(document)}") + document
+
+
+ERROR = error("AccessDenied", "Access Denied.")
 ERROR_CHUNK = b"%x\r\n%s\r\n" % (len(ERROR), ERROR)
 HELLO = b"5\r\nhello\r\n"
 END = b"0\r\n\r\n"
-DENIED = head(FORBIDDEN, f"content-length: {len(ERROR)}") + ERROR
+DENIED = denies(ERROR)
 DENIED_CHUNKED = chunked(FORBIDDEN, ERROR_CHUNK, END)
 REFUSED = refused(403, "AccessDenied", "Access Denied.")
+SKEWED = "The difference between the request time and the current time is too large."
+TOO_SKEWED = denies(error("RequestTimeTooSkewed", SKEWED))
+NO_MATCH = denies(error("SignatureDoesNotMatch", WRONG_SIGNATURE))
 FULL = head(FORBIDDEN, "content-length: 65536") + b"a" * 65_536
 
 
@@ -322,6 +375,12 @@ ROWS = [
     Row("500", says(head("500 No", "content-length: 0")), lost("status 500")),
     Row("503", says(head("503 Busy", "content-length: 0")), lost("status 503")),
     Row("a status of two digits", says(head("20 OK", "content-length: 0")), NOT_HTTP),
+    # keys and clocks
+    Row("the right secret", looks(SECRET), STORED),
+    Row("a wrong secret", looks("wrong"), refused(403, "SignatureDoesNotMatch", WRONG_SIGNATURE)),
+    Row("a clock an hour ahead", looks(SECRET, 3_600), refused(403, "RequestTimeTooSkewed", SKEWED)),
+    Row("a clock an hour behind", looks(SECRET, -3_600), refused(403, "RequestTimeTooSkewed", SKEWED)),
+    Row("a clock ten minutes behind", looks(SECRET, -600), STORED),
 ]
 
 # These wait for the program's limit of 60 seconds, or stay below it. Where a write took some bytes before it gave up,

@@ -3,6 +3,9 @@
 from typing import NamedTuple
 
 MESSAGES = {400: "Bad Request", 403: "Forbidden", 404: "Not Found", 412: "Precondition Failed"}
+WRONG_SIGNATURE = (
+    "The request signature we calculated does not match the signature you provided. Check your key and signing method."
+)
 
 
 class Outcome(NamedTuple):
