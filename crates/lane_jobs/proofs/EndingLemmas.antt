@@ -39,7 +39,7 @@ use Rattle.jobs.specs.declared.ending.Ending.{Ending}
 use Rattle.jobs.specs.declared.ending.Ending.TheVariants as ending
 use Rattle.jobs.specs.declared.what.What.{What}
 use Rattle.jobs.specs.declared.what.What.TheVariants as what
-use Rattle.lane_jobs.specs.Lanes.{Carries, EndsByCell, EndsByClass, EndsByMemory, IsGained, IsPlace, KeepsPart, SeenLane, bytes_of, ending_of, limit_of, reason_of, request_for, request_to}
+use Rattle.lane_jobs.specs.Lanes.{Carries, EndsByCell, EndsByClass, EndsByMemory, IsGained, IsPlace, KeepsPart, SeenCarrier, bytes_of, ending_of, limit_of, reason_of, request_for, request_to}
 
 false_is_true : false ≡ true → ⊥
 false_is_true e = cc
@@ -193,9 +193,9 @@ placed_there (ask.Get b k e r) part = refl
 placed_there asked part = tt
 
 -- a Get sends no body, and its limit is the length of its piece
-pub get_request : {W : Type 0} (lane : SeenLane W) (asked : Ask) (part : Option Part) (size : ℕ) → IsGet asked → request_to lane asked (body_of asked []) (Some size) ≡ request_for lane asked part size
-get_request lane (ask.Get b k e r) part size get = refl
-get_request lane asked part size get = absurd get
+pub get_request : (carrier : SeenCarrier) (asked : Ask) (part : Option Part) (size : ℕ) → IsGet asked → request_to carrier asked (body_of asked []) (Some size) ≡ request_for carrier asked part size
+get_request carrier (ask.Get b k e r) part size get = refl
+get_request carrier asked part size get = absurd get
 
 -- ---- the ending
 

@@ -28,12 +28,16 @@ use Rattle.jobs.specs.Jobs.{IsAskOf, SeenJob, range_of}
 use Rattle.jobs.specs.declared.ending.Ending.{Ending}
 use Rattle.jobs.specs.declared.ending.Ending.TheVariants as ending
 
--- what contracts see of a lane: its wire, where its requests go, the keys that sign them, the most attempts of a job
-pub record SeenLane (W : Type 0) : Type 0 where
-  pub wire : W
+-- what contracts see of a carrier: where its requests go, the keys that sign them, the most attempts of a job
+pub record SeenCarrier : Type 0 where
   pub endpoint : Endpoint
   pub keys : Keys
   pub attempts : ℕ
+
+-- a lane is a carrier with its wire
+pub record SeenLane (W : Type 0) : Type 0 where
+  pub wire : W
+  pub carrier : SeenCarrier
 
 -- ---- attempts
 
@@ -158,17 +162,17 @@ reason_of (Some cell) = cell.known
 abbrev pub most_attempts : (attempts had : ℕ) → ℕ
 most_attempts attempts had = max attempts (had + 1)
 
--- a request to the lane's service, with this body
-abbrev pub request_to : {W : Type 0} → SeenLane W → Ask → (body : List ℕ) → (limit : Option ℕ) → SignedRequest
-request_to lane asked body limit = signed_request lane.endpoint lane.keys asked body limit
+-- a request to the carrier's service, with this body
+abbrev pub request_to : SeenCarrier → Ask → (body : List ℕ) → (limit : Option ℕ) → SignedRequest
+request_to carrier asked body limit = signed_request carrier.endpoint carrier.keys asked body limit
 
 -- a request with the bytes of this part, for a piece of that length
-abbrev pub request_for : {W : Type 0} → SeenLane W → Ask → Option Part → (length : ℕ) → SignedRequest
-request_for lane asked part length =
-    request_to lane asked (body_of asked (bytes_of part)) (limit_of asked length)
+abbrev pub request_for : SeenCarrier → Ask → Option Part → (length : ℕ) → SignedRequest
+request_for carrier asked part length =
+    request_to carrier asked (body_of asked (bytes_of part)) (limit_of asked length)
 
--- what the lane keeps from job to job
-pub record IsSameLane {W : Type 0} (before after : SeenLane W) : Type 0 where
+-- what the carrier keeps from job to job
+pub record IsSameCarrier (before after : SeenCarrier) : Type 0 where
   pub endpoint : after.endpoint ≡ before.endpoint
   pub keys : after.keys ≡ before.keys
   pub attempts : after.attempts ≡ before.attempts
@@ -178,15 +182,15 @@ abbrev pub IsPlace : Ask → Option Part → (place : List ℕ) → Type 0
 IsPlace (ask.Get bucket key etag range) part place = bytes_of part ≡ place
 IsPlace asked part place = Unit {0}
 
--- The lane carried the job: a request of it, with its attempts, and its ending.
-pub record IsCarriedBy {W : Type 0} (lane : SeenLane W) (job : SeenJob) (before after : Option WireLog)
+-- The carrier carried the job: a request of it, with its attempts, and its ending.
+pub record IsCarriedBy (carrier : SeenCarrier) (job : SeenJob) (before after : Option WireLog)
     (carried : SeenCarried) : Type 0 where
   pub asked : Ask
   pub place : List ℕ
   pub asks : IsAskOf job.id job.what asked
   pub placed : IsPlace asked carried.job.part place
-  pub carries : Carries (request_for lane asked job.part (range_of job.what).1) job.had
-      (most_attempts lane.attempts job.had) (reason_of carried.job.cell) place before after carried.tries
+  pub carries : Carries (request_for carrier asked job.part (range_of job.what).1) job.had
+      (most_attempts carrier.attempts job.had) (reason_of carried.job.cell) place before after carried.tries
       carried.ending
 
 -- ---- what is handed back

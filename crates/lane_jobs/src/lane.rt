@@ -1,133 +1,30 @@
 //! A lane over one connection.
 
-ghost use Rattle.std.specs.Prelude.{◌≡◌, ◌≤◌, ◌<◌, ℕ, List, [], None, Some, IfOk, IfErr, IsSome};
-ghost use Rattle.attempts.specs.Attempts.{IsGet};
-ghost use Rattle.attempts.specs.Payloads.{body_of};
+ghost use Rattle.std.specs.Prelude.{◌≡◌, ◌≤◌, [], IfOk, IfErr, IsSome};
 ghost use Rattle.s3_model.specs.Validity.{IsWithin};
-ghost use Rattle.s3_model.specs.declared.requests.Op.TheVariants as op;
-ghost use Rattle.run_promise.specs.Schedule.{op_of};
-ghost use Rattle.jobs.specs.Jobs.{HasPart, range_of};
-ghost use Rattle.jobs.specs.declared.ending.Ending.TheVariants as ending;
-ghost use Rattle.lane_jobs.specs.Lanes.{
-  Carries,
-  IsCarriedBy,
-  IsPlace,
-  IsSameJob,
-  IsSameLane,
-  KeepsCell,
-  KeepsPart,
-  bytes_of,
-  most_attempts,
-  reason_of,
-  request_for,
-  request_to,
-};
+ghost use Rattle.lane_jobs.specs.Lanes.{IsCarriedBy, IsSameCarrier, IsSameJob, reason_of};
 
-use crate::tries::{Went, make_attempts};
-use attempts::{Client, Payload};
-use jobs::{CancelCell, Carried, Ending, Job, What, ask_of};
-use s3_model::{Ask, Bytes, Endpoint, Keys, OutOfMemory, Part, Text, Tries};
+use crate::carrier::Carrier;
+use jobs::{Carried, Job};
+use s3_model::{Endpoint, Keys};
 use s3_outside::Wire;
 use std::alloc::Global;
 use std::marker::Model;
 
-/// A connection to a service that carries jobs, one after the other.
-///
-/// It keeps what signs the requests, the room in which answers are read, and the connection, where the service allows
-/// it. Contracts see the wire, the endpoint, the keys, and the most attempts of a job, 1 to 10.
+/// A connection to a service that carries jobs, one after the other. It keeps the connection, where the service allows
+/// it.
 #[derive(Drop)]
 pub struct Lane<W> {
     wire: W,
-    client: Client,
-    /// The place of bodies that nobody asked for.
-    nowhere: Bytes,
-    attempts: u32,
-    alloc: Global,
+    carrier: Carrier,
 }
 
 impl<W> Model for Lane<W> {
-    ghost use Rattle.s3_model.specs.Validity.{IsWithin};
     ghost use Rattle.lane_jobs.specs.Lanes.{SeenLane};
 
     ghost Value = { SeenLane W };
 
-    ghost view = { λ l. record {
-      wire = l.wire;
-      endpoint = l.client.endpoint;
-      keys = l.client.signer;
-      attempts = l.attempts;
-    } };
-
-    ghost invariant = { λ l. IsWithin 1 l.attempts 10 };
-}
-
-fn copy_of(text: &Option<Text>) -> Result<Option<Text>, OutOfMemory>
-    ensures { IfOk result (λ copy. copy ≡ text.now) }
-{
-    match text {
-        Some(text) => Ok(Some(text.copy()?)),
-        None => Ok(None),
-    }
-}
-
-fn copy_endpoint(endpoint: &Endpoint) -> Result<Endpoint, OutOfMemory>
-    ensures { IfOk result (λ copy. copy ≡ endpoint.now) }
-{
-    Ok(Endpoint {
-        host: endpoint.host.copy()?,
-        port: endpoint.port,
-        written: endpoint.written.copy()?,
-    })
-}
-
-fn copy_keys(keys: &Keys) -> Result<Keys, OutOfMemory>
-    ensures { IfOk result (λ copy. copy ≡ keys.now) }
-{
-    Ok(Keys {
-        id: keys.id.copy()?,
-        secret: keys.secret.copy()?,
-        token: copy_of(&keys.token)?,
-        region: keys.region.copy()?,
-    })
-}
-
-/// A client of the service at a copy of the endpoint, with a copy of the keys.
-fn client_of(alloc: Global, endpoint: &Endpoint, keys: &Keys) -> Result<Client, OutOfMemory>
-    ensures endpoint { IfOk result (λ client. client.endpoint ≡ endpoint.now) }
-    ensures keys { IfOk result (λ client. client.signer ≡ keys.now) }
-{
-    Client::make(alloc, copy_endpoint(endpoint)?, copy_keys(keys)?)
-}
-
-/// The bytes of a part, none where there is no part.
-fn bytes_of(part: &Option<Part>) -> &[u8]
-    ensures { result.now ≡ bytes_of part.now }
-{
-    match part {
-        Some(part) => part.bytes.as_slice(),
-        None => &[],
-    }
-}
-
-/// The length of a job's piece in bytes, 0 for a job of the planning.
-fn length_of(what: &What) -> u64
-    ensures { result ≡ (range_of what.now).1 }
-{
-    match what {
-        What::Plan(_) => 0,
-        What::Step { range, .. } => range.1,
-    }
-}
-
-/// What came of a job for which memory ran out before its first attempt.
-fn out_of_memory() -> Went
-    ensures tries { result.tries ≡ [] }
-    ensures ending { result.ending ≡ ending.Memory }
-{
-    Went {
-        tries: Tries::none(),
-        ending: Ending::Memory,
-    }
+    ghost view = { λ l. record { wire = l.wire; carrier = l.carrier } };
 }
 
 impl<W: Wire + Drop> Lane<W> {
@@ -141,21 +38,18 @@ impl<W: Wire + Drop> Lane<W> {
         attempts: u32,
     ) -> Result<Lane<W>, W>
         requires { IsWithin 1 attempts 10 }
-        ensures made { IfOk result (λ lane.
-            lane ≡ record { wire = wire; endpoint = endpoint.now; keys = keys.now; attempts = attempts }) }
+        ensures made { IfOk result (λ lane. lane ≡ record {
+          wire = wire;
+          carrier = record {
+            endpoint = endpoint.now;
+            keys = keys.now;
+            attempts = attempts;
+          };
+        }) }
         ensures back { IfErr result (λ back. back ≡ wire) }
     {
-        let Ok(client) = client_of(alloc, endpoint, keys) else {
-            return Err(wire);
-        };
-        match Bytes::make(alloc, 0) {
-            Ok(nowhere) => Ok(Lane {
-                wire,
-                client,
-                nowhere,
-                attempts,
-                alloc,
-            }),
+        match Carrier::make(alloc, endpoint, keys, attempts) {
+            Ok(carrier) => Ok(Lane { wire, carrier }),
             Err(_) => Err(wire),
         }
     }
@@ -167,160 +61,14 @@ impl<W: Wire + Drop> Lane<W> {
         self.wire
     }
 
-    /// The number of the last attempt of a job.
-    fn most(&self, had: u32) -> u32
-        requires { had ≤ 9 }
-        ensures number { result ≡ most_attempts self.now.attempts had }
-        ensures left { had < result }
-        ensures bound { result ≤ 10 }
-    {
-        self.attempts.max(had + 1)
-    }
-
-    /// Makes the attempts of a request whose answer has no place of its own.
-    fn send(
-        &mut self,
-        ask: &Ask,
-        part: &Option<Part>,
-        cell: &mut Option<CancelCell>,
-        had: u32,
-    ) -> Went
-        requires { had ≤ 9 }
-        ensures carried { (place : List ℕ) × Carries (request_to self.old ask.now
-            (body_of ask.now (bytes_of part.now)) None) had
-            (most_attempts self.old.attempts had) (reason_of cell.new) place (W.seen self.old.wire)
-            (W.seen self.new.wire) result.tries result.ending }
-        ensures stopped { IsSome (reason_of cell.old) → result.tries ≡ [] }
-        ensures cell { KeepsCell cell.old cell.new }
-        ensures lane { IsSameLane self.old self.new }
-        ensures later { W.faults self.old.wire ≤ W.faults self.new.wire }
-    {
-        let most = self.most(had);
-        match Payload::of(self.alloc, ask, bytes_of(part)) {
-            Ok(payload) => make_attempts(
-                self.alloc,
-                &mut self.wire,
-                &mut self.client,
-                ask,
-                &payload,
-                None,
-                &mut self.nowhere,
-                cell,
-                had,
-                most,
-            ),
-            Err(_) => out_of_memory(),
-        }
-    }
-
-    /// Makes the attempts of a Get whose body goes to this part, and has at most `limit` bytes.
-    fn fetch(
-        &mut self,
-        ask: &Ask,
-        limit: u64,
-        part: &mut Part,
-        cell: &mut Option<CancelCell>,
-        had: u32,
-    ) -> Went
-        requires get { IsGet ask.now }
-        requires room { limit ≤ part.old.bytes.room }
-        requires had { had ≤ 9 }
-        ensures carried { Carries (request_to self.old ask.now (body_of ask.now []) (Some limit)) had
-            (most_attempts self.old.attempts had) (reason_of cell.new) part.new.bytes.bytes (W.seen self.old.wire)
-            (W.seen self.new.wire) result.tries result.ending }
-        ensures stopped { IsSome (reason_of cell.old) → result.tries ≡ [] }
-        ensures room { part.new.bytes.room ≡ part.old.bytes.room }
-        ensures cell { KeepsCell cell.old cell.new }
-        ensures lane { IsSameLane self.old self.new }
-        ensures later { W.faults self.old.wire ≤ W.faults self.new.wire }
-    {
-        let most = self.most(had);
-        match Payload::of(self.alloc, ask, &[]) {
-            Ok(payload) => make_attempts(
-                self.alloc,
-                &mut self.wire,
-                &mut self.client,
-                ask,
-                &payload,
-                Some(limit),
-                &mut part.bytes,
-                cell,
-                had,
-                most,
-            ),
-            Err(_) => out_of_memory(),
-        }
-    }
-
-    /// Makes the attempts of a job's request.
-    fn serve(
-        &mut self,
-        ask: &Ask,
-        length: u64,
-        part: &mut Option<Part>,
-        cell: &mut Option<CancelCell>,
-        had: u32,
-    ) -> Went
-        requires part { IsGet ask.now → HasPart op.Get length part.old }
-        requires had { had ≤ 9 }
-        ensures carried { (place : List ℕ) × IsPlace ask.now part.new place × Carries (request_for self.old ask.now
-            part.old length) had (most_attempts self.old.attempts had) (reason_of cell.new) place
-            (W.seen self.old.wire) (W.seen self.new.wire) result.tries result.ending }
-        ensures stopped { IsSome (reason_of cell.old) → result.tries ≡ [] }
-        ensures part { KeepsPart (op_of ask.now) part.old part.new }
-        ensures cell { KeepsCell cell.old cell.new }
-        ensures lane { IsSameLane self.old self.new }
-        ensures later { W.faults self.old.wire ≤ W.faults self.new.wire }
-    {
-        match ask {
-            Ask::Get { .. } => {
-                let Some(part) = part else { unreachable!() };
-                self.fetch(ask, length, part, cell, had)
-            }
-            _ => self.send(ask, part, cell, had),
-        }
-    }
-
-    /// Carries a job: makes its attempts over the wire, and hands it back with their marks and its ending.
-    ///
-    /// Each attempt is one talk with the endpoint, signed at its moment; the body is hashed once. An attempt that lost
-    /// its answer, or was refused with the code `SlowDown`, `ServiceUnavailable` or `RequestTimeout`, is made again, up
-    /// to the lane's number of attempts in all; before attempt n + 1 the lane waits for min(20, 2^(n-1)) seconds. A
-    /// cell of the job is looked at before each attempt and the pause ahead of it; a job without one goes on to its
-    /// end.
+    /// Carries a job over the wire, as `Carrier::carry` says.
     pub fn carry(&mut self, job: Job) -> Carried
-        ensures carried { IsCarriedBy self.old job (W.seen self.old.wire) (W.seen self.new.wire) result }
+        ensures carried { IsCarriedBy self.old.carrier job (W.seen self.old.wire) (W.seen self.new.wire) result }
         ensures stopped { IsSome (reason_of job.cell) → result.tries ≡ [] }
         ensures job { IsSameJob job result.job }
-        ensures lane { IsSameLane self.old self.new }
+        ensures carrier { IsSameCarrier self.old.carrier self.new.carrier }
         ensures later { W.faults self.old.wire ≤ W.faults self.new.wire }
     {
-        let Ok(ask) = ask_of(self.alloc, &job) else {
-            return Carried {
-                job,
-                tries: Tries::none(),
-                ending: Ending::Memory,
-            };
-        };
-        let Job {
-            id,
-            what,
-            mut part,
-            mut cell,
-            had,
-        } = job;
-        let length = length_of(&what);
-        let Went { tries, ending } = self.serve(&ask, length, &mut part, &mut cell, had);
-        Carried {
-            job: Job {
-                id,
-                what,
-                part,
-                cell,
-                had,
-            },
-            tries,
-            ending,
-        }
+        self.carrier.carry(&mut self.wire, job)
     }
 }

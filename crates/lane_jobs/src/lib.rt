@@ -2,8 +2,10 @@
 #![tactic(auto)]
 
 mod attempt;
+mod carrier;
 mod lane;
 mod tries;
 
+pub use carrier::Carrier;
 pub use jobs::{CancelCell, Carried, Ending, Job, What, ask_of};
 pub use lane::Lane;

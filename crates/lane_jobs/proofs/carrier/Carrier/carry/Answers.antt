@@ -5,7 +5,7 @@ use Rattle.jobs.specs.Jobs.{IsAskOf, SeenJob}
 use Rattle.lane_jobs.specs.Lanes.{IsSameJob, bytes_of}
 use Rattle.lane_jobs.proofs.EndingLemmas.{asked_op, ended_so, keeps_by_op, placed_there}
 use Rattle.lane_jobs.proofs.LoopLemmas.{nothing_tried, one_left}
-use Rattle.lane_jobs.proofs.lane.Lane.carry.Goals as goal
+use Rattle.lane_jobs.proofs.carrier.Carrier.carry.Goals as goal
 
 pub returns-in_default-clause-carried : goal.returns-in_default-clause-carried
 returns-in_default-clause-carried g c =

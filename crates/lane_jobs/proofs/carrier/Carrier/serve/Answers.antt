@@ -3,7 +3,7 @@ use Rattle.s3_model.specs.declared.requests.Ask.{Ask}
 use Rattle.attempts.specs.Attempts.{IsGet, SignedRequest}
 use Rattle.lane_jobs.specs.Lanes.{Carries, IsPlace, most_attempts, reason_of}
 use Rattle.lane_jobs.proofs.EndingLemmas.{get_request}
-use Rattle.lane_jobs.proofs.lane.Lane.serve.Goals as goal
+use Rattle.lane_jobs.proofs.carrier.Carrier.serve.Goals as goal
 
 pub returns-in-Some-clause-carried : goal.returns-in-Some-clause-carried
 returns-in-Some-clause-carried g c =
@@ -11,7 +11,7 @@ returns-in-Some-clause-carried g c =
     let get = subst (λ (a : Ask). IsGet a) (sym c.in-Get.is) tt in (
       place,
       subst (λ (a : Ask). IsPlace a (Some c.fetch.new.part) c.fetch.new.part.bytes.bytes) (sym c.in-Get.is) refl,
-      subst (λ (r : SignedRequest). Carries r c.args.had (most_attempts c.args.self.now.attempts c.args.had) (reason_of c.fetch.new.cell) c.fetch.new.part.bytes.bytes (g.W.Wire.seen c.args.self.now.wire)
-          (g.W.Wire.seen c.fetch.new.self.wire) c.fetch.result.tries c.fetch.result.ending)
+      subst (λ (r : SignedRequest). Carries r c.args.had (most_attempts c.args.self.now.attempts c.args.had) (reason_of c.fetch.new.cell) c.fetch.new.part.bytes.bytes (g.W.Wire.seen c.args.wire.now)
+          (g.W.Wire.seen c.fetch.new.wire) c.fetch.result.tries c.fetch.result.ending)
           (get_request c.args.self.now c.args.ask.now c.args.part.now c.args.length get) c.fetch.ensures.carried,
     )

@@ -1,6 +1,6 @@
 use Rattle.std.proofs.Common.{[], rules}
 use Rattle.lane_jobs.proofs.LoopLemmas.{nothing_tried, one_left}
-use Rattle.lane_jobs.proofs.lane.Lane.send.Goals as goal
+use Rattle.lane_jobs.proofs.carrier.Carrier.send.Goals as goal
 
 pub returns-in-Ok-clause-carried : goal.returns-in-Ok-clause-carried
 returns-in-Ok-clause-carried g c = (c.make_attempts.new.into.bytes, search rules)

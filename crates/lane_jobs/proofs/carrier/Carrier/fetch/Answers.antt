@@ -1,5 +1,5 @@
 use Rattle.lane_jobs.proofs.LoopLemmas.{nothing_tried, one_left}
-use Rattle.lane_jobs.proofs.lane.Lane.fetch.Goals as goal
+use Rattle.lane_jobs.proofs.carrier.Carrier.fetch.Goals as goal
 
 pub returns-in-Err-clause-carried : goal.returns-in-Err-clause-carried
 returns-in-Err-clause-carried g c =
