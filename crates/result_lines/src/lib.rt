@@ -6,8 +6,6 @@ mod faults;
 mod lines;
 mod rows;
 mod tasks;
-#[cfg(test)]
-mod tests;
 mod warnings;
 
 pub use causes::cause_text;
