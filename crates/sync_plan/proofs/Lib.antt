@@ -1,0 +1,10 @@
+pub mod CommonLemmas
+pub mod DraftLemmas
+pub mod FitLemmas
+pub mod JudgeLemmas
+pub mod NameLemmas
+pub mod PlanLemmas
+pub mod PrefixLemmas
+pub mod RemovalLemmas
+pub mod SideLemmas
+pub mod TransferLemmas

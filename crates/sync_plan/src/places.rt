@@ -1,0 +1,145 @@
+//! Where a name comes from and goes to, and which names are left out.
+
+ghost use Rattle.std.specs.Prelude.{◌≡◌, ◌++◌, IfOk, if◌then◌else◌};
+ghost use Rattle.s3_paths.specs.Names.{key_skip, local_path, name_skip};
+ghost use Rattle.sync_plan.specs.Errands.{dest_at, is_joined, place_at, skip_by, skip_of, source_at, takes_name};
+
+use crate::names::ends_in_slash;
+use s3_model::{KeySkip, OutOfMemory, Place, Text};
+use s3_paths::local_of;
+use std::alloc::Global;
+
+/// In bytes.
+const LONGEST_KEY: usize = 1024;
+
+fn takes_name(to: &Place) -> bool
+    ensures { result ≡ takes_name to.now }
+{
+    match to {
+        Place::Object { key, .. } => key.as_str().is_empty() || ends_in_slash(key.as_str()),
+        Place::File { path } => ends_in_slash(path.as_str()),
+    }
+}
+
+fn is_joined(to: &Place, many: bool) -> bool
+    ensures { result ≡ is_joined to.now many }
+{
+    many || takes_name(to)
+}
+
+fn local_path(alloc: Global, root: &str, path: &str) -> Result<Text, OutOfMemory>
+    ensures { IfOk result (λ text. text ≡ local_path root.now path.now) }
+{
+    let between = if ends_in_slash(root) { "" } else { "/" };
+    Text::joined(alloc, &[root, between, path])
+}
+
+fn below(alloc: Global, place: &Place, path: &str) -> Result<Place, OutOfMemory>
+    ensures { IfOk result (λ made. made ≡ place_at place.now path.now) }
+{
+    Ok(match place {
+        Place::Object { bucket, key } => Place::Object {
+            bucket: bucket.copy()?,
+            key: Text::joined(alloc, &[key.as_str(), path])?,
+        },
+        Place::File { path: root } => Place::File {
+            path: local_path(alloc, root.as_str(), path)?,
+        },
+    })
+}
+
+fn copy(place: &Place) -> Result<Place, OutOfMemory>
+    ensures { IfOk result (λ made. made ≡ place.now) }
+{
+    Ok(match place {
+        Place::Object { bucket, key } => Place::Object {
+            bucket: bucket.copy()?,
+            key: key.copy()?,
+        },
+        Place::File { path } => Place::File { path: path.copy()? },
+    })
+}
+
+fn place_for(alloc: Global, place: &Place, join: bool, path: &str) -> Result<Place, OutOfMemory>
+    ensures { IfOk result (λ made. made ≡ (if join then place_at place.now path.now else place.now)) }
+{
+    if join {
+        below(alloc, place, path)
+    } else {
+        copy(place)
+    }
+}
+
+pub(crate) fn source_at(
+    alloc: Global,
+    from: &Place,
+    many: bool,
+    path: &str,
+) -> Result<Place, OutOfMemory>
+    ensures { IfOk result (λ made. made ≡ source_at from.now many path.now) }
+{
+    place_for(alloc, from, many, path)
+}
+
+pub(crate) fn dest_at(
+    alloc: Global,
+    to: &Place,
+    many: bool,
+    path: &str,
+) -> Result<Place, OutOfMemory>
+    ensures { IfOk result (λ made. made ≡ dest_at to.now many path.now) }
+{
+    place_for(alloc, to, is_joined(to, many), path)
+}
+
+fn key_skip(prefix: &str, path: &str) -> Option<KeySkip>
+    ensures { result ≡ key_skip (prefix.now ++ path.now) }
+{
+    let size = prefix.len() + path.len();
+    if size == 0 {
+        Some(KeySkip::EmptyName)
+    } else if size > LONGEST_KEY {
+        Some(KeySkip::LongKey(size))
+    } else {
+        None
+    }
+}
+
+/// Why a file must not get the name; the text that it would get is made and let go.
+fn name_skip(alloc: Global, path: &str) -> Result<Option<KeySkip>, OutOfMemory>
+    ensures { IfOk result (λ skip. skip ≡ name_skip path.now) }
+{
+    match local_of(alloc, "", path) {
+        Ok(_) => Ok(None),
+        Err(KeySkip::Memory) => Err(OutOfMemory),
+        Err(why) => Ok(Some(why)),
+    }
+}
+
+fn skip_by(
+    alloc: Global,
+    to: &Place,
+    join: bool,
+    path: &str,
+) -> Result<Option<KeySkip>, OutOfMemory>
+    ensures { IfOk result (λ skip. skip ≡ skip_by to.now join path.now) }
+{
+    match to {
+        Place::Object { key, .. } if join => Ok(key_skip(key.as_str(), path)),
+        Place::Object { key, .. } => Ok(key_skip("", key.as_str())),
+        Place::File { .. } if join => name_skip(alloc, path),
+        Place::File { .. } => Ok(None),
+    }
+}
+
+/// Why a name is left out.
+pub(crate) fn skip_of(
+    alloc: Global,
+    to: &Place,
+    many: bool,
+    path: &str,
+) -> Result<Option<KeySkip>, OutOfMemory>
+    ensures { IfOk result (λ skip. skip ≡ skip_of to.now many path.now) }
+{
+    skip_by(alloc, to, is_joined(to, many), path)
+}
