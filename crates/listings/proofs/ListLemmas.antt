@@ -83,13 +83,14 @@ pub none_next : (endpoint : Endpoint) (keys : Keys) (number : ℕ) (walk : Walk)
 none_next endpoint keys number walk events seen =
     gains_nothing (IsNext endpoint keys number walk walk events events (Err fault.Memory)) seen (record { given = None; gives = inl (refl, refl, refl); takes = refl })
 
-pub none_listed : (l : Listing) (events : List Event) (seen : Option WireLog) → Gains seen seen (Lists l events events (Err fault.Memory))
-none_listed l events seen =
-    gains_nothing (Lists l events events (Err fault.Memory)) seen
-    (stops_here l (new_walk l.bucket l.prefix l.delimited) l.first events events [] [] (at_first l events) events refl)
+pub none_listed : (l : Listing) (events : List Event) (seen : Option WireLog) (result : Result Walk ListingFault) → result ≡ Err fault.Memory → Gains seen seen (Lists l events events result)
+none_listed l events seen result failed = subst (λ (r : Result Walk ListingFault). Gains seen seen (Lists l events events r)) (sym failed)
+    (gains_nothing (Lists l events events (Err fault.Memory)) seen
+    (stops_here l (new_walk l.bucket l.prefix l.delimited) l.first events events [] [] (at_first l events) events refl))
 
-pub none_listed_some : (l : Listing) (events : List Event) → OfSomeTalks (Lists l events events (Err fault.Memory))
-none_listed_some l events = ([], [], stops_here l (new_walk l.bucket l.prefix l.delimited) l.first events events [] [] (at_first l events) events refl)
+pub none_listed_some : (l : Listing) (events : List Event) (result : Result Walk ListingFault) → result ≡ Err fault.Memory → OfSomeTalks (Lists l events events result)
+none_listed_some l events result failed = subst (λ (r : Result Walk ListingFault). OfSomeTalks (Lists l events events r)) (sym failed)
+    ([], [], stops_here l (new_walk l.bucket l.prefix l.delimited) l.first events events [] [] (at_first l events) events refl)
 
 pub begins_some : (l : Listing) (walk : Walk) (events : List Event) → walk ≡ new_walk l.bucket l.prefix l.delimited → OfSomeTalks (IsUnderway l walk l.first events events)
 begins_some l walk events is =

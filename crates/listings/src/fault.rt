@@ -3,7 +3,7 @@
 ghost use Rattle.std.specs.Prelude.{◌≡◌};
 ghost use Rattle.listings.specs.Faults.{IsNoCancel, fault_of};
 
-use s3_model::{BadListing, Cause, Class, Op, Why};
+use s3_model::{BadListing, Cause, Class, Op, OutOfMemory, Why};
 
 /// Why a listing has no end.
 #[derive(Debug, Drop)]
@@ -14,6 +14,17 @@ pub enum ListingFault {
     Answer(Cause),
     /// Memory ran out.
     Memory,
+}
+
+impl From<OutOfMemory> for ListingFault {
+    ghost use Rattle.std.specs.Prelude.{◌≡◌};
+    ghost use Rattle.listings.specs.declared.fault.ListingFault.TheVariants.{Memory};
+
+    ghost from_gives = { λ _ fault. fault ≡ Memory };
+
+    fn from(_: OutOfMemory) -> ListingFault {
+        ListingFault::Memory
+    }
 }
 
 /// What a request came to that did not list what was asked.

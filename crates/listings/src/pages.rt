@@ -124,9 +124,7 @@ pub fn list_pages<W: Wire>(
     ensures endpoint { client.new.endpoint ≡ client.old.endpoint }
     ensures keys { client.new.signer ≡ client.old.signer }
 {
-    let Ok(mut pages) = Pages::make(alloc, bucket, prefix, delimited) else {
-        return Err(ListingFault::Memory);
-    };
+    let mut pages = Pages::make(alloc, bucket, prefix, delimited)?;
     for number in first..u32::MAX {
         match next_page(alloc, wire, client, &mut pages, number, journal) {
             Ok(true) => {}

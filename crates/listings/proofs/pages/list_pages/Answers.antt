@@ -1,5 +1,5 @@
-use Rattle.std.proofs.Common.{◌≡◌, ◌∙◌, Bool, true, ap, arith, refl, subst, sym}
-use Rattle.std.specs.Prelude.{IfOk, Result, Ok}
+use Rattle.std.proofs.Common.{◌≡◌, ◌∙◌, Bool, true, ap, arith, refl, rules, subst, sym}
+use Rattle.std.specs.Prelude.{IfOk, Result, Ok, Err}
 use Rattle.answer_dates.specs.Dates.{AreDated}
 use Rattle.list_walk.specs.Pages.{IsSound, Walk}
 use Rattle.list_walk.proofs.PageLemmas.{nothing_is_sound}
@@ -7,21 +7,26 @@ use Rattle.listings.proofs.DatedLemmas.{none_dated}
 use Rattle.listings.proofs.ListLemmas.{begins, begins_some, ends, ends_some, fails, fails_some, goes_on, goes_on_some, none_listed, none_listed_some, still_bound, still_open, still_sound}
 use Rattle.listings.specs.Pages.{TookPage}
 use Rattle.listings.specs.declared.fault.ListingFault.{ListingFault}
+use Rattle.listings.specs.declared.fault.ListingFault.TheVariants as fault
 use Rattle.listings.proofs.pages.list_pages.Goals as goal
 
-pub returns-in_default-clause-listed : goal.returns-in_default-clause-listed
-returns-in_default-clause-listed g c = none_listed _ _ _
+pub returns-in_err-pages-clause-listed : goal.returns-in_err-pages-clause-listed
+returns-in_err-pages-clause-listed g c =
+    let failed : c.from_residual.result ≡ Err fault.Memory = search rules in
+    none_listed _ _ _ c.from_residual.result failed
 
-pub returns-in_default-clause-some : goal.returns-in_default-clause-some
-returns-in_default-clause-some g c = none_listed_some _ _
+pub returns-in_err-pages-clause-some : goal.returns-in_err-pages-clause-some
+returns-in_err-pages-clause-some g c =
+    let failed : c.from_residual.result ≡ Err fault.Memory = search rules in
+    none_listed_some _ _ c.from_residual.result failed
 
 pub loop-number-init : goal.loop-number-init
 loop-number-init g c = record {
-  underway = begins _ _ _ _ c.in-Ok.ensures;
-  some = begins_some _ _ _ c.in-Ok.ensures;
-  goes_on = ap (λ (w : Walk). w.over) c.in-Ok.ensures;
-  sound = subst (λ (w : Walk). IsSound w.prefix w.gathered) (sym c.in-Ok.ensures) (nothing_is_sound c.args.prefix.now);
-  dated = none_dated c.args.bucket.now c.args.prefix.now c.args.delimited _ c.in-Ok.ensures;
+  underway = begins _ _ _ _ c.in_ok-pages.ensures;
+  some = begins_some _ _ _ c.in_ok-pages.ensures;
+  goes_on = ap (λ (w : Walk). w.over) c.in_ok-pages.ensures;
+  sound = subst (λ (w : Walk). IsSound w.prefix w.gathered) (sym c.in_ok-pages.ensures) (nothing_is_sound c.args.prefix.now);
+  dated = none_dated c.args.bucket.now c.args.prefix.now c.args.delimited _ c.in_ok-pages.ensures;
   bound = omega arith;
   few = omega arith;
   later = omega arith;
