@@ -1,5 +1,5 @@
 -- From what was listed to what is shown of it.
-use Rattle.std.proofs.Common.{ℕ, Bool, List, [], Option, Some, None, Result, Err, refl, sym, inr, append-nil}
+use Rattle.std.proofs.Common.{◌≡◌, ℕ, Bool, List, [], Option, Some, None, Result, Ok, Err, refl, sym, subst, inr, append-nil}
 use Rattle.s3_model.specs.declared.outcomes.Event.{Event}
 use Rattle.s3_model.specs.declared.places.Endpoint.{Endpoint}
 use Rattle.s3_model.specs.declared.places.Entry.{Entry}
@@ -19,6 +19,14 @@ use Rattle.listings.specs.declared.fault.ListingFault.TheVariants as fault
 use Rattle.upload_plans.specs.Commands.{IsListed}
 use Rattle.listing_commands.specs.declared.show.Shown.{Shown}
 use Rattle.listing_commands.specs.Commands.{IsShownBuckets, IsShownBy, IsShownWalk, ShowsBuckets, ShowsListing, ShowsPages, listing_of}
+
+-- what was listed is not shown, since memory ran out
+pub no_memory : {T : Type 0} (Shows : T → Shown → Type 0) (listed : T) (result : Result Shown ListingFault) → result ≡ Err fault.Memory → IsShownBy Shows (Ok listed) result
+no_memory Shows listed result failed = subst (λ (r : Result Shown ListingFault). IsShownBy Shows (Ok listed) r) (sym failed) tt
+
+-- nothing was listed, for that reason
+pub not_listed : {T : Type 0} (Shows : T → Shown → Type 0) (why : ListingFault) (result : Result Shown ListingFault) → result ≡ Err why → IsShownBy Shows (Err why) result
+not_listed Shows why result failed = subst (λ (r : Result Shown ListingFault). IsShownBy Shows (Err why) r) (sym failed) refl
 
 module _ (endpoint : Endpoint) (keys : Keys) (before after : List Event) (result : Result Shown ListingFault) (was now : Option WireLog) where
   pub buckets_shown : (listed : Result (Reserved Entry) ListingFault) → IsShownBy IsShownBuckets listed result → Gains was now (ListsBuckets endpoint keys 0 before after listed)

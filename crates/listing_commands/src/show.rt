@@ -38,16 +38,12 @@ fn show_buckets<W: Wire>(
     ensures no_cancel { IfErr result IsNoCancel }
     ensures later { W.faults wire.old ≤ W.faults wire.new }
 {
-    match list_buckets(alloc, wire, client, 0, journal) {
-        Ok(buckets) => match buckets_text(alloc, &buckets) {
-            Ok(text) => Ok(Shown {
-                text,
-                missed: false,
-            }),
-            Err(_) => Err(ListingFault::Memory),
-        },
-        Err(fault) => Err(fault),
-    }
+    let buckets = list_buckets(alloc, wire, client, 0, journal)?;
+    let text = buckets_text(alloc, &buckets)?;
+    Ok(Shown {
+        text,
+        missed: false,
+    })
 }
 
 /// Whether a key was given and nothing has it or stands below it.
@@ -74,16 +70,12 @@ fn show_pages<W: Wire>(
     ensures no_cancel { IfErr result IsNoCancel }
     ensures later { W.faults wire.old ≤ W.faults wire.new }
 {
-    match list_pages(alloc, wire, client, bucket, key, !recursive, 0, journal) {
-        Ok(pages) => match listing_text(alloc, &pages, recursive) {
-            Ok(text) => Ok(Shown {
-                text,
-                missed: finds_nothing(key, &pages),
-            }),
-            Err(_) => Err(ListingFault::Memory),
-        },
-        Err(fault) => Err(fault),
-    }
+    let pages = list_pages(alloc, wire, client, bucket, key, !recursive, 0, journal)?;
+    let text = listing_text(alloc, &pages, recursive)?;
+    Ok(Shown {
+        text,
+        missed: finds_nothing(key, &pages),
+    })
 }
 
 /// What `ls` shows (AWS CLI Command Reference, `s3 ls`): the buckets of the service where `at` is None, else what has
