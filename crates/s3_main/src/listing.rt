@@ -122,10 +122,8 @@ fn ask<W: Wire>(
     ensures no_cancel { IfErr result IsNoCancel }
     ensures later { W.faults wire.old ≤ W.faults wire.new }
 {
-    match Client::make(alloc, service.endpoint, service.keys) {
-        Ok(mut client) => show_listing(alloc, wire, &mut client, at, recursive, journal),
-        Err(_) => Err(ListingFault::Memory),
-    }
+    let mut client = Client::make(alloc, service.endpoint, service.keys)?;
+    show_listing(alloc, wire, &mut client, at, recursive, journal)
 }
 
 /// Lists what a command asks for.
