@@ -1,4 +1,5 @@
--- What an answer means for its request: which answers are a success, which are a refusal that changed nothing, and which leave it open.
+-- What an answer means for its request: which answers are a success, which are a refusal that changed nothing, and
+-- which leave it open.
 use Rattle.std.specs.Prelude.{◌≡◌, ◌≢◌, ◌≤◌, ◌<◌, ◌⊎◌, ℕ, Bool, true, false, List, [], ◌∷◌, Some, codes, ◌==◌, if◌then◌else◌}
 use Rattle.std.specs.Fmt.{decimal}
 use Rattle.s3_model.specs.declared.requests.Ask.{Ask}
@@ -17,7 +18,8 @@ use Rattle.s3_model.specs.Replies.{IsSameReply, IsSameClass}
 -- the message of a status for which no document speaks
 abbrev pub status_message : ℕ → List ℕ
 status_message status =
-    if status == 400 then codes "Bad Request" else if status == 403 then codes "Forbidden" else if status == 404 then codes "Not Found"
+    if status == 400 then codes "Bad Request" else if status == 403 then codes "Forbidden"
+    else if status == 404 then codes "Not Found"
     else if status == 412 then codes "Precondition Failed" else codes "Refused"
 
 -- the codes of refusals that are tried again
@@ -52,7 +54,8 @@ abbrev pub HasBody : Ask → Type 0
 HasBody (ask.Head bucket key) = ⊥
 HasBody asked = Unit {0}
 
--- `ReadsError document code message`: the document is an Error document. `ReadsReply ask document reply`: it is the one that the ask
+-- `ReadsError document code message`: the document is an Error document. `ReadsReply ask document reply`: it is the one
+-- that the ask
 -- needs, and says this reply. `document` is the body that the grammar of the answer gives.
 module _ (ReadsError : List ℕ → List ℕ → List ℕ → Type 0) (ReadsReply : Ask → List ℕ → Reply → Type 0) where
   -- the headers and the document that the ask needs are there
@@ -67,48 +70,63 @@ module _ (ReadsError : List ℕ → List ℕ → List ℕ → Type 0) (ReadsRepl
   Succeeded (ask.Part bucket key upload number) answered document (reply.PartStored etag) = answered.etag ≡ Some etag
   Succeeded (ask.Copy bucket key from_bucket from_key etag) answered document reply.Copied =
       ReadsReply (ask.Copy bucket key from_bucket from_key etag) document reply.Copied
-  Succeeded (ask.PartCopy bucket key upload number from_bucket from_key etag range) answered document (reply.PartStored stored) =
-      ReadsReply (ask.PartCopy bucket key upload number from_bucket from_key etag range) document (reply.PartStored stored)
-  Succeeded (ask.Create bucket key content) answered document (reply.Created upload) = ReadsReply (ask.Create bucket key content) document (reply.Created upload)
+  Succeeded (ask.PartCopy bucket key upload number from_bucket from_key etag range) answered document
+      (reply.PartStored stored) =
+      ReadsReply (ask.PartCopy bucket key upload number from_bucket from_key etag range) document
+      (reply.PartStored stored)
+  Succeeded (ask.Create bucket key content) answered document (reply.Created upload) =
+      ReadsReply (ask.Create bucket key content) document (reply.Created upload)
   Succeeded (ask.Complete bucket key upload etags fresh) answered document reply.Completed =
       ReadsReply (ask.Complete bucket key upload etags fresh) document reply.Completed
   Succeeded (ask.List bucket prefix delimited token) answered document (reply.Listed page) =
       ReadsReply (ask.List bucket prefix delimited token) document (reply.Listed page)
-  Succeeded ask.Buckets answered document (reply.BucketList buckets) = ReadsReply ask.Buckets document (reply.BucketList buckets)
+  Succeeded ask.Buckets answered document (reply.BucketList buckets) =
+      ReadsReply ask.Buckets document (reply.BucketList buckets)
   Succeeded asked answered document said = ⊥
 
   -- the code and the message are those of the document, or of the status where none reads
   abbrev pub Refuses : Ask → Answered → (document code message : List ℕ) → Type 0
   Refuses asked answered document code message =
       (HasBody asked × ReadsError document code message)
-      ⊎ ((HasBody asked → (c m : List ℕ) → ¬ (ReadsError document c m)) × (code ≡ decimal answered.status) × (message ≡ status_message answered.status))
+      ⊎ ((HasBody asked → (c m : List ℕ) → ¬ (ReadsError document c m)) × (code ≡ decimal answered.status)
+      × (message ≡ status_message answered.status))
 
   abbrev pub FailsLate : Ask → (document code message : List ℕ) → Type 0
   FailsLate asked document code message = MayFailLate asked × ReadsError document code message
 
   abbrev pub IsBusy : Answered → (document code message : List ℕ) → Type 0
-  IsBusy answered document code message = (answered.status ≡ 503) × ReadsError document code message × (is_listed busy_codes code ≡ true)
+  IsBusy answered document code message = (answered.status ≡ 503) × ReadsError document code message
+      × (is_listed busy_codes code ≡ true)
 
   -- the class of a whole answer, one row each
   pub data IsClass (asked : Ask) (answered : Answered) (document : List ℕ) : Class → Type 0 where
-    succeeded : (said : Reply) → IsTwoHundred answered.status → Succeeded asked answered document said → IsClass asked answered document (class.Success said)
-    failed_late : (code message : List ℕ) → IsTwoHundred answered.status → FailsLate asked document code message → code ≢ codes "InternalError"
+    succeeded : (said : Reply) → IsTwoHundred answered.status → Succeeded asked answered document said
+        → IsClass asked answered document (class.Success said)
+    failed_late : (code message : List ℕ) → IsTwoHundred answered.status → FailsLate asked document code message
+        → code ≢ codes "InternalError"
         → IsClass asked answered document (class.Refusal code message)
-    failed_inside : (message : List ℕ) → IsTwoHundred answered.status → FailsLate asked document (codes "InternalError") message
+    failed_inside : (message : List ℕ) → IsTwoHundred answered.status
+        → FailsLate asked document (codes "InternalError") message
         → IsClass asked answered document (class.Uncertain why.Internal)
     unreadable : IsTwoHundred answered.status → ((said : Reply) → ¬ (Succeeded asked answered document said))
-        → ((code message : List ℕ) → ¬ (FailsLate asked document code message)) → IsClass asked answered document (class.Uncertain why.Document)
-    refused : (code message : List ℕ) → 300 ≤ answered.status → answered.status < 500 → Refuses asked answered document code message
+        → ((code message : List ℕ) → ¬ (FailsLate asked document code message))
+        → IsClass asked answered document (class.Uncertain why.Document)
+    refused : (code message : List ℕ) → 300 ≤ answered.status → answered.status < 500
+        → Refuses asked answered document code message
         → IsClass asked answered document (class.Refusal code message)
-    busy : (code message : List ℕ) → IsBusy answered document code message → IsClass asked answered document (class.Refusal code message)
+    busy : (code message : List ℕ) → IsBusy answered document code message
+        → IsClass asked answered document (class.Refusal code message)
     other : 500 ≤ answered.status → ((code message : List ℕ) → ¬ (IsBusy answered document code message))
         → IsClass asked answered document (class.Uncertain (why.Status answered.status))
 
   -- Each document is one error at most, one reply of an ask at most, and not both.
   pub record HasOneReading : Type 0 where
-    pub one_error : (document code message c m : List ℕ) → ReadsError document code message → ReadsError document c m → (code ≡ c) × (message ≡ m)
-    pub one_reply : (asked : Ask) (document : List ℕ) (said same : Reply) → ReadsReply asked document said → ReadsReply asked document same → IsSameReply said same
-    pub not_both : (asked : Ask) (document code message : List ℕ) (said : Reply) → ReadsError document code message → ReadsReply asked document said → ⊥
+    pub one_error : (document code message c m : List ℕ) → ReadsError document code message
+        → ReadsError document c m → (code ≡ c) × (message ≡ m)
+    pub one_reply : (asked : Ask) (document : List ℕ) (said same : Reply) → ReadsReply asked document said
+        → ReadsReply asked document same → IsSameReply said same
+    pub not_both : (asked : Ask) (document code message : List ℕ) (said : Reply)
+        → ReadsError document code message → ReadsReply asked document said → ⊥
 
   -- Then an answer has one class at most.
   abbrev pub HasOneClass : Type 0

@@ -39,7 +39,8 @@ completion etags =
     ++ part_elements etags
     ++ codes "</CompleteMultipartUpload>"
 
--- the document that an ask sends as its body; every other ask but Put and Part, which send an object's bytes, has an empty body or none
+-- the document that an ask sends as its body; every other ask but Put and Part, which send an object's bytes, has an
+-- empty body or none
 unfoldable pub document_of : Ask → List ℕ
 document_of (ask.Complete _ _ _ etags _) = completion etags.items
 document_of _ = []

@@ -10,7 +10,8 @@ pub record HeldFile : Type 0 where
   pub bytes : List ℕ
   pub micros : ℕ
 
--- the files by path, the folders that are empty, what is neither file nor folder, and how many names of a folder are no text
+-- the files by path, the folders that are empty, what is neither file nor folder, and how many names of a folder are no
+-- text
 pub record FileStore : Type 0 where
   pub held : MapOf HeldFile
   pub empty_folders : List (List ℕ)

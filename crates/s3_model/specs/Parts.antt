@@ -23,12 +23,14 @@ within_limits limits piece = if nat_lt limits.max_part piece then limits.max_par
 -- from the threshold on: the length of a piece, and how many there are
 abbrev pub IsInParts : Config → Limits → ℕ → ℕ → ℕ → Type 0
 IsInParts config limits size piece count =
-    (found : ℕ) × IsFirstFitting config.chunk size limits.max_parts found × (piece ≡ within_limits limits found) × (count ≡ piece_count size piece)
+    (found : ℕ) × IsFirstFitting config.chunk size limits.max_parts found × (piece ≡ within_limits limits found)
+    × (count ≡ piece_count size piece)
 
 -- below it there is one piece
 abbrev pub IsTransfer : Config → Limits → ℕ → ℕ → ℕ → Type 0
 IsTransfer config limits size piece count =
-    ((size < config.threshold) × (piece ≡ size) × (count ≡ 1)) ⊎ ((config.threshold ≤ size) × IsInParts config limits size piece count)
+    ((size < config.threshold) × (piece ≡ size) × (count ≡ 1))
+    ⊎ ((config.threshold ≤ size) × IsInParts config limits size piece count)
 
 -- The length of a task's pieces and their number. A removal has one piece, of length 0.
 abbrev pub HasPieces : Config → Limits → Kind → ℕ → ℕ → ℕ → Type 0

@@ -7,7 +7,8 @@ use Rattle.s3_model.specs.declared.answers.Class.{Class}
 use Rattle.s3_model.specs.declared.answers.Class.TheVariants as class
 
 abbrev pub IsSamePage : Listed → Listed → Type 0
-IsSamePage a b = (a.entries.items ≡ b.entries.items) × (a.prefixes.items ≡ b.prefixes.items) × (a.more ≡ b.more) × (a.token ≡ b.token)
+IsSamePage a b = (a.entries.items ≡ b.entries.items) × (a.prefixes.items ≡ b.prefixes.items) × (a.more ≡ b.more)
+    × (a.token ≡ b.token)
 
 abbrev pub IsSameReply : Reply → Reply → Type 0
 IsSameReply (reply.Listed a) (reply.Listed b) = IsSamePage a b

@@ -1,4 +1,5 @@
-//! The data of transfers between local files and an S3 service, and the definitions that contracts of every crate above cite.
+//! The data of transfers between local files and an S3 service, and the definitions that contracts of every crate above
+//! cite.
 #![tactic(auto)]
 
 mod answers;

@@ -3,7 +3,8 @@
 use crate::list::Texts;
 use crate::text::Text;
 
-/// One request of the Amazon S3 API. Ranges have both ends inside. A `fresh` one is to be refused where the object is there.
+/// One request of the Amazon S3 API. Ranges have both ends inside. A `fresh` one is to be refused where the object is
+/// there.
 #[derive(Debug, Drop)]
 pub enum Ask {
     Head {
