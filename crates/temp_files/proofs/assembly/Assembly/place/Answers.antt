@@ -1,0 +1,8 @@
+use Rattle.std.proofs.Common.{ap}
+use Rattle.temp_files.specs.Assembly.{Assembling}
+use Rattle.temp_files.proofs.AssemblyLemmas.{placed_given}
+use Rattle.temp_files.proofs.assembly.Assembly.place.Goals as goal
+
+pub returns-clause-placed : goal.returns-clause-placed
+returns-clause-placed g c =
+    placed_given c.args.self.now _ c.args.at c.args.part.now.bytes.bytes _ c.write_at.result _ _ _ _ (ap (λ (a : Assembling). a.temp) c.self.view_is) c.as_slice.ensures c.requires c.write_at.ensures.calls
