@@ -1,3 +1,3 @@
-mod AttemptLaw
-mod NoteLaw
-mod RunLaw
+pub mod AttemptLaw
+pub mod NoteLaw
+pub mod RunLaw

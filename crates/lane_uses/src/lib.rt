@@ -1,4 +1,4 @@
-//! The cells of jobs as callers use them: a test of what only a run shows.
+//! Lanes as callers use them: tests over a wire that plays listed answers, and of the cells of jobs.
 #![tactic(auto)]
 
 #[cfg(test)]

@@ -20,7 +20,7 @@ use Rattle.world_laws.proofs.Promises.{promise_holds}
 use Rattle.s3_outside.specs.Files.{SeenFiles}
 use Rattle.answer_classes.specs.Showing.{HasStatus, Shows}
 use Rattle.attempts.specs.Attempts.{text_of}
-use Rattle.upload_promise.specs.Shown.{CallFailed, KeepsPromise, shown_by}
+use Rattle.upload_promise.specs.Shown.{CallFailed, KeepsPromise, one_attempt, shown_by}
 use Rattle.upload_promise.proofs.PromiseLemmas.{one_valid, status_is}
 use Rattle.listings.specs.Asked.{AreAsked, Asked, dispatched_from, events_from}
 use Rattle.listings.proofs.CarriedLaw.{requests_are_carried}
@@ -36,7 +36,7 @@ module _ (endpoint : Endpoint) (keys : Keys) (Plans : List Dispatched → Type 0
   jobs = dispatched_from 0 0 asked
 
   abbrev shown : Shown
-  shown = shown_by config limits status [] [] (events_from 0 asked) talks notes was now
+  shown = shown_by (one_attempt config) limits status [] [] (events_from 0 asked) talks notes was now
 
   abbrev Fails : ℕ → Cause → Type 0
   Fails = CallFailed path now before after []

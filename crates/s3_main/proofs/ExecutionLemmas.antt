@@ -24,12 +24,12 @@ use Rattle.upload_plans.proofs.FateLemmas.{large_of, task_of}
 use Rattle.run_promise.specs.Gains.{Gains}
 use Rattle.upload_promise.specs.Uploads.{IsReadCause, WantsJournal}
 use Rattle.run_promise.proofs.GainLemmas.{gains_as, gains_nothing}
-use Rattle.small_uploads.specs.Uploading.{Uploads}
+use Rattle.small_uploads.specs.Uploading.{Uploads, put_ask}
 use Rattle.s3_main.specs.declared.run.Fatal.{Fatal}
 use Rattle.s3_main.specs.declared.run.Fatal.TheVariants as fatal
 use Rattle.s3_main.specs.declared.run.Run.{Run}
 use Rattle.s3_main.specs.Executed.{DoesOn, EndsAs, EndsForMemory, GoesOn, HasNoUpload, IsUnseen, MayUpload, MayWant}
-use Rattle.s3_main.specs.Plans.{HasNoTask, IsFate, IsUpload, MayEnd, path_of, put_ask}
+use Rattle.s3_main.specs.Plans.{HasNoTask, IsFate, IsUpload, MayEnd, path_of}
 use Rattle.s3_main.specs.Runs.{IsNothingPlanned, IsUnasked, IsUnplanned, StopsPlanning}
 use Rattle.s3_main.specs.Texts.{HasLine}
 
@@ -101,6 +101,7 @@ wants_since first before after (outcome.Failed (cause.Service of_op code message
 wants_since first before after (outcome.Failed cause.Memory) journal earlier h = h
 wants_since first before after (outcome.Failed (cause.Files call.Read)) journal earlier h = (h.0, let rose = h.1 in omega (arith, rose, earlier))
 wants_since first before after (outcome.Failed cause.Changed) journal earlier h = h
+wants_since first before after (outcome.Unknown (cause.Service of_op code message)) journal earlier h = h
 wants_since first before after (outcome.Unknown (cause.Lost of_op reason)) journal earlier h = h
 wants_since first before after (outcome.Unknown cause.Memory) journal earlier h = h
 wants_since first before after how journal earlier h = absurd h
@@ -197,19 +198,19 @@ module _ (command : Command) (settings : Settings) (limits : Limits) (was now : 
   -- ---- the file is copied
 
   module _ (task : Task) (earlier : first ≤ before) where
-    since : (how : Outcome) (talks : List Talk) (notes : List Note) → Uploads command.endpoint settings.keys (put_ask task) now (path_of task) task.size before after run.journal.items how talks notes
-        → Uploads command.endpoint settings.keys (put_ask task) now (path_of task) task.size first after run.journal.items how talks notes
+    since : (how : Outcome) (talks : List Talk) (notes : List Note) → Uploads command.endpoint settings.keys settings.config.attempts (put_ask task) now (path_of task) task.size before after run.journal.items how talks notes
+        → Uploads command.endpoint settings.keys settings.config.attempts (put_ask task) now (path_of task) task.size first after run.journal.items how talks notes
     since how talks notes (inl u) =
         inl (record { why = u.why; failed = u.failed; reason = reason_since now (path_of task) task.size first before after u.why earlier u.reason; no_job = u.no_job; no_talk = u.no_talk; no_note = u.no_note })
     since how talks notes (inr g) = inr g
 
-    uploaded : (talks : List Talk) (notes : List Note) → IsFate command settings limits was (fate.Upload task) → MayUpload command.endpoint settings.keys task now before after run talks notes → Goes talks notes
+    uploaded : (talks : List Talk) (notes : List Note) → IsFate command settings limits was (fate.Upload task) → MayUpload command.endpoint settings.keys settings.config.attempts task now before after run talks notes → Goes talks notes
     uploaded talks notes fated (inl stopped) = inl (record { nothing = nothing fatal.Memory run tt stopped.stopped; no_talk = stopped.no_talk; no_note = stopped.no_note })
     uploaded talks notes fated (inr (has, (how, one, uploads))) =
         inr (fate.Upload task, fated, record { ends = may_end run has.fatal; plan = tt; tasks = has.one_task; skips = has.no_skip; warnings = has.no_warning }, (how, one, since how talks notes uploads))
 
-    pub uploaded_goes : (seen last : Option WireLog) → IsFate command settings limits was (fate.Upload task) → Gains seen last (MayUpload command.endpoint settings.keys task now before after run) → Gains seen last Goes
-    uploaded_goes seen last fated gains = gains_as (MayUpload command.endpoint settings.keys task now before after run) Goes (λ talks notes may. uploaded talks notes fated may) seen last gains
+    pub uploaded_goes : (seen last : Option WireLog) → IsFate command settings limits was (fate.Upload task) → Gains seen last (MayUpload command.endpoint settings.keys settings.config.attempts task now before after run) → Gains seen last Goes
+    uploaded_goes seen last fated gains = gains_as (MayUpload command.endpoint settings.keys settings.config.attempts task now before after run) Goes (λ talks notes may. uploaded talks notes fated may) seen last gains
 
     pub uploaded_does : IsFate command settings limits was (fate.Upload task) → MayWant task before after run → DoesOn command settings limits first after run
     uploaded_does fated (inl memory) = inl (nothing fatal.Memory run tt memory)
@@ -230,7 +231,7 @@ pub is_upload : (command : Command) (settings : Settings) (limits : Limits) (was
     → IsUpload task × HasSource task × (path_of task ≡ source_path command)
 is_upload command settings limits was task fated =
     let of_file = task_of command settings.config.threshold limits.max_object task fated.stands (sym fated.is) in
-    subst (λ (t : Task). IsUpload t × HasSource t × (path_of t ≡ source_path command)) (sym of_file.is) (record { source = tt; dest = tt }, (λ other e. none_some _ (sym e)), refl)
+    subst (λ (t : Task). IsUpload t × HasSource t × (path_of t ≡ source_path command)) (sym of_file.is) (record { source = tt; put = record { kind_is = refl; replaces = refl; to_object = tt } }, (λ other e. none_some _ (sym e)), refl)
 
 pub unseen_line : (before after : ℕ) (why : Fatal) → IsUnseen before after why → HasLine why
 unseen_line before after fatal.Memory h = tt
@@ -247,7 +248,7 @@ unseen_line before after (fatal.Answer why) h = absurd h
 unseen_line before after fatal.NotYet h = absurd h
 
 -- memory ran out before the task
-pub stopped_goes : (endpoint : Endpoint) (keys : Keys) (task : Task) (now : Option SeenFiles) (before after : ℕ) (run : Run) (seen : Option WireLog) → EndsForMemory run
-    → Gains seen seen (MayUpload endpoint keys task now before after run)
-stopped_goes endpoint keys task now before after run seen memory =
-    gains_nothing (MayUpload endpoint keys task now before after run) seen (inl (record { stopped = memory; no_talk = refl; no_note = refl }))
+pub stopped_goes : (endpoint : Endpoint) (keys : Keys) (attempts : ℕ) (task : Task) (now : Option SeenFiles) (before after : ℕ) (run : Run) (seen : Option WireLog) → EndsForMemory run
+    → Gains seen seen (MayUpload endpoint keys attempts task now before after run)
+stopped_goes endpoint keys attempts task now before after run seen memory =
+    gains_nothing (MayUpload endpoint keys attempts task now before after run) seen (inl (record { stopped = memory; no_talk = refl; no_note = refl }))

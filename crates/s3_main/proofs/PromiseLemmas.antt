@@ -44,19 +44,21 @@ use Rattle.s3_outside.specs.Files.{SeenFiles, shape_at}
 use Rattle.s3_outside.specs.declared.files.Shape.TheVariants as shape
 use Rattle.s3_words.specs.declared.commands.Command.{Command}
 use Rattle.attempts.specs.Attempts.{text_of}
-use Rattle.small_uploads.specs.Uploading.{Uploads}
+use Rattle.small_uploads.specs.Uploading.{Uploads, put_ask}
 use Rattle.upload_plans.specs.Commands.{bucket_of, key_of, source_path}
 use Rattle.upload_plans.specs.Plans.{content_for, planned_key, planned_task}
 use Rattle.upload_plans.specs.declared.plan.Fate.{Fate}
 use Rattle.upload_plans.specs.declared.plan.Fate.TheVariants as fate
 use Rattle.upload_plans.proofs.FateLemmas.{task_of}
-use Rattle.upload_promise.specs.Shown.{KeepsPromise, shown_by}
+use Rattle.upload_promise.specs.Shown.{KeepsPromise, one_attempt, shown_by}
 use Rattle.upload_promise.specs.Sources.{LooksAt}
 use Rattle.upload_promise.proofs.PromiseLemmas as promise
+use Rattle.upload_promise.proofs.PromiseLemmas.{one_valid}
+use Rattle.put_promise.proofs.PromiseLemmas.{uploaded}
 use Rattle.s3_main.specs.declared.run.Run.{Run}
-use Rattle.s3_main.specs.Begun.{IsBegun, needs_in, path_in}
-use Rattle.s3_main.specs.Plans.{HasPlan, HasUploaded, IsFate, IsIdle, Works, path_of, put_ask, warnings_of}
-use Rattle.s3_main.specs.Runs.{GoesAs, IfSeen, IsTrue, IsUnasked, IsUnplanned, PlansBy}
+use Rattle.s3_main.specs.Begun.{IsBegun, lists_in, needs_in, path_in}
+use Rattle.s3_main.specs.Plans.{HasPlan, HasUploaded, IsFate, IsIdle, Works, path_of, warnings_of}
+use Rattle.s3_main.specs.Runs.{GoesAs, IfSeen, IsTrue, IsUnasked, IsUnplanned, PlansBy, config_for}
 use Rattle.s3_main.proofs.BeginLemmas.{source_is}
 use Rattle.s3_main.proofs.UrlLemmas.{lists, presign_is_no_listing}
 
@@ -85,6 +87,10 @@ some_settings = record { keys = no_keys; config = some_config }
 
 abbrev nowhere : Endpoint
 nowhere = record { host = []; port = 0; written = [] }
+
+valid_for : (lists_it : Bool) (config : Config) → IsValidConfig config → IsValidConfig (if lists_it then one_attempt config else config)
+valid_for true config v = one_valid config v
+valid_for false config v = v
 
 no_left : (comes : Fate) → filter_map left_by (warnings_of comes) ≡ []
 no_left fate.NotYet = refl
@@ -138,7 +144,7 @@ module _ (words : List (List ℕ)) (env : Option SeenEnv) (limits : Limits) (val
   abbrev Keeps : Endpoint → Settings → List Task → List Outcome → List Event → List Warning → List Talk → List Note → Type 0
   Keeps endpoint settings tasks outcomes journal warnings of_talks of_notes =
       KeepsPromise Shows HasStatus (text_of endpoint settings.keys) endpoint.host endpoint.port (PlansBy words run.fatal) path before after tasks warnings now
-      (shown_by settings.config limits run.status tasks outcomes journal of_talks of_notes was now)
+      (shown_by (config_for words settings.config) limits run.status tasks outcomes journal of_talks of_notes was now)
 
   abbrev PlansNone : Type 0
   PlansNone = PlansBy words run.fatal []
@@ -146,7 +152,8 @@ module _ (words : List (List ℕ)) (env : Option SeenEnv) (limits : Limits) (val
   nothing : (endpoint : Endpoint) (settings : Settings) → IsValidConfig settings.config → PlansNone → (warnings : List Warning) → filter_map left_by warnings ≡ [] → filter_map untimed_by warnings ≡ []
       → (of_notes : List Note) → AreIdle of_notes → Keeps endpoint settings [] [] [] warnings [] of_notes
   nothing endpoint settings configured none warnings left untimed of_notes idle =
-      promise.unplanned Shows HasStatus (text_of endpoint settings.keys) endpoint.host endpoint.port (PlansBy words run.fatal) none settings.config configured limits valid run.status before after path was now same warnings left untimed of_notes idle
+      promise.unplanned Shows HasStatus (text_of endpoint settings.keys) endpoint.host endpoint.port (PlansBy words run.fatal) none (config_for words settings.config)
+      (valid_for (lists_in words) settings.config configured) limits valid run.status before after path was now same warnings left untimed of_notes idle
 
   -- the lists of the run are these
   of_run : (endpoint : Endpoint) (settings : Settings) (tasks : List Task) (outcomes : List Outcome) (journal : List Event) (warnings : List Warning) (of_talks : List Talk) (of_notes : List Note)
@@ -186,6 +193,10 @@ module _ (words : List (List ℕ)) (env : Option SeenEnv) (limits : Limits) (val
     abbrev KeepsBoth : List Task → List Outcome → List Event → List Warning → List Talk → List Note → Type 0
     KeepsBoth = Keeps endpoint settings
 
+    -- a listing tries each request once, and nothing else does
+    config_is : (lists_it : Bool) → is_listing command.verb ≡ lists_it → config_for words settings.config ≡ (if lists_it then one_attempt settings.config else settings.config)
+    config_is lists_it is = ap (λ (b : Bool). if b then one_attempt settings.config else settings.config) (lists words command begun.reads.is_command ∙ is)
+
     true_by : KeepsBoth run.plan.tasks.items run.outcomes.items run.journal.items run.warnings.items talks notes → IsTrue words env limits before after run talks notes was now
     true_by keeps = record { endpoint = endpoint; settings = settings; begun = λ some. (command, begun, refl); keeps = keeps }
 
@@ -200,23 +211,25 @@ module _ (words : List (List ℕ)) (env : Option SeenEnv) (limits : Limits) (val
 
     -- a plan with its upload
     upload_true : is_listing command.verb ≡ false → (task : Task) → IsFate command settings limits (Some was) (fate.Upload task) → run.plan.tasks.items ≡ task ∷ [] → run.warnings.items ≡ []
-        → HasUploaded endpoint settings.keys task (Some now) before after run talks notes → IsTrue words env limits before after run talks notes was now
+        → HasUploaded endpoint settings.keys settings.config.attempts task (Some now) before after run talks notes → IsTrue words env limits before after run talks notes was now
     upload_true none task fated tasks warnings (how, one, uploads) =
         let of_file = task_of command settings.config.threshold limits.max_object task fated.stands (sym fated.is) in
         let key = planned_key (source_path command) (key_of command) in
         let of_task = planned_task command (source_path command) (bucket_of command) key of_file.size of_file.micros in
-        let sent = subst (λ (t : Task). Uploads endpoint settings.keys (put_ask t) (Some now) (path_of t) t.size before after run.journal.items how talks notes) of_file.is uploads in
+        let sent = subst (λ (t : Task). Uploads endpoint settings.keys settings.config.attempts (put_ask t) (Some now) (path_of t) t.size before after run.journal.items how talks notes) of_file.is uploads in
         let stands : shape_at was.store (source_path command) ≡ shape.File of_file.size of_file.micros = fated.seen ∙ of_file.is_file in
         let keeps =
-        promise.uploaded Shows HasStatus (text_of endpoint settings.keys) endpoint.host endpoint.port (PlansBy words run.fatal) (none_planned none) settings.config begun.valid limits valid run.status before after (source_path command) was now same [] refl refl
+        uploaded endpoint settings.keys (PlansBy words run.fatal) (none_planned none) settings.config begun.valid limits valid run.status before after (source_path command) was now same [] refl refl
         (bucket_of command) key (content_for command (source_path command)) of_file.size of_file.micros of_file.small stands run.journal.items how talks notes sent in
         let here : KeepsBoth (of_task ∷ []) (how ∷ []) run.journal.items [] talks notes =
-        subst (λ (at : List ℕ). KeepsPromise Shows HasStatus (text_of endpoint settings.keys) endpoint.host endpoint.port (PlansBy words run.fatal) at before after (of_task ∷ []) [] now
-        (shown_by settings.config limits run.status (of_task ∷ []) (how ∷ []) run.journal.items talks notes was now)) (source_is words command begun.reads.is_command) keeps in
+        subst (λ (config : Config). KeepsPromise Shows HasStatus (text_of endpoint settings.keys) endpoint.host endpoint.port (PlansBy words run.fatal) path before after (of_task ∷ []) [] now
+        (shown_by config limits run.status (of_task ∷ []) (how ∷ []) run.journal.items talks notes was now)) (sym (config_is false none))
+        (subst (λ (at : List ℕ). KeepsPromise Shows HasStatus (text_of endpoint settings.keys) endpoint.host endpoint.port (PlansBy words run.fatal) at before after (of_task ∷ []) [] now
+        (shown_by settings.config limits run.status (of_task ∷ []) (how ∷ []) run.journal.items talks notes was now)) (source_is words command begun.reads.is_command) keeps) in
         true_by (of_run endpoint settings (of_task ∷ []) (how ∷ []) run.journal.items [] talks notes
         (tasks ∙ ap (λ (t : Task). t ∷ []) of_file.is) one refl warnings refl refl here)
 
-    planned_true : is_listing command.verb ≡ false → (comes : Fate) → IsFate command settings limits (Some was) comes → HasPlan comes run → Works comes endpoint settings.keys (Some now) before after run talks notes
+    planned_true : is_listing command.verb ≡ false → (comes : Fate) → IsFate command settings limits (Some was) comes → HasPlan comes run → Works comes endpoint settings.keys settings.config.attempts (Some now) before after run talks notes
         → IsTrue words env limits before after run talks notes was now
     planned_true none fate.NotYet fated plan works = absurd plan.plan
     planned_true none (fate.Refused fault) fated plan works = absurd plan.plan
@@ -234,8 +247,10 @@ module _ (words : List (List ℕ)) (env : Option SeenEnv) (limits : Limits) (val
         let more = asked_more Shows IsRefusedPage ⊥ (IsUnasked run.fatal) (wanting ≡ true) (run.fatal ≡ Some fatal.Memory) (λ h. absurd h) wants (dispatched_from 0 0 asked) needs [] None plans in
         let planned = subst (λ (all : List Need). PlansFor Shows IsRefusedPage (IsUnasked run.fatal) (run.fatal ≡ Some fatal.Memory) all (dispatched_from 0 0 asked)) (sym needed) more in
         true_by (of_run endpoint settings [] [] (events_from 0 asked) [] talks notes none.no_task none.no_outcome events none.no_warning refl refl
+        (subst (λ (config : Config). KeepsPromise Shows HasStatus (text_of endpoint settings.keys) endpoint.host endpoint.port (PlansBy words run.fatal) path before after [] [] now
+        (shown_by config limits run.status [] [] (events_from 0 asked) talks notes was now)) (sym (config_is true listing))
         (listing_keeps endpoint settings.keys (PlansBy words run.fatal) settings.config begun.valid limits valid run.status before after path was now same asked questions talks notes wanting
-        (λ e. memory (wants e)) gained planned))
+        (λ e. memory (wants e)) gained planned)))
 
     shown_true : is_listing command.verb ≡ true → HasNoOutcome run → (at : Option Place) (recursive : Bool) → needs_in words ≡ needs_of at recursive → (result : Result Shown ListingFault)
         → ShowsListing endpoint settings.keys at recursive [] run.journal.items result talks notes → EndsListing result run.fatal → IsTrue words env limits before after run talks notes was now

@@ -12,7 +12,7 @@ use Rattle.s3_outside.specs.Files.{SeenFiles}
 use Rattle.upload_plans.specs.declared.plan.Fate.{Fate}
 use Rattle.upload_plans.specs.declared.plan.Fate.TheVariants as fate
 use Rattle.upload_promise.specs.Uploads.{WantsJournal}
-use Rattle.small_uploads.specs.Uploading.{Uploads}
+use Rattle.small_uploads.specs.Uploading.{Uploads, put_ask}
 use Rattle.s3_main.specs.declared.run.Fatal.{Fatal}
 use Rattle.s3_main.specs.declared.run.Fatal.TheVariants as fatal
 use Rattle.s3_main.specs.declared.run.Run.{Run}
@@ -28,7 +28,7 @@ use Rattle.s3_main.specs.Executed.{HasLineOf, HasStatusOf}
 use Rattle.s3_main.specs.Listings.{EndsListing, HasNoOutcome, IsListing}
 use Rattle.s3_main.specs.Own.{IsOwn, IsRows, Own, nothing_own}
 use Rattle.s3_main.specs.Urls.{IsTaskless}
-use Rattle.s3_main.specs.Plans.{HasPlan, IsIdle, MayEnd, Wants, Works, path_of, put_ask}
+use Rattle.s3_main.specs.Plans.{HasPlan, IsIdle, MayEnd, Wants, Works, path_of}
 use Rattle.s3_main.specs.Runs.{EndsAsShown, EndsWith, GoesAs, IsNothingPlanned, IsPrinted, IsPrintedAs, IsUnasked, OnFirst, StopsFor, Undertakes, run_status, status_by}
 use Rattle.s3_main.specs.Texts.{err_by, err_of, err_text, fatal_after, out_by, out_of, out_text}
 
@@ -135,7 +135,7 @@ module _ (work run : Run) (line : Result (Option Line) OutOfMemory) (r : IsRepor
     warnings = ap (λ w. w.items) r.warnings ∙ h.warnings;
   }
 
-  module _ (endpoint : Endpoint) (keys : Keys) (now : Option SeenFiles) (before after : ℕ) (talks : List Talk) (notes : List Note) where
+  module _ (endpoint : Endpoint) (keys : Keys) (attempts : ℕ) (now : Option SeenFiles) (before after : ℕ) (talks : List Talk) (notes : List Note) where
     idle : IsIdle work talks notes → IsIdle run talks notes
     idle h = record {
       no_outcome = ap (λ o. o.items) r.outcomes ∙ h.no_outcome;
@@ -144,11 +144,11 @@ module _ (work run : Run) (line : Result (Option Line) OutOfMemory) (r : IsRepor
       no_note = h.no_note;
     }
 
-    works : (comes : Fate) → Works comes endpoint keys now before after work talks notes → Works comes endpoint keys now before after run talks notes
+    works : (comes : Fate) → Works comes endpoint keys attempts now before after work talks notes → Works comes endpoint keys attempts now before after run talks notes
     works (fate.Upload task) (how, one, uploads) = (
       how,
       ap (λ o. o.items) r.outcomes ∙ one,
-      subst (λ (events : List Event). Uploads endpoint keys (put_ask task) now (path_of task) task.size before after events how talks notes) (sym (ap (λ j. j.items) r.journal)) uploads,
+      subst (λ (events : List Event). Uploads endpoint keys attempts (put_ask task) now (path_of task) task.size before after events how talks notes) (sym (ap (λ j. j.items) r.journal)) uploads,
     )
     works fate.NotYet h = idle h
     works (fate.Refused fault) h = idle h
@@ -191,7 +191,7 @@ module _ (work run : Run) (line : Result (Option Line) OutOfMemory) (r : IsRepor
       no_listing = p.no_listing;
       fated = p.fated;
       plan = has_plan p.comes p.plan;
-      works = works p.command.endpoint p.settings.keys now before after talks notes p.comes p.works;
+      works = works p.command.endpoint p.settings.keys p.settings.config.attempts now before after talks notes p.comes p.works;
     }))
 
     pub does : Undertakes words limits before after work → Undertakes words limits before after run

@@ -69,10 +69,11 @@ pub record HasTask (task : Task) (run : Run) : Type 0 where
   pub no_skip : run.plan.warnings.items ≡ []
   pub no_warning : run.warnings.items ≡ []
 
-abbrev pub MayUpload : Endpoint → Keys → Task → Option SeenFiles → (faults_before faults_after : ℕ) → Run → List Talk
-    → List Note → Type 0
-MayUpload endpoint keys task now before after run talks notes =
-    IsStopped run talks notes ⊎ (HasTask task run × HasUploaded endpoint keys task now before after run talks notes)
+abbrev pub MayUpload : Endpoint → Keys → (attempts : ℕ) → Task → Option SeenFiles
+    → (faults_before faults_after : ℕ) → Run → List Talk → List Note → Type 0
+MayUpload endpoint keys attempts task now before after run talks notes =
+    IsStopped run talks notes
+    ⊎ (HasTask task run × HasUploaded endpoint keys attempts task now before after run talks notes)
 
 abbrev pub MayWant : Task → (faults_before faults_after : ℕ) → Run → Type 0
 MayWant task before after run = EndsForMemory run ⊎ (HasTask task run × HasOneOutcome before after run)
@@ -84,7 +85,7 @@ abbrev pub GoesOn : Command → Settings → Limits → (was now : Option SeenFi
 GoesOn command settings limits was now before after run talks notes =
     IsUnplanned run talks notes
     ⊎ ((comes : Fate) × IsFate command settings limits was comes × HasPlan comes run
-    × Works comes command.endpoint settings.keys now before after run talks notes)
+    × Works comes command.endpoint settings.keys settings.config.attempts now before after run talks notes)
 
 abbrev pub DoesOn : Command → Settings → Limits → (faults_before faults_after : ℕ) → Run → Type 0
 DoesOn command settings limits before after run =

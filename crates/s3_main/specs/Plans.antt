@@ -2,7 +2,6 @@
 use Rattle.std.specs.Prelude.{◌≡◌, ℕ, List, [], ◌∷◌, Option, Some, None, IfSome}
 use Rattle.s3_model.specs.declared.outcomes.Outcome.{Outcome}
 use Rattle.s3_model.specs.declared.places.Endpoint.{Endpoint}
-use Rattle.s3_model.specs.declared.requests.Ask.{Ask}
 use Rattle.s3_model.specs.declared.settings.Keys.{Keys}
 use Rattle.s3_model.specs.declared.settings.Limits.{Limits}
 use Rattle.s3_model.specs.declared.settings.Settings.{Settings}
@@ -13,12 +12,12 @@ use Rattle.s3_model.specs.Talks.{Talk, Note}
 use Rattle.s3_outside.specs.Files.{SeenFiles, shape_at}
 use Rattle.s3_outside.specs.declared.files.Shape.{Shape}
 use Rattle.s3_words.specs.declared.commands.Command.{Command}
-use Rattle.small_uploads.specs.Uploading.{Uploads}
-use Rattle.upload_plans.specs.Commands.{IsFile, IsObject, bucket_at, key_at, path_at, source_path}
+use Rattle.small_uploads.specs.Uploading.{IsPutTask, Uploads, put_ask}
+use Rattle.upload_plans.specs.Commands.{IsFile, path_at, source_path}
 use Rattle.upload_plans.specs.Plans.{fate_of}
 use Rattle.upload_plans.specs.declared.plan.Fate.{Fate}
 use Rattle.upload_plans.specs.declared.plan.Fate.TheVariants as fate
-use Rattle.upload_promise.specs.Uploads.{WantsJournal, upload_ask}
+use Rattle.upload_promise.specs.Uploads.{WantsJournal}
 use Rattle.s3_main.specs.declared.run.Fatal.{Fatal}
 use Rattle.s3_main.specs.declared.run.Fatal.TheVariants as fatal
 use Rattle.s3_main.specs.declared.run.Run.{Run}
@@ -79,21 +78,17 @@ pub record HasNoTask (why : Option Fatal) (skips warnings : List Warning) (run :
 -- from a local file to an object
 pub record IsUpload (task : Task) : Type 0 where
   pub source : IsFile task.source
-  pub dest : IsObject (Some task.dest)
+  pub put : IsPutTask task
 
--- the file, and the request
 abbrev pub path_of : Task → List ℕ
 path_of task = path_at task.source
 
-abbrev pub put_ask : Task → Ask
-put_ask task = upload_ask (bucket_at (Some task.dest)) (key_at (Some task.dest)) task.content
-
 -- the task's outcome, and what the wire gained for it
-abbrev pub HasUploaded : Endpoint → Keys → Task → Option SeenFiles → (faults_before faults_after : ℕ) → Run
-    → List Talk → List Note → Type 0
-HasUploaded endpoint keys task now before after run talks notes =
+abbrev pub HasUploaded : Endpoint → Keys → (attempts : ℕ) → Task → Option SeenFiles
+    → (faults_before faults_after : ℕ) → Run → List Talk → List Note → Type 0
+HasUploaded endpoint keys attempts task now before after run talks notes =
     (how : Outcome) × (run.outcomes.items ≡ how ∷ [])
-    × Uploads endpoint keys (put_ask task) now (path_of task) task.size before after run.journal.items how talks notes
+    × Uploads endpoint keys attempts (put_ask task) now (path_of task) task.size before after run.journal.items how talks notes
 
 -- no task: no outcome, no job, and nothing sent
 pub record IsIdle (run : Run) (talks : List Talk) (notes : List Note) : Type 0 where
@@ -102,11 +97,11 @@ pub record IsIdle (run : Run) (talks : List Talk) (notes : List Note) : Type 0 w
   pub no_talk : talks ≡ []
   pub no_note : notes ≡ []
 
-abbrev pub Works : Fate → Endpoint → Keys → Option SeenFiles → (faults_before faults_after : ℕ) → Run → List Talk
-    → List Note → Type 0
-Works (fate.Upload task) endpoint keys now before after run talks notes =
-    HasUploaded endpoint keys task now before after run talks notes
-Works comes endpoint keys now before after run talks notes = IsIdle run talks notes
+abbrev pub Works : Fate → Endpoint → Keys → (attempts : ℕ) → Option SeenFiles → (faults_before faults_after : ℕ)
+    → Run → List Talk → List Note → Type 0
+Works (fate.Upload task) endpoint keys attempts now before after run talks notes =
+    HasUploaded endpoint keys attempts task now before after run talks notes
+Works comes endpoint keys attempts now before after run talks notes = IsIdle run talks notes
 
 -- whatever can be seen: one outcome, with the jobs that it wants
 abbrev pub HasOneOutcome : (faults_before faults_after : ℕ) → Run → Type 0

@@ -12,6 +12,7 @@ use Rattle.s3_model.specs.declared.places.Endpoint.{Endpoint}
 use Rattle.s3_model.specs.declared.places.Place.{Place}
 use Rattle.s3_model.specs.declared.requests.Op.{Op}
 use Rattle.s3_model.specs.declared.requests.Op.TheVariants as op
+use Rattle.s3_model.specs.declared.settings.Config.{Config}
 use Rattle.s3_model.specs.declared.settings.Limits.{Limits}
 use Rattle.s3_model.specs.declared.settings.Settings.{Settings}
 use Rattle.s3_model.specs.declared.tasks.Warning.{Warning}
@@ -32,7 +33,7 @@ use Rattle.upload_plans.specs.Commands.{is_listing, is_presign, source_path}
 use Rattle.upload_plans.specs.Plans.{is_large}
 use Rattle.upload_plans.specs.declared.plan.Fate.{Fate}
 use Rattle.upload_plans.specs.declared.plan.Fate.TheVariants as fate
-use Rattle.upload_promise.specs.Shown.{KeepsPromise, shown_by}
+use Rattle.upload_promise.specs.Shown.{KeepsPromise, one_attempt, shown_by}
 use Rattle.s3_main.specs.declared.run.Fatal.{Fatal}
 use Rattle.s3_main.specs.declared.run.Fatal.TheVariants as fatal
 use Rattle.s3_main.specs.declared.run.Run.{Run}
@@ -190,7 +191,8 @@ pub record IsPlanned (words : List (List ℕ)) (env : Option SeenEnv) (limits : 
   pub no_listing : is_listing command.verb ≡ false
   pub fated : IsFate command settings limits was comes
   pub plan : HasPlan comes run
-  pub works : Works comes command.endpoint settings.keys now faults_before faults_after run talks notes
+  pub works : Works comes command.endpoint settings.keys settings.config.attempts now faults_before faults_after run
+      talks notes
 
 -- no plan was made, or one was, or a URL, or a listing
 abbrev pub GoesAs : (words : List (List ℕ)) → Option SeenEnv → Limits → (was now : Option SeenFiles)
@@ -236,6 +238,10 @@ abbrev pub PlansBy : (words : List (List ℕ)) → Option Fatal → List Dispatc
 PlansBy words why =
     PlansFor Shows IsRefusedPage (IsUnasked why) (why ≡ Some fatal.Memory) (needs_in words)
 
+-- a listing tries each request once
+abbrev pub config_for : (words : List (List ℕ)) → Config → Config
+config_for words config = if lists_in words then one_attempt config else config
+
 -- Over every honest service the outcomes are true, and over a willing one the task is done. The endpoint is the
 -- command's and the settings are those of the variables and files, where a request was sent.
 pub record IsTrue (words : List (List ℕ)) (env : Option SeenEnv) (limits : Limits) (faults_before faults_after : ℕ)
@@ -247,8 +253,8 @@ pub record IsTrue (words : List (List ℕ)) (env : Option SeenEnv) (limits : Lim
   pub keeps : KeepsPromise Shows HasStatus (text_of endpoint settings.keys) endpoint.host endpoint.port
       (PlansBy words run.fatal) (path_in words) faults_before faults_after
       run.plan.tasks.items run.warnings.items now
-      (shown_by settings.config limits run.status run.plan.tasks.items run.outcomes.items run.journal.items talks notes
-      was now)
+      (shown_by (config_for words settings.config) limits run.status run.plan.tasks.items run.outcomes.items
+      run.journal.items talks notes was now)
 
 -- where the files are seen before and after
 abbrev pub IfSeen : (was now : Option SeenFiles) → (SeenFiles → SeenFiles → Type 0) → Type 0

@@ -2,7 +2,7 @@
 
 ghost use Rattle.std.specs.Prelude.{◌≡◌, ◌≤◌, [], true, false, IfErr, IfOk, IfSome, map, string_bytes};
 ghost use Rattle.result_lines.specs.Tasks.{HasSource};
-ghost use Rattle.s3_model.specs.Validity.{IsValidLimits};
+ghost use Rattle.s3_model.specs.Validity.{IsValidLimits, IsWithin};
 ghost use Rattle.upload_plans.specs.Commands.{CopiesUp, source_path};
 ghost use Rattle.upload_plans.specs.Plans.{HasNoMemory};
 ghost use Rattle.run_promise.specs.Gains.{Gains};
@@ -121,8 +121,9 @@ fn execute_upload<W: Wire, F: Files>(
     requires upload { IsUpload task }
     requires source { HasSource task }
     requires mode { mode ≡ mode_in (map string_bytes words.now) }
-    ensures went { Gains (W.seen wire.old) (W.seen wire.new) (MayUpload service.endpoint service.keys task
-        (F.seen files.new) (F.faults files.old) (F.faults files.new) result.run) }
+    requires attempts { IsWithin 1 service.attempts 10 }
+    ensures went { Gains (W.seen wire.old) (W.seen wire.new) (MayUpload service.endpoint service.keys service.attempts
+        task (F.seen files.new) (F.faults files.old) (F.faults files.new) result.run) }
     ensures line { IsLineOf (map string_bytes words.now) [] result.run result.line }
     ensures does { MayWant task (F.faults files.old) (F.faults files.new) result.run }
     ensures files { LooksAt (path_of task) (F.seen files.old) (F.seen files.new) }
@@ -146,6 +147,7 @@ fn execute_command<W: Wire, F: Files>(
 ) -> Executed
     requires copies { CopiesUp start.command }
     requires mode { start.command.mode ≡ mode_in (map string_bytes words.now) }
+    requires attempts { IsWithin 1 start.settings.config.attempts 10 }
     ensures went { Gains (W.seen wire.old) (W.seen wire.new) (GoesOn start.command start.settings limits.now
         (F.seen files.old) (F.seen files.new) (F.faults files.old) (F.faults files.new) result.run) }
     ensures line { IsLineOf (map string_bytes words.now) [] result.run result.line }

@@ -149,7 +149,11 @@ pub(crate) fn execute_listing<W: Wire>(
     } = command;
     let Settings { keys, .. } = settings;
     let mut journal = Journal::make(alloc);
-    let service = Service { endpoint, keys };
+    let service = Service {
+        endpoint,
+        keys,
+        attempts: 1,
+    };
     let listed = ask(alloc, service, &from, recursive, &mut journal, wire);
     end_listing(alloc, words, listed, journal)
 }

@@ -4,7 +4,7 @@ ghost use Rattle.std.specs.Prelude.{◌≡◌, ◌≤◌, ◌⊎◌, true, false
 ghost use Rattle.upload_plans.specs.Commands.{CopiesUp, IsListed, NamesObject, is_listing, is_presign};
 ghost use Rattle.s3_main.specs.Begun.{IsBegun, IsRead, RefusedFor, StopsInSettings, StopsInWords};
 ghost use Rattle.s3_main.specs.Settings.{AreSettings, AsksOnly, settings_fatal};
-ghost use Rattle.s3_model.specs.Validity.{IsValidConfig};
+ghost use Rattle.s3_model.specs.Validity.{IsValidConfig, IsWithin};
 
 use crate::run::Fatal;
 use env_settings::{SettingsFault, read_settings};
@@ -21,22 +21,29 @@ pub(crate) struct Start {
     pub settings: Settings,
 }
 
-/// Where the requests of a command go, and what signs them.
+/// Where the requests of a command go, what signs them, and how often each is tried.
 #[derive(Drop)]
 pub(crate) struct Service {
     pub endpoint: Endpoint,
     pub keys: Keys,
+    /// The most attempts of a request.
+    pub attempts: u32,
 }
 
 /// The service of a command, whose other parts are let go.
 pub(crate) fn service_of(start: Start) -> Service
     ensures endpoint { result.endpoint ≡ start.command.endpoint }
     ensures keys { result.keys ≡ start.settings.keys }
+    ensures attempts { result.attempts ≡ start.settings.config.attempts }
 {
     let Start { command, settings } = start;
     let Command { endpoint, .. } = command;
-    let Settings { keys, .. } = settings;
-    Service { endpoint, keys }
+    let Settings { keys, config } = settings;
+    Service {
+        endpoint,
+        keys,
+        attempts: config.attempts,
+    }
 }
 
 /// The command of the words; a fault of them ends the run, and so does a command that is not built yet.
@@ -93,6 +100,7 @@ pub(crate) fn read_start<E: Env>(
     ensures object { IfOk result (λ start. is_presign start.command.verb ≡ true → NamesObject start.command) }
     ensures least { IfOk result (λ start. 1 ≤ start.command.expires) }
     ensures most { IfOk result (λ start. start.command.expires ≤ 604800) }
+    ensures attempts { IfOk result (λ start. IsWithin 1 start.settings.config.attempts 10) }
     ensures stops { IfErr result (λ why. StopsInWords (map string_bytes words.now) why ⊎
         StopsInSettings (map string_bytes words.now) (E.seen env.new) (E.faults env.old) (E.faults env.new) why) }
     ensures asked { AsksOnly (E.seen env.old) (E.seen env.new) (E.faults env.old) (E.faults env.new) }

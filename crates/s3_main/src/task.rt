@@ -1,26 +1,27 @@
 //! The one task of a run.
 
 ghost use Rattle.std.specs.Prelude.{◌≡◌, ◌≤◌, [], ◌∷◌, None, IfOk};
+ghost use Rattle.std.specs.Arc.{arc_value};
+ghost use Rattle.s3_model.specs.Validity.{IsWithin};
 ghost use Rattle.result_lines.specs.Tasks.{HasShownCause, HasSource};
-ghost use Rattle.small_uploads.specs.Uploading.{IsPut};
-ghost use Rattle.upload_plans.specs.Commands.{bucket_at, key_at};
 ghost use Rattle.run_promise.specs.Gains.{Gains};
 ghost use Rattle.upload_promise.specs.Sources.{LooksAt};
-ghost use Rattle.s3_main.specs.Plans.{HasOneOutcome, HasUploaded, IsUpload, path_of, put_ask};
+ghost use Rattle.s3_main.specs.Plans.{HasOneOutcome, HasUploaded, IsUpload, path_of};
 ghost use Rattle.s3_main.specs.Rooms.{HasRoom};
 ghost use Rattle.s3_main.specs.Texts.{HasTexts, err_lines, out_lines};
 
 use crate::execution::Executed;
 use crate::run::Run;
 use crate::start::Service;
-use attempts::Client;
+use lane_jobs::Carrier;
 use result_lines::line_of;
 use s3_model::{
-    Ask, Journal, List, Mode, OutOfMemory, Outcomes, Place, Plan, Task, Tasks, Text, Warnings,
+    Journal, List, Mode, OutOfMemory, Outcomes, Place, Plan, Task, Tasks, Text, Warnings,
 };
 use s3_outside::{Files, Wire};
 use small_uploads::upload;
 use std::alloc::Global;
+use std::sync::Arc;
 
 /// The lists that a run fills.
 #[derive(Drop)]
@@ -63,23 +64,51 @@ fn copy_of(text: &Option<Text>) -> Result<Option<Text>, OutOfMemory>
     }
 }
 
-/// The request of an upload.
-fn put_of(task: &Task) -> Result<Ask, OutOfMemory>
-    requires { IsUpload task.now }
-    ensures { IfOk result (λ asked. asked ≡ put_ask task.now) }
+fn copy_place(place: &Place) -> Result<Place, OutOfMemory>
+    ensures { IfOk result (λ copy. copy ≡ place.now) }
 {
-    let Place::Object { bucket, key } = &task.dest else {
-        unreachable!()
-    };
-    let bucket = bucket.copy()?;
-    let key = key.copy()?;
-    let content = copy_of(&task.content)?;
-    Ok(Ask::Put {
-        bucket,
-        key,
-        content,
-        fresh: false,
+    match place {
+        Place::Object { bucket, key } => Ok(Place::Object {
+            bucket: bucket.copy()?,
+            key: key.copy()?,
+        }),
+        Place::File { path } => Ok(Place::File { path: path.copy()? }),
+    }
+}
+
+fn copy_source(source: &Option<Place>) -> Result<Option<Place>, OutOfMemory>
+    ensures { IfOk result (λ copy. copy ≡ source.now) }
+{
+    match source {
+        Some(place) => Ok(Some(copy_place(place)?)),
+        None => Ok(None),
+    }
+}
+
+/// A copy of a task for its jobs.
+fn copy_task(task: &Task) -> Result<Task, OutOfMemory>
+    ensures { IfOk result (λ copy. copy ≡ task.now) }
+{
+    Ok(Task {
+        kind: task.kind,
+        moves: task.moves,
+        source: copy_source(&task.source)?,
+        dest: copy_place(&task.dest)?,
+        size: task.size,
+        etag: task.etag.copy()?,
+        micros: task.micros,
+        content: copy_of(&task.content)?,
+        fresh: task.fresh,
     })
+}
+
+fn share(alloc: Global, task: &Task) -> Result<Arc<Task, Global>, OutOfMemory>
+    ensures { IfOk result (λ shared. arc_value shared ≡ task.now) }
+{
+    match Arc::new(alloc, copy_task(task)?) {
+        Ok(shared) => Ok(shared),
+        Err(_) => Err(OutOfMemory),
+    }
 }
 
 fn source_of(task: &Task) -> &str
@@ -96,25 +125,26 @@ fn source_of(task: &Task) -> &str
 #[derive(Drop)]
 pub(crate) struct Prepared {
     pub lists: Lists,
-    pub client: Client,
-    pub asked: Ask,
+    pub carrier: Carrier,
+    pub shared: Arc<Task, Global>,
 }
 
 /// Makes all that a task wants of memory before it begins.
 pub(crate) fn prepare(alloc: Global, service: Service, task: &Task) -> Result<Prepared, OutOfMemory>
-    requires { IsUpload task.now }
-    ensures endpoint { IfOk result (λ made. made.client.endpoint ≡ service.endpoint) }
-    ensures keys { IfOk result (λ made. made.client.signer ≡ service.keys) }
-    ensures asked { IfOk result (λ made. made.asked ≡ put_ask task.now) }
+    requires { IsWithin 1 service.attempts 10 }
+    ensures endpoint { IfOk result (λ made. made.carrier.endpoint ≡ service.endpoint) }
+    ensures keys { IfOk result (λ made. made.carrier.keys ≡ service.keys) }
+    ensures attempts { IfOk result (λ made. made.carrier.attempts ≡ service.attempts) }
+    ensures shared { IfOk result (λ made. arc_value made.shared ≡ task.now) }
     ensures room { IfOk result (λ made. HasRoom made.lists) }
 {
     let lists = make_lists(alloc)?;
-    let client = Client::make(alloc, service.endpoint, service.keys)?;
-    let asked = put_of(task)?;
+    let carrier = Carrier::make(alloc, &service.endpoint, &service.keys, service.attempts)?;
+    let shared = share(alloc, task)?;
     Ok(Prepared {
         lists,
-        client,
-        asked,
+        carrier,
+        shared,
     })
 }
 
@@ -129,14 +159,14 @@ pub(crate) fn do_task<F: Files, W: Wire>(
 ) -> Executed
     requires room { HasRoom prepared.lists }
     requires upload { IsUpload task }
-    requires asked { prepared.asked ≡ put_ask task }
+    requires shared { arc_value prepared.shared ≡ task }
     requires source { HasSource task }
     ensures line { HasTexts (out_lines mode result.run.plan.tasks.items result.run.outcomes.items)
         (err_lines mode result.run.plan.tasks.items result.run.outcomes.items) result.line }
     ensures fatal { result.run.fatal ≡ None }
     ensures tasks { result.run.plan.tasks.items ≡ task ∷ [] }
-    ensures went { Gains (W.seen wire.old) (W.seen wire.new) (HasUploaded prepared.client.endpoint
-        prepared.client.signer task (F.seen files.new) (F.faults files.old) (F.faults files.new) result.run) }
+    ensures went { Gains (W.seen wire.old) (W.seen wire.new) (HasUploaded prepared.carrier.endpoint
+        prepared.carrier.keys prepared.carrier.attempts task (F.seen files.new) (F.faults files.old) (F.faults files.new) result.run) }
     ensures outcome { HasOneOutcome (F.faults files.old) (F.faults files.new) result.run }
     ensures warnings { result.run.warnings.items ≡ [] }
     ensures skips { result.run.plan.warnings.items ≡ [] }
@@ -146,8 +176,8 @@ pub(crate) fn do_task<F: Files, W: Wire>(
 {
     let Prepared {
         lists,
-        mut client,
-        asked,
+        mut carrier,
+        shared,
     } = prepared;
     let Lists {
         mut tasks,
@@ -158,8 +188,8 @@ pub(crate) fn do_task<F: Files, W: Wire>(
         alloc,
         files,
         wire,
-        &mut client,
-        &asked,
+        &mut carrier,
+        shared,
         source_of(&task),
         task.size,
         &mut journal,

@@ -1,2 +1,2 @@
-pub mod AttemptLemmas
+pub mod JobLemmas
 pub mod UploadLemmas

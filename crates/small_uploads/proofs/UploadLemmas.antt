@@ -1,30 +1,37 @@
 -- What became of one upload.
-use Rattle.std.proofs.Common.{◌≡◌, ◌∙◌, ◌++◌, ℕ, List, [], ◌∷◌, Option, Some, None, Result, Err, IfSome, IsErrOf, refl, ap, inl, inr, length}
+use Rattle.std.proofs.Common.{◌≡◌, ◌∙◌, ◌++◌, ℕ, Bool, true, false, List, [], ◌∷◌, Option, Some, None, Result, Err, IfSome, IsErrOf, refl, sym, ap, subst, inl, inr, if◌then◌else◌}
+use Rattle.shared_lemmas.proofs.Clashes.{false_true, none_is_some}
+use Rattle.jobs.specs.Endings.{EndIn, IsEnded}
+use Rattle.jobs.specs.Holders.{Holder}
+use Rattle.jobs.specs.declared.ending.Ending.{Ending}
+use Rattle.jobs.specs.declared.ending.Ending.TheVariants as ending
+use Rattle.s3_model.specs.declared.answers.Why.{Why}
+use Rattle.s3_model.specs.declared.answers.Why.TheVariants as why
+use Rattle.s3_model.specs.declared.bytes.Part.{Part}
 use Rattle.s3_model.specs.declared.requests.Ask.{Ask}
+use Rattle.s3_model.specs.declared.requests.Op.{Op}
+use Rattle.s3_model.specs.declared.requests.Op.TheVariants as op
+use Rattle.s3_model.specs.declared.outcomes.Cause.{Cause}
+use Rattle.s3_model.specs.declared.outcomes.Cause.TheVariants as cause
 use Rattle.s3_model.specs.declared.outcomes.Event.{Event}
 use Rattle.s3_model.specs.declared.outcomes.Event.TheVariants as entry
 use Rattle.s3_model.specs.declared.outcomes.Outcome.TheVariants as outcome
 use Rattle.s3_model.specs.declared.places.Endpoint.{Endpoint}
 use Rattle.s3_model.specs.declared.settings.Keys.{Keys}
 use Rattle.s3_model.specs.declared.tries.Mark.{Mark}
+use Rattle.s3_model.specs.declared.tries.Mark.TheVariants as mark
 use Rattle.s3_model.specs.Counts.{Rose}
-use Rattle.s3_model.specs.Talks.{Talk, Note, WireLog}
+use Rattle.s3_model.specs.Talks.{WireLog}
 use Rattle.s3_outside.specs.Files.{SeenFiles}
+use Rattle.run_promise.specs.Dispatches.{last_of}
+use Rattle.run_promise.specs.Gains.{Gains}
+use Rattle.run_promise.proofs.GainLemmas.{gains_nothing}
 use Rattle.upload_promise.specs.Puts.{put_job}
-use Rattle.s3_model.specs.declared.answers.Why.{Why}
-use Rattle.s3_model.specs.declared.answers.Why.TheVariants as why
-use Rattle.attempts.specs.Attempts.{tries_of}
-use Rattle.attempts.specs.declared.send.Attempted.{Attempted}
-use Rattle.attempts.specs.declared.send.Attempted.TheVariants as attempted
-use Rattle.s3_model.specs.declared.answers.Class.TheVariants as class
+use Rattle.upload_promise.specs.Sources.{HasFewer}
+use Rattle.upload_promise.specs.Uploads.{IsReadCause, WantsJournal, is_open, put_events}
+use Rattle.small_uploads.specs.Uploading.{Uploads, failed_or_unknown, lost_cause, outcome_of, read_cause}
 use Rattle.small_uploads.specs.declared.source.ReadFault.{ReadFault}
 use Rattle.small_uploads.specs.declared.source.ReadFault.TheVariants as read
-use Rattle.run_promise.specs.Gains.{Gains}
-use Rattle.upload_promise.specs.Sources.{AreFirstBytes, HasFewer}
-use Rattle.upload_promise.specs.Uploads.{IsReadCause, WantsJournal, put_events}
-use Rattle.small_uploads.specs.Uploading.{Carried, Uploads, lost_cause, outcome_of, put_journal, read_cause}
-use Rattle.small_uploads.proofs.AttemptLemmas.{carries}
-use Rattle.run_promise.proofs.GainLemmas.{gains_nothing, gains_as}
 
 -- the cause of a read that failed
 read_reason : (seen : Option SeenFiles) (path : List ℕ) (size before after : ℕ) (fault : ReadFault) → (fault ≡ read.Failed → Rose before after)
@@ -35,21 +42,12 @@ read_reason (Some files) path size before after read.Short rose fewer = fewer re
 read_reason seen path size before after read.Memory rose fewer = tt
 
 -- nothing was sent, since the bytes did not come
-pub unread : (endpoint : Endpoint) (keys : Keys) (asked : Ask) (seen : Option SeenFiles) (path : List ℕ) (size before after : ℕ) (journal : List Event) (wire : Option WireLog) (fault : ReadFault)
+pub unread : (endpoint : Endpoint) (keys : Keys) (attempts : ℕ) (asked : Ask) (seen : Option SeenFiles) (path : List ℕ) (size before after : ℕ) (journal : List Event) (wire : Option WireLog) (fault : ReadFault)
     → (fault ≡ read.Failed → Rose before after) → IfSome seen (λ files. fault ≡ read.Short → HasFewer files.store path size) → journal ≡ []
-    → Gains wire wire (Uploads endpoint keys asked seen path size before after journal (outcome.Failed (read_cause fault)))
-unread endpoint keys asked seen path size before after journal wire fault rose fewer none =
-    gains_nothing (Uploads endpoint keys asked seen path size before after journal (outcome.Failed (read_cause fault))) wire
+    → Gains wire wire (Uploads endpoint keys attempts asked seen path size before after journal (outcome.Failed (read_cause fault)))
+unread endpoint keys attempts asked seen path size before after journal wire fault rose fewer none =
+    gains_nothing (Uploads endpoint keys attempts asked seen path size before after journal (outcome.Failed (read_cause fault))) wire
     (inl (record { why = read_cause fault; failed = refl; reason = read_reason seen path size before after fault rose fewer; no_job = none; no_talk = refl; no_note = refl }))
-
--- the Put of the bytes was carried
-pub given : (endpoint : Endpoint) (keys : Keys) (asked : Ask) (seen : Option SeenFiles) (path : List ℕ) (size before after : ℕ) (journal : List Event) (first last : Option WireLog) (result : Attempted) (bytes : List ℕ)
-    → Gains first last (Carried endpoint keys asked bytes result) → journal ≡ put_journal result → length bytes ≡ size → IfSome seen (λ files. AreFirstBytes files.store path bytes)
-    → Gains first last (Uploads endpoint keys asked seen path size before after journal (outcome_of result))
-given endpoint keys asked seen path size before after journal first last result bytes gains journals same first_bytes =
-    gains_as (Carried endpoint keys asked bytes result) (Uploads endpoint keys asked seen path size before after journal (outcome_of result))
-    (λ talks notes carried. inr (record { bytes = bytes; size_is = same; read = first_bytes; carries = carries endpoint keys asked bytes result journal talks notes carried journals }))
-    first last gains
 
 -- a read that came short, where files are seen
 pub short_told : (T : Type 0) (seen : Option SeenFiles) (path : List ℕ) (size : ℕ) (fault : ReadFault) → IfSome seen (λ files. (let r : Result T ReadFault = Err fault in IsErrOf r read.Short) → HasFewer files.store path size)
@@ -58,11 +56,9 @@ short_told T None path size fault h = tt
 short_told T (Some files) path size fault h = λ e. h (ap Err e)
 
 -- the two events of the job
-pub journal_of : (old one two : List Event) (marks : List Mark) (result : Attempted) → old ≡ [] → one ≡ old ++ entry.Given put_job 0 ∷ [] → two ≡ one ++ entry.Came put_job 0 marks ∷ []
-    → marks ≡ tries_of result → two ≡ put_journal result
-journal_of old one two marks result none given came same =
-    came ∙ (ap (λ (xs : List Event). xs ++ entry.Came put_job 0 marks ∷ []) (given ∙ ap (λ (xs : List Event). xs ++ entry.Given put_job 0 ∷ []) none)
-    ∙ ap (λ (ms : List Mark). entry.Given put_job 0 ∷ entry.Came put_job 0 ms ∷ []) same)
+pub journal_of : (old one two : List Event) (marks : List Mark) → old ≡ [] → one ≡ old ++ entry.Given put_job 0 ∷ [] → two ≡ one ++ entry.Came put_job 0 marks ∷ [] → two ≡ put_events marks
+journal_of old one two marks none given came =
+    came ∙ ap (λ (xs : List Event). xs ++ entry.Came put_job 0 marks ∷ []) (given ∙ ap (λ (xs : List Event). xs ++ entry.Given put_job 0 ∷ []) none)
 
 -- ---- the jobs that an outcome wants
 
@@ -72,21 +68,51 @@ read_wants before after read.Failed journal rose none = (none, rose refl)
 read_wants before after read.Short journal rose none = none
 read_wants before after read.Memory journal rose none = inl none
 
-lost_wants : (before after : ℕ) (reason : Why) (journal : List Event) → journal ≡ put_journal (attempted.Made (class.Uncertain reason)) → WantsJournal before after (outcome.Unknown (lost_cause reason)) journal
-lost_wants before after why.Memory journal is = is
-lost_wants before after why.WireFailed journal is = (refl, is)
-lost_wants before after why.EndedEarly journal is = (refl, is)
-lost_wants before after why.NotHttp journal is = (refl, is)
-lost_wants before after why.HeadTooLong journal is = (refl, is)
-lost_wants before after (why.BodyTooLong most) journal is = (refl, is)
-lost_wants before after why.BadLength journal is = (refl, is)
-lost_wants before after why.BadChunk journal is = (refl, is)
-lost_wants before after (why.Status status) journal is = (refl, is)
-lost_wants before after why.Internal journal is = (refl, is)
-lost_wants before after why.Document journal is = (refl, is)
+-- ---- marks
 
-pub attempt_wants : (before after : ℕ) (result : Attempted) (journal : List Event) → journal ≡ put_journal result → WantsJournal before after (outcome_of result) journal
-attempt_wants before after (attempted.Made (class.Success said)) journal is = is
-attempt_wants before after (attempted.Made (class.Refusal code message)) journal is = (refl, is)
-attempt_wants before after (attempted.Made (class.Uncertain reason)) journal is = lost_wants before after reason journal is
-attempt_wants before after attempted.Memory journal is = inr is
+last_in : (front : List Mark) (m : Mark) → last_of (front ++ m ∷ []) ≡ Some m
+last_in [] m = refl
+last_in (x ∷ []) m = refl
+last_in (x ∷ y ∷ front) m = last_in (y ∷ front) m
+
+ends_with : (m : Mark) (marks : List Mark) → EndIn m marks → last_of marks ≡ Some m
+ends_with m marks h = ap (λ (ms : List Mark). last_of ms) h.1 ∙ last_in h.0 m
+
+open_in : (front : List Mark) → is_open (front ++ mark.Uncertain ∷ []) ≡ true
+open_in [] = refl
+open_in (mark.Success ∷ front) = open_in front
+open_in (mark.Refusal ∷ front) = open_in front
+open_in (mark.Uncertain ∷ front) = refl
+
+-- ---- the jobs that an ending wants
+
+module _ (before after : ℕ) (journal : List Event) (marks : List Mark) (is : journal ≡ put_events marks) where
+  refused_wants : (code message : List ℕ) (b : Bool) → is_open marks ≡ b → last_of marks ≡ Some mark.Refusal
+      → WantsJournal before after (if b then outcome.Unknown (cause.Service op.Put code message) else outcome.Failed (cause.Service op.Put code message)) journal
+  refused_wants code message true open_ last = (refl, (marks, is, (last, open_)))
+  refused_wants code message false open_ last = (refl, (marks, is, (last, open_)))
+
+  memory_wants : (b : Bool) → is_open marks ≡ b → WantsJournal before after (if b then outcome.Unknown cause.Memory else outcome.Failed cause.Memory) journal
+  memory_wants true open_ = (marks, is, open_)
+  memory_wants false open_ = inr (marks, is, open_)
+
+  lost_wants : (reason : Why) → EndIn mark.Uncertain marks → WantsJournal before after (outcome.Unknown (lost_cause reason)) journal
+  lost_wants why.Memory h = (marks, is, ap is_open h.1 ∙ open_in h.0)
+  lost_wants why.WireFailed h = (refl, (marks, is, ends_with mark.Uncertain marks h))
+  lost_wants why.EndedEarly h = (refl, (marks, is, ends_with mark.Uncertain marks h))
+  lost_wants why.NotHttp h = (refl, (marks, is, ends_with mark.Uncertain marks h))
+  lost_wants why.HeadTooLong h = (refl, (marks, is, ends_with mark.Uncertain marks h))
+  lost_wants (why.BodyTooLong most) h = (refl, (marks, is, ends_with mark.Uncertain marks h))
+  lost_wants why.BadLength h = (refl, (marks, is, ends_with mark.Uncertain marks h))
+  lost_wants why.BadChunk h = (refl, (marks, is, ends_with mark.Uncertain marks h))
+  lost_wants (why.Status status) h = (refl, (marks, is, ends_with mark.Uncertain marks h))
+  lost_wants why.Internal h = (refl, (marks, is, ends_with mark.Uncertain marks h))
+  lost_wants why.Document h = (refl, (marks, is, ends_with mark.Uncertain marks h))
+
+  pub ended_wants : (ended : Ending) (of_op : Op) (part : Option Part) (cell : Option Holder) → cell ≡ None → IsEnded ended of_op part cell marks → WantsJournal before after (outcome_of marks ended) journal
+  ended_wants (ending.Gained said) of_op part cell none h = (marks, is, ends_with mark.Success marks h.0)
+  ended_wants (ending.Refused code message) of_op part cell none h = refused_wants code message (is_open marks) refl (ends_with mark.Refusal marks h)
+  ended_wants (ending.Uncertain reason) of_op part cell none h = lost_wants reason h
+  ended_wants (ending.Cancelled reason) of_op part None none h = absurd (false_true h.1)
+  ended_wants (ending.Cancelled reason) of_op part (Some cell) none h = absurd (none_is_some cell (sym none))
+  ended_wants ending.Memory of_op part cell none h = memory_wants (is_open marks) refl

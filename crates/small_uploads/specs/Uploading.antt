@@ -1,10 +1,14 @@
--- What became of one upload, by the reading of its file and by the attempt of its Put.
-use Rattle.std.specs.Prelude.{ℕ, List, [], ◌∷◌, Option, None}
-use Rattle.answer_classes.specs.Showing.{Shows}
-use Rattle.attempts.specs.Attempts.{Makes, text_of, tries_of}
-use Rattle.attempts.specs.declared.send.Attempted.{Attempted}
-use Rattle.attempts.specs.declared.send.Attempted.TheVariants as attempted
-use Rattle.s3_model.specs.declared.answers.Class.TheVariants as class
+-- What became of one upload, by the reading of its file and by the attempts of its Put.
+use Rattle.std.specs.Prelude.{◌≡◌, ◌≤◌, ◌<◌, ◌+◌, ℕ, true, false, List, [], Option, Some, None, length, map, slice_get, if◌then◌else◌}
+use Rattle.std.specs.Arc.{arc_value}
+use Rattle.attempts.specs.Attempts.{SignedRequest, signed_request}
+use Rattle.jobs.specs.declared.ending.Ending.{Ending}
+use Rattle.jobs.specs.declared.ending.Ending.TheVariants as ending
+use Rattle.jobs.specs.declared.what.What.{What}
+use Rattle.jobs.specs.declared.what.What.TheVariants as what
+use Rattle.lane_jobs.specs.Lanes.{Ends, IsShare, most_attempts}
+use Rattle.run_promise.specs.Carried.{mark_of}
+use Rattle.s3_model.specs.declared.answers.Class.{Class}
 use Rattle.s3_model.specs.declared.answers.Why.{Why}
 use Rattle.s3_model.specs.declared.answers.Why.TheVariants as why
 use Rattle.s3_model.specs.declared.outcomes.Cause.{Cause}
@@ -14,32 +18,48 @@ use Rattle.s3_model.specs.declared.outcomes.FileCall.TheVariants as call
 use Rattle.s3_model.specs.declared.outcomes.Outcome.{Outcome}
 use Rattle.s3_model.specs.declared.outcomes.Outcome.TheVariants as outcome
 use Rattle.s3_model.specs.declared.places.Endpoint.{Endpoint}
+use Rattle.s3_model.specs.declared.places.Place.{Place}
+use Rattle.s3_model.specs.declared.places.Place.TheVariants as place
 use Rattle.s3_model.specs.declared.requests.Ask.{Ask}
-use Rattle.s3_model.specs.declared.requests.Ask.TheVariants as ask
 use Rattle.s3_model.specs.declared.requests.Op.TheVariants as op
 use Rattle.s3_model.specs.declared.settings.Keys.{Keys}
+use Rattle.s3_model.specs.declared.tasks.Kind.TheVariants as kind
+use Rattle.s3_model.specs.declared.tasks.Task.{Task}
+use Rattle.s3_model.specs.declared.tries.Mark.{Mark}
+use Rattle.s3_model.specs.Classes.{is_tried_again}
 use Rattle.s3_model.specs.Talks.{Talk, Note}
 use Rattle.s3_outside.specs.Files.{SeenFiles}
-use Rattle.upload_promise.specs.Uploads as any_service
-use Rattle.upload_promise.specs.Uploads.{put_events}
+use Rattle.upload_promise.specs.Uploads as any_carrier
+use Rattle.upload_promise.specs.Uploads.{is_open, put_events, upload_ask}
 use Rattle.small_uploads.specs.declared.source.ReadFault.{ReadFault}
 use Rattle.small_uploads.specs.declared.source.ReadFault.TheVariants as read
 
--- The file's bytes did not come, or the Put of them was carried to this service, signed with these keys.
-abbrev pub Uploads : Endpoint → Keys → Ask → Option SeenFiles → (path : List ℕ) → (size faults_before faults_after : ℕ)
-    → List Event → Outcome → List Talk → List Note → Type 0
-Uploads endpoint keys = any_service.Uploads Shows (text_of endpoint keys) endpoint.host endpoint.port
+-- ---- the job
 
-abbrev pub IsPut : Ask → Type 0
-IsPut (ask.Put bucket key content fresh) = Unit {0}
-IsPut asked = ⊥
+abbrev pub GoesToObject : Place → Type 0
+GoesToObject (place.Object bucket key) = Unit {0}
+GoesToObject (place.File path) = ⊥
 
--- what the wire gains by the one attempt
-abbrev pub Carried : Endpoint → Keys → Ask → (body : List ℕ) → Attempted → List Talk → List Note → Type 0
-Carried endpoint keys asked body result talks notes =
-    (place : List ℕ)
-    × Makes (record { endpoint = endpoint; keys = keys; asked = asked; body = body; limit = None }) result place
-    talks notes
+-- a task that one Put carries out, whatever stands at its destination
+pub record IsPutTask (task : Task) : Type 0 where
+  pub kind_is : task.kind ≡ kind.Upload
+  pub replaces : task.fresh ≡ false
+  pub to_object : GoesToObject task.dest
+
+-- its request
+abbrev pub ask_for : Place → (content : Option (List ℕ)) → Ask
+ask_for (place.Object bucket key) content = upload_ask bucket key content
+ask_for (place.File path) content = upload_ask [] [] content
+
+abbrev pub put_ask : Task → Ask
+put_ask task = ask_for task.dest task.content
+
+-- a step of this task
+abbrev pub IsStepOf : Task → What → Type 0
+IsStepOf task (what.Plan planned) = ⊥
+IsStepOf task (what.Step shared range upload etags) = arc_value shared ≡ task
+
+-- ---- what became of it
 
 -- the cause of a task whose bytes did not come
 abbrev pub read_cause : ReadFault → Cause
@@ -52,12 +72,37 @@ abbrev pub lost_cause : Why → Cause
 lost_cause why.Memory = cause.Memory
 lost_cause reason = cause.Lost op.Put reason
 
--- the outcome of an upload whose Put was attempted so
-abbrev pub outcome_of : Attempted → Outcome
-outcome_of (attempted.Made (class.Success said)) = outcome.Done
-outcome_of (attempted.Made (class.Refusal code message)) = outcome.Failed (cause.Service op.Put code message)
-outcome_of (attempted.Made (class.Uncertain reason)) = outcome.Unknown (lost_cause reason)
-outcome_of attempted.Memory = outcome.Failed cause.Memory
+-- where an attempt was left open, nobody can know what the request did
+abbrev pub failed_or_unknown : List Mark → Cause → Outcome
+failed_or_unknown marks why = if is_open marks then outcome.Unknown why else outcome.Failed why
 
-abbrev pub put_journal : Attempted → List Event
-put_journal result = put_events (tries_of result)
+-- the outcome of an upload whose Put had these marks and ended so
+abbrev pub outcome_of : List Mark → Ending → Outcome
+outcome_of marks (ending.Gained said) = outcome.Done
+outcome_of marks (ending.Refused code message) = failed_or_unknown marks (cause.Service op.Put code message)
+outcome_of marks (ending.Uncertain reason) = outcome.Unknown (lost_cause reason)
+outcome_of marks (ending.Cancelled reason) = failed_or_unknown marks (cause.Cancelled reason)
+outcome_of marks ending.Memory = failed_or_unknown marks cause.Memory
+
+abbrev pub put_request : Endpoint → Keys → Ask → (body : List ℕ) → SignedRequest
+put_request endpoint keys asked body = signed_request endpoint keys asked body None
+
+-- The Put of this body was carried: its attempts with their classes, at most so many, and the ending that they come to,
+-- which nothing cut short. The wire gained these attempts and the pauses before them, and nothing else.
+pub record IsPutCarried (endpoint : Endpoint) (keys : Keys) (attempts : ℕ) (asked : Ask) (body : List ℕ)
+    (journal : List Event) (how : Outcome) (talks : List Talk) (notes : List Note) : Type 0 where
+  pub classes : List Class
+  pub ended : Ending
+  pub place : List ℕ
+  pub journals : journal ≡ put_events (map mark_of classes)
+  pub comes_to : how ≡ outcome_of (map mark_of classes) ended
+  pub at_most : 0 + length classes ≤ most_attempts attempts 0
+  pub again : (k : ℕ) (shown : Class) → slice_get classes k ≡ Some shown → k + 1 < length classes
+      → is_tried_again shown ≡ true
+  pub ends : Ends (0 + length classes) (most_attempts attempts 0) None classes ended
+  pub shared : IsShare (put_request endpoint keys asked body) 0 place classes ended talks notes
+
+-- The file's bytes did not come, or the Put of them was carried to this service, signed with these keys.
+abbrev pub Uploads : Endpoint → Keys → (attempts : ℕ) → Ask → Option SeenFiles → (path : List ℕ)
+    → (size faults_before faults_after : ℕ) → List Event → Outcome → List Talk → List Note → Type 0
+Uploads endpoint keys attempts = any_carrier.Uploads (IsPutCarried endpoint keys attempts)

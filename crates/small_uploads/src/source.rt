@@ -1,9 +1,10 @@
 //! The bytes of the local file.
 
-ghost use Rattle.std.specs.Prelude.{◌≡◌, ◌≢◌, ◌≤◌, ◌<◌, length, take, Err, IfOk, IfSome, IsErrOf, vec_len};
+ghost use Rattle.std.specs.Prelude.{◌≡◌, ◌≢◌, ◌≤◌, ◌<◌, length, take, Err, IfOk, IfSome, IsErrOf};
 ghost use Rattle.s3_model.specs.Counts.{Rose};
 ghost use Rattle.upload_promise.specs.Sources.{AreFirstBytes, HasFewer, Keeps, LooksAt};
 
+use s3_model::Bytes;
 use s3_outside::Files;
 use std::alloc::Global;
 
@@ -48,10 +49,10 @@ pub(crate) fn read_whole<F: Files>(
     files: &mut F,
     path: &str,
     size: u64,
-) -> Result<Vec<u8>, ReadFault>
-    ensures length { IfOk result (λ bytes. vec_len bytes ≡ size) }
+) -> Result<Bytes, ReadFault>
+    ensures length { IfOk result (λ made. length made.bytes ≡ size) }
     ensures bytes { IfSome (F.seen files.new)
-        (λ seen. IfOk result (λ bytes. AreFirstBytes seen.store path.now bytes.items)) }
+        (λ seen. IfOk result (λ made. AreFirstBytes seen.store path.now made.bytes)) }
     ensures short { IfSome (F.seen files.new)
         (λ seen. IsErrOf result ReadFault.Short → HasFewer seen.store path.now size) }
     ensures failed { IsErrOf result ReadFault.Failed → Rose (F.faults files.old) (F.faults files.new) }
@@ -59,12 +60,13 @@ pub(crate) fn read_whole<F: Files>(
     ensures looks { LooksAt path.now (F.seen files.old) (F.seen files.new) }
     ensures later { F.faults files.old ≤ F.faults files.new }
 {
-    let Ok(mut bytes) = vec![in alloc; 0u8; size as usize] else {
+    let Ok(mut bytes) = Bytes::make(alloc, size) else {
         return Err(ReadFault::Memory);
     };
+    bytes.grow(size as usize);
     let mut at: usize = 0;
-    'pieces: while at < bytes.len() {
-        at = read_more(files, path, &mut bytes, at)?;
+    'pieces: while (at as u64) < size {
+        at = read_more(files, path, bytes.as_mut_slice(), at)?;
     }
     Ok(bytes)
 }

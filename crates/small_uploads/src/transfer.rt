@@ -1,16 +1,21 @@
 //! The work of one upload.
 
-ghost use Rattle.std.specs.Prelude.{◌≡◌, ◌≤◌, []};
+ghost use Rattle.std.specs.Prelude.{◌≡◌, ◌≤◌, [], Some, None};
+ghost use Rattle.std.specs.Arc.{arc_value};
 ghost use Rattle.run_promise.specs.Gains.{Gains};
+ghost use Rattle.upload_promise.specs.Puts.{put_job};
 ghost use Rattle.upload_promise.specs.Sources.{LooksAt};
-ghost use Rattle.upload_promise.specs.Uploads.{WantsJournal};
-ghost use Rattle.small_uploads.specs.Uploading.{Carried, IsPut, Uploads, lost_cause, outcome_of, read_cause};
+ghost use Rattle.upload_promise.specs.Uploads.{WantsJournal, is_open, is_uncertain};
+ghost use Rattle.small_uploads.specs.Uploading.{IsPutTask, IsStepOf, Uploads, failed_or_unknown, lost_cause, outcome_of, put_ask, read_cause};
 
 use crate::source::{ReadFault, read_whole};
-use attempts::{Attempted, Client, Payload, attempt, tries_of};
-use s3_model::{Ask, Bytes, Cause, Class, Event, FileCall, JobId, Journal, Op, Outcome, Why};
+use lane_jobs::{Carried, Carrier, Ending, Job, What};
+use s3_model::{
+    Bytes, Cause, Event, FileCall, JobId, Journal, Mark, Op, Outcome, Part, Task, Tries, Why,
+};
 use s3_outside::{Files, Wire};
 use std::alloc::Global;
+use std::sync::Arc;
 
 /// The only job of an upload of one piece.
 const PUT: JobId = JobId {
@@ -40,59 +45,86 @@ fn lost_cause(why: Why) -> Cause
     }
 }
 
-fn outcome_of(attempted: Attempted) -> Outcome
-    ensures { result ≡ outcome_of attempted }
+fn is_uncertain(mark: &Mark) -> bool
+    ensures { result ≡ is_uncertain mark.now }
 {
-    match attempted {
-        Attempted::Made(Class::Success(_)) => Outcome::Done,
-        Attempted::Made(Class::Refusal { code, message }) => Outcome::Failed(Cause::Service {
-            op: Op::Put,
-            code,
-            message,
-        }),
-        Attempted::Made(Class::Uncertain(why)) => Outcome::Unknown(lost_cause(why)),
-        Attempted::Memory => Outcome::Failed(Cause::Memory),
+    matches!(mark, Mark::Uncertain)
+}
+
+/// Whether an attempt left open what it did.
+fn is_open(marks: &[Mark]) -> bool
+    ensures { result ≡ is_open marks.now }
+{
+    marks.iter().any(is_uncertain)
+}
+
+/// The outcome of a request that did not come through: where an attempt was left open, nobody can know what it did.
+fn failed_or_unknown(tries: &Tries, cause: Cause) -> Outcome
+    ensures { result ≡ failed_or_unknown tries.now cause }
+{
+    if is_open(tries.as_slice()) {
+        Outcome::Unknown(cause)
+    } else {
+        Outcome::Failed(cause)
     }
 }
 
-/// Carries the Put of these bytes, in one attempt. The connection is kept for the next request where the answer allows it.
-fn carry<W: Wire>(
-    alloc: Global,
-    wire: &mut W,
-    client: &mut Client,
-    ask: &Ask,
-    bytes: &[u8],
-) -> Attempted
-    requires { IsPut ask.now }
-    ensures carried { Gains (W.seen wire.old) (W.seen wire.new)
-        (Carried client.old.endpoint client.old.signer ask.now bytes.now result) }
-    ensures later { W.faults wire.old ≤ W.faults wire.new }
+fn outcome_of(tries: &Tries, ending: Ending) -> Outcome
+    ensures { result ≡ outcome_of tries.now ending }
 {
-    let Ok(mut place) = Bytes::make(alloc, 0) else {
-        return Attempted::Memory;
-    };
-    match Payload::of(alloc, ask, bytes) {
-        Ok(payload) => attempt(alloc, wire, client, ask, &payload, None, &mut place, true),
-        Err(_) => Attempted::Memory,
+    match ending {
+        Ending::Gained(_) => Outcome::Done,
+        Ending::Refused { code, message } => {
+            let op = Op::Put;
+            failed_or_unknown(tries, Cause::Service { op, code, message })
+        }
+        Ending::Uncertain(why) => Outcome::Unknown(lost_cause(why)),
+        Ending::Cancelled(reason) => failed_or_unknown(tries, Cause::Cancelled { reason }),
+        Ending::Memory => failed_or_unknown(tries, Cause::Memory),
     }
 }
 
-/// Reads the file whole and carries its Put; the journal has the job once it was given.
+/// The Put of a task's bytes, which nothing cancels.
+fn job_of(task: Arc<Task, Global>, size: u64, bytes: Bytes) -> Job
+    requires { IsPutTask (arc_value task) }
+    ensures id { result.id ≡ put_job }
+    ensures step { IsStepOf (arc_value task) result.what }
+    ensures part { result.part ≡ Some (record { bytes = bytes }) }
+    ensures cell { result.cell ≡ None }
+    ensures had { result.had ≡ 0 }
+{
+    Job {
+        id: PUT,
+        what: What::Step {
+            task,
+            range: (0, size),
+            upload: None,
+            etags: None,
+        },
+        part: Some(Part { bytes }),
+        cell: None,
+        had: 0,
+    }
+}
+
+/// Reads the file whole and has its Put carried, with as many attempts as the carrier makes; the journal has the job
+/// once it was given.
 pub fn upload<F: Files, W: Wire>(
     alloc: Global,
     files: &mut F,
     wire: &mut W,
-    client: &mut Client,
-    ask: &Ask,
+    carrier: &mut Carrier,
+    task: Arc<Task, Global>,
     path: &str,
     size: u64,
     journal: &mut Journal,
 ) -> Outcome
-    requires put { IsPut ask.now }
+    requires put { IsPutTask (arc_value task) }
     requires empty { journal.old.items ≡ [] }
     requires room { 2 ≤ journal.old.spare }
-    ensures went { Gains (W.seen wire.old) (W.seen wire.new) (Uploads client.old.endpoint client.old.signer ask.now
-        (F.seen files.new) path.now size (F.faults files.old) (F.faults files.new) journal.new.items result) }
+    ensures went { Gains (W.seen wire.old) (W.seen wire.new) (Uploads carrier.old.endpoint carrier.old.keys
+        carrier.old.attempts (put_ask (arc_value task)) (F.seen files.new) path.now size (F.faults files.old)
+        (F.faults files.new) journal.new.items result) }
     ensures wants { WantsJournal (F.faults files.old) (F.faults files.new) result journal.new.items }
     ensures files { LooksAt path.now (F.seen files.old) (F.seen files.new) }
     ensures files_later { F.faults files.old ≤ F.faults files.new }
@@ -103,11 +135,12 @@ pub fn upload<F: Files, W: Wire>(
         Err(fault) => return Outcome::Failed(read_cause(fault)),
     };
     journal.push(Event::Given { job: PUT, lane: 0 });
-    let attempted = carry(alloc, wire, client, ask, &bytes);
+    let Carried { tries, ending, .. } = carrier.carry(wire, job_of(task, size, bytes));
+    let outcome = outcome_of(&tries, ending);
     journal.push(Event::Came {
         job: PUT,
         lane: 0,
-        tries: tries_of(&attempted),
+        tries,
     });
-    outcome_of(attempted)
+    outcome
 }

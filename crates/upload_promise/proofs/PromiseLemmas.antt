@@ -12,6 +12,7 @@ use Rattle.s3_model.specs.declared.outcomes.FileCall.TheVariants as call
 use Rattle.s3_model.specs.declared.outcomes.Outcome.{Outcome}
 use Rattle.s3_model.specs.declared.outcomes.Outcome.TheVariants as outcome
 use Rattle.s3_model.specs.declared.outcomes.Reason.{Reason}
+use Rattle.s3_model.specs.declared.requests.Op.{Op}
 use Rattle.s3_model.specs.declared.settings.Config.{Config}
 use Rattle.s3_model.specs.declared.settings.Limits.{Limits}
 use Rattle.s3_model.specs.declared.tasks.Kind.TheVariants as kind
@@ -19,13 +20,13 @@ use Rattle.s3_model.specs.declared.tasks.Task.{Task}
 use Rattle.s3_model.specs.declared.tasks.Warning.{Warning}
 use Rattle.s3_model.specs.declared.tries.Mark.{Mark}
 use Rattle.s3_model.specs.Files.{FileStore, HeldFile, is_folder, is_listed}
-use Rattle.s3_model.specs.Talks.{Talk, Note, Moment, Began}
+use Rattle.s3_model.specs.Talks.{Talk, Note}
 use Rattle.s3_model.specs.Validity.{IsValidConfig, IsValidLimits, IsWithin}
 use Rattle.run_promise.specs.Buffers.{KeepsBuffers}
-use Rattle.run_promise.specs.Carried.{IsCarried, SaysAll, IsPrefixOf, in_first}
+use Rattle.run_promise.specs.Carried.{IsCarried, in_first}
 use Rattle.run_promise.specs.Dispatches.{Attempt, Dispatched}
 use Rattle.run_promise.specs.Outcomes.{HasOutcome, ReadsSource}
-use Rattle.run_promise.specs.Schedule.{IsSchedule, bytes_of, is_small, most_body, source_bytes}
+use Rattle.run_promise.specs.Schedule.{IsSchedule, is_small}
 use Rattle.run_promise.specs.Settled.{HasFileFailed, IsSettingOf, NoneSaysChanged, cause_of, is_memory, is_dry, left_by, untimed_by}
 use Rattle.run_promise.specs.Truthful.{Shown}
 use Rattle.world_laws.specs.Promises.{IsByRequests}
@@ -33,14 +34,14 @@ use Rattle.world_laws.specs.Tasks.{HasSource, HasSourceFile}
 use Rattle.shared_lemmas.proofs.Clashes.{none_is_some}
 use Rattle.s3_outside.specs.Files.{SeenFiles, shape_at, shape_of}
 use Rattle.s3_outside.specs.declared.files.Shape.TheVariants as shape
-use Rattle.upload_promise.specs.Puts.{AreIdle, IsJudged, stored, refused, open_ended, unread}
+use Rattle.upload_promise.specs.Puts.{AreIdle}
 use Rattle.upload_promise.specs.Sources.{AreFirstBytes}
-use Rattle.upload_promise.specs.Uploads.{Carries, IsReadCause, IsTalked, Uploads, put_events, upload_ask, upload_task}
+use Rattle.upload_promise.specs.Uploads.{IsReadCause, Uploads, put_events, upload_ask, upload_task}
 use Rattle.upload_promise.specs.Shown.{CallFailed, KeepsPromise, one_attempt, shown_by, tells_file_failed}
 use Rattle.upload_promise.proofs.JobLemmas.{Planned, each, first_only, in_none, no_buffers, no_jobs, no_schedule, put_alone, put_buffers, put_schedule, put_with, setting_of}
 use Rattle.upload_promise.proofs.LawLemmas.{AreAlone, IsOrdered, done_where_willing, truthful}
-use Rattle.upload_promise.proofs.OutcomeLemmas.{judged_for, silent_for, tells, unread_for}
-use Rattle.upload_promise.proofs.WireLemmas.{none_carried, none_idle, silent_carried, talked_carried}
+use Rattle.upload_promise.proofs.OutcomeLemmas.{tells, unread_for}
+use Rattle.upload_promise.proofs.WireLemmas.{none_carried, none_idle}
 
 -- ---- the file
 
@@ -52,7 +53,7 @@ no_file false false size micros e = cc
 file_size : (size micros n m : ℕ) → shape.File size micros ≡ shape.File n m → size ≡ n
 file_size size micros n m e = cc
 
-shape_file : (store : FileStore) (path : List ℕ) (found : Option HeldFile) (size micros : ℕ) → shape_of store path found ≡ shape.File size micros
+pub shape_file : (store : FileStore) (path : List ℕ) (found : Option HeldFile) (size micros : ℕ) → shape_of store path found ≡ shape.File size micros
     → (file : HeldFile) × (found ≡ Some file) × (length file.bytes ≡ size)
 shape_file store path None size micros e = absurd (no_file (is_folder store path) (is_listed store.others path) size micros e)
 shape_file store path (Some file) size micros e = (file, refl, file_size (length file.bytes) file.micros size micros e)
@@ -67,7 +68,7 @@ false_is_true : false ≡ true → ⊥
 false_is_true e = cc
 
 -- no run of today is cancelled or dry
-abbrev IsOrdinary : Outcome → Type 0
+abbrev pub IsOrdinary : Outcome → Type 0
 IsOrdinary how = ((why : Reason) → cause_of (Some how) ≡ Some (cause.Cancelled why) → ⊥) × (is_dry how ≡ false)
 
 no_cause : (why : Reason) → ◌≡◌ {A = Option Cause} None (Some (cause.Cancelled why)) → ⊥
@@ -93,24 +94,26 @@ read_ordinary told path size before after (cause.BadReply of_op) h = absurd h
 read_ordinary told path size before after (cause.Blocked length) h = absurd h
 read_ordinary told path size before after (cause.Cancelled reason) h = absurd h
 
--- what a talk shows of an upload is no cancel
-judged_ordinary : (Shows : Ask → ℕ → Talk → Class → List ℕ → Type 0) (asked : Ask) (talk : Talk) (W : Type 0) (of_mark : Mark) (how : Outcome) → IsJudged Shows asked talk W of_mark how → IsOrdinary how
-judged_ordinary Shows asked talk W of_mark how (stored said body h) = ((λ reason e. no_cause reason e), refl)
-judged_ordinary Shows asked talk W of_mark how (refused code message body h) = ((λ reason. other_cause _ reason (λ e. cc)), refl)
-judged_ordinary Shows asked talk W of_mark how (open_ended why body no_memory h) = ((λ reason. other_cause _ reason (λ e. cc)), refl)
-judged_ordinary Shows asked talk W of_mark how (unread wanting) = ((λ reason. other_cause cause.Memory reason (λ e. cc)), refl)
+-- what a request shows is none either
+pub served_ordinary : (of_op : Op) (code message : List ℕ) → IsOrdinary (outcome.Failed (cause.Service of_op code message))
+served_ordinary of_op code message = ((λ reason. other_cause _ reason (λ e. cc)), refl)
 
-memory_ordinary : IsOrdinary (outcome.Failed cause.Memory)
+pub served_open : (of_op : Op) (code message : List ℕ) → IsOrdinary (outcome.Unknown (cause.Service of_op code message))
+served_open of_op code message = ((λ reason. other_cause _ reason (λ e. cc)), refl)
+
+pub lost_open : (of_op : Op) (why : Why) → IsOrdinary (outcome.Unknown (cause.Lost of_op why))
+lost_open of_op why = ((λ reason. other_cause _ reason (λ e. cc)), refl)
+
+pub done_ordinary : IsOrdinary outcome.Done
+done_ordinary = ((λ reason e. no_cause reason e), refl)
+
+pub memory_open : IsOrdinary (outcome.Unknown cause.Memory)
+memory_open = ((λ reason. other_cause cause.Memory reason (λ e. cc)), refl)
+
+pub memory_ordinary : IsOrdinary (outcome.Failed cause.Memory)
 memory_ordinary = ((λ reason. other_cause cause.Memory reason (λ e. cc)), refl)
 
 -- ---- the setting
-
--- what a talk shows does not depend on how it is said that memory ran out
-judged_as : (Shows : Ask → ℕ → Talk → Class → List ℕ → Type 0) (asked : Ask) (talk : Talk) (A B : Type 0) → (A → B) → (of_mark : Mark) (how : Outcome) → IsJudged Shows asked talk A of_mark how → IsJudged Shows asked talk B of_mark how
-judged_as Shows asked talk A B so of_mark how (stored said body h) = stored said body h
-judged_as Shows asked talk A B so of_mark how (refused code message body h) = refused code message body h
-judged_as Shows asked talk A B so of_mark how (open_ended reason body no_memory h) = open_ended reason body no_memory h
-judged_as Shows asked talk A B so of_mark how (unread wanting) = unread (so wanting)
 
 pub status_is : (n : ℕ) → (n == 70) ≡ true → n ≡ 70
 status_is n e = grind arith
@@ -224,7 +227,7 @@ module _ (Shows : Ask → ℕ → Talk → Class → List ℕ → Type 0) (HasSt
         stay = stay;
         replaces = λ n task at_task is_fresh. none_is_some task at_task;
         counted = counted [] [] [] [] notes [];
-        config = one_valid config configured;
+        config = configured;
         limits = valid;
       })
       (λ c known reads. in_none c known) (λ n how at_n. absurd (none_is_some how at_n))
@@ -310,7 +313,7 @@ module _ (Shows : Ask → ℕ → Talk → Class → List ℕ → Type 0) (HasSt
             stay = stay;
             replaces = of_each (λ (t : Task). t.fresh ≡ true → ⊥) false_is_true;
             counted = counted (task ∷ []) (how ∷ []) journal talks notes jobs;
-            config = one_valid config configured;
+            config = configured;
             limits = valid;
           })
           reads (λ n of_how at_n. subst IsOrdinary (first_only how n of_how at_n).1 ordinary)
@@ -335,65 +338,32 @@ module _ (Shows : Ask → ℕ → Talk → Class → List ℕ → Type 0) (HasSt
         (λ dispatched coming scheduled are. put_alone Shows Plans (upload how) dispatched coming attempts scheduled (are ∙ sym carried.shown)) (put_buffers config.buffers tries configured.buffers.least) has
         (each (λ (c : Dispatched). c.dispatch.job.task ≡ None → ⊥) put (λ e. none_is_some 0 (sym e))) (each (λ (c : Dispatched). ReadsSource c.dispatch.job.op → ⊥) put (λ reads. reads)) ordinary
 
-    -- one talk for the bytes of the file
-    talked_run : (how : Outcome) (of_mark : Mark) (one_talk : Talk) (seconds : ℕ) → one_talk.host ≡ host → one_talk.port ≡ port
-        → ((of_class : Class) (bytes : List ℕ) → Shows asked most_body one_talk of_class bytes → SaysAll Shows request_text host port of_class one_talk.sent (request_text asked file.bytes seconds))
-        → IsPrefixOf one_talk.sent (request_text asked file.bytes seconds) → IsJudged Shows asked one_talk (how ≡ outcome.Unknown cause.Memory) of_mark how
-        → Keeps (task ∷ []) (how ∷ []) (put_events (of_mark ∷ [])) (one_talk ∷ []) (Moment seconds ∷ Began ∷ [])
-    talked_run how of_mark one_talk seconds to_host to_port text beginning judged =
-        let attempt : Attempt = record { mark = of_mark; talk = one_talk } in
-        let bytes_are : source_bytes was.store.held task.source ≡ file.bytes = ap bytes_of held in
-        let is_judged = judged_as Shows asked one_talk (how ≡ outcome.Unknown cause.Memory) ((setting_of (upload how)).wanted_memory (Some 0) ≡ true)
-        (λ e. ap (λ (any : Outcome). is_memory (cause_of (Some any))) e) of_mark how judged in
-        given_run how (of_mark ∷ []) (attempt ∷ []) (one_talk ∷ []) (Moment seconds ∷ Began ∷ [])
-        (talked_carried Shows request_text host port (upload how) attempt seconds
-        (record {
-          to_host = to_host;
-          to_port = to_port;
-          text = λ of_class bytes shows_it. subst (λ (body : List ℕ). SaysAll Shows request_text host port of_class one_talk.sent (request_text asked body seconds))
-              (sym bytes_are) (text of_class bytes shows_it);
-          beginning = subst (λ (body : List ℕ). IsPrefixOf one_talk.sent (request_text asked body seconds)) (sym bytes_are) beginning;
-        })
-        is_judged)
-        (judged_for Shows HasStatus (Fails (task ∷ [])) (upload how) attempt how is_judged)
-        (judged_ordinary Shows asked one_talk (how ≡ outcome.Unknown cause.Memory) of_mark how judged)
+    -- the job of the Put of the file's bytes, and that the outcome is what its attempts show
+    pub record IsKept (how : Outcome) (journal : List Event) (talks : List Talk) (notes : List Note) : Type 0 where
+      pub tries : List Mark
+      pub attempts : List Attempt
+      pub journals : journal ≡ put_events tries
+      pub carried : IsCarried Shows request_text host port (setting_of (upload how)) (put_events tries) (in_first talks) (in_first notes) (put_with (upload how) attempts ∷ [])
+          (put_with (upload how) attempts ∷ [])
+      pub has : HasOutcome Shows HasStatus (Fails (task ∷ [])) (setting_of (upload how)) (put_with (upload how) attempts ∷ []) (put_with (upload how) attempts ∷ []) 0 task how
+      pub ordinary : IsOrdinary how
 
-    silent_run : (notes : List Note) → AreIdle notes → Keeps (task ∷ []) (outcome.Failed cause.Memory ∷ []) (put_events []) [] notes
-    silent_run notes idle =
-        given_run (outcome.Failed cause.Memory) [] [] [] notes (silent_carried Shows request_text host port (upload (outcome.Failed cause.Memory)) notes idle refl)
-        (silent_for Shows HasStatus (Fails (task ∷ [])) (upload (outcome.Failed cause.Memory)) refl) memory_ordinary
+    kept_keeps : (how : Outcome) (journal : List Event) (talks : List Talk) (notes : List Note) → IsKept how journal talks notes → Keeps (task ∷ []) (how ∷ []) journal talks notes
+    kept_keeps how journal talks notes k =
+        subst (λ (all : List Event). Keeps (task ∷ []) (how ∷ []) all talks notes) (sym k.journals) (given_run how k.tries k.attempts talks notes k.carried k.has k.ordinary)
 
     -- ---- what the run shows
 
-    carried_keeps : (journal : List Event) (how : Outcome) (talks : List Talk) (notes : List Note) → Carries Shows request_text host port asked file.bytes journal how talks notes
-        → Keeps (task ∷ []) (how ∷ []) journal talks notes
-    carried_keeps journal how talks notes (inl silent) =
-        subst (λ (any : Outcome). Keeps (task ∷ []) (any ∷ []) journal talks notes) (sym silent.failed)
-        (subst (λ (all : List Event). Keeps (task ∷ []) (outcome.Failed cause.Memory ∷ []) all talks notes) (sym silent.journals)
-        (subst (λ (all : List Talk). Keeps (task ∷ []) (outcome.Failed cause.Memory ∷ []) (put_events []) all notes) (sym silent.no_talk) (silent_run notes silent.idle)))
-    carried_keeps journal how talks notes (inr one) =
-        subst (λ (all : List Event). Keeps (task ∷ []) (how ∷ []) all talks notes) (sym one.journals)
-        (subst (λ (all : List Talk). Keeps (task ∷ []) (how ∷ []) (put_events (one.of_mark ∷ [])) all notes) (sym one.one_talk)
-        (subst (λ (all : List Note). Keeps (task ∷ []) (how ∷ []) (put_events (one.of_mark ∷ [])) (one.talk ∷ []) all) (sym one.noted)
-        (talked_run how one.of_mark one.talk one.seconds one.to_host one.to_port one.text one.beginning one.judged)))
-
-    upload_keeps : (journal : List Event) (how : Outcome) (talks : List Talk) (notes : List Note)
-        → Uploads Shows request_text host port asked (Some now) path size before after journal how talks notes → Keeps (task ∷ []) (how ∷ []) journal talks notes
-    upload_keeps journal how talks notes (inl u) =
-        subst (λ (any : Outcome). Keeps (task ∷ []) (any ∷ []) journal talks notes) (sym u.failed)
-        (subst (λ (all : List Event). Keeps (task ∷ []) (outcome.Failed u.why ∷ []) all talks notes) (sym u.no_job)
-        (subst (λ (all : List Talk). Keeps (task ∷ []) (outcome.Failed u.why ∷ []) [] all notes) (sym u.no_talk)
-        (subst (λ (all : List Note). Keeps (task ∷ []) (outcome.Failed u.why ∷ []) [] [] all) (sym u.no_note) (unread_run u.why u.reason))))
-    upload_keeps journal how talks notes (inr g) =
-        let read : AreFirstBytes was.store path g.bytes = subst (λ (s : FileStore). AreFirstBytes s path g.bytes) same g.read in
-        let whole : g.bytes ≡ file.bytes = whole_file was.store path g.bytes file held read (g.size_is ∙ sym long) in
-        carried_keeps journal how talks notes (subst (λ (bytes : List ℕ). Carries Shows request_text host port asked bytes journal how talks notes) whole g.carries)
-
-  -- an upload whose file stood there, with the size that was planned
-  pub uploaded : (bucket key : List ℕ) (content : Option (List ℕ)) (size micros : ℕ) → size < config.threshold → shape_at was.store path ≡ shape.File size micros
-      → (journal : List Event) (how : Outcome) (talks : List Talk) (notes : List Note)
-      → Uploads Shows request_text host port (upload_ask bucket key content) (Some now) path size before after journal how talks notes
-      → Keeps (upload_task path bucket key content size micros ∷ []) (how ∷ []) journal talks notes
-  uploaded bucket key content size micros is_below stands =
-      let found = shape_file was.store path (get was.store.held path) size micros stands in
-      upload_keeps bucket key content size micros is_below found.0 found.1 found.2
+    module _ (Carries : Ask → List ℕ → List Event → Outcome → List Talk → List Note → Type 0)
+        (kept : (how : Outcome) (journal : List Event) (talks : List Talk) (notes : List Note) → Carries asked file.bytes journal how talks notes → IsKept how journal talks notes) where
+      pub upload_keeps : (journal : List Event) (how : Outcome) (talks : List Talk) (notes : List Note)
+          → Uploads Carries asked (Some now) path size before after journal how talks notes → Keeps (task ∷ []) (how ∷ []) journal talks notes
+      upload_keeps journal how talks notes (inl u) =
+          subst (λ (any : Outcome). Keeps (task ∷ []) (any ∷ []) journal talks notes) (sym u.failed)
+          (subst (λ (all : List Event). Keeps (task ∷ []) (outcome.Failed u.why ∷ []) all talks notes) (sym u.no_job)
+          (subst (λ (all : List Talk). Keeps (task ∷ []) (outcome.Failed u.why ∷ []) [] all notes) (sym u.no_talk)
+          (subst (λ (all : List Note). Keeps (task ∷ []) (outcome.Failed u.why ∷ []) [] [] all) (sym u.no_note) (unread_run u.why u.reason))))
+      upload_keeps journal how talks notes (inr g) =
+          let read : AreFirstBytes was.store path g.bytes = subst (λ (s : FileStore). AreFirstBytes s path g.bytes) same g.read in
+          let whole : g.bytes ≡ file.bytes = whole_file was.store path g.bytes file held read (g.size_is ∙ sym long) in
+          kept_keeps how journal talks notes (kept how journal talks notes (subst (λ (bytes : List ℕ). Carries asked bytes journal how talks notes) whole g.carries))

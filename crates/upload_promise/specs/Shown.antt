@@ -20,7 +20,7 @@ use Rattle.run_promise.specs.Carried.{in_first}
 use Rattle.s3_outside.specs.Files.{SeenFiles}
 use Rattle.upload_promise.specs.Uploads.{IsReadCause}
 
--- each request is tried once
+-- the settings of a run that tries each request once
 abbrev pub one_attempt : Config → Config
 one_attempt config = record config { attempts = 1 }
 
@@ -40,7 +40,7 @@ wanted_by status outcomes (Some n) = is_memory (cause_of (slice_get outcomes n))
 -- what a run began with, and what its outcomes show of files and memory
 abbrev pub setting_by : Config → Limits → (status : ℕ) → List Task → List Outcome → (was : SeenFiles) → Setting
 setting_by config limits status tasks outcomes was = record {
-  config = one_attempt config;
+  config = config;
   limits = limits;
   lanes = 1;
   tasks = tasks;

@@ -1,9 +1,9 @@
 -- One upload in one Put (Amazon S3 API Reference, "PutObject"): its task, and what became of it.
-use Rattle.std.specs.Prelude.{◌≡◌, ◌⊎◌, ℕ, false, List, [], ◌∷◌, Option, Some, IfSome, length}
+use Rattle.std.specs.Prelude.{◌≡◌, ◌⊎◌, ℕ, Bool, true, false, List, [], ◌∷◌, Option, Some, IfSome, length}
+use Rattle.std.specs.List.{list_any}
 use Rattle.s3_model.specs.declared.requests.Ask.{Ask}
 use Rattle.s3_model.specs.declared.requests.Ask.TheVariants as ask
 use Rattle.s3_model.specs.declared.requests.Op.TheVariants as op
-use Rattle.s3_model.specs.declared.answers.Class.{Class}
 use Rattle.s3_model.specs.declared.outcomes.Cause.{Cause}
 use Rattle.s3_model.specs.declared.outcomes.Cause.TheVariants as cause
 use Rattle.s3_model.specs.declared.outcomes.FileCall.TheVariants as call
@@ -17,11 +17,10 @@ use Rattle.s3_model.specs.declared.tasks.Task.{Task}
 use Rattle.s3_model.specs.declared.tries.Mark.{Mark}
 use Rattle.s3_model.specs.declared.tries.Mark.TheVariants as mark
 use Rattle.s3_model.specs.Counts.{Rose}
-use Rattle.s3_model.specs.Talks.{Talk, Note, Moment, Began}
-use Rattle.run_promise.specs.Carried.{IsPrefixOf, SaysAll}
-use Rattle.run_promise.specs.Schedule.{most_body}
+use Rattle.s3_model.specs.Talks.{Talk, Note}
+use Rattle.run_promise.specs.Dispatches.{last_of}
 use Rattle.s3_outside.specs.Files.{SeenFiles}
-use Rattle.upload_promise.specs.Puts.{AreIdle, IsJudged, put_job}
+use Rattle.upload_promise.specs.Puts.{put_job}
 use Rattle.upload_promise.specs.Sources.{AreFirstBytes, HasFewer}
 
 -- ---- the task
@@ -67,51 +66,39 @@ pub record IsUnread (seen : Option SeenFiles) (path : List ℕ) (size faults_bef
 abbrev pub put_events : List Mark → List Event
 put_events marks = entry.Given put_job 0 ∷ entry.Came put_job 0 marks ∷ []
 
--- the job was given, and memory ran out before its talk
-pub record IsSilent (journal : List Event) (how : Outcome) (talks : List Talk) (notes : List Note) : Type 0 where
-  pub journals : journal ≡ put_events []
-  pub failed : how ≡ outcome.Failed cause.Memory
-  pub no_talk : talks ≡ []
-  pub idle : AreIdle notes
+-- an attempt left open what it did
+abbrev pub is_uncertain : Mark → Bool
+is_uncertain mark.Success = false
+is_uncertain mark.Refusal = false
+is_uncertain mark.Uncertain = true
+
+abbrev pub is_open : List Mark → Bool
+is_open marks = list_any is_uncertain marks
+
+-- the job came with such marks
+abbrev pub CameWith : (List Mark → Type 0) → List Event → Type 0
+CameWith P journal = (marks : List Mark) × (journal ≡ put_events marks) × P marks
 
 -- Whatever can be seen of wires and files: the jobs that an outcome wants, and a failed call on files only where their
 -- count rose.
 abbrev pub WantsJournal : (faults_before faults_after : ℕ) → Outcome → List Event → Type 0
-WantsJournal before after outcome.Done journal = journal ≡ put_events (mark.Success ∷ [])
+WantsJournal before after outcome.Done journal = CameWith (λ marks. last_of marks ≡ Some mark.Success) journal
 WantsJournal before after (outcome.Failed (cause.Service of_op code message)) journal = (of_op ≡ op.Put)
-    × (journal ≡ put_events (mark.Refusal ∷ []))
-WantsJournal before after (outcome.Failed cause.Memory) journal = (journal ≡ []) ⊎ (journal ≡ put_events [])
+    × CameWith (λ marks. (last_of marks ≡ Some mark.Refusal) × (is_open marks ≡ false)) journal
+WantsJournal before after (outcome.Failed cause.Memory) journal = (journal ≡ [])
+    ⊎ CameWith (λ marks. is_open marks ≡ false) journal
 WantsJournal before after (outcome.Failed (cause.Files call.Read)) journal = (journal ≡ []) × Rose before after
 WantsJournal before after (outcome.Failed cause.Changed) journal = journal ≡ []
+WantsJournal before after (outcome.Unknown (cause.Service of_op code message)) journal = (of_op ≡ op.Put)
+    × CameWith (λ marks. (last_of marks ≡ Some mark.Refusal) × (is_open marks ≡ true)) journal
 WantsJournal before after (outcome.Unknown (cause.Lost of_op reason)) journal = (of_op ≡ op.Put)
-    × (journal ≡ put_events (mark.Uncertain ∷ []))
-WantsJournal before after (outcome.Unknown cause.Memory) journal = journal ≡ put_events (mark.Uncertain ∷ [])
+    × CameWith (λ marks. last_of marks ≡ Some mark.Uncertain) journal
+WantsJournal before after (outcome.Unknown cause.Memory) journal = CameWith (λ marks. is_open marks ≡ true) journal
 WantsJournal before after how journal = ⊥
 
--- `Shows ask limit talk class bytes`: the talk has that class for the ask, and its answer that body.
--- `request_text ask body moment`: the text of a request, signed at that moment.
-module _ (Shows : Ask → ℕ → Talk → Class → List ℕ → Type 0) (request_text : Ask → List ℕ → ℕ → List ℕ)
-    (host : List ℕ) (port : ℕ) where
-  -- one talk for the request, signed at the moment that was noted before it
-  pub record IsTalked (asked : Ask) (body : List ℕ) (journal : List Event) (how : Outcome) (talks : List Talk)
-      (notes : List Note) : Type 0 where
-    pub of_mark : Mark
-    pub talk : Talk
-    pub seconds : ℕ
-    pub journals : journal ≡ put_events (of_mark ∷ [])
-    pub one_talk : talks ≡ talk ∷ []
-    pub noted : notes ≡ Moment seconds ∷ Began ∷ []
-    pub to_host : talk.host ≡ host
-    pub to_port : talk.port ≡ port
-    pub text : (shown : Class) (bytes : List ℕ) → Shows asked most_body talk shown bytes
-        → SaysAll Shows request_text host port shown talk.sent (request_text asked body seconds)
-    pub beginning : IsPrefixOf talk.sent (request_text asked body seconds)
-    pub judged : IsJudged Shows asked talk (how ≡ outcome.Unknown cause.Memory) of_mark how
-
-  abbrev pub Carries : Ask → (body : List ℕ) → (journal : List Event) → Outcome → List Talk → List Note → Type 0
-  Carries asked body journal how talks notes = IsSilent journal how talks notes
-      ⊎ IsTalked asked body journal how talks notes
-
+-- `Carries asked body journal how talks notes`: what a wire gained by the Put of this body, with the events of its job
+-- and the outcome that it comes to
+module _ (Carries : Ask → List ℕ → List Event → Outcome → List Talk → List Note → Type 0) where
   -- the Put of the file's bytes was carried
   pub record IsGiven (asked : Ask) (seen : Option SeenFiles) (path : List ℕ) (size : ℕ) (journal : List Event)
       (how : Outcome) (talks : List Talk) (notes : List Note) : Type 0 where
@@ -120,7 +107,7 @@ module _ (Shows : Ask → ℕ → Talk → Class → List ℕ → Type 0) (reque
     pub read : IfSome seen (λ files. AreFirstBytes files.store path bytes)
     pub carries : Carries asked bytes journal how talks notes
 
-  -- either of the two
+  -- the bytes did not come, or they were sent
   abbrev pub Uploads : Ask → Option SeenFiles → (path : List ℕ) → (size faults_before faults_after : ℕ) → List Event
       → Outcome → List Talk → List Note → Type 0
   Uploads asked seen path size before after journal how talks notes =

@@ -3,7 +3,7 @@
 use crate::answers::answer_bytes;
 use crate::rows::{Row, variable};
 use s3_main::run_s3;
-use s3_outside::{FileTable, MemEnv, MemFile, MemFiles, MemSink, S3_LIMITS, ScriptWire};
+use s3_outside::{FileTable, MemEnv, MemFile, MemFiles, MemSink, S3_LIMITS, ScriptWire, WireNote};
 use std::alloc::Global;
 use std::sync::Wait;
 use std::test::Fail;
@@ -32,6 +32,28 @@ pub(crate) fn first_sent(wires: &[ScriptWire]) -> &[u8] {
 pub(crate) fn has_talks(wires: &[ScriptWire], count: usize) -> bool {
     match wires.first() {
         Some(wire) => wire.talks().len() == count,
+        None => false,
+    }
+}
+
+/// Whether the notes of a wire have these pauses, in seconds, and no others.
+fn are_pauses(notes: &[WireNote], pauses: &[u32]) -> bool {
+    let mut place: usize = 0;
+    for note in notes {
+        if let WireNote::Pause(seconds) = note {
+            if pauses.get(place) != Some(seconds) {
+                return false;
+            }
+            place = place.saturating_add(1);
+        }
+    }
+    place == pauses.len()
+}
+
+/// Whether the first wire was asked for these pauses, in seconds.
+pub(crate) fn has_pauses(wires: &[ScriptWire], pauses: &[u32]) -> bool {
+    match wires.first() {
+        Some(wire) => are_pauses(wire.notes(), pauses),
         None => false,
     }
 }

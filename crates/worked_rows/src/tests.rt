@@ -1,7 +1,7 @@
 //! Each row comes out as it is written.
 
-use crate::play::{Seen, first_sent, has_talks, one_wire, play, says};
-use crate::rows::{KEPT, OTHER_UPLOAD, ROWS, Row, STORED, nth_row, request};
+use crate::play::{Seen, first_sent, has_pauses, has_talks, one_wire, play, says};
+use crate::rows::{KEPT, OTHER_UPLOAD, PAUSES, ROWS, Row, STORED, nth_row, request};
 use s3_outside::ScriptWire;
 use std::process::Abort;
 use std::test::Fail;
@@ -39,6 +39,20 @@ fn rows_come_out(rt: HostRuntime) -> Result<(), Fail> {
         } else {
             check_listing(&rt, &row, &wires);
         }
+    }
+    Ok(())
+}
+
+// Each attempt is one talk, with its pause ahead of it.
+#[test]
+fn a_put_is_tried_again(rt: HostRuntime) -> Result<(), Fail> {
+    for (n, pauses) in PAUSES.iter() {
+        let row = nth_row(*n);
+        let mut wires = one_wire(rt.alloc(), &[row.answer])?;
+        let seen = play(&rt, rt.alloc(), &row, &mut wires)?;
+        check(&rt, &row, &seen);
+        assert!(rt; has_talks(&wires, pauses.len().saturating_add(1)), "{n}");
+        assert!(rt; has_pauses(&wires, pauses), "{n}");
     }
     Ok(())
 }

@@ -16,10 +16,12 @@ returns-in-Ok-Upload-clause-went g c =
     lemma.uploaded_goes c.args.start.command c.args.start.settings c.args.limits.now (g.F.Files.seen c.args.files.now) (g.F.Files.seen c.execute_upload.new.files)
     (g.F.Files.faults c.args.files.now) (g.F.Files.faults c.find_fate.new.files) (g.F.Files.faults c.execute_upload.new.files) c.execute_upload.result.run c.in-Ok-Upload.task
     c.in-Ok-Upload.ensures.later _ _ fated
-    (subst (λ (endpoint : Endpoint). Gains (g.W.Wire.seen c.args.wire.now) (g.W.Wire.seen c.execute_upload.new.wire) (MayUpload endpoint c.args.start.settings.keys c.in-Ok-Upload.task
+    (subst (λ (endpoint : Endpoint). Gains (g.W.Wire.seen c.args.wire.now) (g.W.Wire.seen c.execute_upload.new.wire) (MayUpload endpoint c.args.start.settings.keys c.args.start.settings.config.attempts c.in-Ok-Upload.task
     (g.F.Files.seen c.execute_upload.new.files) (g.F.Files.faults c.find_fate.new.files) (g.F.Files.faults c.execute_upload.new.files) c.execute_upload.result.run)) c.service_of.ensures.endpoint
-    (subst (λ (keys : Keys). Gains (g.W.Wire.seen c.args.wire.now) (g.W.Wire.seen c.execute_upload.new.wire) (MayUpload c.service_of.result.endpoint keys c.in-Ok-Upload.task
-    (g.F.Files.seen c.execute_upload.new.files) (g.F.Files.faults c.find_fate.new.files) (g.F.Files.faults c.execute_upload.new.files) c.execute_upload.result.run)) c.service_of.ensures.keys c.execute_upload.ensures.went))
+    (subst (λ (keys : Keys). Gains (g.W.Wire.seen c.args.wire.now) (g.W.Wire.seen c.execute_upload.new.wire) (MayUpload c.service_of.result.endpoint keys c.args.start.settings.config.attempts c.in-Ok-Upload.task
+    (g.F.Files.seen c.execute_upload.new.files) (g.F.Files.faults c.find_fate.new.files) (g.F.Files.faults c.execute_upload.new.files) c.execute_upload.result.run)) c.service_of.ensures.keys
+    (subst (λ (attempts : ℕ). Gains (g.W.Wire.seen c.args.wire.now) (g.W.Wire.seen c.execute_upload.new.wire) (MayUpload c.service_of.result.endpoint c.service_of.result.keys attempts c.in-Ok-Upload.task
+    (g.F.Files.seen c.execute_upload.new.files) (g.F.Files.faults c.find_fate.new.files) (g.F.Files.faults c.execute_upload.new.files) c.execute_upload.result.run)) c.service_of.ensures.attempts c.execute_upload.ensures.went)))
 
 pub returns-in-Ok-Upload-clause-files : goal.returns-in-Ok-Upload-clause-files
 returns-in-Ok-Upload-clause-files g c =

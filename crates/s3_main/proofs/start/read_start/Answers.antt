@@ -23,3 +23,6 @@ pub returns-clause-listed : goal.returns-clause-listed
 returns-clause-listed g c = λ listing.
     let read = c.in_ok-command.ensures.read in
     names_listed (map (string_bytes {Z = Global}) c.args.words.now) c.in_ok-command.command read.no_fault read.is_command listing
+
+pub returns-clause-attempts : goal.returns-clause-attempts
+returns-clause-attempts g c = c.in_ok-settings.ensures.valid.attempts

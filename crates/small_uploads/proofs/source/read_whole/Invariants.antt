@@ -1,16 +1,16 @@
-use Rattle.std.proofs.Common.{◌≡◌, ◌≤◌, ◌-◌, IfSome, take, vec_len}
+use Rattle.std.proofs.Common.{◌≡◌, ◌≤◌, ◌-◌, IfSome, length, take}
 use Rattle.upload_promise.specs.Sources.{AreFirstBytes, Keeps, LooksAt}
 use Rattle.small_uploads.proofs.source.read_whole.Given as goal
 
 -- the bytes before this place are the first of the file
 abbrev pub invariant-pieces : goal.invariant-pieces
 invariant-pieces g l = record {
-  inside : l.at ≤ vec_len l.bytes;
-  whole : vec_len l.bytes ≡ l.fn.size;
+  inside : l.at ≤ length l.bytes.bytes;
+  whole : length l.bytes.bytes ≡ l.fn.size;
   files : Keeps (g.F.Files.seen l.fn.files) (g.F.Files.seen l.files);
   looks : LooksAt l.path (g.F.Files.seen l.fn.files) (g.F.Files.seen l.files);
   later : g.F.Files.faults l.fn.files ≤ g.F.Files.faults l.files;
-  first : IfSome (g.F.Files.seen l.files) (λ seen. AreFirstBytes seen.store l.path (take l.at l.bytes.items));
+  first : IfSome (g.F.Files.seen l.files) (λ seen. AreFirstBytes seen.store l.path (take l.at l.bytes.bytes));
 }
 
 abbrev pub decreases-pieces : goal.decreases-pieces

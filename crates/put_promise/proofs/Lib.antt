@@ -1,0 +1,3 @@
+pub mod CarriedLemmas
+pub mod OutcomeLemmas
+pub mod PromiseLemmas
