@@ -10,7 +10,7 @@ from concurrent.futures import ThreadPoolExecutor
 from datetime import datetime, timezone
 from typing import Callable, NamedTuple
 
-from lines import STORED, WRONG_SIGNATURE, Outcome, lost, refused
+from lines import STORED, WRONG_SIGNATURE, Outcome, lost, refused, unknown
 from programs import LARGE, line_of
 from service import KEYS
 
@@ -127,6 +127,33 @@ def reads_with_pauses(peer):
 
 def reads_nothing(peer):
     time.sleep(180)
+
+
+def in_turn(*answers):
+    """Says these to the first requests, one to each, over as many connections as they come on."""
+    left = list(answers)
+
+    def serve(peer):
+        while left:
+            take_request(peer)
+            peer.sendall(left.pop(0))
+        hold(peer)
+
+    return serve
+
+
+def closes_first(answer):
+    """Closes the first connection behind its request, and says this on the next."""
+    opened = []
+
+    def serve(peer):
+        opened.append(peer)
+        take_request(peer)
+        if len(opened) > 1:
+            peer.sendall(answer)
+            hold(peer)
+
+    return serve
 
 
 def keyed(key, text):
@@ -266,8 +293,8 @@ def error(code, message):
     return f"<?xml version='1.0'?>\n<Error><Code>{code}</Code><Message>{message}</Message></Error>".encode()
 
 
-def denies(document):
-    return head(FORBIDDEN, f"content-length: {len(document)}") + document
+def denies(document, status=FORBIDDEN):
+    return head(status, f"content-length: {len(document)}") + document
 
 
 ERROR = error("AccessDenied", "Access Denied.")
@@ -279,12 +306,14 @@ DENIED_CHUNKED = chunked(FORBIDDEN, ERROR_CHUNK, END)
 REFUSED = refused(403, "AccessDenied", "Access Denied.")
 SKEWED = "The difference between the request time and the current time is too large."
 TOO_SKEWED = denies(error("RequestTimeTooSkewed", SKEWED))
+BUSY = denies(error("SlowDown", "Reduce your rate."), "503 Slow Down")
 NO_MATCH = denies(error("SignatureDoesNotMatch", WRONG_SIGNATURE))
 FULL = head(FORBIDDEN, "content-length: 65536") + b"a" * 65_536
 
 
 class Row(NamedTuple):
-    """One server, how a copy to it ends, how many connections that opens, and how many seconds it may take."""
+    """One server, how a copy to it ends, how many connections that opens, how many seconds it may take, and how often it
+    tries."""
 
     name: str
     serve: Callable[[socket.socket], None]
@@ -294,6 +323,7 @@ class Row(NamedTuple):
     host: str = "127.0.0.1"
     server: type = Server
     seconds: int = 40
+    attempts: int = 1
 
 
 FAILED, EARLY = lost("connection failed"), lost("connection ended early")
@@ -375,6 +405,19 @@ ROWS = [
     Row("500", says(head("500 No", "content-length: 0")), lost("status 500")),
     Row("503", says(head("503 Busy", "content-length: 0")), lost("status 503")),
     Row("a status of two digits", says(head("20 OK", "content-length: 0")), NOT_HTTP),
+    # attempts
+    Row("503 twice, and then 200", in_turn(BUSY, BUSY, EMPTY), STORED, attempts=3),
+    Row("503 three times", in_turn(BUSY, BUSY, BUSY), refused(503, "SlowDown", "Reduce your rate."), attempts=3),
+    Row("503 and then 403", in_turn(BUSY, DENIED), REFUSED, attempts=3),
+    Row("closes the first connection, and then 200", closes_first(EMPTY), STORED, opened=2, attempts=3),
+    Row(
+        "closes the first connection, and then 403",
+        closes_first(DENIED),
+        unknown("AccessDenied", "Access Denied."),
+        opened=2,
+        attempts=3,
+    ),
+    Row("closes every connection", says(b"", close), EARLY, opened=3, attempts=3),
     # keys and clocks
     Row("the right secret", looks(SECRET), STORED),
     Row("a wrong secret", looks("wrong"), refused(403, "SignatureDoesNotMatch", WRONG_SIGNATURE)),
@@ -397,19 +440,20 @@ SLOW_ROWS = [
 ]
 
 
-def try_row(runs, row):
+def try_row(runs, row, env):
     """What the program showed, what was due, and how many connections were opened."""
     uri = "s3://backups/" + row.file
     with row.server(row.serve) as server:
-        shown = runs.copy(row.file, uri, f"http://{row.host}:{server.port}", KEYS, seconds=row.seconds)
+        shown = runs.copy(row.file, uri, f"http://{row.host}:{server.port}", env, seconds=row.seconds)
     return shown, row.outcome.shown(row.file, uri), server.opened
 
 
 def try_rows(checks, runs, rows=ROWS, at_once=4):
     for name, content in FILES.items():
         runs.write(name, content)
+    env = {attempts: {**KEYS, **runs.tries(attempts)} for attempts in {row.attempts for row in rows}}
     with ThreadPoolExecutor(at_once) as pool, runs:
-        for row, (shown, due, opened) in zip(rows, pool.map(lambda row: try_row(runs, row), rows)):
+        for row, (shown, due, opened) in zip(rows, pool.map(lambda row: try_row(runs, row, env[row.attempts]), rows)):
             text = line_of(shown) if shown == due else f"{line_of(shown)}, and due was {line_of(due)}"
             checks.check(f"{row.name}: status and line", shown == due, text)
             checks.check(f"{row.name}: connections", opened == row.opened, str(opened))

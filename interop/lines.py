@@ -24,10 +24,19 @@ class Outcome(NamedTuple):
 STORED = Outcome(0, "upload")
 
 
+def refusal(code, message):
+    return f" An error occurred ({code}) when calling the PutObject operation: {message}"
+
+
 def refused(status, code="", message=""):
     """The service refused: with the code and the message of its document, or of the status where it has none."""
     code, message = (code, message) if code else (status, MESSAGES.get(status, "Refused"))
-    return Outcome(1, "upload failed", f" An error occurred ({code}) when calling the PutObject operation: {message}")
+    return Outcome(1, "upload failed", refusal(code, message))
+
+
+def unknown(code, message):
+    """The service refused the last attempt, and an earlier one may have come through."""
+    return Outcome(1, "upload unknown", refusal(code, message))
 
 
 def lost(why):

@@ -82,6 +82,12 @@ class Runs:
     def copy(self, file, uri, url, env, **more):
         return self.run(["cp", file, uri, "--endpoint-url", url], env, **more)
 
+    def tries(self, attempts):
+        """The variables of a run that makes so many attempts of a request."""
+        name = f"attempts-{attempts}"
+        self.write(name, f"[default]\nmax_attempts = {attempts}\n".encode())
+        return {"AWS_CONFIG_FILE": os.path.join(self.folder, name)}
+
     def write(self, name, content):
         with open(os.path.join(self.folder, name), "wb") as file:
             file.write(content)
