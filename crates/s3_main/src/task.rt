@@ -166,7 +166,8 @@ pub(crate) fn do_task<F: Files, W: Wire>(
     ensures fatal { result.run.fatal ≡ None }
     ensures tasks { result.run.plan.tasks.items ≡ task ∷ [] }
     ensures went { Gains (W.seen wire.old) (W.seen wire.new) (HasUploaded prepared.carrier.endpoint
-        prepared.carrier.keys prepared.carrier.attempts task (F.seen files.new) (F.faults files.old) (F.faults files.new) result.run) }
+        prepared.carrier.keys prepared.carrier.attempts task (F.seen files.new) (F.faults files.old)
+        (F.faults files.new) result.run) }
     ensures outcome { HasOneOutcome (F.faults files.old) (F.faults files.new) result.run }
     ensures warnings { result.run.warnings.items ≡ [] }
     ensures skips { result.run.plan.warnings.items ≡ [] }

@@ -1,5 +1,6 @@
 -- What became of one upload, by the reading of its file and by the attempts of its Put.
-use Rattle.std.specs.Prelude.{◌≡◌, ◌≤◌, ◌<◌, ◌+◌, ℕ, true, false, List, [], Option, Some, None, length, map, slice_get, if◌then◌else◌}
+use Rattle.std.specs.Prelude.{◌≡◌, ◌≤◌, ◌<◌, ◌+◌, ℕ, true, false, List, [], Option, Some, None, length, map, slice_get}
+use Rattle.std.specs.Prelude.{if◌then◌else◌}
 use Rattle.std.specs.Arc.{arc_value}
 use Rattle.attempts.specs.Attempts.{SignedRequest, signed_request}
 use Rattle.jobs.specs.declared.ending.Ending.{Ending}

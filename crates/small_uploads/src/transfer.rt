@@ -6,7 +6,16 @@ ghost use Rattle.run_promise.specs.Gains.{Gains};
 ghost use Rattle.upload_promise.specs.Puts.{put_job};
 ghost use Rattle.upload_promise.specs.Sources.{LooksAt};
 ghost use Rattle.upload_promise.specs.Uploads.{WantsJournal, is_open, is_uncertain};
-ghost use Rattle.small_uploads.specs.Uploading.{IsPutTask, IsStepOf, Uploads, failed_or_unknown, lost_cause, outcome_of, put_ask, read_cause};
+ghost use Rattle.small_uploads.specs.Uploading.{
+  IsPutTask,
+  IsStepOf,
+  Uploads,
+  failed_or_unknown,
+  lost_cause,
+  outcome_of,
+  put_ask,
+  read_cause,
+};
 
 use crate::source::{ReadFault, read_whole};
 use lane_jobs::{Carried, Carrier, Ending, Job, What};
