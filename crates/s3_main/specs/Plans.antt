@@ -88,7 +88,8 @@ abbrev pub HasUploaded : Endpoint → Keys → (attempts : ℕ) → Task → Opt
     → (faults_before faults_after : ℕ) → Run → List Talk → List Note → Type 0
 HasUploaded endpoint keys attempts task now before after run talks notes =
     (how : Outcome) × (run.outcomes.items ≡ how ∷ [])
-    × Uploads endpoint keys attempts (put_ask task) now (path_of task) task.size before after run.journal.items how talks notes
+    × Uploads endpoint keys attempts (put_ask task) now (path_of task) task.size before after run.journal.items how
+    talks notes
 
 -- no task: no outcome, no job, and nothing sent
 pub record IsIdle (run : Run) (talks : List Talk) (notes : List Note) : Type 0 where

@@ -63,17 +63,11 @@ no_cell (Some before) after e keeps = absurd (none_is_some before (sym e))
 
 module _ (carrier : SeenCarrier) (task : Task) (put : IsPutTask task) (job : SeenJob) (is_put : job.id ≡ put_job) (is_step : IsStepOf task job.what) (no_holder : job.cell ≡ None) (none_had : job.had ≡ 0)
     (carried : SeenCarried) (first last : Option WireLog) (same : IsSameJob job carried.job) where
-  size : ℕ
-  size = (range_of job.what).1
-
   abbrev CarriesAs : Ask → ℕ → Option Reason → List ℕ → Type 0
   CarriesAs asked had gave place = Carries (request_for carrier asked job.part (range_of job.what).1) had (most_attempts carrier.attempts had) gave place first last carried.tries carried.ending
 
   no_reason : reason_of carried.job.cell ≡ None
   no_reason = ap reason_of (no_cell job.cell carried.job.cell no_holder same.cell)
-
-  request : SignedRequest
-  request = put_request carrier.endpoint carrier.keys (put_ask task) (bytes_of job.part)
 
   abbrev CarriesPut : List ℕ → Type 0
   CarriesPut place = Carries (put_request carrier.endpoint carrier.keys (put_ask task) (bytes_of job.part)) 0 (most_attempts carrier.attempts 0) None place first last carried.tries carried.ending
