@@ -1,11 +1,8 @@
 -- The Put of an upload is carried as the promise of a run says it, by the law of the jobs of lanes.
-use Rattle.std.proofs.Common.{◌≡◌, ◌∙◌, ◌==◌, ◌+◌, ◌<◌, ◌≤◌, ℕ, zero, suc, Bool, true, false, List, [], ◌∷◌, Option, Some, None, refl, sym, ap, subst, inl, inr, map, length, append-nil, Contains, slice_get, arith, if◌then◌else◌}
+use Rattle.std.proofs.Common.{◌≡◌, ◌∙◌, ◌==◌, ◌<◌, ◌≤◌, ℕ, zero, suc, Bool, true, false, List, [], ◌∷◌, Some, None, refl, sym, subst, inl, inr, map, length, append-nil, Contains, slice_get, arith, if◌then◌else◌}
 use Rattle.std.specs.Prelude.{IsSome}
 use Rattle.std.proofs.lemmas.List.{length-map}
 use Rattle.shared_lemmas.proofs.Clashes.{false_true, none_is_some, some_is}
-use Rattle.s3_model.specs.declared.answers.Class.{Class}
-use Rattle.s3_model.specs.declared.answers.Why.{Why}
-use Rattle.s3_model.specs.declared.answers.Why.TheVariants as why
 use Rattle.s3_model.specs.declared.outcomes.Cause.TheVariants as cause
 use Rattle.s3_model.specs.declared.outcomes.Event.{Event}
 use Rattle.s3_model.specs.declared.outcomes.Event.TheVariants as entry
@@ -30,7 +27,7 @@ use Rattle.lane_laws.proofs.RunLaw.{jobs_are_carried}
 use Rattle.upload_promise.specs.Uploads.{is_open, put_events, upload_ask}
 use Rattle.upload_promise.proofs.JobLemmas.{Planned, each, in_one, put_with, setting_of, task_of}
 use Rattle.upload_promise.proofs.WireLemmas.{beyond_first, in_first_other}
-use Rattle.small_uploads.specs.Uploading.{IsPutCarried, failed_or_unknown, lost_cause, outcome_of, put_request}
+use Rattle.small_uploads.specs.Uploading.{IsPutCarried, outcome_of, put_request}
 
 given_came : (j k : JobId) (l m : ℕ) (tries : List Mark) → entry.Given j l ≡ entry.Came k m tries → ⊥
 given_came j k l m tries e = cc
@@ -68,7 +65,7 @@ module _ (endpoint : Endpoint) (keys : Keys) (u : Planned) (least : 1 ≤ u.conf
   giving = record { of = put_with u (paired (map mark_of c.classes) talks); classes = c.classes; ended = c.ended; gave = None }
 
   long : length tries ≡ length attempts
-  long = length-map mark_of c.classes ∙ sym (as_many (put_request endpoint keys (upload_ask u.bucket u.key u.content) (source_bytes u.was.store.held (task_of u).source)) c.place c.classes 1 talks c.shared.0 c.shared.3)
+  long = length-map c.classes mark_of ∙ sym (as_many (put_request endpoint keys (upload_ask u.bucket u.key u.content) (source_bytes u.was.store.held (task_of u).source)) c.place c.classes 1 talks c.shared.0 c.shared.3)
 
   came_here : (at lane : ℕ) (j : JobId) (marks : List Mark) → slice_get (put_events tries) at ≡ Some (entry.Came j lane marks) → (d : Dispatched) × Contains (put ∷ []) d × (d.dispatch.came_at ≡ Some at)
   came_here zero lane j marks e = absurd (given_came _ _ _ _ _ (some_is _ _ e))

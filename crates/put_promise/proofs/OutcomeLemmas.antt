@@ -1,10 +1,9 @@
 -- The outcome of an upload is what the attempts of its Put show.
-use Rattle.std.proofs.Common.{◌≡◌, ◌∙◌, ◌⊎◌, ◌++◌, ◌+◌, ◌<◌, ◌≤◌, ℕ, zero, suc, Bool, true, false, List, [], ◌∷◌, Option, Some, None, refl, sym, ap, subst, inl, inr, map, length, slice_get, arith, if◌then◌else◌}
+use Rattle.std.proofs.Common.{◌≡◌, ◌∙◌, ◌⊎◌, ◌+◌, ◌<◌, ◌≤◌, ℕ, zero, suc, Bool, true, false, List, [], ◌∷◌, Option, Some, refl, sym, ap, subst, inl, inr, map, length, slice_get, arith, if◌then◌else◌}
 use Rattle.std.specs.Prelude.{IfSome}
 use Rattle.shared_lemmas.proofs.Clashes.{false_true, none_is_some, some_is}
 use Rattle.s3_model.specs.declared.answers.Class.{Class}
 use Rattle.s3_model.specs.declared.answers.Class.TheVariants as class
-use Rattle.s3_model.specs.declared.answers.Reply.{Reply}
 use Rattle.s3_model.specs.declared.answers.Why.{Why}
 use Rattle.s3_model.specs.declared.answers.Why.TheVariants as why
 use Rattle.s3_model.specs.declared.outcomes.Cause.{Cause}
@@ -23,7 +22,7 @@ use Rattle.answer_classes.specs.Showing.{HasStatus, Shows}
 use Rattle.attempts.specs.Attempts.{HasClass, SignedRequest}
 use Rattle.jobs.specs.declared.ending.Ending.{Ending}
 use Rattle.jobs.specs.declared.ending.Ending.TheVariants as ending
-use Rattle.lane_jobs.specs.Lanes.{AreMade, EndsByClass, EndsByMemory, IsMade, ending_of}
+use Rattle.lane_jobs.specs.Lanes.{AreMade, ending_of}
 use Rattle.run_promise.specs.Carried.{mark_of}
 use Rattle.run_promise.specs.Dispatches.{Attempt, Dispatched, last_of, paired}
 use Rattle.run_promise.specs.Outcomes.{HasOutcome}
@@ -35,7 +34,7 @@ use Rattle.upload_promise.specs.Uploads.{is_open, upload_ask}
 use Rattle.upload_promise.proofs.JobLemmas.{Planned, put_with, setting_of, task_of}
 use Rattle.upload_promise.proofs.OutcomeLemmas as outcomes
 use Rattle.upload_promise.proofs.PromiseLemmas.{IsOrdinary, done_ordinary, lost_open, memory_open, memory_ordinary, served_open, served_ordinary}
-use Rattle.small_uploads.specs.Uploading.{IsPutCarried, failed_or_unknown, lost_cause, outcome_of, put_request}
+use Rattle.small_uploads.specs.Uploading.{IsPutCarried, lost_cause, outcome_of, put_request}
 
 -- ---- marks
 

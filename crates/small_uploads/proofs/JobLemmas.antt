@@ -1,6 +1,5 @@
 -- The job of an upload is its Put, and what the carrier did for it.
-use Rattle.std.proofs.Common.{◌≡◌, ◌∙◌, ℕ, Bool, false, List, Option, Some, None, refl, sym, ap, subst, inl, inr, IfSome, length, map}
-use Rattle.std.specs.Arc.{arc_value}
+use Rattle.std.proofs.Common.{◌≡◌, ◌∙◌, ℕ, Bool, false, List, Option, Some, None, refl, sym, ap, subst, inr, IfSome, length}
 use Rattle.shared_lemmas.proofs.Clashes.{none_is_some}
 use Rattle.attempts.specs.Attempts.{SignedRequest}
 use Rattle.jobs.specs.Endings.{SeenCarried}
@@ -9,7 +8,6 @@ use Rattle.jobs.specs.Jobs.{IsAskOf, IsStepAsk, SeenJob, range_of}
 use Rattle.jobs.specs.declared.what.What.{What}
 use Rattle.jobs.specs.declared.what.What.TheVariants as what
 use Rattle.lane_jobs.specs.Lanes.{Carries, IsCarriedBy, IsSameJob, IsShare, KeepsCell, SeenCarrier, bytes_of, most_attempts, reason_of, request_for}
-use Rattle.run_promise.specs.Carried.{mark_of}
 use Rattle.run_promise.specs.Gains.{Gains}
 use Rattle.run_promise.proofs.GainLemmas.{gains_as}
 use Rattle.run_promise.specs.Schedule.{IsObject}
@@ -24,12 +22,12 @@ use Rattle.s3_model.specs.declared.requests.Ask.TheVariants as ask
 use Rattle.s3_model.specs.declared.requests.Op.TheVariants as op
 use Rattle.s3_model.specs.declared.tasks.Task.{Task}
 use Rattle.s3_model.specs.declared.tries.Mark.{Mark}
-use Rattle.s3_model.specs.Talks.{Talk, Note, WireLog}
+use Rattle.s3_model.specs.Talks.{WireLog}
 use Rattle.s3_outside.specs.Files.{SeenFiles}
 use Rattle.upload_promise.specs.Puts.{put_job}
 use Rattle.upload_promise.specs.Sources.{AreFirstBytes}
 use Rattle.upload_promise.specs.Uploads.{put_events}
-use Rattle.small_uploads.specs.Uploading.{IsPutCarried, IsPutTask, IsStepOf, Uploads, ask_for, outcome_of, put_ask, put_request}
+use Rattle.small_uploads.specs.Uploading.{IsPutTask, IsStepOf, Uploads, ask_for, outcome_of, put_ask, put_request}
 
 -- ---- its request
 

@@ -1,5 +1,5 @@
 -- What became of one upload.
-use Rattle.std.proofs.Common.{◌≡◌, ◌∙◌, ◌++◌, ℕ, Bool, true, false, List, [], ◌∷◌, Option, Some, None, Result, Err, IfSome, IsErrOf, refl, sym, ap, subst, inl, inr, if◌then◌else◌}
+use Rattle.std.proofs.Common.{◌≡◌, ◌∙◌, ◌++◌, ℕ, Bool, true, false, List, [], ◌∷◌, Option, Some, None, Result, Err, IfSome, IsErrOf, refl, sym, ap, inl, inr, if◌then◌else◌}
 use Rattle.shared_lemmas.proofs.Clashes.{false_true, none_is_some}
 use Rattle.jobs.specs.Endings.{EndIn, IsEnded}
 use Rattle.jobs.specs.Holders.{Holder}
@@ -11,7 +11,6 @@ use Rattle.s3_model.specs.declared.bytes.Part.{Part}
 use Rattle.s3_model.specs.declared.requests.Ask.{Ask}
 use Rattle.s3_model.specs.declared.requests.Op.{Op}
 use Rattle.s3_model.specs.declared.requests.Op.TheVariants as op
-use Rattle.s3_model.specs.declared.outcomes.Cause.{Cause}
 use Rattle.s3_model.specs.declared.outcomes.Cause.TheVariants as cause
 use Rattle.s3_model.specs.declared.outcomes.Event.{Event}
 use Rattle.s3_model.specs.declared.outcomes.Event.TheVariants as entry
@@ -29,7 +28,7 @@ use Rattle.run_promise.proofs.GainLemmas.{gains_nothing}
 use Rattle.upload_promise.specs.Puts.{put_job}
 use Rattle.upload_promise.specs.Sources.{HasFewer}
 use Rattle.upload_promise.specs.Uploads.{IsReadCause, WantsJournal, is_open, put_events}
-use Rattle.small_uploads.specs.Uploading.{Uploads, failed_or_unknown, lost_cause, outcome_of, read_cause}
+use Rattle.small_uploads.specs.Uploading.{Uploads, lost_cause, outcome_of, read_cause}
 use Rattle.small_uploads.specs.declared.source.ReadFault.{ReadFault}
 use Rattle.small_uploads.specs.declared.source.ReadFault.TheVariants as read
 

@@ -25,7 +25,7 @@ use Rattle.shared_lemmas.proofs.Members.{contains_of, Has, has_middle}
 use Rattle.upload_promise.specs.Puts.{put_job}
 use Rattle.upload_promise.specs.Shown.{tells_file_failed}
 use Rattle.upload_promise.specs.Uploads.{IsReadCause, upload_ask}
-use Rattle.upload_promise.proofs.JobLemmas.{Planned, below, first_only, in_none, in_one, only, put_with, setting_of, task_of}
+use Rattle.upload_promise.proofs.JobLemmas.{Planned, below, in_none, in_one, only, put_with, setting_of, task_of}
 
 -- the outcome of a task whose bytes did not come says that a file call failed
 pub tells : (seen : SeenFiles) (path : List ℕ) (size before after : ℕ) (why : Cause) → IsReadCause (Some seen) path size before after why → tells_file_failed (Some (outcome.Failed why)) ≡ true

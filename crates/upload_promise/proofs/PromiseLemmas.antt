@@ -1,5 +1,5 @@
 -- A run of at most one small upload keeps its promise: its task was planned and carried, or none was.
-use Rattle.std.proofs.Common.{◌≡◌, ◌∙◌, ◌==◌, ◌<◌, ◌≤◌, ◌^◌, ◌⊎◌, ℕ, Bool, true, false, List, [], ◌∷◌, Option, Some, None, refl, sym, ap, subst, inl, inr, Contains, length, slice_get, filter_map, if◌then◌else◌, arith}
+use Rattle.std.proofs.Common.{◌≡◌, ◌∙◌, ◌==◌, ◌<◌, ◌≤◌, ℕ, Bool, true, false, List, [], ◌∷◌, Option, Some, None, refl, sym, ap, subst, inl, inr, Contains, length, slice_get, filter_map, if◌then◌else◌, arith}
 use Rattle.std.specs.FinMap.{get}
 use Rattle.std.proofs.lemmas.List.{take_all}
 use Rattle.s3_model.specs.declared.requests.Ask.{Ask}
@@ -27,12 +27,12 @@ use Rattle.run_promise.specs.Carried.{IsCarried, in_first}
 use Rattle.run_promise.specs.Dispatches.{Attempt, Dispatched}
 use Rattle.run_promise.specs.Outcomes.{HasOutcome, ReadsSource}
 use Rattle.run_promise.specs.Schedule.{IsSchedule, is_small}
-use Rattle.run_promise.specs.Settled.{HasFileFailed, IsSettingOf, NoneSaysChanged, cause_of, is_memory, is_dry, left_by, untimed_by}
+use Rattle.run_promise.specs.Settled.{HasFileFailed, IsSettingOf, NoneSaysChanged, cause_of, is_dry, left_by, untimed_by}
 use Rattle.run_promise.specs.Truthful.{Shown}
 use Rattle.world_laws.specs.Promises.{IsByRequests}
 use Rattle.world_laws.specs.Tasks.{HasSource, HasSourceFile}
 use Rattle.shared_lemmas.proofs.Clashes.{none_is_some}
-use Rattle.s3_outside.specs.Files.{SeenFiles, shape_at, shape_of}
+use Rattle.s3_outside.specs.Files.{SeenFiles, shape_of}
 use Rattle.s3_outside.specs.declared.files.Shape.TheVariants as shape
 use Rattle.upload_promise.specs.Puts.{AreIdle}
 use Rattle.upload_promise.specs.Sources.{AreFirstBytes}

@@ -1,5 +1,5 @@
 -- The one request of an upload: its job, and what a wire notes beside it.
-use Rattle.std.specs.Prelude.{◌≡◌, ℕ, List, [], Some, Contains, filter_map}
+use Rattle.std.specs.Prelude.{◌≡◌, List, [], Some, Contains, filter_map}
 use Rattle.s3_model.specs.declared.requests.Op.TheVariants as op
 use Rattle.s3_model.specs.declared.outcomes.JobId.{JobId}
 use Rattle.s3_model.specs.Talks.{Note, Began}
