@@ -4,7 +4,7 @@ use Rattle.shared_lemmas.proofs.Clashes.{none_is_some}
 use Rattle.attempts.specs.Attempts.{SignedRequest}
 use Rattle.jobs.specs.Endings.{SeenCarried}
 use Rattle.jobs.specs.Holders.{Holder}
-use Rattle.jobs.specs.Jobs.{IsAskOf, IsStepAsk, SeenJob, range_of}
+use Rattle.jobs.specs.Jobs.{IsAskOf, IsOfKind, IsOfTask, IsStepAsk, SeenJob, range_of}
 use Rattle.jobs.specs.declared.what.What.{What}
 use Rattle.jobs.specs.declared.what.What.TheVariants as what
 use Rattle.lane_jobs.specs.Lanes.{Carries, IsCarriedBy, IsSameJob, IsShare, KeepsCell, SeenCarrier, bytes_of, most_attempts, reason_of, request_for}
@@ -20,6 +20,7 @@ use Rattle.s3_model.specs.declared.places.Place.TheVariants as place
 use Rattle.s3_model.specs.declared.requests.Ask.{Ask}
 use Rattle.s3_model.specs.declared.requests.Ask.TheVariants as ask
 use Rattle.s3_model.specs.declared.requests.Op.TheVariants as op
+use Rattle.s3_model.specs.declared.tasks.Kind.{Kind}
 use Rattle.s3_model.specs.declared.tasks.Task.{Task}
 use Rattle.s3_model.specs.declared.tries.Mark.{Mark}
 use Rattle.s3_model.specs.Talks.{WireLog}
@@ -27,7 +28,7 @@ use Rattle.s3_outside.specs.Files.{SeenFiles}
 use Rattle.upload_promise.specs.Puts.{put_job}
 use Rattle.upload_promise.specs.Sources.{AreFirstBytes}
 use Rattle.upload_promise.specs.Uploads.{put_events}
-use Rattle.small_uploads.specs.Uploading.{IsPutTask, IsStepOf, Uploads, ask_for, outcome_of, put_ask, put_request}
+use Rattle.small_uploads.specs.Uploading.{GoesToObject, IsPutTask, IsStepOf, Uploads, ask_for, outcome_of, put_ask, put_request}
 
 -- ---- its request
 
@@ -43,6 +44,19 @@ step_ask task (what.Plan planned) asked put is asks = absurd is
 step_ask task (what.Step shared range upload etags) asked put is asks =
     let (to, e) = subst (λ (t : Task). IsStepAsk t range upload etags op.Put 0 asked) is asks.1 in
     e ∙ put_as task.dest task.content task.fresh to.bucket to.key to.is_dest put.replaces
+
+named : (dest : Place) → GoesToObject dest → (bucket : List ℕ) × (key : List ℕ) × IsObject dest bucket key
+named (place.Object bucket key) is = (bucket, key, (refl, refl))
+named (place.File path) is = absurd is
+
+-- a step of such a task asks for its Put
+pub put_asks : (task : Task) → IsPutTask task → (range : ℕ × ℕ) → (asked : Ask) × IsOfTask task op.Put × IsStepAsk task range None None op.Put 0 asked
+put_asks task put range =
+    let (bucket, key, is) = named task.dest put.to_object in (
+      ask.Put bucket key task.content task.fresh,
+      subst (λ (k : Kind). IsOfKind k op.Put) (sym put.kind_is) tt,
+      (record { bucket = bucket; key = key; is_dest = is }, refl),
+    )
 
 -- its body is what the part has
 put_is : (carrier : SeenCarrier) (dest : Place) (content : Option (List ℕ)) (part : Option Part) (size : ℕ)
