@@ -18,7 +18,7 @@ use Rattle.s3_model.specs.declared.tries.Mark.{Mark}
 use Rattle.s3_model.specs.declared.tries.Mark.TheVariants as mark
 use Rattle.s3_model.specs.Counts.{Rose}
 use Rattle.s3_model.specs.Talks.{Talk, Note}
-use Rattle.run_promise.specs.Dispatches.{last_of}
+use Rattle.jobs.specs.Endings.{EndIn, HaveNoSuccess}
 use Rattle.s3_outside.specs.Files.{SeenFiles}
 use Rattle.upload_promise.specs.Puts.{put_job}
 use Rattle.upload_promise.specs.Sources.{AreFirstBytes, HasFewer}
@@ -82,18 +82,19 @@ CameWith P journal = (marks : List Mark) × (journal ≡ put_events marks) × P 
 -- Whatever can be seen of wires and files: the jobs that an outcome wants, and a failed call on files only where their
 -- count rose.
 abbrev pub WantsJournal : (faults_before faults_after : ℕ) → Outcome → List Event → Type 0
-WantsJournal before after outcome.Done journal = CameWith (λ marks. last_of marks ≡ Some mark.Success) journal
+WantsJournal before after outcome.Done journal = CameWith (EndIn mark.Success) journal
 WantsJournal before after (outcome.Failed (cause.Service of_op code message)) journal = (of_op ≡ op.Put)
-    × CameWith (λ marks. (last_of marks ≡ Some mark.Refusal) × (is_open marks ≡ false)) journal
+    × CameWith (λ marks. EndIn mark.Refusal marks × (is_open marks ≡ false)) journal
 WantsJournal before after (outcome.Failed cause.Memory) journal = (journal ≡ [])
-    ⊎ CameWith (λ marks. is_open marks ≡ false) journal
+    ⊎ CameWith (λ marks. HaveNoSuccess marks × (is_open marks ≡ false)) journal
 WantsJournal before after (outcome.Failed (cause.Files call.Read)) journal = (journal ≡ []) × Rose before after
 WantsJournal before after (outcome.Failed cause.Changed) journal = journal ≡ []
 WantsJournal before after (outcome.Unknown (cause.Service of_op code message)) journal = (of_op ≡ op.Put)
-    × CameWith (λ marks. (last_of marks ≡ Some mark.Refusal) × (is_open marks ≡ true)) journal
+    × CameWith (λ marks. EndIn mark.Refusal marks × (is_open marks ≡ true)) journal
 WantsJournal before after (outcome.Unknown (cause.Lost of_op reason)) journal = (of_op ≡ op.Put)
-    × CameWith (λ marks. last_of marks ≡ Some mark.Uncertain) journal
-WantsJournal before after (outcome.Unknown cause.Memory) journal = CameWith (λ marks. is_open marks ≡ true) journal
+    × CameWith (EndIn mark.Uncertain) journal
+WantsJournal before after (outcome.Unknown cause.Memory) journal =
+    CameWith (λ marks. HaveNoSuccess marks × (is_open marks ≡ true)) journal
 WantsJournal before after how journal = ⊥
 
 -- `Carries asked body journal how talks notes`: what a wire gained by the Put of this body, with the events of its job
