@@ -1,5 +1,5 @@
 -- The job of an upload is its Put, and what the carrier did for it.
-use Rattle.std.proofs.Common.{◌≡◌, ◌∙◌, ℕ, Bool, false, List, Option, Some, None, refl, sym, ap, subst, inr, IfSome, length}
+use Rattle.std.proofs.Common.{◌≡◌, ◌∙◌, ◌+◌, ℕ, Bool, false, List, Option, Some, None, refl, sym, ap, subst, inr, IfSome, length, arith}
 use Rattle.shared_lemmas.proofs.Clashes.{none_is_some}
 use Rattle.attempts.specs.Attempts.{SignedRequest}
 use Rattle.jobs.specs.Endings.{SeenCarried}
@@ -7,13 +7,14 @@ use Rattle.jobs.specs.Holders.{Holder}
 use Rattle.jobs.specs.Jobs.{IsAskOf, IsOfKind, IsOfTask, IsStepAsk, SeenJob, range_of}
 use Rattle.jobs.specs.declared.what.What.{What}
 use Rattle.jobs.specs.declared.what.What.TheVariants as what
-use Rattle.lane_jobs.specs.Lanes.{Carries, IsCarriedBy, IsSameJob, IsShare, KeepsCell, SeenCarrier, bytes_of, most_attempts, reason_of, request_for}
+use Rattle.lane_jobs.specs.Lanes.{Carries, Ends, IsCarriedBy, IsSameJob, IsShare, KeepsCell, SeenCarrier, bytes_of, most_attempts, reason_of, request_for}
 use Rattle.run_promise.specs.Gains.{Gains}
 use Rattle.run_promise.proofs.GainLemmas.{gains_as}
 use Rattle.run_promise.specs.Schedule.{IsObject}
 use Rattle.s3_model.specs.declared.bytes.Part.{Part}
 use Rattle.s3_model.specs.declared.outcomes.Event.{Event}
 use Rattle.s3_model.specs.declared.outcomes.JobId.{JobId}
+use Rattle.s3_model.specs.declared.outcomes.Outcome.{Outcome}
 use Rattle.s3_model.specs.declared.outcomes.Reason.{Reason}
 use Rattle.s3_model.specs.declared.places.Place.{Place}
 use Rattle.s3_model.specs.declared.places.Place.TheVariants as place
@@ -28,7 +29,7 @@ use Rattle.s3_outside.specs.Files.{SeenFiles}
 use Rattle.upload_promise.specs.Puts.{put_job}
 use Rattle.upload_promise.specs.Sources.{AreFirstBytes}
 use Rattle.upload_promise.specs.Uploads.{put_events}
-use Rattle.small_uploads.specs.Uploading.{GoesToObject, IsPutTask, IsStepOf, Uploads, ask_for, outcome_of, put_ask, put_request}
+use Rattle.small_uploads.specs.Uploading.{GoesToObject, IsPutTask, IsStepOf, Uploads, ask_for, most_puts, outcome_of, put_ask, put_request}
 
 -- ---- its request
 
@@ -50,12 +51,11 @@ named (place.Object bucket key) is = (bucket, key, (refl, refl))
 named (place.File path) is = absurd is
 
 -- a step of such a task asks for its Put
-pub put_asks : (task : Task) → IsPutTask task → (range : ℕ × ℕ) → (asked : Ask) × IsOfTask task op.Put × IsStepAsk task range None None op.Put 0 asked
+pub put_asks : (task : Task) → IsPutTask task → (range : ℕ × ℕ) → (asked : Ask) × (IsOfTask task op.Put × IsStepAsk task range None None op.Put 0 asked)
 put_asks task put range =
     let (bucket, key, is) = named task.dest put.to_object in (
       ask.Put bucket key task.content task.fresh,
-      subst (λ (k : Kind). IsOfKind k op.Put) (sym put.kind_is) tt,
-      (record { bucket = bucket; key = key; is_dest = is }, refl),
+      (subst (λ (k : Kind). IsOfKind k op.Put) (sym put.kind_is) tt, (record { bucket = bucket; key = key; is_dest = is }, refl)),
     )
 
 -- its body is what the part has
@@ -72,6 +72,9 @@ no_cell None (Some after) e keeps = absurd keeps
 no_cell (Some before) after e keeps = absurd (none_is_some before (sym e))
 
 -- ---- what was carried
+
+from_none : (n : ℕ) → 0 + n ≡ n
+from_none n = omega arith
 
 module _ (carrier : SeenCarrier) (task : Task) (put : IsPutTask task) (job : SeenJob) (is_put : job.id ≡ put_job) (is_step : IsStepOf task job.what) (no_holder : job.cell ≡ None) (none_had : job.had ≡ 0)
     (carried : SeenCarried) (first last : Option WireLog) (same : IsSameJob job carried.job) where
@@ -92,26 +95,26 @@ module _ (carrier : SeenCarrier) (task : Task) (put : IsPutTask task) (job : See
       let gave = subst (λ (r : Option Reason). CarriesAs (put_ask task) 0 r h.place) no_reason had in
       subst (λ (r : SignedRequest). Carries r 0 (most_attempts carrier.attempts 0) None h.place first last carried.tries carried.ending) (put_is carrier task.dest task.content job.part (range_of job.what).1) gave
 
-  pub given : IsCarriedBy carrier job first last carried → (seen : Option SeenFiles) (path : List ℕ) (length_of before after : ℕ) (journal : List Event) → journal ≡ put_events carried.tries
-      → length (bytes_of job.part) ≡ length_of → IfSome seen (λ files. AreFirstBytes files.store path (bytes_of job.part))
-      → Gains first last (Uploads carrier.endpoint carrier.keys carrier.attempts (put_ask task) seen path length_of before after journal (outcome_of carried.tries carried.ending))
-  given h seen path length_of before after journal journals whole read =
+  pub given : IsCarriedBy carrier job first last carried → (seen : Option SeenFiles) (path : List ℕ) (length_of before after : ℕ) (journal : List Event) (how : Outcome) (body : List ℕ)
+      → journal ≡ put_events carried.tries → how ≡ outcome_of carried.tries carried.ending → bytes_of job.part ≡ body → length body ≡ length_of → IfSome seen (λ files. AreFirstBytes files.store path body)
+      → Gains first last (Uploads carrier.endpoint carrier.keys carrier.attempts (put_ask task) seen path length_of before after journal how)
+  given h seen path length_of before after journal how body journals is same_body whole read =
       let k = carries_put h in
       gains_as (IsShare (put_request carrier.endpoint carrier.keys (put_ask task) (bytes_of job.part)) 0 h.place k.classes carried.ending)
-      (Uploads carrier.endpoint carrier.keys carrier.attempts (put_ask task) seen path length_of before after journal (outcome_of carried.tries carried.ending))
+      (Uploads carrier.endpoint carrier.keys carrier.attempts (put_ask task) seen path length_of before after journal how)
       (λ talks notes share. inr (record {
         bytes = bytes_of job.part;
-        size_is = whole;
-        read = read;
+        size_is = ap (λ (bytes : List ℕ). length bytes) same_body ∙ whole;
+        read = subst (λ (bytes : List ℕ). IfSome seen (λ files. AreFirstBytes files.store path bytes)) (sym same_body) read;
         carries = record {
           classes = k.classes;
           ended = carried.ending;
           place = h.place;
           journals = journals ∙ ap put_events k.marks;
-          comes_to = ap (λ (marks : List Mark). outcome_of marks carried.ending) k.marks;
-          at_most = k.at_most;
+          comes_to = is ∙ ap (λ (marks : List Mark). outcome_of marks carried.ending) k.marks;
+          at_most = let few = k.at_most in omega (arith, few);
           again = k.again;
-          ends = k.ends;
+          ends = subst (λ (made : ℕ). Ends made (most_puts carrier.attempts) None k.classes carried.ending) (from_none (length k.classes)) k.ends;
           shared = share;
         };
       }))

@@ -1,7 +1,8 @@
 -- What became of one upload.
-use Rattle.std.proofs.Common.{◌≡◌, ◌∙◌, ◌++◌, ℕ, Bool, true, false, List, [], ◌∷◌, Option, Some, None, Result, Err, IfSome, IsErrOf, refl, sym, ap, inl, inr, if◌then◌else◌}
+use Rattle.std.proofs.Common.{◌≡◌, ◌≢◌, ◌∙◌, ◌++◌, ℕ, Bool, true, false, List, [], ◌∷◌, Option, Some, None, Result, Err, IfSome, IsErrOf, refl, sym, ap, subst, inl, inr, if◌then◌else◌}
+use Rattle.std.proofs.lemmas.List.Elements.{All-push}
 use Rattle.shared_lemmas.proofs.Clashes.{false_true, none_is_some}
-use Rattle.jobs.specs.Endings.{EndIn, IsEnded}
+use Rattle.jobs.specs.Endings.{EndIn, HaveNoSuccess, IsEnded}
 use Rattle.jobs.specs.Holders.{Holder}
 use Rattle.jobs.specs.declared.ending.Ending.{Ending}
 use Rattle.jobs.specs.declared.ending.Ending.TheVariants as ending
@@ -22,7 +23,6 @@ use Rattle.s3_model.specs.declared.tries.Mark.TheVariants as mark
 use Rattle.s3_model.specs.Counts.{Rose}
 use Rattle.s3_model.specs.Talks.{WireLog}
 use Rattle.s3_outside.specs.Files.{SeenFiles}
-use Rattle.run_promise.specs.Dispatches.{last_of}
 use Rattle.run_promise.specs.Gains.{Gains}
 use Rattle.run_promise.proofs.GainLemmas.{gains_nothing}
 use Rattle.upload_promise.specs.Puts.{put_job}
@@ -69,13 +69,14 @@ read_wants before after read.Memory journal rose none = inl none
 
 -- ---- marks
 
-last_in : (front : List Mark) (m : Mark) → last_of (front ++ m ∷ []) ≡ Some m
-last_in [] m = refl
-last_in (x ∷ []) m = refl
-last_in (x ∷ y ∷ front) m = last_in (y ∷ front) m
+uncertain_fails : mark.Uncertain ≢ mark.Success
+uncertain_fails e = cc
 
-ends_with : (m : Mark) (marks : List Mark) → EndIn m marks → last_of marks ≡ Some m
-ends_with m marks h = ap (λ (ms : List Mark). last_of ms) h.1 ∙ last_in h.0 m
+no_success : (front : List Mark) → HaveNoSuccess front → HaveNoSuccess (front ++ mark.Uncertain ∷ [])
+no_success front none = All-push (λ each. each ≢ mark.Success) front mark.Uncertain none uncertain_fails
+
+none_in : (marks : List Mark) → EndIn mark.Uncertain marks → HaveNoSuccess marks
+none_in marks h = subst HaveNoSuccess (sym h.1) (no_success h.0 h.2)
 
 open_in : (front : List Mark) → is_open (front ++ mark.Uncertain ∷ []) ≡ true
 open_in [] = refl
@@ -86,32 +87,32 @@ open_in (mark.Uncertain ∷ front) = refl
 -- ---- the jobs that an ending wants
 
 module _ (before after : ℕ) (journal : List Event) (marks : List Mark) (is : journal ≡ put_events marks) where
-  refused_wants : (code message : List ℕ) (b : Bool) → is_open marks ≡ b → last_of marks ≡ Some mark.Refusal
+  refused_wants : (code message : List ℕ) (b : Bool) → is_open marks ≡ b → EndIn mark.Refusal marks
       → WantsJournal before after (if b then outcome.Unknown (cause.Service op.Put code message) else outcome.Failed (cause.Service op.Put code message)) journal
   refused_wants code message true open_ last = (refl, (marks, is, (last, open_)))
   refused_wants code message false open_ last = (refl, (marks, is, (last, open_)))
 
-  memory_wants : (b : Bool) → is_open marks ≡ b → WantsJournal before after (if b then outcome.Unknown cause.Memory else outcome.Failed cause.Memory) journal
-  memory_wants true open_ = (marks, is, open_)
-  memory_wants false open_ = inr (marks, is, open_)
+  memory_wants : HaveNoSuccess marks → (b : Bool) → is_open marks ≡ b → WantsJournal before after (if b then outcome.Unknown cause.Memory else outcome.Failed cause.Memory) journal
+  memory_wants none true open_ = (marks, is, (none, open_))
+  memory_wants none false open_ = inr (marks, is, (none, open_))
 
   lost_wants : (reason : Why) → EndIn mark.Uncertain marks → WantsJournal before after (outcome.Unknown (lost_cause reason)) journal
-  lost_wants why.Memory h = (marks, is, ap is_open h.1 ∙ open_in h.0)
-  lost_wants why.WireFailed h = (refl, (marks, is, ends_with mark.Uncertain marks h))
-  lost_wants why.EndedEarly h = (refl, (marks, is, ends_with mark.Uncertain marks h))
-  lost_wants why.NotHttp h = (refl, (marks, is, ends_with mark.Uncertain marks h))
-  lost_wants why.HeadTooLong h = (refl, (marks, is, ends_with mark.Uncertain marks h))
-  lost_wants (why.BodyTooLong most) h = (refl, (marks, is, ends_with mark.Uncertain marks h))
-  lost_wants why.BadLength h = (refl, (marks, is, ends_with mark.Uncertain marks h))
-  lost_wants why.BadChunk h = (refl, (marks, is, ends_with mark.Uncertain marks h))
-  lost_wants (why.Status status) h = (refl, (marks, is, ends_with mark.Uncertain marks h))
-  lost_wants why.Internal h = (refl, (marks, is, ends_with mark.Uncertain marks h))
-  lost_wants why.Document h = (refl, (marks, is, ends_with mark.Uncertain marks h))
+  lost_wants why.Memory h = (marks, is, (none_in marks h, ap is_open h.1 ∙ open_in h.0))
+  lost_wants why.WireFailed h = (refl, (marks, is, h))
+  lost_wants why.EndedEarly h = (refl, (marks, is, h))
+  lost_wants why.NotHttp h = (refl, (marks, is, h))
+  lost_wants why.HeadTooLong h = (refl, (marks, is, h))
+  lost_wants (why.BodyTooLong most) h = (refl, (marks, is, h))
+  lost_wants why.BadLength h = (refl, (marks, is, h))
+  lost_wants why.BadChunk h = (refl, (marks, is, h))
+  lost_wants (why.Status status) h = (refl, (marks, is, h))
+  lost_wants why.Internal h = (refl, (marks, is, h))
+  lost_wants why.Document h = (refl, (marks, is, h))
 
   pub ended_wants : (ended : Ending) (of_op : Op) (part : Option Part) (cell : Option Holder) → cell ≡ None → IsEnded ended of_op part cell marks → WantsJournal before after (outcome_of marks ended) journal
-  ended_wants (ending.Gained said) of_op part cell none h = (marks, is, ends_with mark.Success marks h.0)
-  ended_wants (ending.Refused code message) of_op part cell none h = refused_wants code message (is_open marks) refl (ends_with mark.Refusal marks h)
+  ended_wants (ending.Gained said) of_op part cell none h = (marks, is, h.0)
+  ended_wants (ending.Refused code message) of_op part cell none h = refused_wants code message (is_open marks) refl h
   ended_wants (ending.Uncertain reason) of_op part cell none h = lost_wants reason h
   ended_wants (ending.Cancelled reason) of_op part None none h = absurd (false_true h.1)
   ended_wants (ending.Cancelled reason) of_op part (Some cell) none h = absurd (none_is_some cell (sym none))
-  ended_wants ending.Memory of_op part cell none h = memory_wants (is_open marks) refl
+  ended_wants ending.Memory of_op part cell none h = memory_wants h (is_open marks) refl

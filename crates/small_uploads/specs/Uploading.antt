@@ -31,7 +31,7 @@ use Rattle.s3_model.specs.Classes.{is_tried_again}
 use Rattle.s3_model.specs.Talks.{Talk, Note}
 use Rattle.s3_outside.specs.Files.{SeenFiles}
 use Rattle.upload_promise.specs.Uploads as any_carrier
-use Rattle.upload_promise.specs.Uploads.{is_open, put_events, upload_ask}
+use Rattle.upload_promise.specs.Uploads.{WantsJournal, is_open, put_events, upload_ask}
 use Rattle.small_uploads.specs.declared.source.ReadFault.{ReadFault}
 use Rattle.small_uploads.specs.declared.source.ReadFault.TheVariants as read
 
@@ -85,6 +85,14 @@ outcome_of marks (ending.Uncertain reason) = outcome.Unknown (lost_cause reason)
 outcome_of marks (ending.Cancelled reason) = failed_or_unknown marks (cause.Cancelled reason)
 outcome_of marks ending.Memory = failed_or_unknown marks cause.Memory
 
+-- the most attempts of its Put, one of which is left in any case
+abbrev pub most_puts : (attempts : ℕ) → ℕ
+most_puts attempts = most_attempts attempts 0
+
+-- the outcome wants the job with these marks, whatever the counts of faults of the files
+abbrev pub WantsPut : Outcome → List Mark → Type 0
+WantsPut how marks = (before after : ℕ) → WantsJournal before after how (put_events marks)
+
 abbrev pub put_request : Endpoint → Keys → Ask → (body : List ℕ) → SignedRequest
 put_request endpoint keys asked body = signed_request endpoint keys asked body None
 
@@ -97,10 +105,10 @@ pub record IsPutCarried (endpoint : Endpoint) (keys : Keys) (attempts : ℕ) (as
   pub place : List ℕ
   pub journals : journal ≡ put_events (map mark_of classes)
   pub comes_to : how ≡ outcome_of (map mark_of classes) ended
-  pub at_most : 0 + length classes ≤ most_attempts attempts 0
+  pub at_most : length classes ≤ most_puts attempts
   pub again : (k : ℕ) (shown : Class) → slice_get classes k ≡ Some shown → k + 1 < length classes
       → is_tried_again shown ≡ true
-  pub ends : Ends (0 + length classes) (most_attempts attempts 0) None classes ended
+  pub ends : Ends (length classes) (most_puts attempts) None classes ended
   pub shared : IsShare (put_request endpoint keys asked body) 0 place classes ended talks notes
 
 -- The file's bytes did not come, or the Put of them was carried to this service, signed with these keys.

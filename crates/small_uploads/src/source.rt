@@ -42,8 +42,28 @@ fn read_more<F: Files>(
     }
 }
 
-/// The bytes of a file, of which there must be `size`.
+/// Fills a place with the first bytes of a file.
 #[tactic(auto, using(upload_promise::proofs::SourceLemmas::looks_both))]
+fn fill_from<F: Files>(files: &mut F, path: &str, place: &mut [u8]) -> Result<(), ReadFault>
+    ensures length { length place.new ≡ length place.old }
+    ensures bytes { IfSome (F.seen files.new)
+        (λ seen. IfOk result (λ done. AreFirstBytes seen.store path.now place.new)) }
+    ensures short { IfSome (F.seen files.new)
+        (λ seen. IsErrOf result ReadFault.Short → HasFewer seen.store path.now (length place.old)) }
+    ensures failed { IsErrOf result ReadFault.Failed → Rose (F.faults files.old) (F.faults files.new) }
+    ensures memory { result ≢ Err ReadFault.Memory }
+    ensures files { Keeps (F.seen files.old) (F.seen files.new) }
+    ensures looks { LooksAt path.now (F.seen files.old) (F.seen files.new) }
+    ensures later { F.faults files.old ≤ F.faults files.new }
+{
+    let mut at: usize = 0;
+    'pieces: while at < place.len() {
+        at = read_more(files, path, place, at)?;
+    }
+    Ok(())
+}
+
+/// The bytes of a file, of which there must be `size`.
 pub(crate) fn read_whole<F: Files>(
     alloc: Global,
     files: &mut F,
@@ -64,9 +84,6 @@ pub(crate) fn read_whole<F: Files>(
         return Err(ReadFault::Memory);
     };
     bytes.grow(size as usize);
-    let mut at: usize = 0;
-    'pieces: while (at as u64) < size {
-        at = read_more(files, path, bytes.as_mut_slice(), at)?;
-    }
+    fill_from(files, path, bytes.as_mut_slice())?;
     Ok(bytes)
 }

@@ -10,6 +10,7 @@ ghost use Rattle.small_uploads.specs.Uploading.{
   IsPutTask,
   IsStepOf,
   Uploads,
+  WantsPut,
   failed_or_unknown,
   lost_cause,
   outcome_of,
@@ -116,6 +117,24 @@ fn job_of(task: Arc<Task, Global>, size: u64, bytes: Bytes) -> Job
     }
 }
 
+/// What came of a Put: the marks of its attempts, and the outcome that they and its ending come to.
+#[derive(Drop)]
+struct Ended {
+    tries: Tries,
+    outcome: Outcome,
+}
+
+/// What came of a Put that was carried, whose job is let go.
+fn end_of(carried: Carried) -> Ended
+    ensures tries { result.tries ≡ carried.tries }
+    ensures outcome { result.outcome ≡ outcome_of carried.tries carried.ending }
+    ensures wants { carried.job.cell ≡ None → WantsPut result.outcome result.tries }
+{
+    let Carried { tries, ending, .. } = carried;
+    let outcome = outcome_of(&tries, ending);
+    Ended { tries, outcome }
+}
+
 /// Reads the file whole and has its Put carried, with as many attempts as the carrier makes; the journal has the job
 /// once it was given.
 pub fn upload<F: Files, W: Wire>(
@@ -144,8 +163,7 @@ pub fn upload<F: Files, W: Wire>(
         Err(fault) => return Outcome::Failed(read_cause(fault)),
     };
     journal.push(Event::Given { job: PUT, lane: 0 });
-    let Carried { tries, ending, .. } = carrier.carry(wire, job_of(task, size, bytes));
-    let outcome = outcome_of(&tries, ending);
+    let Ended { tries, outcome } = end_of(carrier.carry(wire, job_of(task, size, bytes)));
     journal.push(Event::Came {
         job: PUT,
         lane: 0,

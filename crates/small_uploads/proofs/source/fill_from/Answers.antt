@@ -1,7 +1,7 @@
 use Rattle.std.proofs.Common.{arith, rules}
 use Rattle.std.proofs.lemmas.Grind.{common_steps}
 use Rattle.upload_promise.proofs.SourceLemmas.{looks_both}
-use Rattle.small_uploads.proofs.source.read_whole.Goals as goal
+use Rattle.small_uploads.proofs.source.fill_from.Goals as goal
 
 pub pieces-preserved : goal.pieces-preserved
 pieces-preserved g c = record {

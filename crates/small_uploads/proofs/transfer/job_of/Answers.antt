@@ -4,7 +4,7 @@ use Rattle.small_uploads.proofs.JobLemmas.{put_asks}
 use Rattle.small_uploads.proofs.transfer.job_of.Goals as goal
 
 pub invariant_of-result : goal.invariant_of-result
-invariant_of-result g c = record {
+invariant_of-result c = record {
   asks = put_asks (arc_value c.args.task) c.requires (0, c.args.size);
   has_range = tt;
   has_part = refl;
