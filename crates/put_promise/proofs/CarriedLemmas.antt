@@ -1,5 +1,5 @@
 -- The Put of an upload is carried as the promise of a run says it, by the law of the jobs of lanes.
-use Rattle.std.proofs.Common.{◌≡◌, ◌∙◌, ◌==◌, ◌<◌, ◌≤◌, ℕ, zero, suc, Bool, true, false, List, [], ◌∷◌, Some, None, refl, sym, subst, inl, inr, map, length, append-nil, Contains, slice_get, arith, if◌then◌else◌}
+use Rattle.std.proofs.Common.{◌≡◌, ◌∙◌, ◌+◌, ◌==◌, ◌<◌, ◌≤◌, ℕ, zero, suc, Bool, true, false, List, [], ◌∷◌, Some, None, refl, sym, subst, inl, inr, map, length, append-nil, Contains, slice_get, arith, if◌then◌else◌}
 use Rattle.std.specs.Prelude.{IsSome}
 use Rattle.std.proofs.lemmas.List.{length-map}
 use Rattle.shared_lemmas.proofs.Clashes.{false_true, none_is_some, some_is}
@@ -17,6 +17,7 @@ use Rattle.answer_classes.specs.Showing.{Shows}
 use Rattle.attempts.specs.Attempts.{text_of}
 use Rattle.jobs.specs.declared.ending.Ending.{Ending}
 use Rattle.jobs.specs.declared.ending.Ending.TheVariants as ending
+use Rattle.lane_jobs.specs.Lanes.{Ends}
 use Rattle.run_promise.specs.Carried.{IsCarried, MayStop, in_first, in_lane, mark_of}
 use Rattle.run_promise.specs.Dispatches.{Attempt, Dispatched, paired}
 use Rattle.run_promise.specs.Schedule.{Setting, source_bytes}
@@ -27,10 +28,13 @@ use Rattle.lane_laws.proofs.RunLaw.{jobs_are_carried}
 use Rattle.upload_promise.specs.Uploads.{is_open, put_events, upload_ask}
 use Rattle.upload_promise.proofs.JobLemmas.{Planned, each, in_one, put_with, setting_of, task_of}
 use Rattle.upload_promise.proofs.WireLemmas.{beyond_first, in_first_other}
-use Rattle.small_uploads.specs.Uploading.{IsPutCarried, outcome_of, put_request}
+use Rattle.small_uploads.specs.Uploading.{IsPutCarried, most_puts, outcome_of, put_request}
 
 given_came : (j k : JobId) (l m : ℕ) (tries : List Mark) → entry.Given j l ≡ entry.Came k m tries → ⊥
 given_came j k l m tries e = cc
+
+from_none : (n : ℕ) → n ≡ 0 + n
+from_none n = omega arith
 
 other_lane : (lane : ℕ) → (0 == suc lane) ≡ false
 other_lane lane = grind arith
@@ -93,9 +97,9 @@ module _ (endpoint : Endpoint) (keys : Keys) (u : Planned) (least : 1 ≤ u.conf
     place = c.place;
     limit_is = refl;
     attempts_are = refl;
-    at_most = c.at_most;
+    at_most = let few = c.at_most in omega (arith, few);
     again = c.again;
-    ends = c.ends;
+    ends = subst (λ (made : ℕ). Ends made (most_puts u.config.attempts) None c.classes c.ended) (from_none (length c.classes)) c.ends;
     shared = c.shared;
   }
 

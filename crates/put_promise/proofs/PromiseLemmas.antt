@@ -47,8 +47,7 @@ module _ (endpoint : Endpoint) (keys : Keys) (Plans : List Dispatched → Type 0
     }
 
     abbrev IsKept : Outcome → List Event → List Talk → List Note → Type 0
-    IsKept = promise.IsKept Shows HasStatus (text_of endpoint keys) endpoint.host endpoint.port Plans plans_none config configured limits valid status before after path was now same warnings no_left no_untimed
-    bucket key content size micros is_below file held long
+    IsKept = promise.IsKept Shows HasStatus (text_of endpoint keys) endpoint.host endpoint.port Plans plans_none config configured limits valid status before after path was now same warnings no_left no_untimed bucket key content size micros is_below file held long
 
     kept : (how : Outcome) (journal : List Event) (talks : List Talk) (notes : List Note) → IsPutCarried endpoint keys config.attempts (upload_ask bucket key content) file.bytes journal how talks notes
         → IsKept how journal talks notes
@@ -68,17 +67,16 @@ module _ (endpoint : Endpoint) (keys : Keys) (Plans : List Dispatched → Type 0
     keeps : (journal : List Event) (how : Outcome) (talks : List Talk) (notes : List Note)
         → Uploads endpoint keys config.attempts (upload_ask bucket key content) (Some now) path size before after journal how talks notes
         → KeepsPromise Shows HasStatus (text_of endpoint keys) endpoint.host endpoint.port Plans path before after (upload_task path bucket key content size micros ∷ []) warnings now
-            (shown_by config limits status (upload_task path bucket key content size micros ∷ []) (how ∷ []) journal talks notes was now)
+        (shown_by config limits status (upload_task path bucket key content size micros ∷ []) (how ∷ []) journal talks notes was now)
     keeps =
-        promise.upload_keeps Shows HasStatus (text_of endpoint keys) endpoint.host endpoint.port Plans plans_none config configured limits valid status before after path was now same warnings no_left no_untimed
-        bucket key content size micros is_below file held long (IsPutCarried endpoint keys config.attempts) kept
+        promise.upload_keeps Shows HasStatus (text_of endpoint keys) endpoint.host endpoint.port Plans plans_none config configured limits valid status before after path was now same warnings no_left no_untimed bucket key content size micros is_below file held long (IsPutCarried endpoint keys config.attempts) kept
 
   -- an upload whose file stood there, with the size that was planned
   pub uploaded : (bucket key : List ℕ) (content : Option (List ℕ)) (size micros : ℕ) → size < config.threshold → shape_at was.store path ≡ shape.File size micros
       → (journal : List Event) (how : Outcome) (talks : List Talk) (notes : List Note)
       → Uploads endpoint keys config.attempts (upload_ask bucket key content) (Some now) path size before after journal how talks notes
       → KeepsPromise Shows HasStatus (text_of endpoint keys) endpoint.host endpoint.port Plans path before after (upload_task path bucket key content size micros ∷ []) warnings now
-          (shown_by config limits status (upload_task path bucket key content size micros ∷ []) (how ∷ []) journal talks notes was now)
+      (shown_by config limits status (upload_task path bucket key content size micros ∷ []) (how ∷ []) journal talks notes was now)
   uploaded bucket key content size micros is_below stands journal how talks notes =
       let found = promise.shape_file was.store path (get was.store.held path) size micros stands in
       keeps bucket key content size micros is_below found.0 found.1 found.2 journal how talks notes
