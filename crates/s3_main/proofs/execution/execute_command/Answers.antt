@@ -10,6 +10,11 @@ use Rattle.s3_main.specs.Plans.{IsFate}
 use Rattle.s3_main.proofs.ExecutionLemmas as lemma
 use Rattle.s3_main.proofs.execution.execute_command.Goals as goal
 
+pub execute_upload-requires-clause-upload : goal.execute_upload-requires-clause-upload
+execute_upload-requires-clause-upload g c =
+    let fated = subst (λ (f : Fate). IsFate c.args.start.command c.args.start.settings c.args.limits.now (g.F.Files.seen c.args.files.now) f) c.in-Ok-Upload.field-0-is c.in-Ok-Upload.ensures.fate in
+    (lemma.is_upload c.args.start.command c.args.start.settings c.args.limits.now (g.F.Files.seen c.args.files.now) c.in-Ok-Upload.task fated).0
+
 pub returns-in-Ok-Upload-clause-went : goal.returns-in-Ok-Upload-clause-went
 returns-in-Ok-Upload-clause-went g c =
     let fated = subst (λ (f : Fate). IsFate c.args.start.command c.args.start.settings c.args.limits.now (g.F.Files.seen c.args.files.now) f) c.in-Ok-Upload.field-0-is c.in-Ok-Upload.ensures.fate in

@@ -1,6 +1,5 @@
-use Rattle.std.proofs.Common.{◌∙◌, List, ℕ, Err, sym, ap, subst}
+use Rattle.std.proofs.Common.{◌∙◌, List, Err, sym, ap, subst}
 use Rattle.std.specs.Arc.{arc_value}
-use Rattle.s3_model.specs.declared.outcomes.Outcome.{Outcome}
 use Rattle.s3_model.specs.declared.outcomes.Outcome.TheVariants as outcome
 use Rattle.s3_model.specs.declared.outcomes.Cause.{Cause}
 use Rattle.run_promise.specs.Gains.{Gains}
