@@ -1,4 +1,4 @@
-//! Lanes as callers use them: tests over a wire that plays listed answers, and of the cells of jobs.
+//! The cells of jobs as callers use them: a test of what only a run shows.
 #![tactic(auto)]
 
 #[cfg(test)]
