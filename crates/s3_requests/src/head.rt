@@ -47,7 +47,7 @@ fn target_of(alloc: Global, request: &Description<'_>) -> Result<Target, AllocEr
 }
 
 /// Adds the method and the escaped path.
-#[tactic(auto, using(s3_signing::proofs::JoinLemmas::pieces), unfolding(crate::specs::Requests::method_and_path))]
+#[tactic(auto, unfolding(crate::specs::Requests::method_and_path))]
 fn push_method_and_path(
     out: &mut String,
     request: &Description<'_>,
@@ -63,7 +63,7 @@ fn push_method_and_path(
 }
 
 /// Adds the request line.
-#[tactic(auto, using(s3_signing::proofs::JoinLemmas::pieces), unfolding(crate::specs::Requests::request_line))]
+#[tactic(auto, unfolding(crate::specs::Requests::request_line))]
 fn push_request_line(
     out: &mut String,
     request: &Description<'_>,
@@ -92,7 +92,7 @@ fn push_length_line(out: &mut String, body: Body<'_>, length: u64) -> Result<(),
 }
 
 /// Adds the value of the authorization header.
-#[tactic(auto, using(s3_signing::proofs::JoinLemmas::pieces), unfolding(crate::specs::Requests::authorization))]
+#[tactic(auto, unfolding(crate::specs::Requests::authorization))]
 fn push_authorization(
     out: &mut String,
     keys: &Keys,
@@ -113,7 +113,6 @@ fn push_authorization(
 }
 
 /// Adds the headers, the content length and the authorization, and an empty line.
-#[tactic(auto, using(s3_signing::proofs::JoinLemmas::pieces))]
 fn push_lines(
     out: &mut String,
     request: &Description<'_>,

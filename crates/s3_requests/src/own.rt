@@ -16,7 +16,6 @@ use std::alloc::{AllocError, Global};
 pub type Headers = Vec<(String, String)>;
 
 /// The value of a range: bytes=first-last.
-#[tactic(auto, using(s3_signing::proofs::JoinLemmas::pieces))]
 fn byte_range(alloc: Global, range: (u64, u64)) -> Result<String, AllocError>
     ensures { IfOk result (λ text. string_bytes text ≡ spec.byte_range range) }
 {
@@ -29,7 +28,6 @@ fn byte_range(alloc: Global, range: (u64, u64)) -> Result<String, AllocError>
 }
 
 /// The source of a copy: the bucket, `/` and the escaped key.
-#[tactic(auto, using(s3_signing::proofs::JoinLemmas::pieces))]
 fn source_text(alloc: Global, bucket: &str, key: &str) -> Result<String, AllocError>
     ensures { IfOk result (λ text. string_bytes text ≡ spec.source_of bucket.now key.now) }
 {
@@ -67,7 +65,6 @@ fn push_header(
 }
 
 /// Adds a header, where there is a value.
-#[tactic(auto, using(s3_signing::proofs::JoinLemmas::pieces))]
 fn push_optional(
     alloc: Global,
     headers: &mut Headers,
@@ -84,7 +81,6 @@ fn push_optional(
 }
 
 /// Adds the headers of an upload: its content type, and that there may be no object yet.
-#[tactic(auto, using(s3_signing::proofs::JoinLemmas::pieces))]
 fn push_upload_headers(
     alloc: Global,
     headers: &mut Headers,
@@ -103,7 +99,6 @@ fn push_upload_headers(
 }
 
 /// Adds the headers of a read: the ETag that the object still has to have, and the range.
-#[tactic(auto, using(s3_signing::proofs::JoinLemmas::pieces))]
 fn push_read_headers(
     alloc: Global,
     headers: &mut Headers,

@@ -24,7 +24,6 @@ pub fn push_resource(out: &mut String, resource: Resource<'_>) -> Result<(), All
 }
 
 /// Adds a parameter of a query, its value escaped.
-#[tactic(auto, using(s3_signing::proofs::JoinLemmas::pieces))]
 fn push_parameter(out: &mut String, name: &str, value: &str) -> Result<(), AllocError>
     ensures { OnOk result (string_bytes out.new ≡ string_bytes out.old ++ (name.now ++ encode_query value.now)) }
 {
@@ -56,7 +55,6 @@ fn push_part_query(out: &mut String, number: u32, upload: &str) -> Result<(), Al
     push_parameter(out, "&uploadId=", upload)
 }
 
-#[tactic(auto, using(s3_signing::proofs::JoinLemmas::pieces))]
 fn push_token(out: &mut String, token: Option<&str>) -> Result<(), AllocError>
     ensures { OnOk result (string_bytes out.new ≡ string_bytes out.old ++ token_text (option_copied token.entry)) }
 {
@@ -114,7 +112,6 @@ pub fn push_signed_query(out: &mut String, query: Query<'_>) -> Result<(), Alloc
 }
 
 /// Adds `?` and a query.
-#[tactic(auto, using(s3_signing::proofs::JoinLemmas::pieces))]
 fn push_marked(out: &mut String, query: &str) -> Result<(), AllocError>
     ensures { OnOk result (string_bytes out.new ≡ string_bytes out.old ++ (codes "?" ++ query.now)) }
 {

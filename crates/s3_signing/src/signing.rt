@@ -25,7 +25,7 @@ pub fn payload_hash(alloc: Global, body: &[u8]) -> Result<Text, OutOfMemory>
 }
 
 /// Adds date/region/s3/aws4_request.
-#[tactic(auto, using(crate::proofs::JoinLemmas::pieces), unfolding(crate::specs::Signing::credential_scope))]
+#[tactic(auto, unfolding(crate::specs::Signing::credential_scope))]
 pub fn push_scope(out: &mut String, moment: u64, region: &str) -> Result<(), AllocError>
     requires { moment < 253402300800 }
     ensures { OnOk result (string_bytes out.new
@@ -38,7 +38,7 @@ pub fn push_scope(out: &mut String, moment: u64, region: &str) -> Result<(), All
 }
 
 /// Adds the credential: the id of the keys and the scope.
-#[tactic(auto, using(crate::proofs::JoinLemmas::pieces), unfolding(crate::specs::Signing::credential))]
+#[tactic(auto, unfolding(crate::specs::Signing::credential))]
 pub fn push_credential(out: &mut String, keys: &Keys, moment: u64) -> Result<(), AllocError>
     requires { moment < 253402300800 }
     ensures { OnOk result (string_bytes out.new ≡ string_bytes out.old ++ spec.credential keys.now moment) }
@@ -48,7 +48,7 @@ pub fn push_credential(out: &mut String, keys: &Keys, moment: u64) -> Result<(),
     push_scope(out, moment, keys.region.as_str())
 }
 
-#[tactic(auto, using(crate::proofs::JoinLemmas::pieces), unfolding(crate::specs::Signing::string_to_sign))]
+#[tactic(auto, unfolding(crate::specs::Signing::string_to_sign))]
 fn text_to_sign(
     alloc: Global,
     moment: u64,
