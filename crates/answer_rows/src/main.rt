@@ -80,9 +80,10 @@ fn answer_of(alloc: Global, room: &mut AnswerRoom, line: &str) -> Result<String,
     let (name, rest) = line.split_once(' ').unwrap_or((line, ""));
     let (operation, written) = rest.split_once(' ').unwrap_or((rest, ""));
     let mut text = format!(in alloc; "{name} {operation}")?;
-    let Some(ask) = request_named(alloc, operation)? else {
+    let Some(ask) = request_named(alloc, operation) else {
         return Ok(text);
     };
+    let ask = ask?;
     let Some(answer) = bytes_of(alloc, written)? else {
         return Ok(text);
     };

@@ -7,102 +7,120 @@ fn text(alloc: Global, of: &str) -> Result<Text, AllocError> {
     Ok(Text::from(String::from_str(alloc, of)?))
 }
 
-/// A request without an upload; None where the name is another.
-fn whole_named(
-    alloc: Global,
-    operation: &str,
-    bucket: Text,
-    key: Text,
-) -> Result<Option<Ask>, AllocError> {
-    let other = text(alloc, "other")?;
-    let etag = text(alloc, "\"e\"")?;
-    Ok(match operation {
-        "Head" => Some(Ask::Head { bucket, key }),
-        "Get" | "LargeGet" => Some(Ask::Get {
-            bucket,
-            key,
-            etag,
-            range: None,
-        }),
-        "Put" => Some(Ask::Put {
-            bucket,
-            key,
-            content: None,
-            fresh: false,
-        }),
-        "Copy" => Some(Ask::Copy {
-            bucket,
-            key,
-            from_bucket: other,
-            from_key: text(alloc, "source")?,
-            etag,
-        }),
-        "Delete" => Some(Ask::Delete { bucket, key }),
-        "List" => Some(Ask::List {
-            bucket,
-            prefix: key,
-            delimited: false,
-            token: None,
-        }),
-        "Buckets" => Some(Ask::Buckets),
-        _ => None,
+fn head(alloc: Global) -> Result<Ask, AllocError> {
+    Ok(Ask::Head {
+        bucket: text(alloc, "b")?,
+        key: text(alloc, "k")?,
     })
 }
 
-/// A request of an upload in parts; None where the name is another.
-fn part_named(
-    alloc: Global,
-    operation: &str,
-    bucket: Text,
-    key: Text,
-) -> Result<Option<Ask>, AllocError> {
-    let upload = text(alloc, "upload")?;
-    Ok(match operation {
-        "Create" => Some(Ask::Create {
-            bucket,
-            key,
-            content: None,
-        }),
-        "Part" => Some(Ask::Part {
-            bucket,
-            key,
-            upload,
-            number: 1,
-        }),
-        "PartCopy" => Some(Ask::PartCopy {
-            bucket,
-            key,
-            upload,
-            number: 1,
-            from_bucket: text(alloc, "other")?,
-            from_key: text(alloc, "source")?,
-            etag: text(alloc, "\"e\"")?,
-            range: (0, 4),
-        }),
-        "Complete" => Some(Ask::Complete {
-            bucket,
-            key,
-            upload,
-            etags: Texts::make(alloc),
-            fresh: false,
-        }),
-        "Abort" => Some(Ask::Abort {
-            bucket,
-            key,
-            upload,
-        }),
-        _ => None,
+fn get(alloc: Global) -> Result<Ask, AllocError> {
+    Ok(Ask::Get {
+        bucket: text(alloc, "b")?,
+        key: text(alloc, "k")?,
+        etag: text(alloc, "\"e\"")?,
+        range: None,
+    })
+}
+
+fn put(alloc: Global) -> Result<Ask, AllocError> {
+    Ok(Ask::Put {
+        bucket: text(alloc, "b")?,
+        key: text(alloc, "k")?,
+        content: None,
+        fresh: false,
+    })
+}
+
+fn copy(alloc: Global) -> Result<Ask, AllocError> {
+    Ok(Ask::Copy {
+        bucket: text(alloc, "b")?,
+        key: text(alloc, "k")?,
+        from_bucket: text(alloc, "other")?,
+        from_key: text(alloc, "source")?,
+        etag: text(alloc, "\"e\"")?,
+    })
+}
+
+fn delete(alloc: Global) -> Result<Ask, AllocError> {
+    Ok(Ask::Delete {
+        bucket: text(alloc, "b")?,
+        key: text(alloc, "k")?,
+    })
+}
+
+fn create(alloc: Global) -> Result<Ask, AllocError> {
+    Ok(Ask::Create {
+        bucket: text(alloc, "b")?,
+        key: text(alloc, "k")?,
+        content: None,
+    })
+}
+
+fn part(alloc: Global) -> Result<Ask, AllocError> {
+    Ok(Ask::Part {
+        bucket: text(alloc, "b")?,
+        key: text(alloc, "k")?,
+        upload: text(alloc, "upload")?,
+        number: 1,
+    })
+}
+
+fn part_copy(alloc: Global) -> Result<Ask, AllocError> {
+    Ok(Ask::PartCopy {
+        bucket: text(alloc, "b")?,
+        key: text(alloc, "k")?,
+        upload: text(alloc, "upload")?,
+        number: 1,
+        from_bucket: text(alloc, "other")?,
+        from_key: text(alloc, "source")?,
+        etag: text(alloc, "\"e\"")?,
+        range: (0, 4),
+    })
+}
+
+fn complete(alloc: Global) -> Result<Ask, AllocError> {
+    Ok(Ask::Complete {
+        bucket: text(alloc, "b")?,
+        key: text(alloc, "k")?,
+        upload: text(alloc, "upload")?,
+        etags: Texts::make(alloc),
+        fresh: false,
+    })
+}
+
+fn abort(alloc: Global) -> Result<Ask, AllocError> {
+    Ok(Ask::Abort {
+        bucket: text(alloc, "b")?,
+        key: text(alloc, "k")?,
+        upload: text(alloc, "upload")?,
+    })
+}
+
+fn list(alloc: Global) -> Result<Ask, AllocError> {
+    Ok(Ask::List {
+        bucket: text(alloc, "b")?,
+        prefix: text(alloc, "k")?,
+        delimited: false,
+        token: None,
     })
 }
 
 /// A request of that operation; None where there is none of the name.
-pub(crate) fn request_named(alloc: Global, operation: &str) -> Result<Option<Ask>, AllocError> {
-    let bucket = text(alloc, "b")?;
-    let key = text(alloc, "k")?;
+pub(crate) fn request_named(alloc: Global, operation: &str) -> Option<Result<Ask, AllocError>> {
     match operation {
-        "Create" | "Part" | "PartCopy" | "Complete" | "Abort" => {
-            part_named(alloc, operation, bucket, key)
-        }
-        _ => whole_named(alloc, operation, bucket, key),
+        "Head" => Some(head(alloc)),
+        "Get" | "LargeGet" => Some(get(alloc)),
+        "Put" => Some(put(alloc)),
+        "Copy" => Some(copy(alloc)),
+        "Delete" => Some(delete(alloc)),
+        "Create" => Some(create(alloc)),
+        "Part" => Some(part(alloc)),
+        "PartCopy" => Some(part_copy(alloc)),
+        "Complete" => Some(complete(alloc)),
+        "Abort" => Some(abort(alloc)),
+        "List" => Some(list(alloc)),
+        "Buckets" => Some(Ok(Ask::Buckets)),
+        _ => None,
     }
 }

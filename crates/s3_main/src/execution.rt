@@ -32,8 +32,9 @@ use crate::start::{Service, Start, read_start, service_of};
 use crate::task::{do_task, prepare};
 use crate::url::execute_presign;
 use result_lines::Line;
-use s3_model::{Limits, Mode, OutOfMemory, Task, WalkFault};
+use s3_model::{Limits, Mode, OutOfMemory, Settings, Task, WalkFault};
 use s3_outside::{Env, Files, Wire};
+use s3_words::Command;
 use std::alloc::Global;
 use upload_plans::{Fate, is_listing, is_presign, places_of, plan_upload};
 
@@ -52,25 +53,26 @@ pub(crate) struct Worked {
     pub missed: bool,
 }
 
-/// Looks at the file of a command, and says what copying it comes to.
+/// Looks at the file of a command, and says what copying it comes to, which takes over the command's texts.
 fn find_fate<F: Files>(
     alloc: Global,
-    start: &Start,
+    command: &mut Command,
+    settings: &Settings,
     limits: &Limits,
     files: &mut F,
 ) -> Result<Fate, Fatal>
-    requires { CopiesUp start.now.command }
-    ensures fate { IfOk result (IsFate start.now.command start.now.settings limits.now (F.seen files.old)) }
+    requires { CopiesUp command.old }
+    ensures fate { IfOk result (IsFate command.old settings.now limits.now (F.seen files.old)) }
     ensures memory { IfOk result HasNoMemory }
     ensures fault { IfErr result (IsUnseen (F.faults files.old) (F.faults files.new)) }
-    ensures files { LooksAt (source_path start.now.command) (F.seen files.old) (F.seen files.new) }
+    ensures endpoint { command.new.endpoint ≡ command.old.endpoint }
+    ensures files { LooksAt (source_path command.old) (F.seen files.old) (F.seen files.new) }
     ensures later { F.faults files.old ≤ F.faults files.new }
 {
-    let command = &start.command;
     let Ok(shape) = files.kind(places_of(command).path) else {
         return Err(Fatal::Walk(WalkFault::Files));
     };
-    let threshold = start.settings.config.threshold;
+    let threshold = settings.config.threshold;
     match plan_upload(alloc, command, shape, threshold, limits.max_object) {
         Ok(fate) => Ok(fate),
         Err(_) => Err(Fatal::Memory),
@@ -140,7 +142,7 @@ fn execute_upload<W: Wire, F: Files>(
 fn execute_command<W: Wire, F: Files>(
     alloc: Global,
     words: &[String],
-    start: Start,
+    mut start: Start,
     limits: &Limits,
     files: &mut F,
     wire: &mut W,
@@ -160,7 +162,7 @@ fn execute_command<W: Wire, F: Files>(
     ensures wire_later { W.faults wire.old ≤ W.faults wire.new }
 {
     let mode = start.command.mode;
-    match find_fate(alloc, &start, limits, files) {
+    match find_fate(alloc, &mut start.command, &start.settings, limits, files) {
         Ok(Fate::Upload(task)) => {
             execute_upload(alloc, words, mode, service_of(start), task, files, wire)
         }

@@ -1,5 +1,5 @@
 -- The file whose fate is a task, and the one that is too large.
-use Rattle.std.proofs.Common.{◌≡◌, ◌<◌, ◌∙◌, ℕ, Bool, true, false, List, Option, Some, None, refl, sym, ap, if◌then◌else◌, arith}
+use Rattle.std.proofs.Common.{◌≡◌, ◌<◌, ℕ, Bool, true, false, List, Option, Some, None, refl, if◌then◌else◌, arith}
 use Rattle.std.specs.Prelude.{nat_le, nat_lt}
 use Rattle.std.specs.Str.{chars}
 use Rattle.path_filters.specs.Filters.{is_kept}
@@ -15,7 +15,6 @@ use Rattle.s3_paths.specs.Names.{key_skip}
 use Rattle.s3_words.specs.declared.commands.Command.{Command}
 use Rattle.upload_plans.specs.Commands.{bucket_of, key_of, source_path}
 use Rattle.upload_plans.specs.Plans.{fate_of, file_fate, is_large, kept_fate, planned_key, planned_task, shape_fate, task_fate, unless_skipped}
-use Rattle.upload_plans.specs.declared.plan.Fate.{Fate}
 use Rattle.upload_plans.specs.declared.plan.Fate.TheVariants as fate
 
 -- a small file stands there, and the task is its

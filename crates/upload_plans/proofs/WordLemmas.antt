@@ -1,7 +1,6 @@
 -- A command that is done by now copies a local file to an object.
 use Rattle.std.proofs.Common.{◌≡◌, ◌∙◌, ◌&&◌, ◌||◌, ℕ, Bool, true, false, not, List, [], ◌∷◌, Option, Some, None, refl, sym, ap, subst, length, if◌then◌else◌, arith}
 use Rattle.std.specs.Option.{option_or}
-use Rattle.s3_model.specs.declared.faults.WordFault.{WordFault}
 use Rattle.s3_model.specs.declared.places.Place.{Place}
 use Rattle.s3_model.specs.declared.places.Place.TheVariants as place
 use Rattle.s3_words.specs.declared.commands.Command.{Command}

@@ -1,6 +1,6 @@
 //! Which commands are done by now, and the places that such a command names.
 
-ghost use Rattle.std.specs.Prelude.{◌≡◌};
+ghost use Rattle.std.specs.Prelude.{◌≡◌, None};
 ghost use Rattle.upload_plans.specs.Commands.{
   CopiesUp,
   bucket_of,
@@ -14,7 +14,7 @@ ghost use Rattle.upload_plans.specs.Commands.{
   source_path,
 };
 
-use s3_model::Place;
+use s3_model::{Place, Text};
 use s3_words::{Command, Verb};
 
 /// The local file of an upload, and the bucket and the key that its words name, as they are written.
@@ -84,4 +84,29 @@ pub fn places_of(command: &Command) -> Places<'_>
         bucket: bucket.as_str(),
         key: key.as_str(),
     }
+}
+
+/// The texts of these places.
+#[derive(Drop)]
+pub struct PlaceTexts {
+    pub path: Text,
+    pub bucket: Text,
+    pub key: Text,
+}
+
+/// Takes the places out of the command of an upload; the rest of it stays.
+pub(crate) fn take_places(command: &mut Command) -> PlaceTexts
+    requires { CopiesUp command.old }
+    ensures path { result.path ≡ source_path command.old }
+    ensures bucket { result.bucket ≡ bucket_of command.old }
+    ensures key { result.key ≡ key_of command.old }
+    ensures rest { command.new ≡ record command.old { from = None; to = None } }
+{
+    let (Some(Place::File { path }), Some(Place::Object { bucket, key })) = (
+        command.from.take(),
+        command.to.take(),
+    ) else {
+        unreachable!()
+    };
+    PlaceTexts { path, bucket, key }
 }

@@ -1,4 +1,4 @@
-use Rattle.std.proofs.Common.{List, ℕ, subst, rules}
+use Rattle.std.proofs.Common.{◌∙◌, List, ℕ, subst, rules}
 use Rattle.upload_plans.specs.declared.plan.Fate.{Fate}
 use Rattle.s3_model.specs.declared.places.Endpoint.{Endpoint}
 use Rattle.s3_model.specs.declared.settings.Keys.{Keys}
@@ -22,7 +22,7 @@ returns-in-Ok-Upload-clause-went g c =
     (g.F.Files.faults c.args.files.now) (g.F.Files.faults c.find_fate.new.files) (g.F.Files.faults c.execute_upload.new.files) c.execute_upload.result.run c.in-Ok-Upload.task
     c.in-Ok-Upload.ensures.later _ _ fated
     (subst (λ (endpoint : Endpoint). Gains (g.W.Wire.seen c.args.wire.now) (g.W.Wire.seen c.execute_upload.new.wire) (MayUpload endpoint c.args.start.settings.keys c.args.start.settings.config.attempts c.in-Ok-Upload.task
-    (g.F.Files.seen c.execute_upload.new.files) (g.F.Files.faults c.find_fate.new.files) (g.F.Files.faults c.execute_upload.new.files) c.execute_upload.result.run)) c.service_of.ensures.endpoint
+    (g.F.Files.seen c.execute_upload.new.files) (g.F.Files.faults c.find_fate.new.files) (g.F.Files.faults c.execute_upload.new.files) c.execute_upload.result.run)) (c.service_of.ensures.endpoint ∙ c.in-Ok-Upload.ensures.endpoint)
     (subst (λ (keys : Keys). Gains (g.W.Wire.seen c.args.wire.now) (g.W.Wire.seen c.execute_upload.new.wire) (MayUpload c.service_of.result.endpoint keys c.args.start.settings.config.attempts c.in-Ok-Upload.task
     (g.F.Files.seen c.execute_upload.new.files) (g.F.Files.faults c.find_fate.new.files) (g.F.Files.faults c.execute_upload.new.files) c.execute_upload.result.run)) c.service_of.ensures.keys
     (subst (λ (attempts : ℕ). Gains (g.W.Wire.seen c.args.wire.now) (g.W.Wire.seen c.execute_upload.new.wire) (MayUpload c.service_of.result.endpoint c.service_of.result.keys attempts c.in-Ok-Upload.task
