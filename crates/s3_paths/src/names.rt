@@ -62,7 +62,9 @@ fn has_temp_name(path: &str) -> bool
     path.split('/').any(|name| is_temp_name(name))
 }
 
-fn name_skip(path: &str) -> Option<KeySkip>
+/// Why a local file must not get a relative path: an empty name, `.` or `..`, or one that ends as temporary files do, in
+/// `.`, eight lower-case hex digits and `.s3part`.
+pub fn name_skip(path: &str) -> Option<KeySkip>
     ensures { result ≡ name_skip path.now }
 {
     if has_empty_name(path) {
@@ -84,8 +86,7 @@ fn ends_in_slash(text: &str) -> bool
 
 /// The path of a file below a local folder: one `/` stands between them.
 ///
-/// Names that a local file must not get are refused: an empty one, `.`, `..`, and one that ends as temporary files do,
-/// in `.`, eight lower-case hex digits and `.s3part`.
+/// Names that a local file must not get are refused ([`name_skip`]).
 pub fn local_of(alloc: Global, root: &str, rel: &str) -> Result<Text, KeySkip>
     ensures kept { OnOk result (name_skip rel.now ≡ None) }
     ensures path { IfOk result (λ path. path ≡ local_path root.now rel.now) }

@@ -70,7 +70,7 @@ fn add_transfer(
     if !is_kept(route.errand, path) {
         return Ok(());
     }
-    if let Some(why) = skip_of(alloc, route.to, route.many, path)? {
+    if let Some(why) = skip_of(route.to, route.many, path) {
         return skip(alloc, route, path, why, &mut plan.warnings);
     }
     if !is_due(route.errand, entry, other) {

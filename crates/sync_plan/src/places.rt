@@ -1,12 +1,12 @@
 //! Where a name comes from and goes to, and which names are left out.
 
 ghost use Rattle.std.specs.Prelude.{◌≡◌, ◌++◌, IfOk, if◌then◌else◌};
-ghost use Rattle.s3_paths.specs.Names.{key_skip, local_path, name_skip};
+ghost use Rattle.s3_paths.specs.Names.{key_skip, local_path};
 ghost use Rattle.sync_plan.specs.Errands.{dest_at, is_joined, place_at, skip_by, skip_of, source_at, takes_name};
 
 use crate::names::ends_in_slash;
 use s3_model::{KeySkip, OutOfMemory, Place, Text};
-use s3_paths::local_of;
+use s3_paths::name_skip;
 use std::alloc::Global;
 
 /// In bytes.
@@ -105,41 +105,20 @@ fn key_skip(prefix: &str, path: &str) -> Option<KeySkip>
     }
 }
 
-/// Why a file must not get the name; the text that it would get is made and let go.
-fn name_skip(alloc: Global, path: &str) -> Result<Option<KeySkip>, OutOfMemory>
-    ensures { IfOk result (λ skip. skip ≡ name_skip path.now) }
-{
-    match local_of(alloc, "", path) {
-        Ok(_) => Ok(None),
-        Err(KeySkip::Memory) => Err(OutOfMemory),
-        Err(why) => Ok(Some(why)),
-    }
-}
-
-fn skip_by(
-    alloc: Global,
-    to: &Place,
-    join: bool,
-    path: &str,
-) -> Result<Option<KeySkip>, OutOfMemory>
-    ensures { IfOk result (λ skip. skip ≡ skip_by to.now join path.now) }
+fn skip_by(to: &Place, join: bool, path: &str) -> Option<KeySkip>
+    ensures { result ≡ skip_by to.now join path.now }
 {
     match to {
-        Place::Object { key, .. } if join => Ok(key_skip(key.as_str(), path)),
-        Place::Object { key, .. } => Ok(key_skip("", key.as_str())),
-        Place::File { .. } if join => name_skip(alloc, path),
-        Place::File { .. } => Ok(None),
+        Place::Object { key, .. } if join => key_skip(key.as_str(), path),
+        Place::Object { key, .. } => key_skip("", key.as_str()),
+        Place::File { .. } if join => name_skip(path),
+        Place::File { .. } => None,
     }
 }
 
 /// Why a name is left out.
-pub(crate) fn skip_of(
-    alloc: Global,
-    to: &Place,
-    many: bool,
-    path: &str,
-) -> Result<Option<KeySkip>, OutOfMemory>
-    ensures { IfOk result (λ skip. skip ≡ skip_of to.now many path.now) }
+pub(crate) fn skip_of(to: &Place, many: bool, path: &str) -> Option<KeySkip>
+    ensures { result ≡ skip_of to.now many path.now }
 {
-    skip_by(alloc, to, is_joined(to, many), path)
+    skip_by(to, is_joined(to, many), path)
 }
