@@ -1,9 +1,13 @@
 -- Bytes begin with one run of a sort.
-use Rattle.std.proofs.Common.{◌≡◌, ◌<◌, ◌≤◌, ◌++◌, ◌∙◌, ℕ, Bool, true, false, List, [], ◌∷◌, refl, sym, ap, subst, length, get_or, drop, take, drop-cons, arith}
+use Rattle.std.proofs.Common.{◌≡◌, ◌<◌, ◌≤◌, ◌++◌, ◌∙◌, ℕ, Bool, true, false, List, [], ◌∷◌, refl, sym, ap, subst, length, get_or, drop, take, drop-cons, arith, ◌==◌, not, Option, Some, None}
 use Rattle.std.specs.List.{AllPass}
 use Rattle.std.proofs.lemmas.Bool.{false≢true}
 use Rattle.std.proofs.lemmas.List.{take-append-drop, append-nil, take_all}
 use Rattle.std.proofs.lemmas.List.Elements.{All-from_get_or, All-head, All-tail}
+use Rattle.std.proofs.lemmas.List.{get_or-take, length-take-le}
+use Rattle.memchr.specs.Find.{IsFirst, Nowhere, Passes, is_byte}
+use Rattle.std.specs.Option.{is_some}
+use Rattle.reply_xml.specs.declared.runs.Sort.TheVariants as sort
 use Rattle.reply_xml.specs.declared.runs.Sort.{Sort}
 use Rattle.reply_xml.specs.Runs.{is_of, BeginsOutside, ReadsRun}
 
@@ -57,3 +61,30 @@ no_run of bytes run rest ends r =
 -- where the run is empty, the first byte is of another sort
 pub no_run_begins : (of : Sort) (bytes run rest : List ℕ) → ReadsRun of run bytes rest → run ≡ [] → BeginsOutside (is_of of) bytes
 no_run_begins of bytes run rest r none = subst (BeginsOutside (is_of of)) (sym (r.split ∙ ap (λ front. front ++ rest) none)) r.ends
+
+-- where no `<` was found, all is text
+is_false : (b : Bool) → (b ≡ true → ⊥) → not b ≡ true
+is_false true f = absurd (f refl)
+is_false false f = refl
+
+text_before : (bytes : List ℕ) (i : ℕ) → i ≤ length bytes → Nowhere (Passes (is_byte 60) bytes) 0 i → AllPass (is_of sort.Text) (take i bytes)
+text_before bytes i within none =
+    All-from_get_or (λ b. is_of sort.Text b ≡ true) (take i bytes) 0
+    (
+    λ k h.
+    let size = length-take-le i bytes within in
+    let less : k < i = omega (arith, size) in
+    is_false (get_or (take i bytes) k 0 == 60) (λ e. none k (omega arith) less (ap (λ b. b == 60) (sym (get_or-take i bytes k 0 less)) ∙ e))
+    )
+
+pub text_to : (bytes text rest : List ℕ) (i : ℕ) → i < length bytes → text ≡ take i bytes → rest ≡ drop i bytes → Nowhere (Passes (is_byte 60) bytes) 0 i → Passes (is_byte 60) bytes i
+    → ReadsRun sort.Text text bytes rest
+text_to bytes text rest i h e f none there = ReadsRun-to sort.Text bytes text rest i h e f (text_before bytes i (omega arith) none) (ap not there)
+
+pub text_whole : (bytes : List ℕ) → Nowhere (Passes (is_byte 60) bytes) 0 (length bytes) → ReadsRun sort.Text bytes bytes []
+text_whole bytes none = ReadsRun-whole sort.Text bytes (length bytes) (omega arith) (text_before bytes (length bytes) (omega arith) none)
+
+-- no byte was found
+pub no_byte : (P : ℕ → Type 0) (i j : ℕ) (r : Option ℕ) → is_some r ≡ false → IsFirst P i j r → Nowhere P i j
+no_byte P i j None e h = h
+no_byte P i j (Some k) e h = absurd (false≢true (sym e))

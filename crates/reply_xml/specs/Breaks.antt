@@ -59,7 +59,7 @@ pub record HasRoot (root doc : List ℕ) (tag : Tag) (rest : List ℕ) : Type 0 
 
 -- a document leaves the grammar: it begins with no such root, or it does so in its tag, inside it, or behind it
 pub data Breaks (root doc : List ℕ) (reason : DocFault) : Type 0 where
-  NoRoot : (place : ℕ) → ((closed : Bool) (rest : List ℕ) → ¬ (BeginsDocument root doc closed rest))
+  NoRoot : (place : ℕ) → ((at : List ℕ) → NamesRoot root doc at → ¬ (NameEnds at))
       → reason ≡ fault.NotADocument place → Breaks root doc reason
   InRootTag : (at : List ℕ) (left : ℕ) → NamesRoot root doc at → LeavesTagEnd at left → Stands (length doc) left reason
       → Breaks root doc reason

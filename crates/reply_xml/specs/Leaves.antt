@@ -1,6 +1,6 @@
 -- Where bytes leave a production: they read as its parts up to a place, and the next part does not stand there. The
 -- place is told by the number of bytes that are left.
-use Rattle.std.specs.Prelude.{◌≡◌, ◌≢◌, ◌≤◌, ◌-◌, ℕ, List, [], ◌∷◌, length}
+use Rattle.std.specs.Prelude.{◌≡◌, ◌≢◌, ◌≤◌, ◌-◌, ◌⊎◌, ℕ, List, [], ◌∷◌, length}
 use Rattle.std.specs.Str.{IsUtf8}
 use Rattle.reply_xml.specs.declared.runs.Sort.TheVariants as sort
 use Rattle.reply_xml.specs.Runs.{BeginsOutside, ReadsRun, is_name_byte}
@@ -15,13 +15,17 @@ pub record LeavesName (bytes : List ℕ) (left : ℕ) : Type 0 where
   pub outside : BeginsOutside is_name_byte bytes
   pub at : left ≡ length bytes
 
+-- one of the two quotes
+abbrev pub IsQuote : ℕ → Type 0
+IsQuote byte = (byte ≡ 34) ⊎ (byte ≡ 39)
+
 -- a value in quotes does not stand here: no quote begins it, some of its bytes are not UTF-8, or no quote ends it
 pub data LeavesValue (bytes : List ℕ) (left : ℕ) : Type 0 where
   NoQuote : Lacks 34 bytes → Lacks 39 bytes → left ≡ length bytes → LeavesValue bytes left
-  NoValue : (quote size : ℕ) (inside value at : List ℕ) → bytes ≡ quote ∷ inside
+  NoValue : (quote size : ℕ) (inside value at : List ℕ) → IsQuote quote → bytes ≡ quote ∷ inside
       → ReadsRun (sort.Value quote) value inside at → ¬ (IsUtf8 value) → size ≤ length value
       → left ≡ length inside - size → LeavesValue bytes left
-  NoEndQuote : (quote : ℕ) (inside value at : List ℕ) → bytes ≡ quote ∷ inside
+  NoEndQuote : (quote : ℕ) (inside value at : List ℕ) → IsQuote quote → bytes ≡ quote ∷ inside
       → ReadsRun (sort.Value quote) value inside at → Lacks quote at → left ≡ length at → LeavesValue bytes left
 
 -- an attribute does not stand here: its name, the `=` or its value

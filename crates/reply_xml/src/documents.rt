@@ -7,7 +7,7 @@ ghost use Rattle.reply_xml.specs.Documents.{BeginsDocument, EndsAt, IsDocument, 
 ghost use Rattle.reply_xml.specs.Breaks.{Breaks, IfBroken, Stands};
 ghost use Rattle.reply_xml.specs.Faults.{IfRefused};
 ghost use Rattle.reply_xml.specs.Places.{BeginsOtherwise, HasOtherRoot, LacksName, LacksRoot};
-ghost use Rattle.reply_xml.specs.Tags.{ReadsTag};
+ghost use Rattle.reply_xml.specs.Tags.{NameEnds, ReadsTag};
 
 use crate::elements::element_named;
 use crate::faults::DocFault;
@@ -87,6 +87,7 @@ fn split_root<'a>(doc: &'a [u8], root: &str) -> Result<(&'a [u8], &'a [u8]), usi
     ensures shorter { IfOk result (λ parts. length parts.1.now ≤ length doc.now) }
     ensures left { IfErr result (λ left. left ≤ length doc.now) }
     ensures refused { OnErr result ((closed : Bool) (rest : List ℕ) → ¬ (BeginsDocument root.now doc.now closed rest)) }
+    ensures unnamed { OnErr result ((at : List ℕ) → NamesRoot root.now doc.now at → ¬ (NameEnds at)) }
     ensures other { (place : ℕ) → (o : HasOtherRoot root.now doc.now place) → result ≡ Err (length o.rest) }
     ensures bare { (place : ℕ) → (l : LacksRoot doc.now place) → result ≡ Err (length l.rest) }
     ensures nameless { (place : ℕ) → (l : LacksName doc.now place) → result ≡ Err (length l.rest) }

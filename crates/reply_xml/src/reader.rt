@@ -18,7 +18,7 @@ ghost use Rattle.reply_values.specs.References.{IsUnescaped};
 use crate::elements::{Element, element_named};
 use crate::faults::DocFault;
 use crate::leaves::Leaf;
-use crate::runs::{Sort, split_run};
+use crate::runs::split_text;
 use crate::tags::{after_end_tag, after_tag_end, split_start};
 use crate::texts::{Meaning, TextFault, read_meaning, text_fault};
 use std::alloc::Global;
@@ -82,7 +82,7 @@ impl<'a> Reader<'a> {
         ensures broken { IfBroken result (λ reason. (left : ℕ) × LeavesText self.old.rest.now left
             × Stands self.old.size left reason) }
     {
-        let (text, rest) = split_run(Sort::Text, self.rest);
+        let (text, rest) = split_text(self.rest);
         if rest.is_empty() {
             return Err(self.last_text_fault(text));
         }

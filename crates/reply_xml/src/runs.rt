@@ -2,6 +2,9 @@
 
 ghost use Rattle.std.specs.Prelude.{◌≡◌, ◌≤◌, length};
 ghost use Rattle.reply_xml.specs.Runs.{is_of, ReadsRun};
+ghost use Rattle.reply_xml.specs.declared.runs.Sort.TheVariants as sort;
+
+use memchr::memchr;
 
 /// Sorts of bytes.
 #[derive(Clone, Copy)]
@@ -25,6 +28,17 @@ pub(crate) fn is_of(sort: Sort, byte: u8) -> bool
         },
         Sort::Text => byte != b'<',
         Sort::Value(quote) => byte != b'<' && byte != quote,
+    }
+}
+
+/// The text at the front, up to the next `<`, and what follows it.
+pub(crate) fn split_text(bytes: &[u8]) -> (&[u8], &[u8])
+    ensures value { ReadsRun sort.Text result.0.now bytes.now result.1.now }
+    ensures shorter { length result.1.now ≤ length bytes.now }
+{
+    match memchr(b'<', bytes) {
+        Some(place) => bytes.split_at(place),
+        None => (bytes, &[]),
     }
 }
 

@@ -7,6 +7,7 @@ ghost use Rattle.reply_xml.specs.Meaning.{meaning_of};
 ghost use Rattle.reply_values.specs.References.{IsUnescaped};
 
 use crate::places::utf8_front;
+use memchr::memchr;
 use reply_values::{ReferenceFault, bad_reference, may_begin_reference, unescape};
 use s3_model::{OutOfMemory, Text};
 use std::alloc::Global;
@@ -57,7 +58,7 @@ pub(crate) fn read_meaning<'a>(alloc: Global, bytes: &'a [u8]) -> Result<Meaning
     let Ok(raw) = std::str::from_utf8(bytes) else {
         return Err(text_fault(bytes, false));
     };
-    if !raw.as_bytes().contains(&b'&') {
+    if memchr(b'&', bytes).is_none() {
         return Ok(Meaning::Itself(raw));
     }
     match unescape(alloc, raw) {

@@ -1,6 +1,6 @@
 use Rattle.std.proofs.Common.{◌+◌, ◌≤◌, ⊎_elim, sym, ap, length, Err, ◌∷◌, ◌≡◌, ◌∙◌, subst, ℕ, List, Bool}
 use Rattle.reply_xml.proofs.TagLemmas.{OnErr-any, NamesTag-same}
-use Rattle.reply_xml.specs.Documents.{BeginsDocument}
+use Rattle.reply_xml.specs.Documents.{BeginsDocument, NamesRoot}
 use Rattle.reply_xml.proofs.DocumentLemmas.{declared_at, root_at, other_root, NamesRoot-declared, NamesRoot-tag, declared_left, may_be_undeclared, no_question, root_there}
 use Rattle.reply_xml.specs.Runs.{ReadsRun}
 use Rattle.reply_xml.specs.Tags.{NameEnds}
@@ -106,3 +106,19 @@ returns-clause-nameless c place l =
     let none : (more : List ℕ) → c.split_run.result.1.now ≡ 60 ∷ 63 ∷ more → ⊥ = λ more e. l.undeclared more (parts_same 60 60 l.rest (63 ∷ more) (same ∙ e)).1 in
     let there = root_there c.args.doc.now _ _ _ _ _ c.split_run.ensures.value c.in_ok-at_space.ensures.value c.split_run-2.ensures.value none in
     absurd (not_err _ _ (c.in-Ok.ensures.nameless l.rest (there ∙ sym same) l.unnamed))
+
+pub returns-in_err-at_space-clause-unnamed : goal.returns-in_err-at_space-clause-unnamed
+returns-in_err-at_space-clause-unnamed c =
+    let none : (at : List ℕ) → NamesRoot c.args.root.now c.args.doc.now at → NameEnds at → ⊥ =
+    λ at n e. c.in_err-at_space.ensures.refused n.at_space (NamesRoot-declared c.args.root.now _ _ _ at c.split_run.ensures.value n) in
+    OnErr-any c.from_residual.result none
+
+pub returns-in-Err-clause-unnamed : goal.returns-in-Err-clause-unnamed
+returns-in-Err-clause-unnamed c at n =
+    c.in-Err.ensures.unnamed c.args.root.now at
+    (NamesRoot-tag c.args.root.now _ _ _ _ _ _ at c.split_run.ensures.value c.in_ok-at_space.ensures.value c.split_run-2.ensures.value n)
+
+pub returns-then-not-is_same-clause-unnamed : goal.returns-then-not-is_same-clause-unnamed
+returns-then-not-is_same-clause-unnamed c at n e =
+    let tag = NamesRoot-tag c.args.root.now _ _ _ _ _ _ at c.split_run.ensures.value c.in_ok-at_space.ensures.value c.split_run-2.ensures.value n in
+    c.if-not-is_same.ensures (sym (NamesTag-same _ c.args.root.now _ _ at c.in-Ok.ensures.value tag).0 ∙ sym c.as_bytes.ensures.value)

@@ -1,16 +1,19 @@
-use Rattle.std.proofs.Common.{ℕ, List, Err, ap, ◌∙◌, sym, subst, arith, rules}
-use Rattle.std.proofs.lemmas.Bool.{eq-eqb, false≢true}
+use Rattle.std.proofs.Common.{ℕ, List, length, Err, ap, ◌∙◌, sym, subst, arith, rules}
+use Rattle.std.proofs.lemmas.Bool.{eq-eqb}
+use Rattle.memchr.specs.Find.{Passes, is_byte}
 use Rattle.reply_values.specs.References.{IsUnescaped}
+use Rattle.reply_xml.proofs.RunLemmas.{no_byte}
 use Rattle.reply_values.proofs.ReferenceLemmas.{Lacks, lacks_from}
 use Rattle.reply_values.proofs.UnescapeLemmas.{plain_run}
 use Rattle.reply_xml.proofs.LeaveLemmas.{OnEnds-any}
 use Rattle.reply_xml.proofs.texts.read_meaning.Goals as goal
 
-pub returns-then-not-contains-clause-value : goal.returns-then-not-contains-clause-value
-returns-then-not-contains-clause-value c =
-    let lacks = lacks_from 38 c.as_bytes.result.now (λ i h e. false≢true (sym (c.if-not-contains.ensures.cases i 0 (omega arith) h) ∙ eq-eqb _ 38 e)) in
+pub returns-then-is_none-clause-value : goal.returns-then-is_none-clause-value
+returns-then-is_none-clause-value c =
+    let none = no_byte (Passes (is_byte 38) c.args.bytes.now) 0 (length c.args.bytes.now) c.memchr.result c.if-is_none.ensures c.memchr.ensures in
+    let lacks = lacks_from 38 c.args.bytes.now (λ i h e. none i (omega arith) h (eq-eqb _ 38 e)) in
     let raw = c.in-Ok.raw.now in
-    (search rules, subst (λ (b : List ℕ). IsUnescaped b raw) c.in-Ok.ensures.cases.0 (plain_run raw (subst (Lacks 38) c.as_bytes.ensures.value lacks)))
+    (search rules, subst (λ (b : List ℕ). IsUnescaped b raw) c.in-Ok.ensures.cases.0 (plain_run raw (subst (Lacks 38) (sym c.in-Ok.ensures.cases.0) lacks)))
 
 pub returns-in-Err-Bad-clause-refused : goal.returns-in-Err-Bad-clause-refused
 returns-in-Err-Bad-clause-refused c utf8 text s =

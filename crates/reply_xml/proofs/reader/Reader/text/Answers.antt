@@ -10,24 +10,24 @@ use Rattle.reply_xml.proofs.reader.Reader.text.Goals as goal
 
 pub returns-then-is_empty-clause-refused : goal.returns-then-is_empty-clause-refused
 returns-then-is_empty-clause-refused c =
-    Tells-any c.last_text_fault.result (λ text rest r. no_text_at_end _ _ _ text rest c.split_run.ensures.value (none_from_test _ (sym c.is_empty.ensures ∙ c.if-is_empty.true)) r)
+    Tells-any c.last_text_fault.result (λ text rest r. no_text_at_end _ _ _ text rest c.split_text.ensures.value (none_from_test _ (sym c.is_empty.ensures ∙ c.if-is_empty.true)) r)
 
 pub returns-in-Err-Ends-clause-refused : goal.returns-in-Err-Ends-clause-refused
-returns-in-Err-Ends-clause-refused c text rest r = no_meaning _ _ _ text _ c.split_run.ensures.value (ends_told c.in-Err-Ends.field-0 _ c.in-Err-Ends.field-0-is c.in-Err-Ends.ensures.refused) r
+returns-in-Err-Ends-clause-refused c text rest r = no_meaning _ _ _ text _ c.split_text.ensures.value (ends_told c.in-Err-Ends.field-0 _ c.in-Err-Ends.field-0-is c.in-Err-Ends.ensures.refused) r
 
 pub returns-in-Err-BadReference-clause-refused : goal.returns-in-Err-BadReference-clause-refused
-returns-in-Err-BadReference-clause-refused c text rest r = no_meaning _ _ _ text _ c.split_run.ensures.value (bad_told c.in-Err-BadReference.field-0 c.in-Err-BadReference.field-0-is c.in-Err-BadReference.ensures.refused) r
+returns-in-Err-BadReference-clause-refused c text rest r = no_meaning _ _ _ text _ c.split_text.ensures.value (bad_told c.in-Err-BadReference.field-0 c.in-Err-BadReference.field-0-is c.in-Err-BadReference.ensures.refused) r
 
 pub returns-then-is_empty-clause-broken : goal.returns-then-is_empty-clause-broken
 returns-then-is_empty-clause-broken c =
-    let run = text_ends _ _ _ c.split_run.ensures.value (none_from_test _ (sym c.is_empty.ensures ∙ c.if-is_empty.true)) in
+    let run = text_ends _ _ _ c.split_text.ensures.value (none_from_test _ (sym c.is_empty.ensures ∙ c.if-is_empty.true)) in
     OnBroken-map c.last_text_fault.result (λ reason h. (_, NoTagBehind h.0 _ run h.1 h.2 refl, h.3)) c.last_text_fault.ensures
 
 pub returns-in-Err-Ends-clause-broken : goal.returns-in-Err-Ends-clause-broken
 returns-in-Err-Ends-clause-broken c =
     let fails = c.in-Err-Ends in (
       _,
-      NotUtf8 fails.place _ _ c.split_run.ensures.value (ends_at _ fails.field-0 fails.place fails.field-0-is fails.ensures.broken)
+      NotUtf8 fails.place _ _ c.split_text.ensures.value (ends_at _ fails.field-0 fails.place fails.field-0-is fails.ensures.broken)
           (ends_within fails.field-0 fails.place _ fails.field-0-is fails.ensures.place) refl,
       ap (λ n. fault.NotADocument n) (rw fails.field-0-is at c.place.ensures),
     )
