@@ -1,25 +1,29 @@
--- Where a document leaves the grammar, from the innermost element outwards.
-use Rattle.std.proofs.Common.{◌≡◌, ◌++◌, ◌⊎◌, ◌∙◌, ℕ, false, Result, Ok, Err, List, [], ◌∷◌, inl, inr, refl, subst, sym, ⊎_elim}
+-- Where a document has a fault, from the innermost element outwards.
+use Rattle.std.proofs.Common.{◌≡◌, ◌++◌, ◌⊎◌, ◌∙◌, ℕ, Bool, true, false, Result, Ok, Err, List, [], ◌∷◌, inl, inr, refl, subst, sym, ⊎_elim}
 use Rattle.std.specs.Result.{IsErrAnd}
 use Rattle.reply_xml.specs.declared.faults.DocFault.{DocFault}
 use Rattle.reply_xml.specs.declared.faults.DocFault.TheVariants as fault
 use Rattle.reply_xml.specs.declared.reader.Child.{Child}
 use Rattle.reply_xml.specs.declared.reader.Tag.{Tag}
-use Rattle.reply_xml.specs.Breaks.{BreaksElement, BreaksIn, BehindLeaf, BehindName, BehindTag, Behind, IfBroken, InLeaf, InTag, Inside, OnBroken}
+use Rattle.reply_xml.specs.Breaks.{BreaksElement, BreaksIn, BehindName, BehindTag, Behind, IfBroken, InLeaf, InTag, InText, Inside, OnBroken}
 use Rattle.reply_xml.specs.Reading.{EndsContent, HoldsSome, IsTagOf, NamesChild, ReadsOpen, ReadsSome}
 use Rattle.reply_xml.proofs.OpenLemmas.{child_begins, element_of, open_in, open_out, some_before}
-use Rattle.reply_xml.specs.Contents.{Only}
+use Rattle.std.specs.Bool.{MatchBool}
+use Rattle.std.proofs.lemmas.Bool.{false≢true}
+use Rattle.reply_values.specs.References.{IsUnescaped}
+use Rattle.reply_xml.specs.Contents.{Only, ReadsText}
+use Rattle.reply_xml.specs.Unfit.{HasText}
 
 pub OnBroken-map : {P Q : DocFault → Type 0} (e : DocFault) → ((reason : DocFault) → P reason → Q reason) → OnBroken e P → OnBroken e Q
 OnBroken-map fault.Memory f h = tt
 OnBroken-map (fault.NotADocument n) f h = f (fault.NotADocument n) h
 OnBroken-map (fault.Missing element) f h = tt
 OnBroken-map (fault.Twice element) f h = tt
-OnBroken-map fault.BadNumber f h = tt
-OnBroken-map fault.BadTime f h = tt
-OnBroken-map fault.BadEscape f h = tt
+OnBroken-map fault.BadNumber f h = f fault.BadNumber h
+OnBroken-map fault.BadTime f h = f fault.BadTime h
+OnBroken-map fault.BadEscape f h = f fault.BadEscape h
 OnBroken-map fault.TooDeep f h = f fault.TooDeep h
-OnBroken-map (fault.BadText element) f h = tt
+OnBroken-map (fault.BadText element) f h = f (fault.BadText element) h
 
 -- a fault that is handed on
 pub broken_past : {U : Type 0} {P Q : DocFault → Type 0} (r : Result U DocFault) (e : DocFault) → IsErrAnd r (λ f. f ≡ e)
@@ -47,8 +51,8 @@ pub child_breaks : (size : ℕ) (reason : DocFault) (tag : Tag) (child : Child) 
     → NamesChild tag.room bytes child from → BreaksElement size reason child from → BreaksIn size reason tag bytes
 child_breaks size reason tag child bytes from plain names (BehindName left leaves stands) = InTag child from left plain names leaves stands
 child_breaks size reason tag child bytes from plain names (BehindTag inner at is breaks) = Inside child inner from at plain names is breaks
-child_breaks size reason tag child bytes from plain names (BehindLeaf inner at text end left is unclosed reads leaves stands) =
-    InLeaf child inner from at text end left plain names is unclosed reads leaves stands
+child_breaks size reason tag child bytes from plain names (InText inner form of at is same text breaks) =
+    InLeaf child inner form of from at plain names is same text breaks
 
 -- what is left of open elements breaks, the innermost last
 abbrev pub BreaksOuter : (size : ℕ) (reason : DocFault) → List Tag → List ℕ → Type 0
@@ -106,14 +110,32 @@ pub open_sized : (size other : ℕ) (reason : DocFault) (tag : Tag) (tags : List
     → BreaksOpen other reason tag tags bytes → BreaksOpen size reason tag tags bytes
 open_sized size other reason tag tags bytes same b = subst (λ (s : ℕ). BreaksOpen s reason tag tags bytes) same b
 
--- a fault that is told instead of another one, which is the same where the grammar is left
-pub broken_told : (P : DocFault → Type 0) (e f : DocFault) → OnBroken f (λ reason. reason ≡ e) → OnBroken e P → OnBroken f P
-broken_told P e fault.Memory same h = tt
-broken_told P e (fault.NotADocument n) same h = subst (λ (d : DocFault). OnBroken d P) (sym same) h
-broken_told P e (fault.Missing element) same h = tt
-broken_told P e (fault.Twice element) same h = tt
-broken_told P e fault.BadNumber same h = tt
-broken_told P e fault.BadTime same h = tt
-broken_told P e fault.BadEscape same h = tt
-broken_told P e fault.TooDeep same h = subst (λ (d : DocFault). OnBroken d P) (sym same) h
-broken_told P e (fault.BadText element) same h = tt
+-- a fault that is told instead of another one: the same one, or one that is told of in another way
+pub broken_told : (P Q : DocFault → Type 0) (e f : DocFault) → OnBroken f (λ reason. (reason ≡ e) ⊎ Q reason) → OnBroken e P
+    → OnBroken f (λ reason. P reason ⊎ Q reason)
+broken_told P Q e fault.Memory told h = tt
+broken_told P Q e (fault.Missing element) told h = tt
+broken_told P Q e (fault.Twice element) told h = tt
+broken_told P Q e (fault.NotADocument n) told h = ⊎_elim (λ same. inl (subst (λ (d : DocFault). OnBroken d P) (sym same) h)) inr told
+broken_told P Q e fault.BadNumber told h = ⊎_elim (λ same. inl (subst (λ (d : DocFault). OnBroken d P) (sym same) h)) inr told
+broken_told P Q e fault.BadTime told h = ⊎_elim (λ same. inl (subst (λ (d : DocFault). OnBroken d P) (sym same) h)) inr told
+broken_told P Q e fault.BadEscape told h = ⊎_elim (λ same. inl (subst (λ (d : DocFault). OnBroken d P) (sym same) h)) inr told
+broken_told P Q e fault.TooDeep told h = ⊎_elim (λ same. inl (subst (λ (d : DocFault). OnBroken d P) (sym same) h)) inr told
+broken_told P Q e (fault.BadText element) told h = ⊎_elim (λ same. inl (subst (λ (d : DocFault). OnBroken d P) (sym same) h)) inr told
+
+-- the same, where the other fault is of that way too
+pub key_told : (P Q : DocFault → Type 0) (e f : DocFault) → OnBroken f (λ reason. (reason ≡ e) ⊎ Q reason) → OnBroken e Q
+    → OnBroken f (λ reason. P reason ⊎ Q reason)
+key_told P Q e f told h = OnBroken-map f (λ reason t. ⊎_elim inr inr t) (broken_told Q Q e f told h)
+
+-- the text behind a tag
+pub text_closed : (tag : Tag) (bytes : List ℕ) → tag.closed ≡ true → HasText tag bytes bytes []
+text_closed tag bytes e = none tag.closed e
+  where
+    none : (closed : Bool) → closed ≡ true → MatchBool closed (◌≡◌ {A = List ℕ} [] [] × (bytes ≡ bytes)) ((raw : List ℕ) × ReadsText raw bytes bytes × IsUnescaped raw [])
+    none true f = (refl, refl)
+    none false f = absurd (false≢true f)
+
+pub text_open : (tag : Tag) (bytes rest raw text : List ℕ) → tag.closed ≡ false → ReadsText raw bytes rest → IsUnescaped raw text → HasText tag bytes rest text
+text_open tag bytes rest raw text e r u =
+    subst (λ (b : Bool). MatchBool b ((text ≡ []) × (rest ≡ bytes)) ((raw : List ℕ) × ReadsText raw bytes rest × IsUnescaped raw text)) (sym e) (raw, r, u)

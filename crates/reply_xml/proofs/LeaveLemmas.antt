@@ -1,10 +1,11 @@
 -- Where bytes leave a production, from its parts.
-use Rattle.std.proofs.Common.{◌≡◌, ◌≢◌, ◌≤◌, ℕ, suc, List, [], Result, Ok, Err, IfErr, subst, sym}
+use Rattle.std.proofs.Common.{◌≡◌, ◌≢◌, ◌≤◌, ℕ, suc, List, [], Result, Ok, Err, IfErr, subst, sym, ap, ◌∙◌, ◌++◌, length, arith}
+use Rattle.std.proofs.lemmas.List.{length-append}
 use Rattle.std.specs.Result.{IsErrAnd}
 use Rattle.reply_xml.specs.declared.runs.Sort.TheVariants as sort
 use Rattle.reply_xml.specs.declared.texts.TextFault.{TextFault}
 use Rattle.reply_xml.specs.declared.texts.TextFault.TheVariants as text_fault
-use Rattle.reply_xml.specs.Faults.{EndsIn, OnEnds}
+use Rattle.reply_xml.specs.Faults.{EndsIn, OnBad, OnEnds}
 use Rattle.reply_xml.specs.Leaves.{LeavesTagEnd}
 use Rattle.reply_xml.specs.Runs.{ReadsRun}
 use Rattle.reply_xml.specs.Tags.{ReadsAttribute, ReadsName}
@@ -38,12 +39,18 @@ OnEnds-any text_fault.Memory f = tt
 pub ends_at : (P : ℕ → Type 0) (e : TextFault) (place : ℕ) → e ≡ text_fault.Ends place → OnEnds e P → P place
 ends_at P e place same h = subst (λ (f : TextFault). OnEnds f P) same h
 
+pub bad_at : (P : Type 0) (e : TextFault) → e ≡ text_fault.BadReference → OnBad e P → P
+bad_at P e same h = subst (λ (f : TextFault). OnBad f P) same h
+
 pub ends_within : (e : TextFault) (place size : ℕ) → e ≡ text_fault.Ends place → EndsIn e size → place ≤ size
 ends_within e place size same h = subst (λ (f : TextFault). EndsIn f size) same h
 
 -- a text that ends with the bytes, and a name that is this one
 pub text_ends : (text bytes rest : List ℕ) → ReadsRun sort.Text text bytes rest → rest ≡ [] → ReadsRun sort.Text text bytes []
 text_ends text bytes rest run none = subst (λ (r : List ℕ). ReadsRun sort.Text text bytes r) none run
+
+pub run_within : (text bytes rest : List ℕ) → ReadsRun sort.Text text bytes rest → length text ≤ length bytes
+run_within text bytes rest run = let sizes = ap length run.split ∙ length-append text rest in omega (arith, sizes)
 
 pub same_name : (found name bytes rest : List ℕ) → found ≡ name → ReadsName found bytes rest → ReadsName name bytes rest
 same_name found name bytes rest same named = subst (λ (n : List ℕ). ReadsName n bytes rest) same named

@@ -52,3 +52,12 @@ TextTells other P = P
 abbrev pub TellsText : {T : Type 0} → Result T TextFault → Type 0 → Type 0
 TellsText (Ok value) P = ⊤
 TellsText (Err fault) P = TextTells fault P
+
+-- P, where a reference of a text is bad
+abbrev pub OnBad : TextFault → Type 0 → Type 0
+OnBad text_fault.BadReference P = P
+OnBad other P = ⊤
+
+abbrev pub IfBad : {T : Type 0} → Result T TextFault → Type 0 → Type 0
+IfBad (Ok value) P = ⊤
+IfBad (Err fault) P = OnBad fault P

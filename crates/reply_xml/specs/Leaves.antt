@@ -1,7 +1,8 @@
 -- Where bytes leave a production: they read as its parts up to a place, and the next part does not stand there. The
 -- place is told by the number of bytes that are left.
-use Rattle.std.specs.Prelude.{◌≡◌, ◌≢◌, ◌≤◌, ◌-◌, ◌⊎◌, ℕ, List, [], ◌∷◌, length}
-use Rattle.std.specs.Str.{IsUtf8}
+use Rattle.std.specs.Prelude.{◌≡◌, ◌≢◌, ◌≤◌, ◌-◌, ◌⊎◌, ℕ, List, [], ◌∷◌, length, take}
+use Rattle.std.specs.Str.{IsUtf8, IsValidUpTo}
+use Rattle.reply_values.specs.References.{IsBadReference}
 use Rattle.reply_xml.specs.declared.runs.Sort.TheVariants as sort
 use Rattle.reply_xml.specs.Runs.{BeginsOutside, ReadsRun, is_name_byte}
 use Rattle.reply_xml.specs.Tags.{NameEnds, NamesTag, ReadsAttributes, ReadsName}
@@ -74,3 +75,12 @@ pub data LeavesText (bytes : List ℕ) (left : ℕ) : Type 0 where
       → (IsUtf8 text → size ≡ length text) → left ≡ length bytes - size → LeavesText bytes left
   NotUtf8 : (size : ℕ) (text at : List ℕ) → ReadsRun sort.Text text bytes at → ¬ (IsUtf8 text) → size ≤ length text
       → left ≡ length bytes - size → LeavesText bytes left
+
+-- the longest front of a text that is UTF-8: all of it, or what stands before the first byte at fault
+abbrev pub IsFront : (front text : List ℕ) → Type 0
+IsFront front text =
+    ((front ≡ text) × IsUtf8 text) ⊎ ((place : ℕ) × IsValidUpTo text place × (front ≡ take place text))
+
+-- the first bad reference of a text, before which nothing is at fault
+abbrev pub HasBadReference : List ℕ → Type 0
+HasBadReference text = (front : List ℕ) × (place : ℕ) × IsFront front text × IsBadReference front place

@@ -10,3 +10,4 @@ pub mod Places
 pub mod Reading
 pub mod Runs
 pub mod Tags
+pub mod Unfit

@@ -10,6 +10,7 @@ ghost use Rattle.reply_xml.specs.Children.{HasForm, IsFormed, IsPlain};
 ghost use Rattle.reply_xml.specs.Breaks.{IfBroken};
 ghost use Rattle.reply_xml.specs.Faults.{IfRefused};
 ghost use Rattle.reply_xml.specs.Meaning.{meaning_of};
+ghost use Rattle.reply_xml.specs.Unfit.{ANumber, ATime, ATruth, AnyText, IsUnfit, OwnForm};
 
 use crate::elements::Element;
 use crate::faults::DocFault;
@@ -21,16 +22,19 @@ use std::alloc::Global;
 /// A sort of leaves: what their texts spell.
 pub trait Leaf {
     ghost use Rattle.reply_xml.specs.declared.elements.Element.{Element};
+    ghost use Rattle.reply_xml.specs.Unfit.{Form, IsUnfit};
 
     type Value: Drop;
 
     ghost spells: { Element → List ℕ → Self.Value → Type 0 };
 
+    ghost form: { Form };
+
     /// The value that the text of an element spells.
     fn value_of(alloc: Global, of: Element, text: Meaning<'_>) -> Result<Self::Value, DocFault>
         ensures value { IfOk result (spells of (meaning_of text.entry)) }
         ensures refused { IfRefused result ((value : Self.Value) → ¬ (spells of (meaning_of text.entry) value)) }
-        ensures unbroken { IfBroken result (λ reason. ⊥) };
+        ensures unfit { IfBroken result (IsUnfit form of (meaning_of text.entry)) };
 
     ghost alone: { (of : Element) (text : List ℕ) (v w : Self.Value) →
         spells of text v → spells of text w → w ≡ v };
@@ -66,6 +70,8 @@ impl Leaf for FormedText {
 
     ghost spells = { IsFormed };
 
+    ghost form = { OwnForm };
+
     ghost alone = { λ of text v w r s. s.0 ∙ sym r.0 };
 
     fn value_of(alloc: Global, of: Element, text: Meaning<'_>) -> Result<Text, DocFault> {
@@ -84,6 +90,8 @@ impl Leaf for PlainText {
 
     ghost spells = { λ of. IsPlain };
 
+    ghost form = { AnyText };
+
     ghost alone = { λ of text v w r s. s ∙ sym r };
 
     fn value_of(alloc: Global, _: Element, text: Meaning<'_>) -> Result<Text, DocFault> {
@@ -98,6 +106,8 @@ impl Leaf for Number {
     type Value = u64;
 
     ghost spells = { λ of. SpellsNumber };
+
+    ghost form = { ANumber };
 
     ghost alone = { λ of text v w a b. SpellsNumber-same text w v b a };
 
@@ -117,6 +127,8 @@ impl Leaf for Truth {
 
     ghost spells = { λ of. SpellsTruth };
 
+    ghost form = { ATruth };
+
     ghost alone = { λ of text v w a b. SpellsTruth-same text w v b a };
 
     fn value_of(_: Global, _: Element, text: Meaning<'_>) -> Result<bool, DocFault> {
@@ -134,6 +146,8 @@ impl Leaf for Time {
     type Value = u64;
 
     ghost spells = { λ of. SpellsTime };
+
+    ghost form = { ATime };
 
     ghost alone = { λ of text v w a b. SpellsTime-same text w v b a };
 

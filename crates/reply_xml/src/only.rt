@@ -6,6 +6,7 @@ ghost use Rattle.reply_xml.specs.Contents.{Content, is_the};
 ghost use Rattle.reply_xml.specs.Breaks.{BreaksElement, IfBroken};
 ghost use Rattle.reply_xml.specs.Faults.{IfRefused};
 ghost use Rattle.reply_xml.specs.Reading.{Advances, LeafLeft, Stops};
+ghost use Rattle.reply_xml.specs.Unfit.{is_read_as};
 
 use crate::elements::Element;
 use crate::faults::DocFault;
@@ -32,7 +33,8 @@ impl<'a> Reader<'a> {
         element: Element,
         found: &mut Option<L::Value>,
     ) -> Result<(), DocFault>
-        requires { is_the element child.now.element ≡ true }
+        requires same { is_the element child.now.element ≡ true }
+        requires judged { is_read_as element L.form ≡ true }
         ensures value { OnOk result (Advances (LeafLeft (L.spells element) element found.old)
             (LeafLeft (L.spells element) element found.new) child.now self.old.rest.now self.new.rest.now) }
         ensures first { OnOk result (found.old ≡ None) }
@@ -56,6 +58,7 @@ impl<'a> Reader<'a> {
 pub struct Only<L: Leaf> {
     pub element: Element,
     pub found: Option<L::Value>,
+    ghost judged: { is_read_as element L.form ≡ true },
 }
 
 impl<L: Leaf> Parts for Only<L> {
@@ -71,9 +74,10 @@ impl<L: Leaf> Parts for Only<L> {
     }
 
     fn whole(self, _: Global) -> Result<L::Value, DocFault> {
-        match self.found {
+        let Only { element, found } = self;
+        match found {
             Some(value) => Ok(value),
-            None => Err(DocFault::Missing(self.element)),
+            None => Err(DocFault::Missing(element)),
         }
     }
 }

@@ -1,12 +1,15 @@
 //! A document that is read from its front.
 
-ghost use Rattle.std.specs.Prelude.{◌∷◌, ◌≡◌, ◌≤◌, ◌<◌, ◌+◌, ◌-◌, ℕ, List, Option};
+ghost use Rattle.std.specs.Prelude.{◌∷◌, [], ◌≡◌, ◌≤◌, ◌<◌, ◌+◌, ◌-◌, ℕ, List, Option, true};
 ghost use Rattle.std.specs.Prelude.{IfOk, OnOk, length, Bool, false, IfSome, OnSome, IfNone};
 ghost use Rattle.std.specs.Bool.{MatchBool};
-ghost use Rattle.reply_xml.specs.Contents.{Content, ReadsText, ReadsInner};
+ghost use Rattle.reply_xml.specs.Contents.{Content, ReadsText, ReadsInner, is_the};
 ghost use Rattle.reply_xml.specs.Children.{IsLeafOf};
-ghost use Rattle.reply_xml.specs.Breaks.{BreaksElement, BreaksIn, IfBroken, OnBroken, Stands};
-ghost use Rattle.reply_xml.specs.Leaves.{LeavesTagEnd, LeavesText};
+ghost use Rattle.reply_xml.specs.Breaks.{BreaksElement, BreaksIn, BreaksText, IfBroken, OnBroken, Stands};
+ghost use Rattle.reply_xml.specs.Leaves.{LeavesTagEnd};
+ghost use Rattle.reply_xml.specs.Runs.{ReadsRun};
+ghost use Rattle.reply_xml.specs.declared.runs.Sort.TheVariants as sort;
+ghost use Rattle.reply_xml.specs.Unfit.{is_read_as};
 ghost use Rattle.std.specs.Str.{IsUtf8};
 ghost use Rattle.reply_xml.specs.Faults.{IfRefused};
 ghost use Rattle.reply_xml.specs.Tags.{ReadsTag, ReadsTagEnd, ReadsEndTag};
@@ -79,8 +82,7 @@ impl<'a> Reader<'a> {
         ensures no_longer { length self.new.rest.now ≤ length self.old.rest.now }
         ensures refused { IfRefused result ((text rest : List ℕ) → ¬ (ReadsText text self.old.rest.now (60 ∷ rest))) }
         ensures size { self.new.size ≡ self.old.size }
-        ensures broken { IfBroken result (λ reason. (left : ℕ) × LeavesText self.old.rest.now left
-            × Stands self.old.size left reason) }
+        ensures broken { IfBroken result (λ reason. BreaksText self.old.size reason self.old.rest.now) }
     {
         let (text, rest) = split_text(self.rest);
         if rest.is_empty() {
@@ -101,15 +103,16 @@ impl<'a> Reader<'a> {
 
     /// The fault of a text that no `<` follows.
     fn last_text_fault(&self, text: &[u8]) -> DocFault
-        requires { length text.now ≤ length self.now.rest.now }
-        ensures { OnBroken result (λ reason. (size : ℕ) × (size ≤ length text.now) × (IsUtf8 text.now → size ≡ length text.now)
-            × Stands self.now.size (length self.now.rest.now - size) reason) }
+        requires short { length text.now ≤ length self.now.rest.now }
+        requires whole { ReadsRun sort.Text text.now self.now.rest.now [] }
+        ensures { OnBroken result (λ reason. BreaksText self.now.size reason self.now.rest.now) }
     {
         match text_fault(text, true) {
             TextFault::Ends(place) => {
                 DocFault::NotADocument(self.place(self.rest.len() - place))
             }
-            _ => DocFault::BadEscape,
+            TextFault::BadReference => DocFault::BadEscape,
+            TextFault::Memory => DocFault::Memory,
         }
     }
 
@@ -207,6 +210,8 @@ impl<'a> Reader<'a> {
 
     /// The value of a leaf.
     pub fn leaf<L: Leaf>(&mut self, child: &Child<'a>, of: Element) -> Result<L::Value, DocFault>
+        requires same { is_the of child.now.element ≡ true }
+        requires judged { is_read_as of L.form ≡ true }
         ensures value { IfOk result (λ value. ReadsAs (IsLeafOf (L.spells of))
             child.now self.old.rest.now self.new.rest.now value) }
         ensures no_longer { length self.new.rest.now ≤ length self.old.rest.now }

@@ -1,7 +1,7 @@
 //! Runs of bytes of one sort.
 
 ghost use Rattle.std.specs.Prelude.{◌≡◌, ◌≤◌, length};
-ghost use Rattle.reply_xml.specs.Runs.{is_of, ReadsRun};
+ghost use Rattle.reply_xml.specs.Runs.{ReadsRun, is_between, is_name_byte, is_of};
 ghost use Rattle.reply_xml.specs.declared.runs.Sort.TheVariants as sort;
 
 use memchr::memchr;
@@ -17,15 +17,30 @@ pub(crate) enum Sort {
     Value(u8),
 }
 
+fn is_between(least: u8, most: u8, byte: u8) -> bool
+    ensures { result ≡ is_between least most byte }
+{
+    least <= byte && byte <= most
+}
+
+/// Whether names may have the byte; most have lower case letters.
+fn is_name_byte(byte: u8) -> bool
+    ensures { result ≡ is_name_byte byte }
+{
+    is_between(b'a', b'z', byte)
+        || is_between(b'A', b'Z', byte)
+        || is_between(b'0', b':', byte)
+        || byte == b'-'
+        || byte == b'.'
+        || byte == b'_'
+}
+
 pub(crate) fn is_of(sort: Sort, byte: u8) -> bool
     ensures { result ≡ is_of sort byte }
 {
     match sort {
         Sort::Space => byte == b' ' || byte == b'\t' || byte == b'\n' || byte == b'\r',
-        Sort::Name => match byte {
-            b'a'..=b'z' | b'A'..=b'Z' | b'0'..=b':' | b'-' | b'.' | b'_' => true,
-            _ => false,
-        },
+        Sort::Name => is_name_byte(byte),
         Sort::Text => byte != b'<',
         Sort::Value(quote) => byte != b'<' && byte != quote,
     }

@@ -2,7 +2,8 @@
 
 ghost use Rattle.std.specs.Prelude.{◌≡◌, ℕ, List, IfOk, length};
 ghost use Rattle.std.specs.Str.{IsUtf8};
-ghost use Rattle.reply_xml.specs.Faults.{EndsIn, EndsWithin, IfEnds, OnEnds, TellsText};
+ghost use Rattle.reply_xml.specs.Faults.{EndsIn, EndsWithin, IfBad, IfEnds, OnBad, OnEnds, TellsText};
+ghost use Rattle.reply_xml.specs.Leaves.{HasBadReference};
 ghost use Rattle.reply_xml.specs.Meaning.{meaning_of};
 ghost use Rattle.reply_values.specs.References.{IsUnescaped};
 
@@ -54,6 +55,7 @@ pub(crate) fn read_meaning<'a>(alloc: Global, bytes: &'a [u8]) -> Result<Meaning
     ensures refused { TellsText result (IsUtf8 bytes.now → (text : List ℕ) → ¬ (IsUnescaped bytes.now text)) }
     ensures place { EndsWithin result (length bytes.now) }
     ensures broken { IfEnds result (λ place. ¬ (IsUtf8 bytes.now)) }
+    ensures bad { IfBad result (HasBadReference bytes.now) }
 {
     let Ok(raw) = std::str::from_utf8(bytes) else {
         return Err(text_fault(bytes, false));
@@ -73,6 +75,7 @@ pub(crate) fn read_meaning<'a>(alloc: Global, bytes: &'a [u8]) -> Result<Meaning
 pub(crate) fn text_fault(bytes: &[u8], last: bool) -> TextFault
     ensures place { EndsIn result (length bytes.now) }
     ensures whole { OnEnds result (λ place. IsUtf8 bytes.now → place ≡ length bytes.now) }
+    ensures bad { OnBad result (HasBadReference bytes.now) }
 {
     let (raw, whole) = match std::str::from_utf8(bytes) {
         Ok(raw) => (raw, true),
@@ -88,7 +91,10 @@ pub(crate) fn text_fault(bytes: &[u8], last: bool) -> TextFault
 }
 
 /// The text of bytes, or an empty one where they are not UTF-8.
-fn valid_front(bytes: &[u8]) -> &str {
+fn valid_front(bytes: &[u8]) -> &str
+    requires { IsUtf8 bytes.now }
+    ensures { result.now ≡ bytes.now }
+{
     match std::str::from_utf8(bytes) {
         Ok(text) => text,
         Err(_) => "",

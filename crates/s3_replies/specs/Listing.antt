@@ -1,9 +1,11 @@
 -- A page of a listing (Amazon S3 API Reference, ListObjectsV2).
-use Rattle.std.specs.Prelude.{◌≡◌, ℕ, Bool, true, false, List, [], ◌∷◌, Option, codes}
+use Rattle.std.specs.Prelude.{◌≡◌, ◌⊎◌, ℕ, Bool, true, false, List, [], ◌∷◌, Option, codes}
 use Rattle.std.specs.List.{AllZip}
 use Rattle.s3_model.specs.declared.answers.Listed.{Listed}
 use Rattle.s3_model.specs.declared.places.Entry.{Entry}
 use Rattle.reply_xml.specs.declared.elements.Element.TheVariants as element
+use Rattle.reply_xml.specs.declared.faults.DocFault.{DocFault}
+use Rattle.reply_xml.specs.declared.faults.DocFault.TheVariants as fault
 use Rattle.reply_xml.specs.Contents.{Content, named}
 use Rattle.reply_xml.specs.Children.{AtMostOnce, Each, HasLeaf, IsFormed, IsLeaf, IsLeafOf, Once}
 use Rattle.reply_xml.specs.Documents.{IsOf}
@@ -72,6 +74,10 @@ HasListing content listed = (page : Page) × HasPage content page × MeansPage p
 -- the document is a page that says this
 abbrev pub IsListing : List ℕ → Listed → Type 0
 IsListing bytes listed = (page : Page) × IsWritten bytes page × MeansPage page listed
+
+-- a written key or prefix is at fault: one of its escapes, or the length of the key
+abbrev pub IsKeyFault : DocFault → Type 0
+IsKeyFault reason = (reason ≡ fault.BadEscape) ⊎ (reason ≡ fault.BadText element.Key)
 
 -- what is left to be found of the encoding, and of a page
 abbrev pub EncodingLeft : Bool → Content → Bool → Type 0

@@ -1,6 +1,7 @@
 //! The first bad key of a page that is refused.
 
-ghost use Rattle.std.specs.Prelude.{◌≡◌, ◌≤◌, IfSome, length};
+ghost use Rattle.std.specs.Prelude.{◌≡◌, ◌≤◌, ◌⊎◌, IfSome, length};
+ghost use Rattle.s3_replies.specs.Listing.{IsKeyFault};
 ghost use Rattle.reply_xml.specs.Breaks.{OnBroken};
 
 use crate::pages::judge_key;
@@ -131,7 +132,7 @@ fn names_url(alloc: Global, doc: &[u8]) -> bool {
 
 /// The fault of the first bad key or prefix at the front.
 fn key_fault(alloc: Global, front: &[u8], url: bool) -> Option<DocFault>
-    ensures { IfSome result (λ fault. OnBroken fault (λ reason. ⊥)) }
+    ensures { IfSome result (λ fault. OnBroken fault IsKeyFault) }
 {
     let mut leaves = Leaves::open(alloc, front)?;
     for _leaf in 0..front.len() {
@@ -149,7 +150,7 @@ fn key_fault(alloc: Global, front: &[u8], url: bool) -> Option<DocFault>
 /// that is named behind it.
 pub(crate) fn first_fault(alloc: Global, doc: &[u8], left: usize, fault: DocFault) -> DocFault
     ensures memory { fault ≡ DocFault.Memory → result ≡ DocFault.Memory }
-    ensures broken { OnBroken result (λ reason. reason ≡ fault) }
+    ensures broken { OnBroken result (λ reason. (reason ≡ fault) ⊎ IsKeyFault reason) }
 {
     if fault == DocFault::Memory {
         return fault;

@@ -1,13 +1,13 @@
 //! A page of a listing, with its keys unescaped.
 
-ghost use Rattle.std.specs.Prelude.{◌≡◌, ◌≤◌, ℕ, List, Err, IfOk, codes, length};
+ghost use Rattle.std.specs.Prelude.{◌≡◌, ◌⊎◌, ◌≤◌, ℕ, List, Err, IfOk, codes, length};
 ghost use Rattle.std.specs.List.{AllZip};
 ghost use Rattle.s3_model.specs.declared.answers.Listed.{Listed};
 ghost use Rattle.s3_model.specs.declared.places.Entry.{Entry};
 ghost use Rattle.reply_xml.specs.Breaks.{Breaks, IfBroken};
 ghost use Rattle.reply_xml.specs.Faults.{IfRefused, IsFault};
 ghost use Rattle.reply_xml.specs.Places.{BeginsOtherwise, HasBytesBehind};
-ghost use Rattle.s3_replies.specs.Listing.{HasListing, IsListing, MeansEntry, MeansPage, MeansText};
+ghost use Rattle.s3_replies.specs.Listing.{HasListing, IsKeyFault, IsListing, MeansEntry, MeansPage, MeansText};
 
 use crate::keys::first_fault;
 use crate::listing::{Written, written_page};
@@ -20,7 +20,7 @@ use std::alloc::Global;
 fn decoded(alloc: Global, url: bool, written: Text) -> Result<Text, DocFault>
     ensures value { IfOk result (λ text. MeansText url written text) }
     ensures refused { IfRefused result ((text : List ℕ) → ¬ (MeansText url written text)) }
-    ensures unbroken { IfBroken result (λ reason. ⊥) }
+    ensures keyed { IfBroken result IsKeyFault }
 {
     if !url {
         return Ok(written);
@@ -36,7 +36,7 @@ fn decoded(alloc: Global, url: bool, written: Text) -> Result<Text, DocFault>
 fn entry_of(alloc: Global, url: bool, row: Entry) -> Result<Entry, DocFault>
     ensures value { IfOk result (λ entry. MeansEntry url row entry) }
     ensures refused { IfRefused result ((entry : Entry) → ¬ (MeansEntry url row entry)) }
-    ensures unbroken { IfBroken result (λ reason. ⊥) }
+    ensures keyed { IfBroken result IsKeyFault }
 {
     let Entry {
         key: written,
@@ -60,7 +60,7 @@ fn entry_of(alloc: Global, url: bool, row: Entry) -> Result<Entry, DocFault>
 pub(crate) fn entries_of(alloc: Global, url: bool, rows: Vec<Entry>) -> Result<Entries, DocFault>
     ensures value { IfOk result (λ entries. AllZip (MeansEntry url) rows.items entries.items) }
     ensures refused { IfRefused result ((entries : List Entry) → ¬ (AllZip (MeansEntry url) rows.items entries)) }
-    ensures unbroken { IfBroken result (λ reason. ⊥) }
+    ensures keyed { IfBroken result IsKeyFault }
 {
     let mut entries = Entries::make(alloc);
     if entries.reserve(rows.len()).is_err() {
@@ -76,7 +76,7 @@ pub(crate) fn entries_of(alloc: Global, url: bool, rows: Vec<Entry>) -> Result<E
 pub(crate) fn prefixes_of(alloc: Global, url: bool, rows: Vec<Text>) -> Result<Texts, DocFault>
     ensures value { IfOk result (λ prefixes. AllZip (MeansText url) rows.items prefixes.items) }
     ensures refused { IfRefused result ((prefixes : List (List ℕ)) → ¬ (AllZip (MeansText url) rows.items prefixes)) }
-    ensures unbroken { IfBroken result (λ reason. ⊥) }
+    ensures keyed { IfBroken result IsKeyFault }
 {
     let mut prefixes = Texts::make(alloc);
     if prefixes.reserve(rows.len()).is_err() {
@@ -95,7 +95,7 @@ pub(crate) fn judge_key(
     url: bool,
     written: &str,
 ) -> Result<(), DocFault>
-    ensures { IfBroken result (λ reason. ⊥) }
+    ensures { IfBroken result IsKeyFault }
 {
     if element != Element::Key && element != Element::Prefix {
         return Ok(());
@@ -114,7 +114,7 @@ pub(crate) fn judge_key(
 fn listed(alloc: Global, page: Written) -> Result<Listed, DocFault>
     ensures value { IfOk result (MeansPage page) }
     ensures refused { IfRefused result ((listed : Listed) → ¬ (MeansPage page listed)) }
-    ensures unbroken { IfBroken result (λ reason. ⊥) }
+    ensures keyed { IfBroken result IsKeyFault }
 {
     let Written {
         more,
@@ -138,7 +138,7 @@ fn listed(alloc: Global, page: Written) -> Result<Listed, DocFault>
 pub fn read_list(alloc: Global, doc: &[u8]) -> Result<Listed, DocFault>
     ensures value { IfOk result (λ listed. IsListing doc.now listed) }
     ensures refused { IfRefused result ((listed : Listed) → ¬ (IsListing doc.now listed)) }
-    ensures broken { IfBroken result (Breaks (codes "ListBucketResult") doc.now) }
+    ensures broken { IfBroken result (λ reason. Breaks (codes "ListBucketResult") doc.now reason ⊎ IsKeyFault reason) }
     ensures other_root { (place : ℕ) → BeginsOtherwise (codes "ListBucketResult") doc.now place →
         result ≡ Err (DocFault.NotADocument place) }
     ensures behind { (place : ℕ) → HasBytesBehind (codes "ListBucketResult") HasListing doc.now place →

@@ -6,6 +6,7 @@ ghost use Rattle.reply_xml.specs.declared.elements.Element.TheVariants as elemen
 ghost use Rattle.reply_xml.specs.Documents.{IsOf};
 ghost use Rattle.reply_xml.specs.Breaks.{Breaks, IfBroken};
 ghost use Rattle.reply_xml.specs.Faults.{IfRefused, IsFault};
+ghost use Rattle.reply_xml.specs.Unfit.{IsJudgedAs};
 ghost use Rattle.reply_xml.specs.Places.{BeginsOtherwise, HasBytesBehind};
 ghost use Rattle.s3_replies.specs.Results.{copy_root, IsCompleted, IsCopied, IsCreated};
 
@@ -20,6 +21,7 @@ fn only_leaf<L: Leaf>(
     root: &str,
     element: Element,
 ) -> Result<L::Value, DocFault>
+    requires { IsJudgedAs (L.unfit element) element }
     ensures value { IfOk result (IsOf root.now (HasOnly (L.spells element) element) doc.now) }
     ensures refused { IfRefused result ((value : L.Value) →
         ¬ (IsOf root.now (HasOnly (L.spells element) element) doc.now value)) }

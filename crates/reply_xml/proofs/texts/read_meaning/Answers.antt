@@ -1,4 +1,4 @@
-use Rattle.std.proofs.Common.{ℕ, List, length, Err, ap, ◌∙◌, sym, subst, arith, rules}
+use Rattle.std.proofs.Common.{ℕ, List, length, Err, ap, inl, ◌∙◌, sym, subst, arith, rules}
 use Rattle.std.proofs.lemmas.Bool.{eq-eqb}
 use Rattle.memchr.specs.Find.{Passes, is_byte}
 use Rattle.reply_values.specs.References.{IsUnescaped}
@@ -21,3 +21,11 @@ returns-in-Err-Bad-clause-refused c utf8 text s =
 
 pub returns-in_default-clause-broken : goal.returns-in_default-clause-broken
 returns-in_default-clause-broken c = OnEnds-any c.text_fault.result (λ place. c.in_default.ensures.cases.0)
+
+pub returns-in-Err-Bad-clause-bad : goal.returns-in-Err-Bad-clause-bad
+returns-in-Err-Bad-clause-bad c = (
+  c.in-Ok.raw.now,
+  c.in-Err-Bad.field-0-0,
+  inl (c.in-Ok.ensures.cases.0, search rules),
+  c.in-Err-Bad.ensures.bad c.in-Err-Bad.field-0-0 (ap Err c.in-Err-Bad.field-0-is),
+)

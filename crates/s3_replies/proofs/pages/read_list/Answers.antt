@@ -105,7 +105,7 @@ returns-clause-behind c place b =
 
 pub returns-in-Err-written_page-clause-broken : goal.returns-in-Err-written_page-clause-broken
 returns-in-Err-written_page-clause-broken c =
-    broken_told (Breaks (codes "ListBucketResult") c.args.doc.now) c.in-Err-written_page.fault c.first_fault.result c.first_fault.ensures.broken
+    broken_told (Breaks (codes "ListBucketResult") c.args.doc.now) IsKeyFault c.in-Err-written_page.fault c.first_fault.result c.first_fault.ensures.broken
     (
     OnBroken-map c.in-Err-written_page.fault
     (
@@ -117,15 +117,21 @@ returns-in-Err-written_page-clause-broken c =
 
 pub returns-in-Err-listed-clause-broken : goal.returns-in-Err-listed-clause-broken
 returns-in-Err-listed-clause-broken c =
-    broken_told (Breaks (codes "ListBucketResult") c.args.doc.now) c.in-Err-listed.fault c.first_fault-in-Err-listed.result c.first_fault-in-Err-listed.ensures.broken
-    (OnBroken-map c.in-Err-listed.fault (λ reason none. absurd none) c.in-Err-listed.ensures.unbroken)
+    key_told (Breaks (codes "ListBucketResult") c.args.doc.now) IsKeyFault c.in-Err-listed.fault c.first_fault-in-Err-listed.result c.first_fault-in-Err-listed.ensures.broken
+    c.in-Err-listed.ensures.keyed
+
+pub returns-in-Err-clause-broken : goal.returns-in-Err-clause-broken
+returns-in-Err-clause-broken c = OnBroken-map c.in-Err.fault (λ reason b. inl b) c.in-Err.ensures.broken
 
 pub returns-in_err-close-clause-broken : goal.returns-in_err-close-clause-broken
 returns-in_err-close-clause-broken c =
     let held = c.in-Ok-written_page.ensures.value in
     broken_past c.from_residual.result c.in_err-close.field-0.0 c.from_residual.ensures.1
     (
-    λ reason h. BehindRoot c.in-Ok.parts.1 _ _ h.0 (record { begins = c.in-Ok.ensures.begins; room = c.in-Ok.ensures.room; name = c.in-Ok.ensures.named })
+    λ reason h. inl
+    (
+    BehindRoot c.in-Ok.parts.1 _ _ h.0 (record { begins = c.in-Ok.ensures.begins; room = c.in-Ok.ensures.room; name = c.in-Ok.ensures.named })
     (held.0, held.1) h.1 h.2 h.3
+    )
     )
     c.in_err-close.ensures.broken

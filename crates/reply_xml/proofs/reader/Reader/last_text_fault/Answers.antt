@@ -1,6 +1,12 @@
-use Rattle.std.proofs.Common.{ap}
+use Rattle.std.proofs.Common.{ap, refl}
 use Rattle.reply_xml.specs.declared.faults.DocFault.TheVariants as fault
+use Rattle.reply_xml.specs.Breaks.{BadReference, Leaves}
+use Rattle.reply_xml.specs.Leaves.{NoTagBehind}
 use Rattle.reply_xml.proofs.reader.Reader.last_text_fault.Goals as goal
 
 pub returns-in-Ends : goal.returns-in-Ends
-returns-in-Ends c = (_, c.in-Ends.ensures.place, c.in-Ends.ensures.whole, ap (λ n. fault.NotADocument n) c.place.ensures)
+returns-in-Ends c =
+    Leaves _ (NoTagBehind _ _ c.requires.whole c.in-Ends.ensures.place c.in-Ends.ensures.whole refl) (ap (λ n. fault.NotADocument n) c.place.ensures)
+
+pub returns-in-BadReference : goal.returns-in-BadReference
+returns-in-BadReference c = BadReference _ _ c.requires.whole c.in-BadReference.ensures.bad refl

@@ -1,10 +1,10 @@
 use Rattle.reply_xml.proofs.FaultLemmas.{IfOk-map, refused_past, refused_so}
 use Rattle.reply_xml.proofs.LeafLemmas.{leaf_read, leaf_closed, leaf_no_closed, leaf_no_end, leaf_no_tag, leaf_no_text, leaf_no_value}
 use Rattle.reply_xml.specs.Children.{IsLeafOf}
-use Rattle.std.proofs.Common.{ap, ◌-◌, ◌∙◌}
+use Rattle.std.proofs.Common.{ap, ◌-◌, ◌∙◌, []}
 use Rattle.reply_xml.specs.declared.faults.DocFault.TheVariants as fault
-use Rattle.reply_xml.specs.Breaks.{AtText, BehindLeaf, BehindName, BehindTag}
-use Rattle.reply_xml.proofs.BreakLemmas.{broken_past, broken_so, sized}
+use Rattle.reply_xml.specs.Breaks.{AtText, BehindName, BehindTag, InText, NoEndBehind, Unfit}
+use Rattle.reply_xml.proofs.BreakLemmas.{broken_past, broken_so, sized, text_closed, text_open}
 use Rattle.reply_xml.proofs.reader.Reader.leaf.Goals as goal
 
 pub returns-in_err-tag-clause-refused : goal.returns-in_err-tag-clause-refused
@@ -43,21 +43,33 @@ returns-in_err-tag-clause-broken g c =
     broken_past c.from_residual.result c.in_err-tag.field-0.0 c.from_residual.ensures.1 (λ reason t. BehindName t.0 t.1 t.2) c.in_err-tag.ensures.broken
 
 pub returns-then-tag-clause-broken : goal.returns-then-tag-clause-broken
-returns-then-tag-clause-broken g c = broken_so c.value_of.result (λ reason none. absurd none) c.value_of.ensures.unbroken
+returns-then-tag-clause-broken g c =
+    broken_so c.value_of.result
+    (
+    λ reason u. InText c.in_ok-tag.tag _ c.args.of _ c.in_ok-tag.ensures.value c.requires.same c.requires.judged
+    (Unfit [] _ (text_closed c.in_ok-tag.tag _ c.if-tag.true) u)
+    )
+    c.value_of.ensures.unfit
 
 pub returns-in_err-text-clause-broken : goal.returns-in_err-text-clause-broken
 returns-in_err-text-clause-broken g c =
     broken_past c.from_residual-in_err-text.result c.in_err-text.field-0.0 c.from_residual-in_err-text.ensures.1
-    (λ reason t. BehindTag c.in_ok-tag.tag _ c.in_ok-tag.ensures.value (sized _ _ reason _ _ c.in_ok-tag.ensures.size (AtText t.0 c.if-tag.false t.1 t.2)))
+    (λ reason t. BehindTag c.in_ok-tag.tag _ c.in_ok-tag.ensures.value (sized _ _ reason _ _ c.in_ok-tag.ensures.size (AtText c.if-tag.false t)))
     c.in_err-text.ensures.broken
 
 pub returns-in_err-value-clause-broken : goal.returns-in_err-value-clause-broken
 returns-in_err-value-clause-broken g c =
-    broken_past c.from_residual-in_err-value.result c.in_err-value.field-0.0 c.from_residual-in_err-value.ensures.1 (λ reason none. absurd none)
-    c.in_err-value.ensures.unbroken
+    broken_past c.from_residual-in_err-value.result c.in_err-value.field-0.0 c.from_residual-in_err-value.ensures.1
+    (
+    λ reason u. InText c.in_ok-tag.tag _ c.args.of _ c.in_ok-tag.ensures.value c.requires.same c.requires.judged
+    (Unfit _ _ (text_open c.in_ok-tag.tag _ _ _ _ c.if-tag.false c.in_ok-text.ensures.value.1 c.in_ok-text.ensures.value.2) u)
+    )
+    c.in_err-value.ensures.unfit
 
 pub returns-in-Err-clause-broken : goal.returns-in-Err-clause-broken
 returns-in-Err-clause-broken g c =
-    BehindLeaf c.in_ok-tag.tag _ _ _ c.in-Err.left c.in_ok-tag.ensures.value c.if-tag.false c.in_ok-text.ensures.value.1
-    c.in-Err.ensures.leaves
+    InText c.in_ok-tag.tag _ c.args.of _ c.in_ok-tag.ensures.value c.requires.same c.requires.judged
+    (
+    NoEndBehind _ _ c.in-Err.left c.if-tag.false c.in_ok-text.ensures.value.1 c.in-Err.ensures.leaves
     (ap (λ n. fault.NotADocument n) (c.place.ensures ∙ ap (λ s. s - c.in-Err.left) (c.in_ok-text.ensures.size ∙ c.in_ok-tag.ensures.size)))
+    )

@@ -32,7 +32,7 @@ returns-in-Err-clause-refused c inner rest r =
 pub returns-in_err-text-clause-broken : goal.returns-in_err-text-clause-broken
 returns-in_err-text-clause-broken c =
     broken_past c.from_residual.result c.in_err-text.field-0.0 c.from_residual.ensures.1
-    (λ reason t. AtText t.0 c.if-parent.false t.1 t.2) c.in_err-text.ensures.broken
+    (λ reason t. AtText c.if-parent.false t) c.in_err-text.ensures.broken
 
 pub returns-in-Err-clause-broken : goal.returns-in-Err-clause-broken
 returns-in-Err-clause-broken c =

@@ -6,18 +6,18 @@ use Rattle.reply_xml.proofs.reader.Reader.take.Goals as goal
 
 pub returns-then-is_some-clause-refused : goal.returns-then-is_some-clause-refused
 returns-then-is_some-clause-refused g c =
-    leaf_twice_at (g.L.Leaf.spells c.args.element) c.args.element c.args.found.now c.args.child.now c.args.self.now.rest.now (sym c.is_some.ensures ∙ c.if-is_some.true) c.requires
+    leaf_twice_at (g.L.Leaf.spells c.args.element) c.args.element c.args.found.now c.args.child.now c.args.self.now.rest.now (sym c.is_some.ensures ∙ c.if-is_some.true) c.requires.same
 
 pub returns-in_err-leaf-clause-refused : goal.returns-in_err-leaf-clause-refused
 returns-in_err-leaf-clause-refused g c =
     refused_past c.from_residual.result c.in_err-leaf.field-0.0 c.from_residual.ensures.1
-    (leaf_bad_at (g.L.Leaf.spells c.args.element) c.args.element c.args.found.now c.args.child.now c.args.self.now.rest.now (sym c.is_some.ensures ∙ c.if-is_some.false) c.requires)
+    (leaf_bad_at (g.L.Leaf.spells c.args.element) c.args.element c.args.found.now c.args.child.now c.args.self.now.rest.now (sym c.is_some.ensures ∙ c.if-is_some.false) c.requires.same)
     c.in_err-leaf.ensures.refused
 
 pub returns-clause-value : goal.returns-clause-value
 returns-clause-value g c =
     leaf_taken_at (g.L.Leaf.spells c.args.element) c.args.element c.args.found.now c.args.child.now c.args.self.now.rest.now c.leaf.new.self.rest.now c.in_ok-leaf.field-0
-    (g.met.L.Leaf.alone c.args.element) (sym c.is_some.ensures ∙ c.if-is_some.false) c.requires c.in_ok-leaf.ensures.value
+    (g.met.L.Leaf.alone c.args.element) (sym c.is_some.ensures ∙ c.if-is_some.false) c.requires.same c.in_ok-leaf.ensures.value
 
 pub returns-in_err-leaf-clause-broken : goal.returns-in_err-leaf-clause-broken
 returns-in_err-leaf-clause-broken g c =

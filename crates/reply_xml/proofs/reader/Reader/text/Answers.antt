@@ -3,9 +3,9 @@ use Rattle.reply_xml.proofs.FaultLemmas.{Tells-any, bad_told, ends_told}
 use Rattle.reply_xml.proofs.ContentLemmas.{no_meaning, no_text_at_end}
 use Rattle.reply_xml.proofs.TagLemmas.{none_from_test}
 use Rattle.reply_xml.specs.declared.faults.DocFault.TheVariants as fault
-use Rattle.reply_xml.proofs.BreakLemmas.{OnBroken-map}
-use Rattle.reply_xml.specs.Leaves.{NoTagBehind, NotUtf8}
-use Rattle.reply_xml.proofs.LeaveLemmas.{ends_at, ends_within, text_ends}
+use Rattle.reply_xml.specs.Breaks.{BadReference, Leaves}
+use Rattle.reply_xml.specs.Leaves.{NotUtf8}
+use Rattle.reply_xml.proofs.LeaveLemmas.{bad_at, ends_at, ends_within, run_within, text_ends}
 use Rattle.reply_xml.proofs.reader.Reader.text.Goals as goal
 
 pub returns-then-is_empty-clause-refused : goal.returns-then-is_empty-clause-refused
@@ -18,16 +18,22 @@ returns-in-Err-Ends-clause-refused c text rest r = no_meaning _ _ _ text _ c.spl
 pub returns-in-Err-BadReference-clause-refused : goal.returns-in-Err-BadReference-clause-refused
 returns-in-Err-BadReference-clause-refused c text rest r = no_meaning _ _ _ text _ c.split_text.ensures.value (bad_told c.in-Err-BadReference.field-0 c.in-Err-BadReference.field-0-is c.in-Err-BadReference.ensures.refused) r
 
-pub returns-then-is_empty-clause-broken : goal.returns-then-is_empty-clause-broken
-returns-then-is_empty-clause-broken c =
+pub last_text_fault-requires-whole : goal.last_text_fault-requires-whole
+last_text_fault-requires-whole c lifetimes =
     let run = text_ends _ _ _ c.split_text.ensures.value (none_from_test _ (sym c.is_empty.ensures ∙ c.if-is_empty.true)) in
-    OnBroken-map c.last_text_fault.result (λ reason h. (_, NoTagBehind h.0 _ run h.1 h.2 refl, h.3)) c.last_text_fault.ensures
+    (run_within _ _ _ run, run)
 
 pub returns-in-Err-Ends-clause-broken : goal.returns-in-Err-Ends-clause-broken
 returns-in-Err-Ends-clause-broken c =
-    let fails = c.in-Err-Ends in (
-      _,
-      NotUtf8 fails.place _ _ c.split_text.ensures.value (ends_at _ fails.field-0 fails.place fails.field-0-is fails.ensures.broken)
-          (ends_within fails.field-0 fails.place _ fails.field-0-is fails.ensures.place) refl,
-      ap (λ n. fault.NotADocument n) (rw fails.field-0-is at c.place.ensures),
+    let fails = c.in-Err-Ends in
+    Leaves _
+    (
+    NotUtf8 fails.place _ _ c.split_text.ensures.value (ends_at _ fails.field-0 fails.place fails.field-0-is fails.ensures.broken)
+    (ends_within fails.field-0 fails.place _ fails.field-0-is fails.ensures.place) refl
     )
+    (ap (λ n. fault.NotADocument n) (rw fails.field-0-is at c.place.ensures))
+
+pub returns-in-Err-BadReference-clause-broken : goal.returns-in-Err-BadReference-clause-broken
+returns-in-Err-BadReference-clause-broken c =
+    let bad = c.in-Err-BadReference in
+    BadReference _ _ c.split_text.ensures.value (bad_at _ bad.field-0 bad.field-0-is bad.ensures.bad) refl
