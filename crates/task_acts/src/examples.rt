@@ -1,0 +1,37 @@
+//! Small histories that show the rule: functions that do nothing.
+
+ghost use Rattle.jobs.specs.Holders.{Holder};
+ghost use Rattle.jobs.specs.declared.what.What.{What};
+ghost use Rattle.task_acts.specs.Examples.{
+  CutShort,
+  LeftOpen,
+  MovesLast,
+  PartIsRefused,
+  PartsInOrder,
+  RangeFails,
+  RangesInAnyOrder,
+};
+
+/// An upload in parts is created, read, sent and completed in that order, whatever the order in which its parts come
+/// back. After a refusal no part is given, and the upload is aborted once all came.
+pub fn uploads()
+    ensures order { (for : What) (cell : Holder) → PartsInOrder for cell }
+    ensures refused { (for : What) (cell : Holder) → PartIsRefused for cell }
+{}
+
+/// Ranges come in any order; after a failure the temporary file is dropped once all came.
+pub fn downloads()
+    ensures order { (for : What) (cell : Holder) → RangesInAnyOrder for cell }
+    ensures refused { (for : What) (cell : Holder) → RangeFails for cell }
+{}
+
+/// The source of a move goes last.
+pub fn moves()
+    ensures { (for : What) (cell : Holder) → MovesLast for cell }
+{}
+
+/// A job that its cell cut short is given again, and a lost answer leaves it open what happened.
+pub fn refusals()
+    ensures again { (for : What) (cell : Holder) → CutShort for cell }
+    ensures open { (for : What) (cell : Holder) → LeftOpen for cell }
+{}
