@@ -52,15 +52,33 @@ def free_ports(count):
     return ports
 
 
-def program(root, crate="s3", words=("--", "--version"), progress=None):
-    """The path of a built program of this repository; it is built first, and run with these words.
+def stands(root, path):
+    """Whether this built program is one of today's sources: no file that it could be built from is newer."""
+    if not os.access(path, os.X_OK):
+        return False
+    built = os.stat(path).st_mtime
+    sources = [os.path.join(root, "crates.txt"), os.path.join(root, "HANDLES")]
+    for crate in os.scandir(os.path.join(root, "crates")):
+        for part in ("src", "specs", "proofs"):
+            for at, _, files in os.walk(os.path.join(crate.path, part)):
+                # a folder is newer where a file of it was taken away
+                sources += [at, *(os.path.join(at, name) for name in files)]
+    return all(os.stat(source).st_mtime < built for source in sources)
 
-    `progress` is called with each line that the toolchain prints. Where the variable S3_PROGRAM names a file, that one is
-    taken in place of `s3`, and nothing is built.
+
+def program(root, crate="s3", words=("--", "--version"), progress=None):
+    """The path of a built program of this repository.
+
+    Where `rt ci` or `rt run` has left it and no source is newer, it is taken as it is; else it is built, and run with
+    these words. `progress` is called with each line that the toolchain prints. Where the variable S3_PROGRAM names a file,
+    that one is taken in place of `s3`, and nothing is built.
     """
     if crate == "s3" and os.environ.get("S3_PROGRAM"):
         return os.path.abspath(os.environ["S3_PROGRAM"])
     folder = os.path.join(root, "crates", crate)
+    path = os.path.join(folder, "out", crate)
+    if stands(root, path):
+        return path
     if shutil.which("rt") is None:
         sys.exit(NO_TOOLCHAIN)
     shown = []
@@ -72,7 +90,7 @@ def program(root, crate="s3", words=("--", "--version"), progress=None):
 
     if run_group(["rt", "run", *words], heard, cwd=folder) != 0:
         sys.exit("the program was not built:\n" + "".join(shown))
-    return os.path.join(folder, "out", crate)
+    return path
 
 
 def run_group(command, heard, **how):
@@ -177,3 +195,7 @@ class Service:
 
     def client(self):
         return client(self.url, self.keys)
+
+
+if __name__ == "__main__":
+    print(program(os.path.dirname(os.path.dirname(os.path.abspath(__file__)))))
