@@ -1,29 +1,8 @@
-//! Asks from an operation and a line of values by their names, as `key=a b; content=text/plain`.
-use s3_model::{Ask, Op, OutOfMemory, Text, Texts};
+//! Asks from the name of an operation and a line of values, as `key=a b; content=text/plain`.
+
+use crate::fixtures::{optional_text, text, value};
+use s3_model::{Ask, OutOfMemory, Text, Texts};
 use std::alloc::Global;
-
-/// The value of that name, where there is one.
-pub fn value<'a>(values: &'a str, name: &str) -> Option<&'a str> {
-    for word in values.split(';') {
-        if let Some((named, value)) = word.trim_start().split_once('=') {
-            if named == name {
-                return Some(value);
-            }
-        }
-    }
-    None
-}
-
-fn text(alloc: Global, values: &str, name: &str) -> Result<Text, OutOfMemory> {
-    Text::of(alloc, value(values, name).unwrap_or(""))
-}
-
-fn optional_text(alloc: Global, values: &str, name: &str) -> Result<Option<Text>, OutOfMemory> {
-    match value(values, name) {
-        Some(value) => Ok(Some(Text::of(alloc, value)?)),
-        None => Ok(None),
-    }
-}
 
 fn texts(alloc: Global, values: &str, name: &str) -> Result<Texts, OutOfMemory> {
     let mut texts = Texts::make(alloc);
@@ -52,82 +31,102 @@ fn range(values: &str) -> Option<(u64, u64)> {
     }
 }
 
-/// The ask of that operation that has these values.
-pub fn ask(alloc: Global, op: Op, values: &str) -> Result<Ask, OutOfMemory> {
+/// An ask for one object, or a list; None where the name is another.
+fn plain_ask(alloc: Global, name: &str, values: &str) -> Result<Option<Ask>, OutOfMemory> {
+    let bucket = text(alloc, values, "bucket")?;
+    let key = text(alloc, values, "key")?;
+    Ok(match name {
+        "Head" => Some(Ask::Head { bucket, key }),
+        "Get" => Some(Ask::Get {
+            bucket,
+            key,
+            etag: text(alloc, values, "etag")?,
+            range: range(values),
+        }),
+        "Put" => Some(Ask::Put {
+            bucket,
+            key,
+            content: optional_text(alloc, values, "content")?,
+            fresh: value(values, "fresh").is_some(),
+        }),
+        "Create" => Some(Ask::Create {
+            bucket,
+            key,
+            content: optional_text(alloc, values, "content")?,
+        }),
+        "List" => Some(Ask::List {
+            bucket,
+            prefix: key,
+            delimited: value(values, "delimited").is_some(),
+            token: optional_text(alloc, values, "token")?,
+        }),
+        "Delete" => Some(Ask::Delete { bucket, key }),
+        _ => None,
+    })
+}
+
+/// An ask of an upload in parts; None where the name is another.
+fn upload_ask(alloc: Global, name: &str, values: &str) -> Result<Option<Ask>, OutOfMemory> {
     let bucket = text(alloc, values, "bucket")?;
     let key = text(alloc, values, "key")?;
     let upload = text(alloc, values, "upload")?;
-    let etag = text(alloc, values, "etag")?;
-    let from_bucket = text(alloc, values, "from_bucket")?;
-    let from_key = text(alloc, values, "from_key")?;
-    let content = optional_text(alloc, values, "content")?;
-    let token = optional_text(alloc, values, "token")?;
-    let etags = texts(alloc, values, "etags")?;
-    let number = number(values, "number");
-    let range = range(values);
-    let fresh = value(values, "fresh").is_some();
-    let delimited = value(values, "delimited").is_some();
-    Ok(match op {
-        Op::Head => Ask::Head { bucket, key },
-        Op::Get => Ask::Get {
-            bucket,
-            key,
-            etag,
-            range,
-        },
-        Op::Put => Ask::Put {
-            bucket,
-            key,
-            content,
-            fresh,
-        },
-        Op::Copy => Ask::Copy {
-            bucket,
-            key,
-            from_bucket,
-            from_key,
-            etag,
-        },
-        Op::Delete => Ask::Delete { bucket, key },
-        Op::Create => Ask::Create {
-            bucket,
-            key,
-            content,
-        },
-        Op::Part => Ask::Part {
+    Ok(match name {
+        "Part" => Some(Ask::Part {
             bucket,
             key,
             upload,
-            number,
-        },
-        Op::PartCopy => Ask::PartCopy {
+            number: number(values, "number"),
+        }),
+        "Complete" => Some(Ask::Complete {
             bucket,
             key,
             upload,
-            number,
-            from_bucket,
-            from_key,
-            etag,
-            range: range.unwrap_or((0, 0)),
-        },
-        Op::Complete => Ask::Complete {
+            etags: texts(alloc, values, "etags")?,
+            fresh: value(values, "fresh").is_some(),
+        }),
+        "Abort" => Some(Ask::Abort {
             bucket,
             key,
             upload,
-            etags,
-            fresh,
-        },
-        Op::Abort => Ask::Abort {
-            bucket,
-            key,
-            upload,
-        },
-        Op::List => Ask::List {
-            bucket,
-            prefix: key,
-            delimited,
-            token,
-        },
-        Op::Buckets => Ask::Buckets,
+        }),
+        _ => None,
     })
+}
+
+fn copy_ask(alloc: Global, values: &str) -> Result<Ask, OutOfMemory> {
+    Ok(Ask::Copy {
+        bucket: text(alloc, values, "bucket")?,
+        key: text(alloc, values, "key")?,
+        from_bucket: text(alloc, values, "from_bucket")?,
+        from_key: text(alloc, values, "from_key")?,
+        etag: text(alloc, values, "etag")?,
+    })
+}
+
+fn part_copy_ask(alloc: Global, values: &str) -> Result<Ask, OutOfMemory> {
+    Ok(Ask::PartCopy {
+        bucket: text(alloc, values, "bucket")?,
+        key: text(alloc, values, "key")?,
+        upload: text(alloc, values, "upload")?,
+        number: number(values, "number"),
+        from_bucket: text(alloc, values, "from_bucket")?,
+        from_key: text(alloc, values, "from_key")?,
+        etag: text(alloc, values, "etag")?,
+        range: range(values).unwrap_or((0, 0)),
+    })
+}
+
+/// The ask of that operation that has these values; None where no operation has the name.
+pub(crate) fn ask_named(
+    alloc: Global,
+    name: &str,
+    values: &str,
+) -> Result<Option<Ask>, OutOfMemory> {
+    match name {
+        "Part" | "Complete" | "Abort" => upload_ask(alloc, name, values),
+        "Copy" => Ok(Some(copy_ask(alloc, values)?)),
+        "PartCopy" => Ok(Some(part_copy_ask(alloc, values)?)),
+        "Buckets" => Ok(Some(Ask::Buckets)),
+        _ => plain_ask(alloc, name, values),
+    }
 }
