@@ -1,0 +1,58 @@
+//! What lines spell, and how answers are shown.
+
+use s3_model::OutOfMemory;
+use std::alloc::{AllocError, Global};
+use std::io;
+
+pub(crate) fn no_memory(_: OutOfMemory) -> io::Error {
+    AllocError.into()
+}
+
+/// The word in front of the first space, and the rest.
+pub(crate) fn word_and_rest(text: &str) -> (&str, &str) {
+    text.split_once(' ').unwrap_or((text, ""))
+}
+
+pub(crate) fn number(text: &str) -> u64 {
+    text.parse::<u64>().unwrap_or(0)
+}
+
+/// The numbers of a list, parted by commas.
+pub(crate) fn numbers(alloc: Global, text: &str) -> Result<Vec<usize>, AllocError> {
+    let mut found = Vec::new(alloc);
+    for piece in text.split(',') {
+        if let Ok(number) = piece.parse::<usize>() {
+            found.push(number)?;
+        }
+    }
+    Ok(found)
+}
+
+/// The text with each `¶` as the end of a line of HTTP.
+pub(crate) fn http(alloc: Global, text: &str) -> Result<String, AllocError> {
+    let mut out = String::new(alloc);
+    for letter in text.chars() {
+        if letter == '¶' {
+            out.push_str("\r\n")?;
+        } else {
+            out.push(letter)?;
+        }
+    }
+    Ok(out)
+}
+
+/// Bytes that came, where a call succeeded.
+pub(crate) fn bytes_shown(alloc: Global, bytes: &[u8]) -> Result<String, AllocError> {
+    match str::from_utf8(bytes) {
+        Ok(text) => format!(in alloc; "{text:?}"),
+        Err(_) => String::from_str(alloc, "no UTF-8"),
+    }
+}
+
+/// Adds a call and its answer to a line.
+pub(crate) fn push_answer(shown: &mut String, call: &str, answer: &str) -> Result<(), AllocError> {
+    for piece in ["; ", call, " => ", answer] {
+        shown.push_str(piece)?;
+    }
+    Ok(())
+}
