@@ -3,8 +3,7 @@
 use crate::files::answer_of;
 use crate::lines::{push_answer, word_and_rest};
 use s3_outside::{DiskFiles, Temp};
-use std::fs;
-use std::io;
+use std::{fs, io};
 
 /// Makes a file or a folder, or removes a folder with all that it has.
 fn prepare(rt: &HostRuntime, call: &str) -> io::Result<bool> {

@@ -3,8 +3,7 @@
 use crate::lines::{no_memory, numbers, push_answer, word_and_rest};
 use s3_outside::{Env, EnvFault, MemEnv, RealEnv, S3_LIMITS};
 use std::alloc::{AllocError, Global};
-use std::fs;
-use std::io;
+use std::{fs, io};
 
 fn word<E: Env>(env: &mut E, alloc: Global, name: &str) -> Result<String, AllocError> {
     match env.word(alloc, name) {

@@ -145,7 +145,9 @@ fn put(alloc: Global, table: &mut FileTable, word: &str) -> io::Result<()> {
         return table.put_file(alloc, path, file).map_err(no_memory);
     }
     if let Some((folder, count)) = word.split_once('?') {
-        return table.set_unnamed(alloc, folder, number(count)).map_err(no_memory);
+        return table
+            .set_unnamed(alloc, folder, number(count))
+            .map_err(no_memory);
     }
     match word.strip_suffix("/") {
         Some(folder) => table.add_folder(alloc, folder).map_err(no_memory),

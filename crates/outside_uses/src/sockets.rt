@@ -110,12 +110,7 @@ fn wire_of(rt: &HostRuntime, how: &str) -> io::Result<SocketWire<HostRuntime>> {
     })
 }
 
-fn played(
-    rt: &HostRuntime,
-    how: &str,
-    service: &mut Service,
-    calls: &str,
-) -> io::Result<String> {
+fn played(rt: &HostRuntime, how: &str, service: &mut Service, calls: &str) -> io::Result<String> {
     let alloc = rt.alloc();
     let mut wire = wire_of(rt, how)?;
     let mut shown = String::new(alloc);
