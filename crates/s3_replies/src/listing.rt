@@ -1,9 +1,9 @@
 //! A page of a listing, as it is written.
 
-ghost use Rattle.std.specs.Prelude.{◌≡◌, ◌≢◌, ◌≤◌, ℕ, List, [], None, Option, IfOk, OnOk, length, codes, true, refl};
+ghost use Rattle.std.specs.Prelude.{◌≡◌, ◌≤◌, ℕ, List, [], None, Option, IfOk, OnOk, length, codes, true, refl};
 ghost use Rattle.reply_xml.specs.Contents.{Content, is_the};
 ghost use Rattle.reply_xml.specs.declared.elements.Element.TheVariants as element;
-ghost use Rattle.reply_xml.specs.declared.faults.DocFault.TheVariants as fault;
+ghost use Rattle.reply_xml.specs.Unfit.{AnEncoding};
 ghost use Rattle.reply_xml.specs.Breaks.{BreaksElement, BreaksIn, IfBroken};
 ghost use Rattle.reply_xml.specs.Faults.{IfRefused};
 ghost use Rattle.reply_xml.specs.Reading.{Advances, HoldsAs, HoldsNone, Stops};
@@ -136,7 +136,7 @@ impl Leaf for UrlName {
 
     ghost spells = { λ of text value. text ≡ codes "url" };
 
-    ghost unfit = { λ of text reason. (reason ≡ fault.BadText of) × (text ≢ codes "url") };
+    ghost form = { AnEncoding };
 
     ghost alone = { λ of text v w a b. refl };
 

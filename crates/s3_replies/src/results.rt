@@ -1,12 +1,12 @@
 //! The answers that have one value: an id of an upload or an entity tag.
 
-ghost use Rattle.std.specs.Prelude.{◌≡◌, ℕ, List, Err, IfOk, OnOk, codes};
+ghost use Rattle.std.specs.Prelude.{◌≡◌, ℕ, List, Err, IfOk, OnOk, codes, true};
 ghost use Rattle.reply_xml.specs.Children.{HasLeaf, HasOnly, IsPlain};
 ghost use Rattle.reply_xml.specs.declared.elements.Element.TheVariants as elements;
 ghost use Rattle.reply_xml.specs.Documents.{IsOf};
 ghost use Rattle.reply_xml.specs.Breaks.{Breaks, IfBroken};
 ghost use Rattle.reply_xml.specs.Faults.{IfRefused, IsFault};
-ghost use Rattle.reply_xml.specs.Unfit.{IsJudgedAs};
+ghost use Rattle.reply_xml.specs.Unfit.{is_read_as};
 ghost use Rattle.reply_xml.specs.Places.{BeginsOtherwise, HasBytesBehind};
 ghost use Rattle.s3_replies.specs.Results.{copy_root, IsCompleted, IsCopied, IsCreated};
 
@@ -21,7 +21,7 @@ fn only_leaf<L: Leaf>(
     root: &str,
     element: Element,
 ) -> Result<L::Value, DocFault>
-    requires { IsJudgedAs (L.unfit element) element }
+    requires { is_read_as element L.form ≡ true }
     ensures value { IfOk result (IsOf root.now (HasOnly (L.spells element) element) doc.now) }
     ensures refused { IfRefused result ((value : L.Value) →
         ¬ (IsOf root.now (HasOnly (L.spells element) element) doc.now value)) }

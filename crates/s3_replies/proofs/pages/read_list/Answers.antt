@@ -1,12 +1,12 @@
-use Rattle.std.proofs.Common.{◌∙◌, Err, List, ap, codes, subst, sym, ℕ}
+use Rattle.std.proofs.Common.{◌∙◌, Err, List, ap, codes, inl, subst, sym, ℕ}
 use Rattle.reply_xml.specs.Documents.{ReadsSpace}
 use Rattle.reply_xml.specs.declared.faults.DocFault.TheVariants as fault
-use Rattle.s3_replies.specs.Listing.{HasListing, HasPage}
+use Rattle.s3_replies.specs.Listing.{HasListing, HasPage, IsKeyFault}
 use Rattle.reply_xml.proofs.FaultLemmas.{Tells-map, err_same, fault_past, not_err, refused_past, same_fault, told_instead, untold}
 use Rattle.reply_xml.proofs.WholeLemmas.{behind_root, inside_root, no_root, no_whole, whole}
 use Rattle.s3_replies.proofs.ListingLemmas.{no_listing, said_there}
 use Rattle.reply_xml.specs.Breaks.{BehindRoot, Breaks, InRoot}
-use Rattle.reply_xml.proofs.BreakLemmas.{OnBroken-map, broken_past, broken_told, sized}
+use Rattle.reply_xml.proofs.BreakLemmas.{OnBroken-map, broken_past, broken_told, key_told, sized}
 use Rattle.s3_replies.proofs.pages.read_list.Goals as goal
 
 pub returns-in-Err-clause-refused : goal.returns-in-Err-clause-refused
