@@ -1,9 +1,7 @@
 //! The elements that are read, by their names.
 
-ghost use Rattle.std.specs.Prelude.{◌≡◌, ◌<◌, Some, length, map, slice_get};
-ghost use Rattle.reply_xml.specs.Elements.{element_names, element_named};
-
-use s3_model::Cases;
+ghost use Rattle.std.specs.Prelude.{◌≡◌};
+ghost use Rattle.reply_xml.specs.Elements.{element_named};
 
 /// The elements that are read, known by their names as the S3 API writes them.
 #[derive(Debug, Clone, Copy, PartialEq, Eq)]
@@ -27,74 +25,38 @@ pub enum Element {
     UploadId,
 }
 
-fn names() -> Cases<17>
-    ensures { map (λ row. row.now) result.names.now ≡ map (λ each. each.0) element_names }
+#[tactic(auto, unfolding(crate::specs::Elements::element_named, crate::specs::Elements::element_names))]
+fn element_of(name: &str) -> Option<Element>
+    ensures { result ≡ element_named name.now }
 {
-    Cases {
-        names: &[
-            "Code",
-            "Message",
-            "IsTruncated",
-            "EncodingType",
-            "NextContinuationToken",
-            "Contents",
-            "Key",
-            "LastModified",
-            "ETag",
-            "Size",
-            "CommonPrefixes",
-            "Prefix",
-            "Buckets",
-            "Bucket",
-            "Name",
-            "CreationDate",
-            "UploadId",
-        ],
+    match name {
+        "Code" => Some(Element::Code),
+        "Message" => Some(Element::Message),
+        "IsTruncated" => Some(Element::IsTruncated),
+        "EncodingType" => Some(Element::EncodingType),
+        "NextContinuationToken" => Some(Element::NextContinuationToken),
+        "Contents" => Some(Element::Contents),
+        "Key" => Some(Element::Key),
+        "LastModified" => Some(Element::LastModified),
+        "ETag" => Some(Element::ETag),
+        "Size" => Some(Element::Size),
+        "CommonPrefixes" => Some(Element::CommonPrefixes),
+        "Prefix" => Some(Element::Prefix),
+        "Buckets" => Some(Element::Buckets),
+        "Bucket" => Some(Element::Bucket),
+        "Name" => Some(Element::Name),
+        "CreationDate" => Some(Element::CreationDate),
+        "UploadId" => Some(Element::UploadId),
+        _ => None,
     }
-}
-
-fn element_in(elements: &[Element], row: u32) -> Element
-    requires { row < length elements.now }
-    ensures { slice_get elements.now row ≡ Some result }
-{
-    elements[row as usize]
-}
-
-fn element_at(row: u32) -> Element
-    requires { row < 17 }
-    ensures { slice_get (map (λ each. each.1) element_names) row ≡ Some result }
-{
-    let elements = [
-        Element::Code,
-        Element::Message,
-        Element::IsTruncated,
-        Element::EncodingType,
-        Element::NextContinuationToken,
-        Element::Contents,
-        Element::Key,
-        Element::LastModified,
-        Element::ETag,
-        Element::Size,
-        Element::CommonPrefixes,
-        Element::Prefix,
-        Element::Buckets,
-        Element::Bucket,
-        Element::Name,
-        Element::CreationDate,
-        Element::UploadId,
-    ];
-    element_in(&elements, row)
 }
 
 /// The element of that name, compared whole.
 pub(crate) fn element_named(name: &[u8]) -> Option<Element>
     ensures { result ≡ element_named name.now }
 {
-    let Ok(text) = std::str::from_utf8(name) else {
-        return None;
-    };
-    match names().find(text) {
-        Some(row) => Some(element_at(row)),
-        None => None,
+    match std::str::from_utf8(name) {
+        Ok(text) => element_of(text),
+        Err(_) => None,
     }
 }
