@@ -1,12 +1,12 @@
 -- Where a document has a fault, from the innermost element outwards.
-use Rattle.std.proofs.Common.{◌≡◌, ◌++◌, ◌⊎◌, ◌∙◌, ℕ, Bool, true, false, Result, Ok, Err, List, [], ◌∷◌, inl, inr, refl, subst, sym, ⊎_elim}
+use Rattle.std.proofs.Common.{◌≡◌, ◌++◌, ◌⊎◌, ℕ, Bool, true, false, Result, Ok, Err, List, [], ◌∷◌, inl, inr, refl, subst, sym, ⊎_elim}
 use Rattle.std.specs.Result.{IsErrAnd}
 use Rattle.reply_xml.specs.declared.faults.DocFault.{DocFault}
 use Rattle.reply_xml.specs.declared.faults.DocFault.TheVariants as fault
 use Rattle.reply_xml.specs.declared.reader.Child.{Child}
 use Rattle.reply_xml.specs.declared.reader.Tag.{Tag}
 use Rattle.reply_xml.specs.Breaks.{BreaksElement, BreaksIn, BehindName, BehindTag, Behind, IfBroken, InLeaf, InTag, InText, Inside, OnBroken}
-use Rattle.reply_xml.specs.Reading.{EndsContent, HoldsSome, IsTagOf, NamesChild, ReadsOpen, ReadsSome}
+use Rattle.reply_xml.specs.Reading.{EndsContent, HoldsSome, IsTagOf, NamesChild, ReadsOpen}
 use Rattle.reply_xml.proofs.OpenLemmas.{child_begins, element_of, open_in, open_out, some_before}
 use Rattle.std.specs.Bool.{MatchBool}
 use Rattle.std.proofs.lemmas.Bool.{false≢true}

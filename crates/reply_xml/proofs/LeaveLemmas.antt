@@ -1,5 +1,5 @@
 -- Where bytes leave a production, from its parts.
-use Rattle.std.proofs.Common.{◌≡◌, ◌≢◌, ◌≤◌, ℕ, suc, List, [], Result, Ok, Err, IfErr, subst, sym, ap, ◌∙◌, ◌++◌, length, arith}
+use Rattle.std.proofs.Common.{◌≡◌, ◌≢◌, ◌≤◌, ℕ, suc, List, [], Result, Ok, Err, IfErr, subst, sym, ap, ◌∙◌, length, arith}
 use Rattle.std.proofs.lemmas.List.{length-append}
 use Rattle.std.specs.Result.{IsErrAnd}
 use Rattle.reply_xml.specs.declared.runs.Sort.TheVariants as sort

@@ -1,4 +1,4 @@
-use Rattle.std.proofs.Common.{ℕ, List, length, Err, ap, inl, ◌∙◌, sym, subst, arith, rules}
+use Rattle.std.proofs.Common.{ℕ, List, length, Err, ap, inl, sym, subst, arith, rules}
 use Rattle.std.proofs.lemmas.Bool.{eq-eqb}
 use Rattle.memchr.specs.Find.{Passes, is_byte}
 use Rattle.reply_values.specs.References.{IsUnescaped}

@@ -1,4 +1,4 @@
-use Rattle.std.proofs.Common.{sym, ◌∙◌, ap, arith, List, ℕ, refl, subst}
+use Rattle.std.proofs.Common.{sym, ◌∙◌, ap, refl}
 use Rattle.reply_xml.proofs.FaultLemmas.{Tells-any, bad_told, ends_told}
 use Rattle.reply_xml.proofs.ContentLemmas.{no_meaning, no_text_at_end}
 use Rattle.reply_xml.proofs.TagLemmas.{none_from_test}
