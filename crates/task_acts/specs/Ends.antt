@@ -19,8 +19,8 @@ use Rattle.s3_model.specs.declared.tries.Mark.TheVariants as mark
 use Rattle.task_acts.specs.declared.acts.Act.{Act}
 use Rattle.task_acts.specs.declared.acts.Act.TheVariants as act
 use Rattle.task_acts.specs.Failures.{carried_cause, first_failure, first_reason, wanted_memory}
-use Rattle.task_acts.specs.Histories.{History, Happening, Gave, Came, Returned, Cancelled, Taken, is_idle}
-use Rattle.task_acts.specs.Rule.{first_ready_in, is_decided_in, is_done_in}
+use Rattle.task_acts.specs.Histories.{History, Happening, Gave, Came, Returned, Cancelled, Taken}
+use Rattle.task_acts.specs.Rule.{first_ready_in, is_decided_in, is_done_in, is_idle_in}
 use Rattle.task_acts.specs.declared.work.Work.{Work}
 use Rattle.task_acts.specs.Work.{deciding_op}
 
@@ -118,7 +118,7 @@ how_ended w history =
 -- The outcome comes once no act is ready and none is out, and stays.
 abbrev pub settled : Work → History → Option Outcome
 settled w history =
-    if is_some (first_ready_in w history) || not (is_idle history) then None else how_ended w history
+    if is_some (first_ready_in w history) || not (is_idle_in w history) then None else how_ended w history
 
 abbrev pub outcome_of : Work → History → Option Outcome
 outcome_of w [] = settled w []

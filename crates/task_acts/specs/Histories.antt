@@ -38,19 +38,3 @@ is_act a b = false
 -- the act by which a job that came was given
 abbrev pub sent : SeenCarried → Act
 sent carried = act.Send carried.job.id.op carried.job.id.number
-
--- how many acts were given and have not come back
-abbrev pub out_after : Happening → ℕ → ℕ
-out_after (Gave given) before = before + 1
-out_after (Came carried) before = before - 1
-out_after (Returned called result) before = before - 1
-out_after (Cancelled reason) before = before
-out_after (Taken of_op number) before = before
-
-abbrev pub out : History → ℕ
-out [] = 0
-out (event ∷ before) = out_after event (out before)
-
--- nothing of the task is out
-abbrev pub is_idle : History → Bool
-is_idle history = out history == 0

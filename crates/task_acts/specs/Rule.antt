@@ -9,8 +9,8 @@ use Rattle.task_acts.specs.declared.acts.Act.{Act}
 use Rattle.task_acts.specs.declared.acts.Act.TheVariants as act
 use Rattle.task_acts.specs.declared.acts.Stage.{Stage}
 use Rattle.task_acts.specs.Failures.{is_stopped}
-use Rattle.task_acts.specs.Histories.{History, is_idle}
-use Rattle.task_acts.specs.Stages.{has_done, has_ended, may_be_given, stage}
+use Rattle.task_acts.specs.Histories.{History}
+use Rattle.task_acts.specs.Stages.{has_done, has_ended, is_out, may_be_given, stage}
 use Rattle.task_acts.specs.declared.work.Work.{Work}
 use Rattle.task_acts.specs.Work.{deciding_op, is_piece, numbers, piece_op}
 
@@ -34,8 +34,8 @@ reads w = map (λ number. act.Read number) (numbers w)
 abbrev pub acts_of : Work → List Act
 acts_of w = file_acts w ++ single_sends ++ piece_sends w ++ reads w
 
--- by how far each act is, whether a failure or a cancel came, and whether nothing is out
-module _ (w : Work) (stage_of : Act → Stage) (stopped idle : Bool) where
+-- by how far each act is, and whether a failure or a cancel came
+module _ (w : Work) (stage_of : Act → Stage) (stopped : Bool) where
   abbrev pub is_done : Act → Bool
   is_done of_act = has_done (stage_of of_act)
 
@@ -89,13 +89,17 @@ module _ (w : Work) (stage_of : Act → Stage) (stopped idle : Bool) where
 
   -- ---- after a failure or a cancel
 
+  -- no act is out
+  abbrev pub is_idle : Bool
+  is_idle = list_all (λ of_act. not (is_out (stage_of of_act))) (acts_of w)
+
   -- An upload that was created and not completed is aborted, and a temporary file that was not renamed is dropped, once
   -- nothing else is out.
   abbrev pub is_left_over : Act → Bool
   is_left_over (act.Send op.Abort number) =
-      (number == 0) && is_created && not (is_completed) && idle
+      (number == 0) && is_created && not (is_completed) && is_idle
   is_left_over act.DropTemp =
-      is_done act.Assemble && not (is_done act.Rename) && idle
+      is_done act.Assemble && not (is_done act.Rename) && is_idle
   is_left_over of_act = false
 
   -- ---- the rule
@@ -116,13 +120,16 @@ module _ (w : Work) (stage_of : Act → Stage) (stopped idle : Bool) where
 -- ---- in a history
 
 abbrev pub is_ready_in : Work → History → Act → Bool
-is_ready_in w history = is_ready w (stage w history) (is_stopped w history) (is_idle history)
+is_ready_in w history = is_ready w (stage w history) (is_stopped w history)
 
 abbrev pub first_ready_in : Work → History → Option Act
-first_ready_in w history = first_ready w (stage w history) (is_stopped w history) (is_idle history)
+first_ready_in w history = first_ready w (stage w history) (is_stopped w history)
 
 abbrev pub is_done_in : Work → History → Act → Bool
 is_done_in w history of_act = has_done (stage w history of_act)
 
 abbrev pub is_decided_in : Work → History → Bool
-is_decided_in w history = is_decided w (stage w history) (is_stopped w history) (is_idle history)
+is_decided_in w history = is_decided w (stage w history) (is_stopped w history)
+
+abbrev pub is_idle_in : Work → History → Bool
+is_idle_in w history = is_idle w (stage w history) (is_stopped w history)

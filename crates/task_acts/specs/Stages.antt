@@ -26,7 +26,7 @@ file_stage result = if is_fine result then at.Fine else at.Failed
 abbrev pub stage : Work → History → Act → Stage
 stage w [] of_act = at.Waiting
 stage w (Gave given ∷ before) of_act =
-    if is_act of_act given then given_stage (stage w before of_act) else stage w before of_act
+    if is_act of_act given then given_stage (stage w before given) else stage w before of_act
 stage w (Came carried ∷ before) of_act =
     if is_act of_act (sent carried) then carried_stage w (is_stopped w before) carried else stage w before of_act
 stage w (Returned called result ∷ before) of_act =

@@ -1,0 +1,9 @@
+//! One task as a machine: which of its acts is ready, and what comes of each.
+#![tactic(auto)]
+
+mod causes;
+mod state;
+mod steps;
+
+pub use state::TaskState;
+pub use steps::Steps;
