@@ -17,7 +17,7 @@ use http_exchange::{AnswerRoom, exchange};
 use requests::request_named;
 use row_bytes::bytes_of;
 use s3_model::{Ask, Bytes, Class, Endpoint, OutOfMemory, Text};
-use s3_outside::ScriptWire;
+use outside_memory::ScriptWire;
 use shown::push_class;
 use std::alloc::{AllocError, Global};
 use std::io;

@@ -2,7 +2,7 @@
 
 use http_exchange::{AnswerRoom, exchange};
 use s3_model::{Answered, Bytes, Endpoint, Talked, Text, Why};
-use s3_outside::{ScriptWire, TalkEnding, TalkRecord, WireCall};
+use outside_memory::{ScriptWire, TalkEnding, TalkRecord, WireCall};
 use std::alloc::{AllocError, Global};
 use std::test::*;
 

@@ -76,11 +76,11 @@ effect p (WriteAt temp at bytes false) old new h = elim (text_decided temp p) [
   where
     spared : (temp ≡ p → ⊥) → Leads (WriteAt temp at bytes false) old new → get new p ≡ get old p
     spared other (inl e) = all_stays p old new e
-    spared other (inr g) = beside temp p (record { bytes = g.0; micros = g.1.0 }) old new other g.1.1
+    spared other (inr g) = beside temp p (record { bytes = g.1; micros = g.2.0 }) old new other g.2.1
 
     spoiled : Leads (WriteAt p at bytes false) old new → (get new p ≡ get old p) ⊎ ((file : HeldFile) × (get new p ≡ Some file))
     spoiled (inl e) = inl (all_stays p old new e)
-    spoiled (inr g) = inr (record { bytes = g.0; micros = g.1.0 }, inserted p (record { bytes = g.0; micros = g.1.0 }) old new g.1.1)
+    spoiled (inr g) = inr (record { bytes = g.1; micros = g.2.0 }, inserted p (record { bytes = g.1; micros = g.2.0 }) old new g.2.1)
 effect p (Rename temp dest (Some fault)) old new h = stays tt (all_stays p old new h)
 effect p (Rename temp dest None) old new h = elim (text_decided dest p) [
   | inl same ↦

@@ -25,7 +25,8 @@ use Rattle.std.proofs.lemmas.Slice.Eq.{bytes_eq-Decides}
 use Rattle.std.specs.Str.{bytes_eq}
 use Rattle.s3_model.specs.Files.{FileStore, folder_path, is_below, is_listed}
 use Rattle.s3_model.specs.Maps.{MapOf}
-use Rattle.file_table.specs.Names.{AreNames, IsFirst, IsName, IsNamedIn, IsThere}
+use Rattle.file_table.specs.Names.{IsFirst, IsNamedIn}
+use Rattle.local_files.specs.Names.{AreNames, IsName, IsThere}
 
 -- ---- truth values and options
 

@@ -11,7 +11,8 @@ use Rattle.shared_lemmas.proofs.Maps.{get-insert_same, get-insert_other, get-rem
 use Rattle.s3_model.specs.Maps.{MapOf}
 use Rattle.s3_model.specs.Files.{FileStore, HeldFile, is_below, is_folder, is_listed}
 use Rattle.local_files.specs.Calls.{DropTemp, Remove, Rename, Stamp, WriteAt, written_at}
-use Rattle.file_table.specs.Table.{AreAlike, Changes, HasPlace, Moves}
+use Rattle.file_table.specs.Table.{AreAlike, HasPlace, Moves}
+use Rattle.local_files.specs.Changes.{Changes}
 
 -- Stores that are alike: only folders that were there are listed more often.
 pub alike : (store : FileStore) (path : List ℕ) (folders : List (List ℕ)) → is_some (get store.held path) ≡ true

@@ -12,6 +12,7 @@ use Rattle.std.specs.List.{AllByRecursion, list_any}
 use Rattle.std.specs.List.Sorted.{IsStrictlySortedBy}
 use Rattle.std.specs.FinMap.Entries.{put, by_order}
 use Rattle.std.specs.FinMap.{empty, len-empty, len-entries, keys, entries, from_entries, entries-insert, get, insert, remove, find, get-from_entries, get-insert, get-remove, same_map, slice_cmp-IsAntisymmetric, nat_cmp-IsAntisymmetric}
+use Rattle.std.proofs.lemmas.List.{length-map}
 use Rattle.std.proofs.lemmas.Map.Text.{btree_map_updates_text, is_eq-slice_cmp}
 use Rattle.file_table.specs.TextMap.{text_entries, text_map}
 
@@ -87,6 +88,10 @@ keys_of_texts (e ∷ es) = ap (λ ks. string_bytes e.0 ∷ ks) (keys_of_texts es
 
 pub keys-text_map : {Y V : Type 0} (m : tree.BTreeMap (String Y) V) → tree.IsOrdered string_cmp m → keys (text_map m.entries) ≡ map string_bytes (tree.keys m)
 keys-text_map {Y} {V} m ordered = ap (map (λ (e : List ℕ × V). e.0)) (entries-from_sorted_entries (text_entries m.entries) (texts_sorted m.entries ordered)) ∙ keys_of_texts m.entries
+
+pub length_of_keys : {Y V : Type 0} (m : tree.BTreeMap (String Y) V) → tree.IsOrdered string_cmp m → length m.entries ≡ length (keys (text_map m.entries))
+length_of_keys m ordered =
+    sym (length-map m.entries (λ e. e.0)) ∙ sym (length-map (tree.keys m) string_bytes) ∙ ap (λ (ks : List (List ℕ)). length ks) (sym (keys-text_map m ordered))
 
 list_any-map : {A B : Type 0} (p : B → Bool) (f : A → B) (xs : List A) → list_any p (map f xs) ≡ list_any (λ x. p (f x)) xs
 list_any-map p f [] = refl

@@ -3,7 +3,8 @@
 ghost use Rattle.std.specs.Prelude.{◌≡◌, ◌≢◌, ◌↔◌, ◌⊎◌, ◌++◌, ◌<◌, ℕ, List, true, OnOk, IfNone, IfSome, IsSome};
 ghost use Rattle.std.specs.FinMap.{get};
 ghost use Rattle.s3_model.specs.Files.{ends_in_slash as ends_slash, folder_path, is_listed as listed};
-ghost use Rattle.file_table.specs.Names.{IsFirst, IsName, IsNamedIn};
+ghost use Rattle.file_table.specs.Names.{IsFirst, IsNamedIn};
+ghost use Rattle.local_files.specs.Names.{IsName};
 
 use crate::text_map::TextMap;
 use s3_model::{OutOfMemory, Text};

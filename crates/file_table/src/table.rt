@@ -29,8 +29,9 @@ ghost use Rattle.std.specs.Option.{option_copied, unwrap_or};
 ghost use Rattle.std.specs.FinMap.{empty, get, insert};
 ghost use Rattle.s3_model.specs.Files.{is_folder, is_listed as listed};
 ghost use Rattle.local_files.specs.Calls.{DropTemp, Remove, Rename, Stamp, WriteAt};
-ghost use Rattle.file_table.specs.Names.{AreNames};
-ghost use Rattle.file_table.specs.Table.{AreAlike, Changes, HasPlace, IsFileAbove, IsFree, IsInTheWay, Moves};
+ghost use Rattle.local_files.specs.Names.{AreNames};
+ghost use Rattle.file_table.specs.Table.{AreAlike, HasPlace, Moves};
+ghost use Rattle.local_files.specs.Changes.{Changes, IsFileAbove, IsFree, IsInTheWay};
 
 use crate::file::MemFile;
 use crate::folders::{add_folders, is_listed};

@@ -15,6 +15,7 @@ ghost use Rattle.std.specs.Prelude.{
   OnSome,
   IfNone,
   Some,
+  length,
   string_bytes,
 };
 ghost use Rattle.std.specs.Option.{is_some, option_copied};
@@ -23,6 +24,7 @@ ghost use Rattle.std.specs.String.{string_cmp};
 ghost use Rattle.std.specs.BTreeMap as tree;
 ghost use Rattle.std.specs.FinMap.{get, insert, remove, empty, keys};
 ghost use Rattle.file_table.specs.Names.{IsNamedIn};
+ghost use Rattle.file_table.specs.TextMap.{text_map};
 ghost use Rattle.s3_model.specs.Files.{is_below, ends_in_slash as ends_slash};
 
 use crate::names::{NameSet, add_name};
@@ -124,8 +126,15 @@ impl<V: Drop> TextMap<V> {
         Ok(())
     }
 
-    /// The keys, copied.
-    pub(crate) fn texts(&self, alloc: Global) -> Result<Texts, OutOfMemory>
+    /// How many keys there are.
+    pub fn len(&self) -> usize
+        ensures { result ≡ length (keys self.now) }
+    {
+        length_of(&self.inner)
+    }
+
+    /// The keys, copied, in byte order.
+    pub fn texts(&self, alloc: Global) -> Result<Texts, OutOfMemory>
         ensures { IfOk result (λ texts. texts.items ≡ keys self.now) }
     {
         let mut texts = Texts::make(alloc);
@@ -143,6 +152,13 @@ impl<V: Drop> TextMap<V> {
     {
         any_below(folder, &self.inner)
     }
+}
+
+#[tactic(auto, using(crate::proofs::TextMaps::length_of_keys))]
+fn length_of<V>(map: &BTreeMap<String, V>) -> usize
+    ensures { result ≡ length (keys (text_map map.now.entries)) }
+{
+    map.len()
 }
 
 fn any_below<V>(folder: &str, map: &BTreeMap<String, V>) -> bool

@@ -1,6 +1,6 @@
 -- Calls that change local files, with their answers: what each makes of the files, and what it leaves where it failed.
 use Rattle.std.specs.Prelude.{◌≡◌, ◌≢◌, ◌⊎◌, ◌+◌, ◌-◌, ◌++◌, ◌==◌, ℕ, Bool, true, false, List, [], ◌∷◌, Option, Some}
-use Rattle.std.specs.Prelude.{None, Result, Ok, length, take, drop, replicate, if◌then◌else◌}
+use Rattle.std.specs.Prelude.{None, Result, Ok, IsSome, length, take, drop, replicate, if◌then◌else◌}
 use Rattle.std.specs.FinMap.{get, insert, remove}
 use Rattle.std.specs.List.{list_any}
 use Rattle.s3_model.specs.Files.{HeldFile}
@@ -46,12 +46,13 @@ abbrev pub Puts : List ℕ → List ℕ → MapOf HeldFile → MapOf HeldFile �
 Puts path bytes old new = (micros : ℕ) × (new ≡ insert old path (record { bytes = bytes; micros = micros }))
 
 -- The files before and after a call. A call that failed leaves them as they were; only a write that failed may leave
--- any bytes in its temporary file.
+-- any bytes in its temporary file, where that is there.
 abbrev pub Leads : Call → MapOf HeldFile → MapOf HeldFile → Type 0
 Leads (MakeTemp dest (Ok temp)) old new = IsTempFor dest temp × (get old temp ≡ None) × Puts temp [] old new
 Leads (WriteAt temp at bytes true) old new = (file : HeldFile) × (get old temp ≡ Some file)
     × Puts temp (written_at at bytes file.bytes) old new
-Leads (WriteAt temp at bytes false) old new = (new ≡ old) ⊎ ((any : List ℕ) × Puts temp any old new)
+Leads (WriteAt temp at bytes false) old new = (new ≡ old)
+    ⊎ (IsSome (get old temp) × (any : List ℕ) × Puts temp any old new)
 Leads (Rename temp dest None) old new = (file : HeldFile) × (get old temp ≡ Some file)
     × (new ≡ insert (remove old temp) dest file)
 Leads (DropTemp temp true) old new = new ≡ remove old temp

@@ -2,7 +2,8 @@
 
 use crate::files::answer_of;
 use crate::lines::{push_answer, word_and_rest};
-use s3_outside::{DiskFiles, Temp};
+use outside_system::DiskFiles;
+use s3_outside::Temp;
 use std::{fs, io};
 
 /// Makes a file or a folder, or removes a folder with all that it has.

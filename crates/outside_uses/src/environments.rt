@@ -1,7 +1,9 @@
 //! Environments.
 
 use crate::lines::{no_memory, numbers, push_answer, word_and_rest};
-use s3_outside::{Env, EnvFault, MemEnv, RealEnv, S3_LIMITS};
+use outside_memory::MemEnv;
+use outside_system::RealEnv;
+use s3_outside::{Env, EnvFault, S3_LIMITS};
 use std::alloc::{AllocError, Global};
 use std::{fs, io};
 

@@ -1,7 +1,8 @@
 //! Calls on files, and files in memory.
 
 use crate::lines::{bytes_shown, no_memory, number, numbers, push_answer, word_and_rest};
-use s3_outside::{Failed, FileTable, Files, MemFile, MemFiles, Shape, Temp};
+use outside_memory::{FileTable, MemFile, MemFiles};
+use s3_outside::{Failed, Files, Shape, Temp};
 use std::alloc::{AllocError, Global};
 use std::io;
 

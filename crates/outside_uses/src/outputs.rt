@@ -1,7 +1,9 @@
 //! Outputs.
 
 use crate::lines::{bytes_shown, numbers, push_answer, word_and_rest};
-use s3_outside::{MemSink, Sink, StdSink};
+use outside_memory::MemSink;
+use outside_system::StdSink;
+use s3_outside::Sink;
 use std::alloc::{AllocError, Global};
 use std::io;
 

@@ -2,7 +2,7 @@
 
 use crate::lines::{bytes_shown, push_answer, word_and_rest};
 use crate::wires::{MOMENT, answer_of};
-use s3_outside::{ScriptWire, TalkEnding, WireCall};
+use outside_memory::{ScriptWire, TalkEnding, WireCall};
 use std::alloc::{AllocError, Global};
 use std::io;
 

@@ -2,7 +2,8 @@
 
 use crate::lines::{bytes_shown, http, push_answer, word_and_rest};
 use crate::wires::answer_of;
-use s3_outside::{SocketWire, Wire};
+use outside_system::SocketWire;
+use s3_outside::Wire;
 use std::alloc::Global;
 use std::io::{self, Read, Write};
 use std::net::{TcpListener, TcpStream};

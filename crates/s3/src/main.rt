@@ -6,7 +6,7 @@ mod words;
 
 use help::{HELP, VERSION};
 use s3_main::run_s3;
-use s3_outside::{DiskFiles, RealEnv, SocketWire, StdSink};
+use outside_system::{DiskFiles, RealEnv, SocketWire, StdSink};
 use std::alloc::AllocError;
 use std::fs::File;
 use std::process::ExitCode;

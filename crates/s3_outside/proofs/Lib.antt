@@ -1,4 +1,2 @@
-mod LastTalk
-pub mod MadeLemmas
 pub mod SeenLemmas
 pub mod TempLemmas

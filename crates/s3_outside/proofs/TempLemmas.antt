@@ -1,5 +1,6 @@
 -- Paths of temporary files.
-use Rattle.std.proofs.Common.{◌≡◌, ◌∙◌, ◌==◌, ◌||◌, ◌++◌, ◌<◌, ◌+◌, ◌-◌, ℕ, zero, suc, Bool, true, false, List, [], ◌∷◌, None, get_or, length, take, drop, codes, refl, sym, ap, subst, arith, if◌then◌else◌}
+use Rattle.std.proofs.Common.{◌≡◌, ◌∙◌, ◌==◌, ◌||◌, ◌++◌, ◌<◌, ◌+◌, ◌-◌, ℕ, zero, suc, Bool, true, false, List, [], ◌∷◌, None, Result, Ok, Err, get_or, length, take, drop, codes, refl, sym, ap, subst, arith, if◌then◌else◌}
+use Rattle.std.specs.Prelude.{IfOk}
 use Rattle.std.specs.List.{AllPass, list_any, list_all}
 use Rattle.std.specs.Str.Pattern.{RFindsChar, SplitsAroundMatch}
 use Rattle.std.proofs.Math.Seq.{split_at}
@@ -191,3 +192,8 @@ pub hex_all : (a b c d e f g h : List ℕ) → AllPass is_lower_hex a → AllPas
     → AllPass is_lower_hex (a ++ (b ++ (c ++ (d ++ (e ++ (f ++ (g ++ (h ++ []))))))))
 hex_all a b c d e f g h pa pb pc pd pe pf pg ph =
     both_hex a _ pa (both_hex b _ pb (both_hex c _ pc (both_hex d _ pd (both_hex e _ pe (both_hex f _ pf (both_hex g _ pg (both_hex h [] ph (AllPass-from_list_all is_lower_hex [] refl))))))))
+
+-- what follows of a value that came
+pub if_ok : {A E : Type 0} {P Q : A → Type 0} (r : Result A E) → ((a : A) → P a → Q a) → IfOk r P → IfOk r Q
+if_ok (Ok a) f h = f a h
+if_ok (Err e) f h = tt

@@ -9,7 +9,7 @@ use Rattle.s3_model.specs.Files.{FileStore}
 use Rattle.s3_model.specs.TempNames.{is_lower_hex}
 use Rattle.local_files.specs.Calls.{Call, DropTemp, Fault, MakeTemp, Remove, Rename, Stamp, WriteAt, folder_of}
 use Rattle.local_files.specs.Calls as calls
-use Rattle.file_table.specs.Table.{Changes, IsInTheWay}
+use Rattle.local_files.specs.Changes.{Changes, IsInTheWay}
 use Rattle.s3_outside.specs.Files.{SeenFiles, called}
 use Rattle.s3_outside.specs.declared.files.FileFault.{FileFault}
 use Rattle.s3_outside.specs.declared.files.FileFault.TheVariants as fault

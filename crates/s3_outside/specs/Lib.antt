@@ -1,8 +1,6 @@
 pub mod Env
 pub mod FileCalls
 pub mod Files
-pub mod MemFiles
-pub mod Sink
-pub mod TalkLog
 pub mod Seen
+pub mod Sink
 pub mod Wire

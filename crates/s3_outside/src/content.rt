@@ -14,11 +14,11 @@ pub struct Content {
 
 impl Model for Content {
     ghost use Rattle.std.specs.Prelude.{List, ℕ};
-    ghost use Rattle.file_table.specs.StoreCode.{text_code};
+    ghost use Rattle.std.specs.Coded.{coded_ℕ, coded_list};
 
     ghost Value = { List ℕ };
 
-    ghost coded = { text_code };
+    ghost coded = { coded_list coded_ℕ };
 
     ghost view = { λ c. c.bytes.items };
 }

@@ -9,7 +9,15 @@ use s3_model::{Limits, OutOfMemory, Text};
 use std::alloc::Global;
 
 /// The most bytes of a file that is read, 1 MiB.
-pub(crate) const MOST_FILE_BYTES: usize = 1_048_576;
+pub const MOST_FILE_BYTES: usize = 1_048_576;
+
+/// What Amazon S3 allows, in bytes but for `max_parts` (Amazon S3 User Guide, "Amazon S3 multipart upload limits").
+pub const S3_LIMITS: Limits = Limits {
+    min_part: 5_242_880,
+    max_part: 5_368_709_120,
+    max_parts: 10_000,
+    max_object: 1_099_511_627_776,
+};
 
 /// Why a settings file was not read.
 #[derive(Clone, Copy, Debug, PartialEq, Eq)]

@@ -7,7 +7,7 @@ use crate::files::FileFault;
 use crate::wire::count_fault;
 
 /// Something is in the way. A length that has no number of its own counts as a fault.
-pub(crate) fn blocked(length: usize, faults: &mut u64) -> FileFault
+pub fn blocked(length: usize, faults: &mut u64) -> FileFault
     ensures length { IsBlockedAt length result }
     ensures later { faults.old ≤ faults.new }
     ensures failed { HasRisen faults.old faults.new result }
@@ -22,7 +22,7 @@ pub(crate) fn blocked(length: usize, faults: &mut u64) -> FileFault
 }
 
 /// A fault of the disk, counted.
-pub(crate) fn fault(faults: &mut u64) -> FileFault
+pub fn fault(faults: &mut u64) -> FileFault
     ensures value { result ≡ FileFault.Failed }
     ensures later { faults.old ≤ faults.new }
     ensures failed { HasRisen faults.old faults.new result }

@@ -104,8 +104,8 @@ pub trait Files {
       path_of,
       unnamed_in,
     };
-    ghost use Rattle.file_table.specs.Names.{AreNames};
-    ghost use Rattle.file_table.specs.Table.{IsFree};
+    ghost use Rattle.local_files.specs.Names.{AreNames};
+    ghost use Rattle.local_files.specs.Changes.{IsFree};
 
     /// The files and the calls so far, or None where they are not seen.
     ghost seen: { Self → Option SeenFiles };
@@ -130,8 +130,10 @@ pub trait Files {
             (faults self.old) (faults self.new) }
         ensures cause { HasCause (faults self.old) (faults self.new) result };
 
-    /// The names of what stands in a folder. Never Blocked.
+    /// The names of what stands in a folder. What is no folder is a fault. Never Blocked.
     fn names(&mut self, alloc: Global, folder: &str) -> Result<Names, FileFault>
+        ensures folder { IfSome (seen self.old) (λ files. OnOk result
+            (shape_at files.store folder.now ≡ Shape.Folder)) }
         ensures names { IfSome (seen self.old) (λ files. IfOk result (λ found.
             AreNames files.store folder.now found.names.items)) }
         ensures unnamed { IfSome (seen self.old) (λ files. IfOk result (λ found.
@@ -143,7 +145,8 @@ pub trait Files {
         ensures failed { IfErr result (HasRisen (faults self.old) (faults self.new)) };
 
     /// Makes the folders of the destination that are missing, and an empty file beside it at a path where nothing
-    /// stood. Blocked where a folder of the destination is a file, or the destination is a folder.
+    /// stood. Blocked where a folder of the destination is a file, or the destination is a folder. A destination that
+    /// is neither file nor folder is a fault.
     fn make_temp(&mut self, alloc: Global, dest: &str) -> Result<Temp, FileFault>
         ensures path { IfOk result (λ temp. IsTempPath dest.now temp.path) }
         ensures apart { IfOk result (λ temp. temp.path ≢ dest.now) }
@@ -152,6 +155,7 @@ pub trait Files {
         ensures front { IfErr result (NamesFront dest.now) }
         ensures way { IfSome (seen self.old) (λ files. IfErr result (HasObstacle files.store dest.now)) }
         ensures free { IfSome (seen self.old) (λ files. OnOk result (IsFree files.store dest.now)) }
+        ensures kept { IfSome (seen self.old) (λ files. OnOk result (shape_at files.store dest.now ≢ Shape.Other)) }
         ensures calls { IsMade (FileNote.MakeTemp dest.now (path_of result)) (seen self.old) (seen self.new)
             (faults self.old) (faults self.new) }
         ensures later { faults self.old ≤ faults self.new }
@@ -171,6 +175,7 @@ pub trait Files {
         ensures way { IfSome (seen self.old) (λ files. IfErr result (λ back.
             HasObstacle files.store dest.now back.1)) }
         ensures free { IfSome (seen self.old) (λ files. OnOk result (IsFree files.store dest.now)) }
+        ensures kept { IfSome (seen self.old) (λ files. OnOk result (shape_at files.store dest.now ≢ Shape.Other)) }
         ensures calls { IsMade (FileNote.Rename temp.path dest.now (answer_of result)) (seen self.old)
             (seen self.new) (faults self.old) (faults self.new) }
         ensures later { faults self.old ≤ faults self.new }

@@ -14,7 +14,7 @@ const LONGEST_STEM: usize = 239;
 
 /// The path of a temporary file beside a destination, with a number in its name.
 #[tactic(auto, using(crate::proofs::TempLemmas::below_folder, crate::proofs::TempLemmas::without_folder))]
-pub(crate) fn temp_path(alloc: Global, dest: &str, number: u32) -> Result<Text, OutOfMemory>
+pub fn temp_path(alloc: Global, dest: &str, number: u32) -> Result<Text, OutOfMemory>
     ensures { IfOk result (IsTempPath dest.now) }
 {
     let digits = hex_text(alloc, number)?;

@@ -80,8 +80,8 @@ pub trait Wire {
         ensures later { faults self.old ≤ faults self.new };
 }
 
-// One more fault, up to the last number.
-pub(crate) fn count_fault(faults: &mut u64) -> Failed
+/// One more fault, up to the last number.
+pub fn count_fault(faults: &mut u64) -> Failed
     ensures rose { Rose faults.old faults.new }
     ensures later { faults.old ≤ faults.new }
 {

@@ -1,8 +1,9 @@
 //! Settings of environments in memory.
 
 use env_settings::{SettingsFault, read_settings};
+use outside_memory::MemEnv;
 use s3_model::{ProfileFault, Settings, Text};
-use s3_outside::{MemEnv, S3_LIMITS};
+use s3_outside::S3_LIMITS;
 use std::alloc::Global;
 use std::test::Fail;
 

@@ -21,7 +21,7 @@ ghost use Rattle.std.specs.Prelude.{
 };
 ghost use Rattle.std.specs.FinMap.{get};
 ghost use Rattle.s3_model.specs.Counts.{HasCause};
-ghost use Rattle.file_table.specs.Table.{IsFree};
+ghost use Rattle.local_files.specs.Changes.{IsFree};
 ghost use Rattle.s3_outside.specs.FileCalls.{HasObstacle, HasRisen, IsMade, IsTempPath, NamesFront};
 ghost use Rattle.temp_files.specs.Assembly.{
   AreInOrder,

@@ -2,8 +2,9 @@
 
 use crate::answers::answer_bytes;
 use crate::rows::{Row, variable};
+use outside_memory::{FileTable, MemEnv, MemFile, MemFiles, MemSink, ScriptWire, WireNote};
 use s3_main::run_s3;
-use s3_outside::{FileTable, MemEnv, MemFile, MemFiles, MemSink, S3_LIMITS, ScriptWire, WireNote};
+use s3_outside::S3_LIMITS;
 use std::alloc::Global;
 use std::sync::Wait;
 use std::test::Fail;

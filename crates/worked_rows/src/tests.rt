@@ -2,7 +2,7 @@
 
 use crate::play::{Seen, first_sent, has_pauses, has_talks, one_wire, play, says};
 use crate::rows::{KEPT, OTHER_UPLOAD, PAUSES, ROWS, Row, STORED, nth_row, request};
-use s3_outside::ScriptWire;
+use outside_memory::ScriptWire;
 use std::process::Abort;
 use std::test::Fail;
 

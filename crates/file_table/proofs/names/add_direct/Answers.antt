@@ -2,7 +2,7 @@ use Rattle.std.proofs.Common.{◌∙◌, ◌↔◌, ◌⊎◌, ◌++◌, ◌≡�
 use Rattle.std.specs.FinMap.{get}
 use Rattle.s3_model.specs.Files.{folder_path, is_listed}
 use Rattle.s3_model.specs.Maps.{MapOf}
-use Rattle.file_table.specs.Names.{IsName}
+use Rattle.local_files.specs.Names.{IsName}
 use Rattle.file_table.proofs.NameLemmas.{direct_none, direct_some}
 use Rattle.file_table.proofs.names.add_direct.Goals as goal
 use Rattle.file_table.proofs.names.add_direct.Goals.{in-Some+in_ok-insert, in_default}

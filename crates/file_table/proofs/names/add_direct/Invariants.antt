@@ -1,7 +1,7 @@
 use Rattle.std.proofs.Common.{◌↔◌, ◌⊎◌, ◌++◌, ◌≡◌, ℕ, List, IsSome, true, take}
 use Rattle.std.specs.FinMap.{get}
 use Rattle.s3_model.specs.Files.{folder_path, is_listed}
-use Rattle.file_table.specs.Names.{IsName}
+use Rattle.local_files.specs.Names.{IsName}
 use Rattle.file_table.proofs.names.add_direct.Given as goal
 
 -- the names of the paths up to this one were added

@@ -1,5 +1,5 @@
 use Rattle.std.proofs.Common.{◌<◌, ℕ}
-use Rattle.file_table.specs.Table.{IsFileAbove}
+use Rattle.local_files.specs.Changes.{IsFileAbove}
 use Rattle.file_table.proofs.table.file_above.Given as goal
 
 -- no file stands at an earlier place

@@ -1,7 +1,7 @@
 use Rattle.std.proofs.Common.{ℕ, List, subst, sym}
 use Rattle.std.specs.List.{AllPass}
 use Rattle.s3_model.specs.TempNames.{is_lower_hex}
-use Rattle.file_table.proofs.NameLemmas.{if_ok}
+use Rattle.s3_outside.proofs.TempLemmas.{if_ok}
 use Rattle.s3_outside.proofs.TempLemmas.{hex_all}
 use Rattle.s3_outside.proofs.temp_paths.hex_text.Goals as goal
 

@@ -1,7 +1,7 @@
 use Rattle.std.proofs.Common.{◌∙◌, ℕ, List, ap, length, subst, sym}
 use Rattle.std.specs.List.{AllPass}
 use Rattle.s3_model.specs.TempNames.{is_lower_hex}
-use Rattle.file_table.proofs.NameLemmas.{if_ok}
+use Rattle.s3_outside.proofs.TempLemmas.{if_ok}
 use Rattle.s3_outside.proofs.TempLemmas.{below_folder, without_folder}
 use Rattle.s3_outside.proofs.temp_paths.temp_path.Goals as goal
 

@@ -1,7 +1,7 @@
 use Rattle.std.proofs.Common.{◌≡◌, ◌↔◌, ◌⊎◌, ◌++◌, ℕ, true, List, IsSome, sym, subst}
 use Rattle.std.specs.FinMap.{get, keys}
 use Rattle.s3_model.specs.Files.{FileStore, folder_path, is_listed}
-use Rattle.file_table.specs.Names.{AreNames, IsName}
+use Rattle.local_files.specs.Names.{AreNames, IsName}
 use Rattle.file_table.proofs.NameLemmas.{if_ok, names_of}
 use Rattle.file_table.proofs.table.FileTable.names.Goals as goal
 

@@ -1,7 +1,8 @@
 use Rattle.std.proofs.Common.{sym, subst, true, ◌∙◌}
 use Rattle.s3_model.specs.Files.{FileStore}
 use Rattle.local_files.specs.Calls.{DropTemp, Remove}
-use Rattle.file_table.specs.Table.{AreAlike, Changes}
+use Rattle.file_table.specs.Table.{AreAlike}
+use Rattle.local_files.specs.Changes.{Changes}
 use Rattle.file_table.proofs.Stores.{alike, dropped_to, ok_from, removed_to}
 use Rattle.file_table.proofs.table.FileTable.remove.Goals as goal
 

@@ -2,7 +2,8 @@ use Rattle.std.proofs.Common.{sym, subst, None, ◌∙◌}
 use Rattle.std.proofs.lemmas.Slice.Eq.{bytes_eq-Decides}
 use Rattle.s3_model.specs.Files.{FileStore}
 use Rattle.local_files.specs.Calls.{Rename}
-use Rattle.file_table.specs.Table.{AreAlike, Changes}
+use Rattle.file_table.specs.Table.{AreAlike}
+use Rattle.local_files.specs.Changes.{Changes}
 use Rattle.file_table.proofs.Stores.{alike, err_from, ok_from, renamed_on, renamed_to, still_alike}
 use Rattle.file_table.proofs.table.FileTable.rename.Goals as goal
 

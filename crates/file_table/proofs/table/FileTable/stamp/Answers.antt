@@ -1,7 +1,7 @@
 use Rattle.std.proofs.Common.{sym, subst, true, ◌∙◌}
 use Rattle.s3_model.specs.Files.{FileStore}
 use Rattle.local_files.specs.Calls.{Stamp}
-use Rattle.file_table.specs.Table.{Changes}
+use Rattle.local_files.specs.Changes.{Changes}
 use Rattle.file_table.proofs.Stores.{put_second, stamped_to}
 use Rattle.file_table.proofs.table.FileTable.stamp.Goals as goal
 

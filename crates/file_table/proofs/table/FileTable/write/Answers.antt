@@ -3,7 +3,7 @@ use Rattle.std.specs.FinMap.{insert}
 use Rattle.s3_model.specs.Files.{FileStore, HeldFile}
 use Rattle.s3_model.specs.Maps.{MapOf}
 use Rattle.local_files.specs.Calls.{WriteAt}
-use Rattle.file_table.specs.Table.{Changes}
+use Rattle.local_files.specs.Changes.{Changes}
 use Rattle.file_table.proofs.Stores.{put_back, put_second, written_to}
 use Rattle.file_table.proofs.table.FileTable.write.Goals as goal
 

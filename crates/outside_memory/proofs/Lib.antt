@@ -1,0 +1,2 @@
+mod LastTalk
+pub mod MadeLemmas

@@ -1,0 +1,297 @@
+//! The files of the system.
+
+ghost use Rattle.std.specs.Prelude.{◌≡◌, ◌≢◌, ◌≤◌, None, IfOk, IfErr, IfSome, length};
+ghost use Rattle.std.specs.Io.{ReadsAtMost};
+ghost use Rattle.s3_outside.specs.FileCalls.{HasRisen, IsTempPath, NamesFront};
+
+use crate::disk_paths::{make_folders, names_on_disk, obstacle_on_disk, shape_on_disk};
+use crate::disk_sources::{DiskSource, Look};
+use s3_model::Text;
+use s3_outside::{Failed, FileFault, Files, Names, Shape, Temp, blocked, count_fault, temp_path};
+use std::alloc::Global;
+use std::collections::BTreeMap;
+use std::fs::{self, FileTimes, OpenFile, OpenOptions};
+use std::io::{self, ErrorKind, Seek, SeekFrom, Write};
+use std::rt;
+use std::time::{Duration, UNIX_EPOCH};
+
+/// The files of the system, of which nothing is seen.
+///
+/// Links are followed. Only regular files are opened. A file of which `kind` said what it is, is read only while it
+/// has that size and that time, when it is opened and after its last piece; else the read is a fault. A destination is
+/// never opened for writing. A temporary file never opens what is there, and is written only while the file that was
+/// made is open: until it is renamed or dropped. The last file that was read stays open until its last piece.
+#[derive(Drop)]
+pub struct DiskFiles<R: rt::Files> {
+    runtime: R,
+    looks: BTreeMap<String, Look>,
+    source: Option<DiskSource<R::File>>,
+    temps: Vec<OpenTemp<R::File>>,
+    drawn: u32,
+    faults: u64,
+}
+
+#[derive(Drop)]
+struct OpenTemp<F> {
+    path: Text,
+    file: F,
+}
+
+impl<R: rt::Files + AllocGlobal + Clone + Drop> DiskFiles<R> {
+    pub fn new(runtime: R) -> DiskFiles<R>
+        ensures { ⟦<DiskFiles<R> as Files>⟧.faults result ≡ 0 }
+    {
+        let looks = BTreeMap::new(runtime.alloc());
+        let temps = Vec::new(runtime.alloc());
+        DiskFiles {
+            runtime,
+            looks,
+            source: None,
+            temps,
+            drawn: 0,
+            faults: 0,
+        }
+    }
+
+    // What stands at a path, which is kept for its reads.
+    fn look(&mut self, path: &str) -> io::Result<Shape>
+        ensures faults { self.new.faults ≡ self.old.faults }
+    {
+        let shape = shape_on_disk(&self.runtime, path)?;
+        if let Shape::File { size, micros } = shape {
+            let owned = String::from_str(self.runtime.alloc(), path)?;
+            if self.looks.insert(owned, Look { size, micros }).is_err() {
+                return Err(io::Error::from(ErrorKind::OutOfMemory));
+            }
+        }
+        Ok(shape)
+    }
+
+    fn read(&mut self, path: &str, at: u64, into: &mut [u8]) -> io::Result<usize>
+        ensures bound { ReadsAtMost result into.new }
+        ensures length { length into.new ≡ length into.old }
+        ensures faults { self.new.faults ≡ self.old.faults }
+    {
+        let mut source = match self.source.take() {
+            Some(open) if open.is_of(path) => open,
+            _ => DiskSource::open(&self.runtime, path, self.looks.get(path).copied())?,
+        };
+        let (count, is_last) = source.read(at, into)?;
+        if !is_last {
+            self.source = Some(source);
+        }
+        Ok(count)
+    }
+
+    // An empty file beside the destination, at a path where nothing was.
+    fn make(&mut self, alloc: Global, dest: &str) -> io::Result<Temp>
+        ensures path { IfOk result (λ temp. IsTempPath dest.now temp.path) }
+        ensures apart { IfOk result (λ temp. temp.path ≢ dest.now) }
+        ensures faults { self.new.faults ≡ self.old.faults }
+    {
+        if shape_on_disk(&self.runtime, dest)? == Shape::Other {
+            return Err(io::Error::from(ErrorKind::AlreadyExists));
+        }
+        make_folders(&self.runtime, dest)?;
+        for _ in 0..u32::MAX {
+            if let Some(temp) = self.draw(alloc, dest)? {
+                return Ok(temp);
+            }
+        }
+        Err(io::Error::from(ErrorKind::AlreadyExists))
+    }
+
+    // The same at the path with the next number. None where something was there.
+    fn draw(&mut self, alloc: Global, dest: &str) -> io::Result<Option<Temp>>
+        ensures path { IfOk result (λ made. IfSome made (λ temp. IsTempPath dest.now temp.path)) }
+        ensures apart { IfOk result (λ made. IfSome made (λ temp. temp.path ≢ dest.now)) }
+        ensures faults { self.new.faults ≡ self.old.faults }
+    {
+        let Ok(path) = temp_path(alloc, dest, self.drawn) else {
+            return Err(io::Error::from(ErrorKind::OutOfMemory));
+        };
+        self.drawn = self.drawn.wrapping_add(1);
+        if path.as_str() != dest && self.create(&path)? {
+            Ok(Some(Temp { path }))
+        } else {
+            Ok(None)
+        }
+    }
+
+    // Makes the file and keeps it open. Whether nothing was there.
+    fn create(&mut self, path: &Text) -> io::Result<bool>
+        ensures faults { self.new.faults ≡ self.old.faults }
+        ensures drawn { self.new.drawn ≡ self.old.drawn }
+    {
+        let Ok(kept) = path.copy() else {
+            return Err(io::Error::from(ErrorKind::OutOfMemory));
+        };
+        self.temps.reserve(1)?;
+        let mut options = OpenOptions::new();
+        options.write(true).create_new(true);
+        match options.open(&self.runtime, path.as_str()) {
+            Ok(file) => {
+                self.temps.push(OpenTemp { path: kept, file })?;
+                Ok(true)
+            }
+            Err(e) if e.kind() == ErrorKind::AlreadyExists => Ok(false),
+            Err(e) => Err(e),
+        }
+    }
+
+    // Only into a file that was made here.
+    fn write(&mut self, temp: &Text, at: u64, bytes: &[u8]) -> io::Result<()>
+        ensures faults { self.new.faults ≡ self.old.faults }
+    {
+        for open in &mut self.temps {
+            if open.path.as_str() == temp.as_str() {
+                open.file.seek(SeekFrom::Start(at))?;
+                return open.file.write_all(bytes);
+            }
+        }
+        Err(io::Error::from(ErrorKind::NotFound))
+    }
+
+    // Closes a temporary file.
+    fn close(&mut self, temp: &str)
+        ensures faults { self.new.faults ≡ self.old.faults }
+    {
+        if let Some(place) = self
+            .temps
+            .iter()
+            .position(|open| open.path.as_str() == temp)
+        {
+            self.temps.swap_remove(place);
+        }
+    }
+
+    // What was seen of a path no longer holds.
+    fn forget(&mut self, path: &str)
+        ensures faults { self.new.faults ≡ self.old.faults }
+    {
+        self.looks.remove(path);
+        self.source = None;
+    }
+
+    // What is neither a file nor absent is never replaced.
+    fn replace(&mut self, temp: &str, dest: &str) -> io::Result<()>
+        ensures faults { self.new.faults ≡ self.old.faults }
+    {
+        self.close(temp);
+        self.forget(dest);
+        match shape_on_disk(&self.runtime, dest)? {
+            Shape::Absent | Shape::File { .. } => fs::rename(&self.runtime, temp, dest),
+            Shape::Folder | Shape::Other => Err(io::Error::from(ErrorKind::AlreadyExists)),
+        }
+    }
+
+    fn set_time(&self, path: &str, micros: u64) -> io::Result<()> {
+        let Shape::File { .. } = shape_on_disk(&self.runtime, path)? else {
+            return Err(io::Error::from(ErrorKind::InvalidInput));
+        };
+        let Some(time) = UNIX_EPOCH.checked_add(Duration::from_micros(micros)) else {
+            return Err(io::Error::from(ErrorKind::InvalidInput));
+        };
+        fs::open(&self.runtime, path)?.set_times(FileTimes::new().set_modified(time))
+    }
+
+    // Why a call did not succeed: what is in the way of its destination, or a fault.
+    fn refusal(&mut self, dest: &str) -> FileFault
+        ensures front { NamesFront dest.now result }
+        ensures memory { result ≢ FileFault.Memory }
+        ensures later { self.old.faults ≤ self.new.faults }
+        ensures failed { HasRisen self.old.faults self.new.faults result }
+    {
+        match obstacle_on_disk(&self.runtime, dest) {
+            Some(length) => blocked(length, &mut self.faults),
+            None => {
+                count_fault(&mut self.faults);
+                FileFault::Failed
+            }
+        }
+    }
+}
+
+impl<R: rt::Files + AllocGlobal + Clone + Drop> Files for DiskFiles<R> {
+    ghost seen = { λ _. None };
+
+    ghost faults = { λ f. f.faults };
+
+    /// What is not found, or lies below a file, is absent; a link is what it leads to.
+    fn kind(&mut self, path: &str) -> Result<Shape, Failed> {
+        match self.look(path) {
+            Ok(shape) => Ok(shape),
+            Err(_) => Err(count_fault(&mut self.faults)),
+        }
+    }
+
+    fn read_at(&mut self, path: &str, at: u64, into: &mut [u8]) -> Result<usize, Failed> {
+        match self.read(path, at, into) {
+            Ok(count) => Ok(count),
+            Err(_) => Err(count_fault(&mut self.faults)),
+        }
+    }
+
+    fn names(&mut self, alloc: Global, folder: &str) -> Result<Names, FileFault> {
+        match names_on_disk(&self.runtime, alloc, folder) {
+            Ok(names) => Ok(names),
+            Err(e) if e.kind() == ErrorKind::OutOfMemory => Err(FileFault::Memory),
+            Err(_) => {
+                count_fault(&mut self.faults);
+                Err(FileFault::Failed)
+            }
+        }
+    }
+
+    fn make_temp(&mut self, alloc: Global, dest: &str) -> Result<Temp, FileFault> {
+        if let Some(length) = obstacle_on_disk(&self.runtime, dest) {
+            return Err(blocked(length, &mut self.faults));
+        }
+        match self.make(alloc, dest) {
+            Ok(temp) => Ok(temp),
+            Err(e) if e.kind() == ErrorKind::OutOfMemory => Err(FileFault::Memory),
+            Err(_) => Err(self.refusal(dest)),
+        }
+    }
+
+    fn write_at(&mut self, temp: &Temp, at: u64, bytes: &[u8]) -> Result<(), Failed> {
+        match self.write(&temp.path, at, bytes) {
+            Ok(()) => Ok(()),
+            Err(_) => Err(count_fault(&mut self.faults)),
+        }
+    }
+
+    fn rename(&mut self, temp: Temp, dest: &str) -> Result<(), (Temp, FileFault)> {
+        match self.replace(temp.path.as_str(), dest) {
+            Ok(()) => Ok(()),
+            Err(_) => {
+                let refusal = self.refusal(dest);
+                Err((temp, refusal))
+            }
+        }
+    }
+
+    fn drop_temp(&mut self, temp: Temp) -> Result<(), Failed> {
+        self.close(temp.path.as_str());
+        match fs::remove_file(&self.runtime, temp.path.as_str()) {
+            Ok(()) => Ok(()),
+            Err(_) => Err(count_fault(&mut self.faults)),
+        }
+    }
+
+    fn remove(&mut self, path: &str) -> Result<(), Failed> {
+        self.forget(path);
+        match fs::remove_file(&self.runtime, path) {
+            Ok(()) => Ok(()),
+            Err(_) => Err(count_fault(&mut self.faults)),
+        }
+    }
+
+    fn stamp(&mut self, path: &str, micros: u64) -> Result<(), Failed> {
+        self.forget(path);
+        match self.set_time(path, micros) {
+            Ok(()) => Ok(()),
+            Err(_) => Err(count_fault(&mut self.faults)),
+        }
+    }
+}

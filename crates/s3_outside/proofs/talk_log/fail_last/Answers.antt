@@ -1,7 +1,0 @@
-use Rattle.std.proofs.Common.{arith, refl}
-use Rattle.s3_outside.specs.Wire.{fails}
-use Rattle.s3_outside.proofs.LastTalk.{last_changed}
-use Rattle.s3_outside.proofs.talk_log.fail_last.Goals as goal
-
-pub returns-in-Some : goal.returns-in-Some
-returns-in-Some c = last_changed fails c.args.talks.now c.in-Some.last c.index-talks-last.result _ (grind arith) refl
