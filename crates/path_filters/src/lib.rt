@@ -11,5 +11,3 @@ mod texts;
 pub use filters::Filters;
 pub use patterns::Pattern;
 
-#[cfg(test)]
-mod tests;

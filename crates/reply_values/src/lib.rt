@@ -4,8 +4,6 @@
 mod forms;
 mod numbers;
 mod references;
-#[cfg(test)]
-mod tests;
 mod times;
 mod url_text;
 

@@ -10,5 +10,3 @@ pub use names::{key_of, local_of, name_skip};
 pub use s3_model::{Endpoint, EndpointFault, KeySkip, UriFault};
 pub use uris::S3Uri;
 
-#[cfg(test)]
-mod tests;

@@ -9,8 +9,6 @@ mod law;
 mod listing;
 mod pages;
 mod results;
-#[cfg(test)]
-mod tests;
 
 pub use buckets::read_buckets;
 pub use codes::{ErrorCode, error_code};
