@@ -27,7 +27,8 @@ pub data BreaksText (size : ℕ) (reason : DocFault) (bytes : List ℕ) : Type 0
 
 -- What stands behind the tag of an element that has a text has a fault: the text is out of the form of the element, or
 -- the end tag does not follow it.
-pub data BreaksLeaf (size : ℕ) (reason : DocFault) (form : Form) (of : Element) (tag : Tag) (bytes : List ℕ) : Type 0 where
+pub data BreaksLeaf (size : ℕ) (reason : DocFault) (form : Form) (of : Element)
+    (tag : Tag) (bytes : List ℕ) : Type 0 where
   Unfit : (text rest : List ℕ) → HasText tag bytes rest text → IsUnfit form of text reason
       → BreaksLeaf size reason form of tag bytes
   NoEndBehind : (text end : List ℕ) (left : ℕ) → tag.closed ≡ false → ReadsText text bytes end

@@ -12,7 +12,7 @@ use Rattle.reply_values.specs.Numbers.{SpellsNumber, SpellsTruth}
 use Rattle.reply_values.specs.References.{IsUnescaped}
 use Rattle.reply_values.specs.Times.{SpellsTime}
 
--- the forms of texts: any text, one in the form of its element, a number, a truth value, a time, the name of the encoding
+-- the forms of texts: any text, one in the form of its element, a number, a truth value, a time, an encoding
 pub data Form : Type 0 where
   AnyText : Form
   OwnForm : Form
