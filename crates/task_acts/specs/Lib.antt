@@ -5,4 +5,5 @@ pub mod Stages
 pub mod Rule
 pub mod Ends
 pub mod Kept
+pub mod Laws
 pub mod Examples

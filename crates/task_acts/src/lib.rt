@@ -3,8 +3,10 @@
 
 mod acts;
 mod examples;
+mod laws;
 mod work;
 
 pub use acts::{Act, FileCame, Stage};
 pub use examples::{downloads, moves, refusals, uploads};
+pub use laws::rule_keeps_order;
 pub use work::Work;
