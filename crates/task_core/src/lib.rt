@@ -4,6 +4,8 @@
 mod causes;
 mod state;
 mod steps;
+#[cfg(test)]
+mod tests;
 
 pub use state::TaskState;
 pub use steps::Steps;
