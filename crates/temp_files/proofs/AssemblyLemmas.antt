@@ -77,7 +77,7 @@ placed_seen assembly at bytes result None None before after fits made = tt
 write_spares : (temp : List ℕ) (at : ℕ) (bytes : List ℕ) (fine : Bool) (old new : MapOf HeldFile) → Leads (calls.WriteAt temp at bytes fine) old new → SparesOthers temp old new
 write_spares temp at bytes true old new (file, was, (micros, is)) path other = ap (λ (m : MapOf HeldFile). get m path) is ∙ beside old temp (record { bytes = written_at at bytes file.bytes; micros = micros }) path other
 write_spares temp at bytes false old new (inl same) path other = ap (λ (m : MapOf HeldFile). get m path) same
-write_spares temp at bytes false old new (inr (any, (micros, is))) path other = ap (λ (m : MapOf HeldFile). get m path) is ∙ beside old temp (record { bytes = any; micros = micros }) path other
+write_spares temp at bytes false old new (inr (there, any, (micros, is))) path other = ap (λ (m : MapOf HeldFile). get m path) is ∙ beside old temp (record { bytes = any; micros = micros }) path other
 
 pub placed_spares : (temp : List ℕ) (at : ℕ) (bytes : List ℕ) (result : Result Unit Failed) (old new : Option SeenFiles) (before after : ℕ) → IsMade (note.WriteAt temp at bytes result) old new before after
     → BothSeen old new (λ old new. SparesOthers temp old.store.held new.store.held)
