@@ -14,10 +14,10 @@ mod shown;
 
 use answer_classes::{again, classify, is_head};
 use http_exchange::{AnswerRoom, exchange};
+use outside_memory::ScriptWire;
 use requests::request_named;
 use row_bytes::bytes_of;
 use s3_model::{Ask, Bytes, Class, Endpoint, OutOfMemory, Text};
-use outside_memory::ScriptWire;
 use shown::push_class;
 use std::alloc::{AllocError, Global};
 use std::io;

@@ -1,8 +1,8 @@
 //! Tests over a wire that plays listed bytes.
 
 use http_exchange::{AnswerRoom, exchange};
-use s3_model::{Answered, Bytes, Endpoint, Talked, Text, Why};
 use outside_memory::{ScriptWire, TalkEnding, TalkRecord, WireCall};
+use s3_model::{Answered, Bytes, Endpoint, Talked, Text, Why};
 use std::alloc::{AllocError, Global};
 use std::test::*;
 

@@ -5,8 +5,8 @@ mod help;
 mod words;
 
 use help::{HELP, VERSION};
-use s3_main::run_s3;
 use outside_system::{DiskFiles, RealEnv, SocketWire, StdSink};
+use s3_main::run_s3;
 use std::alloc::AllocError;
 use std::fs::File;
 use std::process::ExitCode;
