@@ -95,7 +95,7 @@ def program(root, crate="s3", words=("--", "--version"), progress=None):
 
 def run_group(command, heard, **how):
     """The status of a command, of which each line is heard as it comes; what it started ends with an interrupt."""
-    output = {"stdout": subprocess.PIPE, "stderr": subprocess.STDOUT, "text": True}
+    output = {"stdin": subprocess.DEVNULL, "stdout": subprocess.PIPE, "stderr": subprocess.STDOUT, "text": True}
     running = subprocess.Popen(command, start_new_session=True, **output, **how)
     try:
         for line in running.stdout:

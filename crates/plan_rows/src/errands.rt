@@ -1,0 +1,232 @@
+//! Errands, and their plans.
+
+ghost use Rattle.std.specs.Prelude.{◌≡◌, IfSome, Some, None};
+ghost use Rattle.plan_rows.specs.Sides.{IsListedAt, IsListedBy};
+ghost use Rattle.sync_plan.specs.Errands.{RemovesFrom, TransfersBetween};
+
+use crate::rows::Row;
+use crate::sides::{pages_at, pages_of, place_of};
+use list_walk::Pages;
+use path_filters::{Filters, Pattern};
+use s3_model::{Kind, Limits, Place, Plan, PlanFault, Text, Times};
+use std::alloc::Global;
+use sync_plan::{Errand, plan_copy, plan_remove, plan_sync};
+
+fn limits_of(flags: &str) -> Limits {
+    Limits {
+        min_part: 1,
+        max_part: 8,
+        max_parts: 1,
+        max_object: if flags.contains('s') {
+            1_099_511_627_776
+        } else {
+            8
+        },
+    }
+}
+
+fn filters_of(alloc: Global, text: &str) -> Option<Filters> {
+    let mut filters = Filters::make(alloc);
+    for word in text.split(' ') {
+        let (keep, pattern) = match (word.strip_prefix('+'), word.strip_prefix('-')) {
+            (Some(pattern), _) => (true, pattern),
+            (_, Some(pattern)) => (false, pattern),
+            _ => continue,
+        };
+        let pattern = Pattern::read(alloc, pattern).ok()?;
+        filters.push(keep, pattern).ok()?;
+    }
+    Some(filters)
+}
+
+fn times_of(word: &str) -> Times {
+    match word {
+        "size" => Times::SizeOnly,
+        "exact" => Times::Exact,
+        _ => Times::Usual,
+    }
+}
+
+fn transfer_kind(from: &Place, to: &Place) -> Option<Kind>
+    ensures { IfSome result (λ kind. TransfersBetween kind from.now (Some to.now)) }
+{
+    match from {
+        Place::File { .. } => match to {
+            Place::Object { .. } => Some(Kind::Upload),
+            Place::File { .. } => None,
+        },
+        Place::Object { .. } => match to {
+            Place::Object { .. } => Some(Kind::Copy),
+            Place::File { .. } => Some(Kind::Download),
+        },
+    }
+}
+
+fn removal_kind(from: &Place) -> Kind
+    ensures { RemovesFrom result from.now None }
+{
+    match from {
+        Place::Object { .. } => Kind::RemoveObject,
+        Place::File { .. } => Kind::RemoveFile,
+    }
+}
+
+/// The two places of a line.
+#[derive(Drop)]
+struct Ends {
+    from: Place,
+    to: Place,
+}
+
+fn ends_of(alloc: Global, row: &Row<'_>) -> Option<Ends> {
+    Some(Ends {
+        from: place_of(alloc, row.from)?,
+        to: place_of(alloc, row.to)?,
+    })
+}
+
+/// What a line says of its names and of their content.
+#[derive(Drop)]
+struct Wish {
+    filters: Filters,
+    content: Option<Text>,
+}
+
+fn content_of(alloc: Global, flags: &str) -> Option<Option<Text>> {
+    if flags.contains('c') {
+        Some(Some(Text::of(alloc, "text/x").ok()?))
+    } else {
+        Some(None)
+    }
+}
+
+fn wish_of(alloc: Global, row: &Row<'_>) -> Option<Wish> {
+    Some(Wish {
+        filters: filters_of(alloc, row.filters)?,
+        content: content_of(alloc, row.flags)?,
+    })
+}
+
+fn errand_of(row: &Row<'_>, kind: Kind, from: Place, to: Option<Place>, wish: Wish) -> Errand
+    ensures { (result.kind ≡ kind) × (result.from ≡ from) × (result.to ≡ to) }
+{
+    Errand {
+        kind,
+        moves: row.flags.contains('v'),
+        from,
+        to,
+        many: row.flags.contains('m'),
+        times: times_of(row.times),
+        remove_extra: row.flags.contains('d'),
+        content: wish.content,
+        guess: row.flags.contains('g'),
+        fresh: row.flags.contains('f'),
+        filters: wish.filters,
+        limits: limits_of(row.flags),
+    }
+}
+
+fn transfer_of(alloc: Global, row: &Row<'_>) -> Option<Errand>
+    ensures { IfSome result (λ errand. TransfersBetween errand.kind errand.from errand.to) }
+{
+    let ends = ends_of(alloc, row)?;
+    let kind = transfer_kind(&ends.from, &ends.to)?;
+    let wish = wish_of(alloc, row)?;
+    Some(errand_of(row, kind, ends.from, Some(ends.to), wish))
+}
+
+fn removal_of(alloc: Global, row: &Row<'_>) -> Option<Errand>
+    ensures { IfSome result (λ errand. RemovesFrom errand.kind errand.from errand.to) }
+{
+    let wish = wish_of(alloc, row)?;
+    let from = place_of(alloc, row.from)?;
+    Some(errand_of(row, removal_kind(&from), from, None, wish))
+}
+
+fn synced(alloc: Global, errand: &Errand, source: &Pages, dest: &Pages) -> Result<Plan, PlanFault>
+    requires places { TransfersBetween errand.now.kind errand.now.from errand.now.to }
+    requires source { IsListedBy errand.now.from source.now.prefix }
+    requires dest { IsListedAt errand.now.to dest.now.prefix }
+{
+    plan_sync(alloc, errand, source.entries(), dest.entries())
+}
+
+fn copied(alloc: Global, errand: &Errand, source: &Pages) -> Option<Result<Plan, PlanFault>>
+    requires places { TransfersBetween errand.now.kind errand.now.from errand.now.to }
+    requires source { IsListedBy errand.now.from source.now.prefix }
+{
+    let entries = source.entries();
+    if !errand.many && entries.len() > 1 {
+        return None;
+    }
+    Some(plan_copy(alloc, errand, entries))
+}
+
+fn removed(alloc: Global, errand: &Errand, source: &Pages) -> Option<Result<Plan, PlanFault>>
+    requires places { RemovesFrom errand.now.kind errand.now.from errand.now.to }
+    requires source { IsListedBy errand.now.from source.now.prefix }
+{
+    let entries = source.entries();
+    if !errand.many && entries.len() > 1 {
+        return None;
+    }
+    Some(plan_remove(alloc, errand, entries))
+}
+
+fn transferred(
+    alloc: Global,
+    call: &str,
+    errand: &Errand,
+    source: &Pages,
+    dest: &Pages,
+) -> Option<Result<Plan, PlanFault>>
+    requires places { TransfersBetween errand.now.kind errand.now.from errand.now.to }
+    requires source { IsListedBy errand.now.from source.now.prefix }
+    requires dest { IsListedAt errand.now.to dest.now.prefix }
+{
+    match call {
+        "sync" => Some(synced(alloc, errand, source, dest)),
+        "copy" => copied(alloc, errand, source),
+        _ => None,
+    }
+}
+
+fn planned_from(
+    alloc: Global,
+    row: &Row<'_>,
+    errand: &Errand,
+    source: &Pages,
+) -> Option<Result<Plan, PlanFault>>
+    requires places { TransfersBetween errand.now.kind errand.now.from errand.now.to }
+    requires source { IsListedBy errand.now.from source.now.prefix }
+{
+    let dest = pages_at(alloc, &errand.to, row.dest)?;
+    transferred(alloc, row.call, errand, source, &dest)
+}
+
+fn planned_by(alloc: Global, row: &Row<'_>, errand: &Errand) -> Option<Result<Plan, PlanFault>>
+    requires places { TransfersBetween errand.now.kind errand.now.from errand.now.to }
+{
+    let source = pages_of(alloc, &errand.from, row.source)?;
+    planned_from(alloc, row, errand, &source)
+}
+
+fn transfer_planned(alloc: Global, row: &Row<'_>) -> Option<Result<Plan, PlanFault>> {
+    let errand = transfer_of(alloc, row)?;
+    planned_by(alloc, row, &errand)
+}
+
+fn removal_planned(alloc: Global, row: &Row<'_>) -> Option<Result<Plan, PlanFault>> {
+    let errand = removal_of(alloc, row)?;
+    let source = pages_of(alloc, &errand.from, row.source)?;
+    removed(alloc, &errand, &source)
+}
+
+/// The plan of a line, or None where it has no errand, or memory ran out.
+pub(crate) fn planned(alloc: Global, row: &Row<'_>) -> Option<Result<Plan, PlanFault>> {
+    if row.call == "remove" {
+        removal_planned(alloc, row)
+    } else {
+        transfer_planned(alloc, row)
+    }
+}
