@@ -10,4 +10,3 @@ mod texts;
 
 pub use filters::Filters;
 pub use patterns::Pattern;
-
