@@ -90,6 +90,7 @@ open_cause w history = unless_memory (wanted_memory w history) (last_cause w his
 -- how the source of a move is removed: an uploaded file by a call, an object by a request
 abbrev pub removal : Kind → Act
 removal kind.Upload = act.Remove
+removal kind.RemoveFile = act.Remove
 removal of_kind = act.Send op.Delete 0
 
 abbrev pub is_whole : Work → History → Bool

@@ -260,3 +260,45 @@ module _ (for : What) (cell : Holder) where
       × Ends w (Cancelled reason_of.OutputFailed ∷ copied)
       (outcome.Copied (cause.Cancelled reason_of.OutputFailed))
       × Gives (in_pieces kind.Download true 3 12) (stamped) (act.Send op.Delete 0)
+
+  -- A kept part is not given again after a cancel, and the Abort waits for the other part. A refused Abort is a failure,
+  -- memory that ran out is a cause before any other, and a lost Complete leaves it open, whatever its Abort comes to.
+  abbrev pub AbortsLast : Type 0
+  AbortsLast =
+      let w = in_pieces kind.Upload false 2 8 in
+      let kept = came op.Part 1 (mark.Uncertain ∷ []) (ending.Uncertain reason.EndedEarly) ∷ both_out in
+      let denies = came_again op.Abort 0 (mark.Refusal ∷ [])
+      (ending.Refused (codes "AccessDenied") (codes "Access Denied")) in
+      Gives w kept (act.Send op.Part 1)
+      × Waits w (Cancelled reason_of.OutputFailed ∷ kept)
+      × Gives w (stored 2 ∷ Cancelled reason_of.OutputFailed ∷ kept) (act.Send op.Abort 0)
+      × Ends w (denies ∷ Gave (act.Send op.Abort 0) ∷ stored 2 ∷ Cancelled reason_of.OutputFailed ∷ stored 1 ∷ both_out)
+      (outcome.Failed (denied op.Abort))
+      × Ends w (came_again op.Abort 0 [] ending.Memory ∷ Gave (act.Send op.Abort 0) ∷ refused op.Part 1 ∷ part_refused)
+      (outcome.Failed cause.Memory)
+      × Ends w (denies ∷ Gave (act.Send op.Abort 0)
+      ∷ came op.Complete 0 (mark.Uncertain ∷ mark.Uncertain ∷ mark.Uncertain ∷ [])
+      (ending.Uncertain reason.EndedEarly) ∷ completing) (outcome.Unknown (cause.Lost op.Complete reason.EndedEarly))
+
+  -- The time is set also after a cancel, and a file that was not renamed is dropped.
+  abbrev pub RenamedOrDropped : Type 0
+  RenamedOrDropped =
+      let w = in_pieces kind.Download true 3 12 in
+      let late = Returned act.Rename file.Fine ∷ Cancelled reason_of.OutputFailed ∷ Gave act.Rename ∷ all_placed in
+      Gives w late act.Stamp
+      × Ends w (Returned act.Stamp file.Fine ∷ Gave act.Stamp ∷ late)
+      (outcome.Copied (cause.Cancelled reason_of.OutputFailed))
+      × Gives w (Returned act.Rename (file.Fault (fault.Blocked 1)) ∷ Gave act.Rename ∷ all_placed) act.DropTemp
+      × Gives (one_piece kind.Download true) (came op.Get 0 (mark.Success ∷ []) (ending.Gained (reply.Got 206 None 5))
+      ∷ Gave (act.Send op.Get 0) ∷ Returned act.Assemble file.Fine ∷ Gave act.Assemble ∷ []) act.DropTemp
+
+  -- A moved file that stays leaves a copy, a file that became shorter has changed, and a removal moves nothing.
+  abbrev pub FilesTell : Type 0
+  FilesTell =
+      Ends (one_piece kind.Upload true) (Returned act.Remove (file.Fault fault.Failed) ∷ Gave act.Remove
+      ∷ came op.Put 0 (mark.Success ∷ []) (ending.Gained reply.Stored) ∷ put_out)
+      (outcome.Copied (cause.Files call.Remove))
+      × Ends (one_piece kind.Upload false) (Returned (act.Read 0) file.Short ∷ Gave (act.Read 0) ∷ [])
+      (outcome.Failed cause.Changed)
+      × Ends (one_piece kind.RemoveFile false) (Returned act.Remove file.Fine ∷ Gave act.Remove ∷ []) outcome.Done
+      × Ends (one_piece kind.RemoveFile true) (Returned act.Remove file.Fine ∷ Gave act.Remove ∷ []) outcome.Done

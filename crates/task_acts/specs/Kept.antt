@@ -2,7 +2,7 @@
 use Rattle.std.specs.Option.{option_or}
 use Rattle.std.specs.Prelude.{◌+◌, ◌&&◌, [], ◌∷◌, ℕ, Bool, true, false, List, Option, Some, None, length, map, is_some, not}
 use Rattle.std.specs.Prelude.{if◌then◌else◌, ◌≡◌, ◌≢◌, IsSome}
-use Rattle.jobs.specs.Endings.{SeenCarried}
+use Rattle.jobs.specs.Endings.{IsEnded, SeenCarried}
 use Rattle.jobs.specs.Jobs.{SeenJob}
 use Rattle.jobs.specs.declared.ending.Ending.{Ending}
 use Rattle.jobs.specs.declared.ending.Ending.TheVariants as ending
@@ -113,10 +113,23 @@ MayCome act.Rename result = Unit {0}
 MayCome called (file.Fault (fault.Blocked length)) = ⊥
 MayCome called result = Unit {0}
 
+-- how many attempts the earlier giving of a job made, if there was one
+abbrev pub tries_before : History → Act → ℕ
+tries_before [] of_act = 0
+tries_before (Came carried ∷ before) of_act =
+    if is_act of_act (sent carried) then length carried.tries else tries_before before of_act
+tries_before (Gave given ∷ before) of_act = tries_before before of_act
+tries_before (Taken of_op number ∷ before) of_act = tries_before before of_act
+tries_before (Returned called result ∷ before) of_act = tries_before before of_act
+tries_before (Cancelled reason ∷ before) of_act = tries_before before of_act
+
+-- A job that comes is one that is out, as it was given, and ended as its tries show.
 abbrev pub MayHappen : Work → History → Happening → Type 0
 MayHappen w history (Gave given) = is_ready_in w history given ≡ true
 MayHappen w history (Came carried) = (is_out (stage w history (sent carried)) ≡ true)
     × (is_some carried.job.cell ≡ has_cell (stage w history (sent carried)) carried.job.id.op)
+    × (carried.job.had ≡ tries_before history (sent carried))
+    × IsEnded carried.ending carried.job.id.op carried.job.part carried.job.cell carried.tries
 MayHappen w history (Returned called result) =
     (is_file_act called ≡ true) × (is_out (stage w history called) ≡ true) × MayCome called result
 MayHappen w history (Cancelled reason) = reason ≢ reason_of.TaskFailed

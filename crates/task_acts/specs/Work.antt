@@ -20,6 +20,8 @@ pub record IsWorkOf (task : Task) (config : Config) (limits : Limits) (w : Work)
   pub small_is : w.small ≡ nat_lt task.size config.threshold
   pub pieces : HasPieces config limits task.kind task.size w.piece w.count
   pub attempts_are : w.attempts ≡ config.attempts
+  -- a task that must not replace its destination ends in ways that are not said here
+  pub replaces : task.fresh ≡ false
 
 -- the number of the first piece: parts and ranges are numbered from 1, a single piece is number 0
 abbrev pub first_number : Work → ℕ

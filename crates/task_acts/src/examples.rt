@@ -3,13 +3,16 @@
 ghost use Rattle.jobs.specs.Holders.{Holder};
 ghost use Rattle.jobs.specs.declared.what.What.{What};
 ghost use Rattle.task_acts.specs.Examples.{
+  AbortsLast,
   CutShort,
+  FilesTell,
   LeftOpen,
   MovesLast,
   PartIsRefused,
   PartsInOrder,
   RangeFails,
   RangesInAnyOrder,
+  RenamedOrDropped,
 };
 
 /// An upload in parts is created, read, sent and completed in that order, whatever the order in which its parts come
@@ -17,12 +20,14 @@ ghost use Rattle.task_acts.specs.Examples.{
 pub fn uploads()
     ensures order { (for : What) (cell : Holder) → PartsInOrder for cell }
     ensures refused { (for : What) (cell : Holder) → PartIsRefused for cell }
+    ensures aborts { (for : What) (cell : Holder) → AbortsLast for cell }
 {}
 
 /// Ranges come in any order; after a failure the temporary file is dropped once all came.
 pub fn downloads()
     ensures order { (for : What) (cell : Holder) → RangesInAnyOrder for cell }
     ensures refused { (for : What) (cell : Holder) → RangeFails for cell }
+    ensures dropped { (for : What) (cell : Holder) → RenamedOrDropped for cell }
 {}
 
 /// The source of a move goes last.
@@ -34,4 +39,9 @@ pub fn moves()
 pub fn refusals()
     ensures again { (for : What) (cell : Holder) → CutShort for cell }
     ensures open { (for : What) (cell : Holder) → LeftOpen for cell }
+{}
+
+/// Calls on files decide what requests do not.
+pub fn files()
+    ensures { (for : What) (cell : Holder) → FilesTell for cell }
 {}

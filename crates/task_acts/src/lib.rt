@@ -7,6 +7,6 @@ mod laws;
 mod work;
 
 pub use acts::{Act, FileCame, Stage};
-pub use examples::{downloads, moves, refusals, uploads};
+pub use examples::{downloads, files, moves, refusals, uploads};
 pub use laws::rule_keeps_order;
 pub use work::Work;
