@@ -1,6 +1,6 @@
 -- How a task ends, and why, by what happened.
 use Rattle.std.specs.Option.{option_or}
-use Rattle.std.specs.Prelude.{◌==◌, ◌&&◌, ◌||◌, [], ◌∷◌, ℕ, Bool, true, false, List, Option, Some, None, is_some, length, not}
+use Rattle.std.specs.Prelude.{◌==◌, ◌&&◌, ◌||◌, [], ◌∷◌, Bool, true, false, Option, Some, None, is_some, length, not}
 use Rattle.std.specs.Prelude.{nat_lt, if◌then◌else◌}
 use Rattle.std.specs.List.{list_any}
 use Rattle.jobs.specs.Endings.{SeenCarried}
@@ -10,7 +10,6 @@ use Rattle.s3_model.specs.declared.outcomes.Cause.TheVariants as cause
 use Rattle.s3_model.specs.declared.outcomes.Outcome.{Outcome}
 use Rattle.s3_model.specs.declared.outcomes.Outcome.TheVariants as outcome
 use Rattle.s3_model.specs.declared.outcomes.Reason.{Reason}
-use Rattle.s3_model.specs.declared.requests.Op.{Op}
 use Rattle.s3_model.specs.declared.requests.Op.TheVariants as op
 use Rattle.s3_model.specs.declared.tasks.Kind.{Kind}
 use Rattle.s3_model.specs.declared.tasks.Kind.TheVariants as kind
@@ -19,7 +18,7 @@ use Rattle.s3_model.specs.declared.tries.Mark.TheVariants as mark
 use Rattle.task_acts.specs.declared.acts.Act.{Act}
 use Rattle.task_acts.specs.declared.acts.Act.TheVariants as act
 use Rattle.task_acts.specs.Failures.{carried_cause, first_failure, first_reason, wanted_memory}
-use Rattle.task_acts.specs.Histories.{History, Happening, Gave, Came, Returned, Cancelled, Taken}
+use Rattle.task_acts.specs.Histories.{History, Gave, Came, Returned, Cancelled, Taken}
 use Rattle.task_acts.specs.Rule.{first_ready_in, is_decided_in, is_done_in, is_idle_in}
 use Rattle.task_acts.specs.declared.work.Work.{Work}
 use Rattle.task_acts.specs.Work.{deciding_op}

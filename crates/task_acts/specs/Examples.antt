@@ -1,6 +1,5 @@
 -- Small histories, computed.
-use Rattle.std.specs.Prelude.{◌≡◌, ◌+◌, ◌-◌, ◌*◌, [], ◌∷◌, ℕ, Bool, true, false, List, Option, Some, None, codes, map}
-use Rattle.jobs.specs.Endings.{SeenCarried}
+use Rattle.std.specs.Prelude.{◌≡◌, ◌+◌, ◌-◌, ◌*◌, [], ◌∷◌, ℕ, Bool, true, false, List, Option, Some, None, codes}
 use Rattle.jobs.specs.Holders.{Holder}
 use Rattle.jobs.specs.declared.ending.Ending.{Ending}
 use Rattle.jobs.specs.declared.ending.Ending.TheVariants as ending

@@ -1,6 +1,7 @@
 -- What in a history is a failure, and its cause.
 use Rattle.std.specs.Option.{option_or}
-use Rattle.std.specs.Prelude.{◌+◌, ◌-◌, ◌==◌, ◌&&◌, ◌||◌, ◌∷◌, [], ℕ, Bool, true, false, List, Option, Some, None, codes}
+use Rattle.std.specs.Prelude.{◌+◌, ◌-◌, ◌==◌, ◌&&◌, ◌||◌, ◌∷◌, [], ℕ, Bool, true, false, List, Option, Some, None}
+use Rattle.std.specs.Prelude.{codes}
 use Rattle.std.specs.Prelude.{is_some, length, nat_lt, if◌then◌else◌}
 use Rattle.jobs.specs.Endings.{SeenCarried}
 use Rattle.jobs.specs.declared.ending.Ending.{Ending}
@@ -20,7 +21,6 @@ use Rattle.s3_model.specs.declared.outcomes.FileCall.TheVariants as call
 use Rattle.s3_model.specs.declared.outcomes.Reason.{Reason}
 use Rattle.s3_model.specs.declared.requests.Op.{Op}
 use Rattle.s3_model.specs.declared.requests.Op.TheVariants as op
-use Rattle.s3_model.specs.declared.tries.Mark.{Mark}
 use Rattle.s3_outside.specs.declared.files.FileFault.TheVariants as fault
 use Rattle.task_acts.specs.declared.acts.Act.{Act}
 use Rattle.task_acts.specs.declared.acts.Act.TheVariants as act

@@ -1,5 +1,5 @@
 -- What happened to a task.
-use Rattle.std.specs.Prelude.{◌+◌, ◌-◌, ◌==◌, ◌&&◌, ◌||◌, ℕ, Bool, true, false, List, [], ◌∷◌}
+use Rattle.std.specs.Prelude.{◌==◌, ◌&&◌, ℕ, Bool, true, false, List}
 use Rattle.jobs.specs.Endings.{SeenCarried}
 use Rattle.run_promise.specs.Dispatches.{is_op}
 use Rattle.s3_model.specs.declared.outcomes.Reason.{Reason}

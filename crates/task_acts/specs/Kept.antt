@@ -1,12 +1,12 @@
 -- What a task keeps of the jobs that came: jobs that are given again, the upload and the entity tags.
 use Rattle.std.specs.Option.{option_or}
-use Rattle.std.specs.Prelude.{◌+◌, ◌&&◌, [], ◌∷◌, ℕ, Bool, true, false, List, Option, Some, None, length, map, is_some, not}
+use Rattle.std.specs.Prelude.{◌+◌, ◌&&◌, [], ◌∷◌, ℕ, Bool, true, false, List, Option, Some, None, length, map}
+use Rattle.std.specs.Prelude.{is_some, not}
 use Rattle.std.specs.Prelude.{if◌then◌else◌, ◌≡◌, ◌≢◌, IsSome}
 use Rattle.jobs.specs.Endings.{IsEnded, SeenCarried}
 use Rattle.jobs.specs.Jobs.{SeenJob}
 use Rattle.jobs.specs.declared.ending.Ending.{Ending}
 use Rattle.jobs.specs.declared.ending.Ending.TheVariants as ending
-use Rattle.s3_model.specs.declared.answers.Reply.{Reply}
 use Rattle.s3_model.specs.declared.answers.Reply.TheVariants as reply
 use Rattle.s3_model.specs.declared.bytes.Part.{Part}
 use Rattle.s3_model.specs.declared.outcomes.Reason.TheVariants as reason_of

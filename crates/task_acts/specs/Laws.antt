@@ -1,5 +1,5 @@
 -- What the rule of ready acts keeps, in every history and for every kind of task.
-use Rattle.std.specs.Prelude.{◌≡◌, ◌≢◌, ◌==◌, ℕ, Bool, true, false}
+use Rattle.std.specs.Prelude.{◌≡◌, ℕ, Bool, true, false}
 use Rattle.s3_model.specs.declared.requests.Op.TheVariants as op
 use Rattle.s3_model.specs.declared.tasks.Kind.{Kind}
 use Rattle.s3_model.specs.declared.tasks.Kind.TheVariants as kind

@@ -1,5 +1,5 @@
 -- Which act of a task is ready.
-use Rattle.std.specs.Prelude.{◌==◌, ◌<◌, ◌&&◌, ◌||◌, ◌++◌, [], ◌∷◌, ℕ, Bool, true, false, List, Option, map, nat_lt, not}
+use Rattle.std.specs.Prelude.{◌==◌, ◌&&◌, ◌||◌, ◌++◌, [], ◌∷◌, ℕ, Bool, true, false, List, Option, map, not}
 use Rattle.std.specs.Prelude.{if◌then◌else◌}
 use Rattle.std.specs.List.{find, list_all}
 use Rattle.s3_model.specs.declared.requests.Op.TheVariants as op

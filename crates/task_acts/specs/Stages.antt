@@ -1,13 +1,12 @@
 -- How far each act of a task is, by what happened.
-use Rattle.std.specs.Prelude.{◌&&◌, ◌||◌, [], ◌∷◌, ℕ, Bool, true, false, Option, is_some, not, if◌then◌else◌}
+use Rattle.std.specs.Prelude.{[], ◌∷◌, Bool, true, false, is_some, if◌then◌else◌}
 use Rattle.jobs.specs.Endings.{SeenCarried}
 use Rattle.task_acts.specs.declared.acts.Act.{Act}
 use Rattle.task_acts.specs.declared.acts.FileCame.{FileCame}
-use Rattle.task_acts.specs.declared.acts.FileCame.TheVariants as file
 use Rattle.task_acts.specs.declared.acts.Stage.{Stage}
 use Rattle.task_acts.specs.declared.acts.Stage.TheVariants as at
 use Rattle.task_acts.specs.Failures.{carried_cause, is_cut_short, is_fine, is_stopped}
-use Rattle.task_acts.specs.Histories.{History, Happening, Gave, Came, Returned, Cancelled, Taken, is_act, sent}
+use Rattle.task_acts.specs.Histories.{History, Gave, Came, Returned, Cancelled, Taken, is_act, sent}
 use Rattle.task_acts.specs.declared.work.Work.{Work}
 
 abbrev pub given_stage : Stage → Stage
