@@ -1,0 +1,4 @@
+pub mod MoveLaws
+pub mod CountLemmas
+pub mod HoldLemmas
+pub mod PartLaws

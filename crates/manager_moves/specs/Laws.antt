@@ -1,0 +1,50 @@
+-- What the rule of moves keeps, in every run.
+use Rattle.std.specs.Prelude.{◌≡◌, ◌≢◌, ◌≤◌, [], ◌∷◌, ℕ, true, Option, Some, None, IfSome, slice_get}
+use Rattle.jobs.specs.Endings.{SeenCarried}
+use Rattle.s3_model.specs.declared.outcomes.Reason.TheVariants as reason_of
+use Rattle.task_acts.specs.Kept.{MayCome, MayHappen}
+use Rattle.task_acts.specs.Histories.{Came}
+use Rattle.manager_moves.specs.declared.moves.Move.{Move}
+use Rattle.manager_moves.specs.declared.moves.Move.TheVariants as move
+use Rattle.manager_moves.specs.Lanes.{freest, jobs_in, out_in}
+use Rattle.manager_moves.specs.Moves.{call_of, has_room, next_move}
+use Rattle.manager_moves.specs.Parts.{lent}
+use Rattle.manager_moves.specs.Runs.{Event, Events, Shared, Made, Sent, Back, Called, Lined, Stopped, lined_count, made_count, share}
+
+-- it comes back to its task as it was given
+abbrev pub IsOfTask : Shared → Events → Option ℕ → SeenCarried → Type 0
+IsOfTask s events None carried = ⊥
+IsOfTask s events (Some n) carried =
+    IfSome (slice_get s.works n) (λ w. MayHappen w (share w n events) (Came carried))
+
+-- A move is made where the rule names it; what is out comes back at any time, in the order of its lane.
+abbrev pub MayFollow : Shared → Events → Event → Type 0
+MayFollow s events (Made fits) = next_move s events ≡ move.Make (made_count events)
+MayFollow s events (Sent task of_op number lane) = next_move s events ≡ move.Give task of_op number lane
+MayFollow s events (Back lane carried) =
+    (slice_get (jobs_in lane events) 0 ≡ Some carried.job.id) × IsOfTask s events carried.job.id.task carried
+MayFollow s events (Called task called result) =
+    (call_of s events task called ≡ Some (next_move s events)) × MayCome called result
+MayFollow s events Lined = next_move s events ≡ move.Line (lined_count events)
+MayFollow s events (Stopped reason) = reason ≢ reason_of.TaskFailed
+
+abbrev pub IsRun : Shared → Events → Type 0
+IsRun s [] = Unit {0}
+IsRun s (event ∷ before) = MayFollow s before event × IsRun s before
+
+-- a job goes to the freest lane, which has room
+abbrev pub GoesToTheFreest : Shared → Events → Move → Type 0
+GoesToTheFreest s events (move.Give task of_op number lane) =
+    (has_room s events ≡ true) × (lane ≡ freest s.lanes events)
+GoesToTheFreest s events moved = Unit {0}
+
+abbrev pub JobsGoToTheFreest : Type 0
+JobsGoToTheFreest = (s : Shared) (events : Events) → GoesToTheFreest s events (next_move s events)
+
+-- No lane has more jobs out than it takes.
+abbrev pub LanesKeepTheirDepth : Type 0
+LanesKeepTheirDepth = (s : Shared) (events : Events) (lane : ℕ) → IsRun s events → out_in lane events ≤ s.depth
+
+-- All tasks together hold at most as many parts as there are.
+abbrev pub PartsAreEnough : Type 0
+PartsAreEnough = (s : Shared) (events : Events) → IsRun s events → lent s.works events ≤ s.buffers

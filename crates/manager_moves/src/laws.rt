@@ -1,0 +1,11 @@
+//! The laws of the rule, functions that do nothing.
+
+ghost use Rattle.manager_moves.specs.Laws.{JobsGoToTheFreest, LanesKeepTheirDepth, PartsAreEnough};
+
+/// A job goes to the freest lane, no lane has more jobs out than it takes, and the tasks together hold at most as many
+/// parts as there are.
+pub fn rule_keeps_limits()
+    ensures freest { JobsGoToTheFreest }
+    ensures depth { LanesKeepTheirDepth }
+    ensures parts { PartsAreEnough }
+{}
