@@ -2,3 +2,4 @@ pub mod MoveLaws
 pub mod CountLemmas
 pub mod HoldLemmas
 pub mod PartLaws
+pub mod QueueLaws

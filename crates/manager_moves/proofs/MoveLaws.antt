@@ -1,6 +1,6 @@
 -- The laws of the rule of moves.
 use Rattle.std.proofs.Common.{◌≡◌, ◌==◌, ◌&&◌, ◌+◌, ◌<◌, ◌≤◌, ℕ, zero, suc, Bool, true, false, List, [], ◌∷◌, Option, Some, None, IfSome, refl, subst, sym, arith}
-use Rattle.std.specs.Prelude.{◌++◌, drop, length, take, not, is_some, slice_get, unwrap_or, if◌then◌else◌}
+use Rattle.std.specs.Prelude.{◌++◌, drop, length, take, not, is_some, slice_get, unwrap_or, if◌then◌else◌, nat_lt}
 use Rattle.std.specs.Option.{option_or}
 use Rattle.std.proofs.lemmas.List.{length-append, length-drop}
 use Rattle.run_promise.specs.Schedule.{job_of}
@@ -9,12 +9,12 @@ use Rattle.s3_model.specs.declared.requests.Op.{Op}
 use Rattle.task_acts.specs.declared.acts.Act.{Act}
 use Rattle.task_acts.specs.declared.acts.Act.TheVariants as act
 use Rattle.task_acts.specs.declared.work.Work.{Work}
-use Rattle.std.proofs.lemmas.Bool.{eqb-true, ltb-true}
+use Rattle.std.proofs.lemmas.Bool.{and_parts, eqb-true, ltb-true}
 use Rattle.manager_moves.specs.declared.moves.Move.{Move}
 use Rattle.manager_moves.specs.declared.moves.Move.TheVariants as move
 use Rattle.manager_moves.specs.Laws.{GoesToTheFreest, IsRun, JobsGoToTheFreest, LanesKeepTheirDepth}
 use Rattle.manager_moves.specs.Lanes.{freest, jobs_in, out_in}
-use Rattle.manager_moves.specs.Moves.{call_of, first_call, first_giving, giving_of, has_free_part, has_room, if_ready, is_any_out, lacks_part, line_for, made, next_make, next_move, ready}
+use Rattle.manager_moves.specs.Moves.{call_of, first_call, first_giving, giving_of, has_free_part, has_room, if_ready, is_any_out, lacks_part, line_for, made, next_make, next_move, ready, unfinished_from}
 use Rattle.manager_moves.specs.Runs.{Events, Shared, Made, Sent, Back, Called, Lined, Stopped, lined_count, made_count, outcome_in}
 
 none_some : {X : Type 0} {x : X} → None ≡ Some x → ⊥
@@ -136,6 +136,71 @@ module _ (s : Shared) (events : Events) where
   goes (move.Line n) h = tt
   goes move.Wait h = tt
   goes move.End h = tt
+
+-- a task is made while fewer are unfinished than the queue holds
+module _ (s : Shared) (events : Events) where
+  abbrev Makes : Move → Type 0
+  Makes (move.Make n) = unfinished_from s events 0 (made s events) < s.queue
+  Makes moved = Unit {0}
+
+  makes_guarded : (b : Bool) (m : Move) → Makes m → IfSome (if b then Some m else None) Makes
+  makes_guarded true m x = x
+  makes_guarded false m x = tt
+
+  makes_call : (n : ℕ) (a : Option Act) → IfSome (if_ready s events a (call_of s events n)) Makes
+  makes_call n None = tt
+  makes_call n (Some (act.Send o k)) = tt
+  makes_call n (Some (act.Read k)) = makes_guarded (has_free_part s events) (move.Read n k) tt
+  makes_call n (Some act.Assemble) = tt
+  makes_call n (Some (act.Place k)) = tt
+  makes_call n (Some act.Rename) = tt
+  makes_call n (Some act.DropTemp) = tt
+  makes_call n (Some act.Remove) = tt
+  makes_call n (Some act.Stamp) = tt
+
+  makes_calls : (n : ℕ) (works : List Work) → IfSome (first_call s events n works) Makes
+  makes_calls n [] = tt
+  makes_calls n (w ∷ works) = both Makes _ _ (makes_call n (ready s events n w)) (makes_calls (n + 1) works)
+
+  makes_giving : (n : ℕ) (w : Work) (a : Option Act) → IfSome (if_ready s events a (giving_of s events n w)) Makes
+  makes_giving n w None = tt
+  makes_giving n w (Some (act.Send o k)) = makes_guarded (has_room s events && not (lacks_part s events n w o k))
+      (move.Give n o k (freest s.lanes events)) tt
+  makes_giving n w (Some (act.Read k)) = tt
+  makes_giving n w (Some act.Assemble) = tt
+  makes_giving n w (Some (act.Place k)) = tt
+  makes_giving n w (Some act.Rename) = tt
+  makes_giving n w (Some act.DropTemp) = tt
+  makes_giving n w (Some act.Remove) = tt
+  makes_giving n w (Some act.Stamp) = tt
+
+  makes_givings : (n : ℕ) (works : List Work) → IfSome (first_giving s events n works) Makes
+  makes_givings n [] = tt
+  makes_givings n (w ∷ works) = both Makes _ _ (makes_giving n w (ready s events n w)) (makes_givings (n + 1) works)
+
+  makes_line : (w : Option Work) → IfSome (line_for s events w) Makes
+  makes_line None = tt
+  makes_line (Some w) =
+      makes_guarded (is_some (outcome_in w (lined_count events) events)) (move.Line (lined_count events)) tt
+
+  makes_next : (b : Bool) → (nat_lt (made_count events) (length s.works)
+      && nat_lt (unfinished_from s events 0 (made s events)) s.queue) ≡ b
+      → IfSome (if b then Some (move.Make (made_count events)) else None) Makes
+  makes_next true e = ltb-true _ _ (and_parts (nat_lt (made_count events) (length s.works)) _ e).1
+  makes_next false e = tt
+
+  makes_end : (b : Bool) → Makes (if b then move.Wait else move.End)
+  makes_end true = tt
+  makes_end false = tt
+
+  makes : Makes (next_move s events)
+  makes = from_default Makes _ _ (both Makes _ _ (makes_line (slice_get (made s events) (lined_count events)))
+      (both Makes _ _ (makes_calls 0 (made s events)) (both Makes _ _ (makes_givings 0 (made s events))
+      (makes_next _ refl)))) (makes_end (is_any_out s events))
+
+  pub made_within : next_move s events ≡ move.Make (made_count events)
+      → unfinished_from s events 0 (made s events) < s.queue
+  made_within e = subst (λ (m : Move). Makes m) e makes
 
 pub jobs_go_to_the_freest : JobsGoToTheFreest
 jobs_go_to_the_freest s events = goes s events (next_move s events) (moving s events)

@@ -7,7 +7,7 @@ use Rattle.task_acts.specs.Histories.{Came}
 use Rattle.manager_moves.specs.declared.moves.Move.{Move}
 use Rattle.manager_moves.specs.declared.moves.Move.TheVariants as move
 use Rattle.manager_moves.specs.Lanes.{freest, jobs_in, out_in}
-use Rattle.manager_moves.specs.Moves.{call_of, has_room, next_move}
+use Rattle.manager_moves.specs.Moves.{call_of, has_room, made, next_move, unfinished_from}
 use Rattle.manager_moves.specs.Parts.{lent}
 use Rattle.manager_moves.specs.Runs.{Event, Events, Shared, Made, Sent, Back, Called, Lined, Stopped, lined_count, made_count, share}
 
@@ -48,3 +48,8 @@ LanesKeepTheirDepth = (s : Shared) (events : Events) (lane : ℕ) → IsRun s ev
 -- All tasks together hold at most as many parts as there are.
 abbrev pub PartsAreEnough : Type 0
 PartsAreEnough = (s : Shared) (events : Events) → IsRun s events → lent s.works events ≤ s.buffers
+
+-- At most so many tasks are made and unfinished as the queue holds.
+abbrev pub QueueIsKept : Type 0
+QueueIsKept = (s : Shared) (events : Events) → IsRun s events
+    → unfinished_from s events 0 (made s events) ≤ s.queue

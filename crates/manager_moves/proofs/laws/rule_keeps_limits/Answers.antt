@@ -1,5 +1,6 @@
 use Rattle.manager_moves.proofs.MoveLaws as moves
 use Rattle.manager_moves.proofs.PartLaws as parts
+use Rattle.manager_moves.proofs.QueueLaws as queue
 use Rattle.manager_moves.proofs.laws.rule_keeps_limits.Goals as goal
 
 pub returns : goal.returns
@@ -7,4 +8,5 @@ returns c = record {
   freest = moves.jobs_go_to_the_freest;
   depth = moves.lanes_keep_their_depth;
   parts = parts.parts_are_enough;
+  queue = queue.queue_is_kept;
 }
