@@ -15,16 +15,16 @@ starts_split (p ∷ path) (f ∷ front) h =
     let below = starts_split path front parts.1 in
     (below.0, ap (λ (b : ℕ). b ∷ path) (sym (eqb-true _ _ parts.0)) ∙ ap (λ (bytes : List ℕ). f ∷ bytes) below.1)
 
-starts_front : (front rest : List ℕ) → starts_with nat_eq (front ++ rest) front ≡ true
+pub starts_front : (front rest : List ℕ) → starts_with nat_eq (front ++ rest) front ≡ true
 starts_front [] rest = refl
 starts_front (f ∷ front) rest = and_from _ _ (nat_eq_equiv.refl f) (starts_front front rest)
 
-ends_split : (path : List ℕ) → ends_in_slash path ≡ true → (front : List ℕ) × (path ≡ front ++ 47 ∷ [])
+pub ends_split : (path : List ℕ) → ends_in_slash path ≡ true → (front : List ℕ) × (path ≡ front ++ 47 ∷ [])
 ends_split [] h = absurd (cc)
 ends_split (b ∷ []) h = ([], ap (λ (x : ℕ). x ∷ []) (eqb-true _ _ h))
 ends_split (b ∷ next ∷ rest) h = let found = ends_split (next ∷ rest) h in (b ∷ found.0, ap (λ (bytes : List ℕ). b ∷ bytes) found.1)
 
-ends_slash : (front : List ℕ) → ends_in_slash (front ++ 47 ∷ []) ≡ true
+pub ends_slash : (front : List ℕ) → ends_in_slash (front ++ 47 ∷ []) ≡ true
 ends_slash [] = refl
 ends_slash (b ∷ []) = refl
 ends_slash (b ∷ next ∷ front) = ends_slash (next ∷ front)

@@ -1,4 +1,5 @@
 pub mod Below
+pub mod Between
 pub mod FolderLemmas
 pub mod Fronts
 pub mod Keys

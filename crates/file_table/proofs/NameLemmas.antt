@@ -1,5 +1,5 @@
 -- Names in a folder: what a path shows, and what stands in a table.
-use Rattle.file_table.proofs.Fronts.{below_cases, front_below}
+use Rattle.file_table.proofs.Fronts.{below_cases, front_below, starts_front}
 use Rattle.file_table.proofs.Keys.{any_key, key_any, or_cases, or_left, or_right}
 use Rattle.shared_lemmas.proofs.Clashes.{none_is_some, some_is}
 use Rattle.shared_lemmas.proofs.Maps.{get-insert_same, get-insert_other, text_decided, text_exact}
@@ -10,8 +10,6 @@ use Rattle.std.specs.FinMap.{contains_key-keys, empty, entries, entries_sorted, 
 use Rattle.std.specs.FinMap.Entries.{below_all, is_sorted}
 use Rattle.std.specs.List.{list_any}
 use Rattle.std.specs.Prelude.{IfOk, OnOk}
-use Rattle.std.proofs.Math.Seq.{take-suc}
-use Rattle.std.proofs.lemmas.List.Folds.{list_any-append}
 use Rattle.std.specs.Option.{is_some}
 use Rattle.std.specs.Ordering.{eq_by_cmp, is_eq, is_lt, nat_cmp}
 use Rattle.std.specs.declared.cmp.Ordering.{Ordering}
@@ -21,8 +19,6 @@ use Rattle.std.proofs.lemmas.List.{append_assoc, append_cancel_left, append-nil,
 use Rattle.std.proofs.lemmas.Str.Pattern.{NoCharPasses-char}
 use Rattle.std.specs.Str.Pattern.{FindsChar, SplitsAroundMatch}
 use Rattle.std.proofs.lemmas.Map.Views.{list_any-from_Contains, Contains-from_any}
-use Rattle.std.proofs.lemmas.Slice.Eq.{bytes_eq-Decides}
-use Rattle.std.specs.Str.{bytes_eq}
 use Rattle.s3_model.specs.Files.{FileStore, folder_path, is_below, is_listed}
 use Rattle.s3_model.specs.Maps.{MapOf}
 use Rattle.file_table.specs.Names.{IsFirst, IsNamedIn}
@@ -274,84 +270,56 @@ pub on_ok : {A E : Type 0} {P Q : Type 0} (r : Result A E) → (P → Q) → OnO
 on_ok (Ok a) f h = f h
 on_ok (Err e) f h = tt
 
-pub name_added : (folder path name : List ℕ) (found next : MapOf Unit) (unit : Unit) → next ≡ insert found name unit → IsNamedIn folder name path
-    → (q : List ℕ) → IsSome (get next q) ↔ (IsSome (get found q) ⊎ IsNamedIn folder q path)
-name_added folder path name found next unit is named q = (there, back)
+-- a name that is shown is added, and no other is shown
+pub name_added : (Shows : List ℕ → Type 0) (name : List ℕ) (found next : MapOf Unit) (unit : Unit) → next ≡ insert found name unit → Shows name → ((q : List ℕ) → Shows q → q ≡ name)
+    → (q : List ℕ) → IsSome (get next q) ↔ (IsSome (get found q) ⊎ Shows q)
+name_added Shows name found next unit is shown one q = (there, back)
   where
-    there : IsSome (get next q) → IsSome (get found q) ⊎ IsNamedIn folder q path
+    there : IsSome (get next q) → IsSome (get found q) ⊎ Shows q
     there h = elim ((with_name found name unit q).0 (subst (λ (m : MapOf Unit). IsSome (get m q)) is h)) [
       | inl was ↦ inl was
-      | inr same ↦ inr (subst (λ (x : List ℕ). IsNamedIn folder x path) (sym same) named)
+      | inr same ↦ inr (subst Shows (sym same) shown)
     ]
 
-    back : (IsSome (get found q) ⊎ IsNamedIn folder q path) → IsSome (get next q)
+    back : (IsSome (get found q) ⊎ Shows q) → IsSome (get next q)
     back h = subst (λ (m : MapOf Unit). IsSome (get m q)) (sym is) ((with_name found name unit q).1 (elim h [
       | inl was ↦ inl was
-      | inr other ↦ inr (one_name folder path q name other named)
+      | inr other ↦ inr (one q other)
     ]))
 
-pub name_not_added : (folder path : List ℕ) (found : MapOf Unit) → ((q : List ℕ) → IsNamedIn folder q path → ⊥) → (q : List ℕ) → IsSome (get found q) ↔ (IsSome (get found q) ⊎ IsNamedIn folder q path)
-name_not_added folder path found never q = (λ h. inl h, λ h. elim h [ inl was ↦ was | inr named ↦ absurd (never q named) ])
+pub name_not_added : (Shows : List ℕ → Type 0) (found : MapOf Unit) → ((q : List ℕ) → Shows q → ⊥) → (q : List ℕ) → IsSome (get found q) ↔ (IsSome (get found q) ⊎ Shows q)
+name_not_added Shows found never q = (λ h. inl h, λ h. elim h [ inl was ↦ was | inr shown ↦ absurd (never q shown) ])
 
--- the names of a list of paths, one more of them looked at
-module _ (folder : List ℕ) (paths : List (List ℕ)) (i : ℕ) (inside : i < length paths) (path : List ℕ) (item : get_or paths i path ≡ path) (first : MapOf Unit) where
-  abbrev up_to : ℕ → List ℕ → Type 0
-  up_to n name = IsName name × (is_listed (take n paths) (folder_path folder ++ name) ≡ true)
+-- ---- names and what is below a folder
 
-  one_more : (q : List ℕ) → is_listed (take (i + 1) paths) q ≡ (is_listed (take i paths) q || bytes_eq path q)
-  one_more q =
-      ap (λ (n : ℕ). is_listed (take n paths) q) next ∙ ap (λ (ps : List (List ℕ)). is_listed ps q) (take-suc paths i path inside ∙ ap (λ (p : List ℕ). take i paths ++ (p ∷ [])) item)
-      ∙ list_any-append (λ (p : List ℕ). bytes_eq p q) (take i paths) (path ∷ [])
-      ∙ ap (λ (b : Bool). is_listed (take i paths) q || b) (or_nothing (bytes_eq path q))
-    where
-      next : i + 1 ≡ suc i
-      next = omega arith
+below_path : (folder rest : List ℕ) → is_below folder (folder_path folder ++ rest) ≡ true
+below_path folder rest = starts_front (folder_path folder) rest
 
-      or_nothing : (b : Bool) → (b || false) ≡ b
-      or_nothing true = refl
-      or_nothing false = refl
+pub named_below : (folder name path : List ℕ) → IsNamedIn folder name path → is_below folder path ≡ true
+named_below folder name path (named, rest, is, ends) =
+    ap (λ (p : List ℕ). is_below folder p) (is ∙ append_assoc (folder_path folder) name rest) ∙ below_path folder (name ++ rest)
 
-  pub direct_none : (now : MapOf Unit) → ((name : List ℕ) → IsName name → path ≡ folder_path folder ++ name → ⊥) → ((name : List ℕ) → IsSome (get now name) ↔ (IsSome (get first name) ⊎ up_to i name))
-      → (name : List ℕ) → IsSome (get now name) ↔ (IsSome (get first name) ⊎ up_to (i + 1) name)
-  direct_none now never had name = (there, back)
-    where
-      there : IsSome (get now name) → IsSome (get first name) ⊎ up_to (i + 1) name
-      there h = elim ((had name).0 h) [ inl was ↦ inl was | inr listed ↦ inr (listed.0, one_more (folder_path folder ++ name) ∙ or_left (is_listed (take i paths) (folder_path folder ++ name)) (bytes_eq path (folder_path folder ++ name)) listed.1) ]
+pub direct_below : (folder name path : List ℕ) → IsName name × (path ≡ folder_path folder ++ name) → is_below folder path ≡ true
+direct_below folder name path (named, is) = ap (λ (p : List ℕ). is_below folder p) is ∙ below_path folder name
 
-      back : (IsSome (get first name) ⊎ up_to (i + 1) name) → IsSome (get now name)
-      back (inl was) = (had name).1 (inl was)
-      back (inr (is, listed)) =
-          elim (or_cases (is_listed (take i paths) (folder_path folder ++ name)) (bytes_eq path (folder_path folder ++ name)) (sym (one_more (folder_path folder ++ name)) ∙ listed)) [
-            | inl before ↦ (had name).1 (inr (is, before))
-            | inr here ↦ absurd (never name is ((bytes_eq-Decides path (folder_path folder ++ name)).0 here))
-          ]
+pub one_direct : (folder path name q : List ℕ) → path ≡ folder_path folder ++ name → IsName q × (path ≡ folder_path folder ++ q) → q ≡ name
+one_direct folder path name q is (named, at) = append_cancel_left (folder_path folder) q name (sym at ∙ is)
 
-  pub direct_some : (now next : MapOf Unit) (known : List ℕ) (unit : Unit) → next ≡ insert now known unit → IsName known → path ≡ folder_path folder ++ known
-      → ((name : List ℕ) → IsSome (get now name) ↔ (IsSome (get first name) ⊎ up_to i name)) → (name : List ℕ) → IsSome (get next name) ↔ (IsSome (get first name) ⊎ up_to (i + 1) name)
-  direct_some now next known unit put named at had name = (there, back)
-    where
-      later : up_to i name → up_to (i + 1) name
-      later (is, listed) = (is, one_more (folder_path folder ++ name) ∙ or_left (is_listed (take i paths) (folder_path folder ++ name)) (bytes_eq path (folder_path folder ++ name)) listed)
+-- the path of a name is a key, or some key is the path
+pub key_of_name : {V : Type 0} (m : MapOf V) (folder name : List ℕ) (Before After : Type 0)
+    → After ↔ (Before ⊎ ((key : List ℕ) × IsSome (get m key) × (IsName name × (key ≡ folder_path folder ++ name)))) → After ↔ (Before ⊎ (IsName name × IsSome (get m (folder_path folder ++ name))))
+key_of_name m folder name Before After (there, back) = (
+  λ h. elim (there h) [ inl was ↦ inl was | inr (key, some, (named, is)) ↦ inr (named, subst (λ (k : List ℕ). IsSome (get m k)) is some) ],
+  λ h. back (elim h [ inl was ↦ inl was | inr (named, some) ↦ inr (folder_path folder ++ name, some, (named, refl)) ]),
+)
 
-      here : name ≡ known → up_to (i + 1) name
-      here same = (subst (λ (x : List ℕ). IsName x) (sym same) named, one_more (folder_path folder ++ name) ∙ or_right (is_listed (take i paths) (folder_path folder ++ name)) (bytes_eq path (folder_path folder ++ name)) ((bytes_eq-Decides path (folder_path folder ++ name)).1 (at ∙ ap (λ (x : List ℕ). folder_path folder ++ x) (sym same))))
-
-      there : IsSome (get next name) → IsSome (get first name) ⊎ up_to (i + 1) name
-      there h = elim ((with_name now known unit name).0 (subst (λ (m : MapOf Unit). IsSome (get m name)) put h)) [
-        | inr same ↦ inr (here same)
-        | inl was ↦ elim ((had name).0 was) [ inl before ↦ inl before | inr listed ↦ inr (later listed) ]
-      ]
-
-      in_next : (IsSome (get now name) ⊎ (name ≡ known)) → IsSome (get next name)
-      in_next h = subst (λ (m : MapOf Unit). IsSome (get m name)) (sym put) ((with_name now known unit name).1 h)
-
-      back : (IsSome (get first name) ⊎ up_to (i + 1) name) → IsSome (get next name)
-      back (inl was) = in_next (inl ((had name).1 (inl was)))
-      back (inr (is, listed)) =
-          elim (or_cases (is_listed (take i paths) (folder_path folder ++ name)) (bytes_eq path (folder_path folder ++ name)) (sym (one_more (folder_path folder ++ name)) ∙ listed)) [
-            | inl before ↦ in_next (inl ((had name).1 (inr (is, before))))
-            | inr same ↦ in_next (inr (append_cancel_left (folder_path folder) name known (sym ((bytes_eq-Decides path (folder_path folder ++ name)).0 same) ∙ at)))
-          ]
+-- the same by a list whose paths are the keys
+pub listed_name : (m : MapOf Unit) (paths : List (List ℕ)) (path : List ℕ) (Named Before After : Type 0) → is_some (get m path) ≡ is_listed paths path
+    → After ↔ (Before ⊎ (Named × IsSome (get m path))) → After ↔ (Before ⊎ (Named × (is_listed paths path ≡ true)))
+listed_name m paths path Named Before After index (there, back) = (
+  λ h. elim (there h) [ inl was ↦ inl was | inr (named, some) ↦ inr (named, sym index ∙ some) ],
+  λ h. back (elim h [ inl was ↦ inl was | inr (named, listed) ↦ inr (named, index ∙ listed) ]),
+)
 
 -- ---- the three sources of names
 

@@ -23,7 +23,7 @@ find_entries (e ∷ es) q = ap (cond (is_eq (slice_cmp nat_cmp q (string_bytes e
 pub get-text_map : {Y V : Type 0} (m : tree.BTreeMap (String Y) V) (q : List ℕ) → get (text_map m.entries) q ≡ tree.get_by_text m q
 get-text_map m q = get-from_entries nat_list_cmp_total (text_entries m.entries) q ∙ find_entries m.entries q
 
-same_test : (k q : List ℕ) → bytes_eq k q ≡ eq_by_cmp (slice_cmp nat_cmp) q k
+pub same_test : (k q : List ℕ) → bytes_eq k q ≡ eq_by_cmp (slice_cmp nat_cmp) q k
 same_test k q = sym (is_eq-slice_cmp k q) ∙ (eq_by_cmp_equiv nat_list_cmp_total).symm k q
 
 pub text_map-insert : {Y V : Type 0} (m n : tree.BTreeMap (String Y) V) (k : String Y) (v : V) → tree.Updates string_cmp m n k (Some v) → text_map n.entries ≡ insert (text_map m.entries) (string_bytes k) v

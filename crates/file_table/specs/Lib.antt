@@ -1,3 +1,4 @@
+pub mod Below
 pub mod Folders
 pub mod Names
 pub mod StoreCode

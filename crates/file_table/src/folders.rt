@@ -4,25 +4,23 @@ ghost use Rattle.std.specs.Prelude.{
   List,
   ℕ,
   ◌≡◌,
-  ◌≢◌,
   ◌++◌,
-  ◌<◌,
   ◌||◌,
+  ◌<◌,
   ◌∷◌,
   [],
   OnOk,
   OnErr,
+  length,
   take,
+  slice_index,
   IsCharBoundary,
-  vec_len,
-  vec_capacity,
-  ◌+◌,
-  ◌≤◌,
 };
 ghost use Rattle.std.specs.Str.{bytes_eq};
 ghost use Rattle.s3_model.specs.Files.{is_below, is_listed as listed};
 ghost use Rattle.file_table.specs.Folders.{AddsFolders};
 
+use crate::path_list::PathList;
 use s3_model::{OutOfMemory, Text};
 use std::alloc::Global;
 
@@ -31,11 +29,11 @@ use std::alloc::Global;
 pub(crate) fn add_folders(
     alloc: Global,
     path: &str,
-    folders: &mut Vec<Text>,
+    folders: &mut PathList,
 ) -> Result<(), OutOfMemory>
-    ensures added { OnOk result ((f : List ℕ) → listed folders.new.items f ≡
-        (is_below f path.now || listed folders.old.items f)) }
-    ensures only { AddsFolders path.now folders.old.items folders.new.items }
+    ensures added { OnOk result ((f : List ℕ) → listed folders.new f ≡
+        (is_below f path.now || listed folders.old f)) }
+    ensures only { AddsFolders path.now folders.old folders.new }
 {
     for end in 0..path.len() {
         if path.as_bytes()[end] == b'/' {
@@ -50,39 +48,27 @@ fn add_both(
     alloc: Global,
     path: &str,
     end: usize,
-    folders: &mut Vec<Text>,
+    folders: &mut PathList,
 ) -> Result<(), OutOfMemory>
-    requires { IsCharBoundary path.now end }
-    ensures added { OnOk result ((f : List ℕ) → listed folders.new.items f ≡
-        (bytes_eq (take end path.now ++ 47 ∷ []) f || bytes_eq (take end path.now) f || listed folders.old.items f)) }
-    ensures same { OnErr result (folders.new.items ≡ folders.old.items) }
+    requires boundary { IsCharBoundary path.now end }
+    requires inside { end < length path.now }
+    requires slash { slice_index path.now end ≡ 47 }
+    ensures added { OnOk result ((f : List ℕ) → listed folders.new f ≡
+        (bytes_eq (take end path.now ++ 47 ∷ []) f || bytes_eq (take end path.now) f || listed folders.old f)) }
+    ensures only { OnErr result (AddsFolders path.now folders.old folders.new) }
 {
     let (front, _) = path.split_at(end);
-    let short = Text::of(alloc, front)?;
     let long = Text::joined(alloc, &[front, "/"])?;
-    if folders.reserve(2).is_err() {
-        return Err(OutOfMemory);
-    }
-    add(folders, short);
-    add(folders, long);
-    Ok(())
+    add(alloc, front, folders)?;
+    add(alloc, long.as_str(), folders)
 }
 
-// There is room for one more.
-fn add(folders: &mut Vec<Text>, path: Text)
-    requires { vec_len folders.old < vec_capacity folders.old }
-    ensures added { (f : List ℕ) → listed folders.new.items f ≡ (bytes_eq path f || listed folders.old.items f) }
-    ensures room { vec_len folders.new + vec_capacity folders.old ≤ vec_capacity folders.new + vec_len folders.old + 1 }
+fn add(alloc: Global, path: &str, folders: &mut PathList) -> Result<(), OutOfMemory>
+    ensures added { OnOk result ((f : List ℕ) → listed folders.new f ≡ (bytes_eq path.now f || listed folders.old f)) }
+    ensures same { OnErr result (folders.new ≡ folders.old) }
 {
-    if !is_listed(folders, path.as_str()) {
-        let Ok(()) = folders.push(path) else {
-            unreachable!();
-        };
+    if folders.has(path) {
+        return Ok(());
     }
-}
-
-pub(crate) fn is_listed(paths: &[Text], path: &str) -> bool
-    ensures { result ≡ listed paths.now path.now }
-{
-    paths.iter().any(|p| p.as_str() == path)
+    folders.push(alloc, path)
 }

@@ -1,13 +1,13 @@
 //! The names in a folder.
 
-ghost use Rattle.std.specs.Prelude.{◌≡◌, ◌≢◌, ◌↔◌, ◌⊎◌, ◌++◌, ◌<◌, ℕ, List, true, OnOk, IfNone, IfSome, IsSome};
+ghost use Rattle.std.specs.Prelude.{◌≡◌, ◌≢◌, ◌↔◌, ◌⊎◌, ◌++◌, ℕ, List, OnOk, IfNone, IfSome, IsSome};
 ghost use Rattle.std.specs.FinMap.{get};
-ghost use Rattle.s3_model.specs.Files.{ends_in_slash as ends_slash, folder_path, is_listed as listed};
+ghost use Rattle.s3_model.specs.Files.{ends_in_slash as ends_slash, folder_path};
 ghost use Rattle.file_table.specs.Names.{IsFirst, IsNamedIn};
 ghost use Rattle.local_files.specs.Names.{IsName};
 
 use crate::text_map::TextMap;
-use s3_model::{OutOfMemory, Text};
+use s3_model::OutOfMemory;
 use std::alloc::Global;
 
 /// A set of names.
@@ -29,22 +29,20 @@ pub(crate) fn add_name(
     }
 }
 
-/// Adds the names of the paths that stand in a folder.
-pub(crate) fn add_direct(
+/// Adds the name of a path that stands right in a folder.
+pub(crate) fn add_last(
     alloc: Global,
     folder: &str,
-    paths: &[Text],
+    path: &str,
     found: &mut NameSet,
 ) -> Result<(), OutOfMemory>
     ensures added { OnOk result ((name : List ℕ) → IsSome (get found.new name) ↔
-        (IsSome (get found.old name) ⊎ (IsName name × (listed paths.now (folder_path folder.now ++ name) ≡ true)))) }
+        (IsSome (get found.old name) ⊎ (IsName name × (path.now ≡ folder_path folder.now ++ name)))) }
 {
-    for path in paths {
-        if let Some(name) = last_name(folder, path.as_str()) {
-            found.insert(alloc, name, ())?;
-        }
+    match last_name(folder, path) {
+        Some(name) => found.insert(alloc, name, ()),
+        None => Ok(()),
     }
-    Ok(())
 }
 
 // The name that a path has in a folder, where it stands right in it.
@@ -111,5 +109,5 @@ fn path_below<'a>(folder: &str, path: &'a str) -> Option<&'a str>
 fn ends_in_slash(path: &str) -> bool
     ensures { result ≡ ends_slash path.now }
 {
-    crate::text_map::ends_in_slash(path.as_bytes())
+    crate::ends::ends_in_slash(path.as_bytes())
 }

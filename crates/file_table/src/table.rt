@@ -34,10 +34,10 @@ ghost use Rattle.file_table.specs.Table.{AreAlike, HasPlace, Moves};
 ghost use Rattle.local_files.specs.Changes.{Changes, IsFileAbove, IsFree, IsInTheWay};
 
 use crate::file::MemFile;
-use crate::folders::{add_folders, is_listed};
-use crate::names::add_direct;
+use crate::folders::add_folders;
+use crate::path_list::PathList;
 use crate::text_map::TextMap;
-use s3_model::{OutOfMemory, Text, Texts};
+use s3_model::{OutOfMemory, Texts};
 use std::alloc::Global;
 use std::marker::Model;
 
@@ -51,9 +51,10 @@ pub enum TableFault {
 /// Files and folders in memory.
 #[derive(Debug, Drop)]
 pub struct FileTable {
+    alloc: Global,
     held: TextMap<MemFile>,
-    empty_folders: Vec<Text>,
-    others: Vec<Text>,
+    empty_folders: PathList,
+    others: PathList,
     unnamed: TextMap<u64>,
 }
 
@@ -67,8 +68,8 @@ impl Model for FileTable {
 
     ghost view = { λ t. record {
       held = t.held;
-      empty_folders = t.empty_folders.items;
-      others = t.others.items;
+      empty_folders = t.empty_folders;
+      others = t.others;
       unnamed = t.unnamed;
     } };
 }
@@ -79,9 +80,10 @@ impl FileTable {
         ensures { result ≡ record { held = empty; empty_folders = []; others = []; unnamed = empty } }
     {
         FileTable {
+            alloc,
             held: TextMap::make(alloc),
-            empty_folders: Vec::new(alloc),
-            others: Vec::new(alloc),
+            empty_folders: PathList::make(alloc),
+            others: PathList::make(alloc),
             unnamed: TextMap::make(alloc),
         }
     }
@@ -95,14 +97,14 @@ impl FileTable {
     pub fn is_folder(&self, path: &str) -> bool
         ensures { result ≡ is_folder self.now path.now }
     {
-        self.held.has_below(path) || is_listed(&self.empty_folders, path)
+        self.empty_folders.has(path) || self.held.has_below(self.alloc, path)
     }
 
     /// Whether something that is neither file nor folder is listed at the path.
     pub fn is_other(&self, path: &str) -> bool
         ensures { result ≡ listed self.now.others path.now }
     {
-        is_listed(&self.others, path)
+        self.others.has(path)
     }
 
     /// The names of what stands in a folder.
@@ -111,8 +113,8 @@ impl FileTable {
     {
         let mut found = TextMap::make(alloc);
         self.held.add_names(alloc, folder, &mut found)?;
-        add_direct(alloc, folder, &self.empty_folders, &mut found)?;
-        add_direct(alloc, folder, &self.others, &mut found)?;
+        self.empty_folders.add_direct(alloc, folder, &mut found)?;
+        self.others.add_direct(alloc, folder, &mut found)?;
         found.texts(alloc)
     }
 
@@ -148,7 +150,7 @@ impl FileTable {
             (self.new ≡ record self.old { empty_folders = self.old.empty_folders ++ path.now ∷ [] }) }
         ensures same { OnErr result (self.new ≡ self.old) }
     {
-        add_path(alloc, &mut self.empty_folders, path)
+        self.empty_folders.push(alloc, path)
     }
 
     /// Adds something that is neither file nor folder.
@@ -156,7 +158,7 @@ impl FileTable {
         ensures added { OnOk result (self.new ≡ record self.old { others = self.old.others ++ path.now ∷ [] }) }
         ensures same { OnErr result (self.new ≡ self.old) }
     {
-        add_path(alloc, &mut self.others, path)
+        self.others.push(alloc, path)
     }
 
     /// Sets how many names of a folder are no text.
@@ -280,17 +282,6 @@ fn make_place(held: &mut TextMap<MemFile>, alloc: Global, path: &str) -> Result<
         return Ok(());
     }
     held.insert(alloc, path, MemFile::empty(alloc))
-}
-
-fn add_path(alloc: Global, paths: &mut Vec<Text>, path: &str) -> Result<(), OutOfMemory>
-    ensures added { OnOk result (paths.new.items ≡ paths.old.items ++ path.now ∷ []) }
-    ensures same { OnErr result (paths.new.items ≡ paths.old.items) }
-{
-    let owned = Text::of(alloc, path)?;
-    match paths.push(owned) {
-        Ok(()) => Ok(()),
-        Err(_) => Err(OutOfMemory),
-    }
 }
 
 // A place of the path at which a file stands where it has a folder.

@@ -6,6 +6,7 @@ ghost use Rattle.std.specs.Prelude.{
   ◌≤◌,
   ◌⊎◌,
   ◌↔◌,
+  ◌++◌,
   ℕ,
   List,
   IfOk,
@@ -16,18 +17,17 @@ ghost use Rattle.std.specs.Prelude.{
   IfNone,
   Some,
   length,
-  string_bytes,
 };
 ghost use Rattle.std.specs.Option.{is_some, option_copied};
 ghost use Rattle.std.specs.List.{list_any};
-ghost use Rattle.std.specs.String.{string_cmp};
-ghost use Rattle.std.specs.BTreeMap as tree;
 ghost use Rattle.std.specs.FinMap.{get, insert, remove, empty, keys};
 ghost use Rattle.file_table.specs.Names.{IsNamedIn};
 ghost use Rattle.file_table.specs.TextMap.{text_map};
-ghost use Rattle.s3_model.specs.Files.{is_below, ends_in_slash as ends_slash};
+ghost use Rattle.local_files.specs.Names.{IsName};
+ghost use Rattle.s3_model.specs.Files.{folder_path, is_below};
 
-use crate::names::{NameSet, add_name};
+use crate::ends::{Ends, any_below, has_between};
+use crate::names::{NameSet, add_last, add_name};
 use s3_model::{OutOfMemory, Text, Texts};
 use std::alloc::Global;
 use std::collections::BTreeMap;
@@ -110,7 +110,7 @@ impl<V: Drop> TextMap<V> {
         self.inner.remove(key)
     }
 
-    /// Adds the names that the keys show in a folder.
+    /// Adds the names that the keys show in a folder: those of files and folders in it.
     pub(crate) fn add_names(
         &self,
         alloc: Global,
@@ -120,8 +120,26 @@ impl<V: Drop> TextMap<V> {
         ensures added { OnOk result ((name : List ℕ) → IsSome (get found.new name) ↔ (IsSome (get found.old name) ⊎
             ((key : List ℕ) × IsSome (get self.now key) × IsNamedIn folder.now name key))) }
     {
-        for key in self.inner.keys() {
+        let ends = Ends::of(alloc, folder)?;
+        for (key, _) in self.inner.range(&ends.first..&ends.last) {
             add_name(alloc, folder, key.as_str(), found)?;
+        }
+        Ok(())
+    }
+
+    /// Adds the names of the keys that stand right in a folder.
+    pub(crate) fn add_direct(
+        &self,
+        alloc: Global,
+        folder: &str,
+        found: &mut NameSet,
+    ) -> Result<(), OutOfMemory>
+        ensures added { OnOk result ((name : List ℕ) → IsSome (get found.new name) ↔ (IsSome (get found.old name) ⊎
+            (IsName name × IsSome (get self.now (folder_path folder.now ++ name))))) }
+    {
+        let ends = Ends::of(alloc, folder)?;
+        for (key, _) in self.inner.range(&ends.first..&ends.last) {
+            add_last(alloc, folder, key.as_str(), found)?;
         }
         Ok(())
     }
@@ -146,11 +164,14 @@ impl<V: Drop> TextMap<V> {
         Ok(texts)
     }
 
-    /// Whether some key is a path below that folder.
-    pub fn has_below(&self, folder: &str) -> bool
+    /// Whether some key is a path below that folder. Where there is no memory for its path, all keys are looked at.
+    pub fn has_below(&self, alloc: Global, folder: &str) -> bool
         ensures { result ≡ list_any (is_below folder.now) (keys self.now) }
     {
-        any_below(folder, &self.inner)
+        match Ends::of(alloc, folder) {
+            Ok(ends) => has_between(&self.inner, folder, &ends),
+            Err(_) => any_below(&self.inner, folder),
+        }
     }
 }
 
@@ -159,30 +180,4 @@ fn length_of<V>(map: &BTreeMap<String, V>) -> usize
     ensures { result ≡ length (keys (text_map map.now.entries)) }
 {
     map.len()
-}
-
-fn any_below<V>(folder: &str, map: &BTreeMap<String, V>) -> bool
-    ensures below { result ≡ list_any (λ k. is_below folder.now (string_bytes k)) (tree.keys map.now) }
-    ensures ordered { tree.IsOrdered string_cmp map.now }
-{
-    map.keys()
-        .any(|path| is_path_below(folder.as_bytes(), path.as_bytes()))
-}
-
-fn is_path_below(folder: &[u8], path: &[u8]) -> bool
-    ensures { result ≡ is_below folder.now path.now }
-{
-    if !path.starts_with(folder) {
-        return false;
-    }
-    ends_in_slash(folder) || (folder.len() < path.len() && path[folder.len()] == b'/')
-}
-
-pub(crate) fn ends_in_slash(path: &[u8]) -> bool
-    ensures { result ≡ ends_slash path.now }
-{
-    match path {
-        [.., last] => *last == b'/',
-        [] => false,
-    }
 }

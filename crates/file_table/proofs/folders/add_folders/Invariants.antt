@@ -5,8 +5,8 @@ use Rattle.file_table.proofs.folders.add_folders.Given as goal
 -- the folders up to this place are listed, and no others were added
 abbrev pub invariant-loop-end : goal.invariant-loop-end
 invariant-loop-end l = record {
-  only : (f : List ℕ) → is_listed l.folders.items f ≡ true → (is_below f l.path ≡ true) ⊎ (is_listed l.initial.folders.items f ≡ true);
-  kept : (f : List ℕ) → is_listed l.initial.folders.items f ≡ true → is_listed l.folders.items f ≡ true;
+  only : (f : List ℕ) → is_listed l.folders f ≡ true → (is_below f l.path ≡ true) ⊎ (is_listed l.initial.folders f ≡ true);
+  kept : (f : List ℕ) → is_listed l.initial.folders f ≡ true → is_listed l.folders f ≡ true;
   each : (front back : List ℕ) → l.path ≡ front ++ 47 ∷ back → length front < l.end
-      → (is_listed l.folders.items front ≡ true) × (is_listed l.folders.items (front ++ 47 ∷ []) ≡ true);
+      → (is_listed l.folders front ≡ true) × (is_listed l.folders (front ++ 47 ∷ []) ≡ true);
 }

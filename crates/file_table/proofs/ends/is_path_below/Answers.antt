@@ -1,6 +1,6 @@
 use Rattle.std.proofs.Common.{sym, ◌∙◌}
 use Rattle.file_table.proofs.Below.{below_not, below_at}
-use Rattle.file_table.proofs.text_map.is_path_below.Goals as goal
+use Rattle.file_table.proofs.ends.is_path_below.Goals as goal
 
 pub returns-then-not-starts_with : goal.returns-then-not-starts_with
 returns-then-not-starts_with c = sym (below_not c.args.folder.now c.args.path.now (sym c.starts_with.ensures.value ∙ c.if-not-starts_with.true))
