@@ -1,0 +1,5 @@
+pub mod FoundLemmas
+pub mod OrderLemmas
+pub mod PathLemmas
+pub mod StepLemmas
+pub mod WalkLemmas

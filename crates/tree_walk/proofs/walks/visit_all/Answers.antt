@@ -1,0 +1,16 @@
+use Rattle.std.proofs.Common.{◌∙◌, List, ℕ, ap, rules, length, arith}
+use Rattle.tree_walk.proofs.StepLemmas.{got_at, way_ends, way_step}
+use Rattle.tree_walk.proofs.WalkLemmas.{keeps_then}
+use Rattle.tree_walk.proofs.walks.visit_all.Goals as goal
+
+pub returns-in_default-clause-visited : goal.returns-in_default-clause-visited
+returns-in_default-clause-visited g c =
+    way_ends _ c.args.root.now c.loop-place.place c.args.found.now c.loop-place.found (omega (arith, c.in_default.ensures.lookup, ap (λ (xs : List (List ℕ)). length xs) c.deref.ensures.value)) c.loop-place.invariant.visited
+
+pub loop-place-preserved : goal.loop-place-preserved
+loop-place-preserved g c = record {
+  kept = keeps_then _ _ _ _ _ _ c.loop-place.invariant.later c.visit.ensures.later c.loop-place.invariant.kept c.visit.ensures.kept;
+  later = search rules;
+  visited = way_step _ _ _ _ c.visit.ensures.kept c.args.root.now c.as_str.result.now c.loop-place.place c.args.found.now c.loop-place.found c.loop-place.invariant.visited c.visit.new.found
+      (got_at c.loop-place.found.folders.items c.deref.result.now c.loop-place.place c.in-Some.folder.now c.as_str.result.now c.deref.ensures.value c.in-Some.ensures.lookup.3.0 c.in-Some.ensures.lookup.1 (c.as_str.ensures ∙ c.in-Ok.ensures)) c.in_ok-visit.ensures.visited;
+}

@@ -1,0 +1,138 @@
+//! What a walk has found so far.
+
+ghost use Rattle.std.specs.Prelude.{◌≡◌, ◌≤◌, ◌++◌, ◌∷◌, [], IfErr, OnOk, length};
+ghost use Rattle.std.specs.FinMap.{empty, insert, keys};
+ghost use Rattle.tree_walk.specs.Finding.{Adds, IsOver};
+
+use crate::paths::depth;
+use crate::walks::WalkFault;
+use file_table::TextMap;
+use s3_model::Text;
+use s3_outside::Shape;
+use std::alloc::Global;
+
+/// How many files a tree may have.
+const MOST_FILES: usize = 1_000_000;
+
+/// How many names a folder may be below the root.
+const DEEPEST: usize = 128;
+
+#[derive(Clone, Copy, Drop)]
+pub(crate) struct Look {
+    pub(crate) size: u64,
+    pub(crate) micros: u64,
+}
+
+/// The files, what is neither file nor folder, and the folders in the order in which they are visited, with how many of
+/// their names are no text. Paths go on from the root, which is the empty path.
+#[derive(Drop)]
+pub(crate) struct Found {
+    pub(crate) files: TextMap<Look>,
+    pub(crate) others: TextMap<()>,
+    pub(crate) unnamed: TextMap<u64>,
+    pub(crate) folders: Vec<Text>,
+}
+
+impl Found {
+    /// Nothing, which takes no memory.
+    pub(crate) fn make(alloc: Global) -> Found
+        ensures files { result.files ≡ empty }
+        ensures others { result.others ≡ empty }
+        ensures unnamed { result.unnamed ≡ empty }
+        ensures folders { result.folders.items ≡ [] }
+    {
+        Found {
+            files: TextMap::make(alloc),
+            others: TextMap::make(alloc),
+            unnamed: TextMap::make(alloc),
+            folders: Vec::new(alloc),
+        }
+    }
+
+    /// Adds what stands at a path.
+    #[tactic(auto, using(crate::proofs::FoundLemmas::over_memory))]
+    pub(crate) fn add(&mut self, alloc: Global, path: &str, shape: Shape) -> Result<(), WalkFault>
+        ensures added { OnOk result (Adds path.now shape self.old self.new) }
+        ensures few { OnOk result (length (keys self.old.files) ≤ 1000000 → length (keys self.new.files) ≤ 1000000) }
+        ensures over { IfErr result (IsOver path.now shape self.old self.new) }
+    {
+        match shape {
+            Shape::Absent => Ok(()),
+            Shape::Folder => self.add_folder(alloc, path),
+            Shape::Other => self.add_other(alloc, path),
+            Shape::File { size, micros } => self.add_file(alloc, path, Look { size, micros }),
+        }
+    }
+
+    #[tactic(auto, using(crate::proofs::FoundLemmas::over_memory))]
+    fn add_file(&mut self, alloc: Global, path: &str, look: Look) -> Result<(), WalkFault>
+        ensures added { OnOk result (Adds path.now (Shape.File look.size look.micros) self.old self.new) }
+        ensures few { OnOk result (length (keys self.new.files) ≤ 1000000) }
+        ensures over { IfErr result (IsOver path.now (Shape.File look.size look.micros) self.old self.new) }
+    {
+        if self.files.insert(alloc, path, look).is_err() {
+            return Err(WalkFault::Memory);
+        }
+        if MOST_FILES < self.files.len() {
+            return Err(WalkFault::TooMany);
+        }
+        Ok(())
+    }
+
+    fn add_other(&mut self, alloc: Global, path: &str) -> Result<(), WalkFault>
+        ensures added { OnOk result (Adds path.now Shape.Other self.old self.new) }
+        ensures memory { IfErr result (λ fault. fault ≡ WalkFault.Memory) }
+    {
+        match self.others.insert(alloc, path, ()) {
+            Ok(()) => Ok(()),
+            Err(_) => Err(WalkFault::Memory),
+        }
+    }
+
+    /// Sets how many names of a folder are no text.
+    pub(crate) fn count(
+        &mut self,
+        alloc: Global,
+        folder: &str,
+        unnamed: u64,
+    ) -> Result<(), WalkFault>
+        ensures files { self.new.files ≡ self.old.files }
+        ensures others { self.new.others ≡ self.old.others }
+        ensures folders { self.new.folders.items ≡ self.old.folders.items }
+        ensures counted { OnOk result (self.new.unnamed ≡ insert self.old.unnamed folder.now unnamed) }
+        ensures memory { IfErr result (λ fault. fault ≡ WalkFault.Memory) }
+    {
+        match self.unnamed.insert(alloc, folder, unnamed) {
+            Ok(()) => Ok(()),
+            Err(_) => Err(WalkFault::Memory),
+        }
+    }
+
+    #[tactic(auto, using(crate::proofs::FoundLemmas::over_memory))]
+    fn add_folder(&mut self, alloc: Global, path: &str) -> Result<(), WalkFault>
+        ensures added { OnOk result (Adds path.now Shape.Folder self.old self.new) }
+        ensures over { IfErr result (IsOver path.now Shape.Folder self.old self.new) }
+    {
+        if DEEPEST < depth(path) {
+            return Err(WalkFault::TooDeep);
+        }
+        self.push_folder(alloc, path)
+    }
+
+    /// Adds a folder that is to be visited, however deep.
+    pub(crate) fn push_folder(&mut self, alloc: Global, path: &str) -> Result<(), WalkFault>
+        ensures files { self.new.files ≡ self.old.files }
+        ensures others { self.new.others ≡ self.old.others }
+        ensures unnamed { self.new.unnamed ≡ self.old.unnamed }
+        ensures folders { OnOk result (self.new.folders.items ≡ self.old.folders.items ++ path.now ∷ []) }
+        ensures memory { IfErr result (λ fault. fault ≡ WalkFault.Memory) }
+    {
+        let Ok(path) = Text::of(alloc, path) else {
+            return Err(WalkFault::Memory);
+        };
+        match self.folders.push(path) {
+            Ok(()) => Ok(()),
+            Err(_) => Err(WalkFault::Memory),
+        }
+    }
+}

@@ -1,0 +1,9 @@
+//! The tree of files below a folder.
+#![tactic(auto)]
+
+mod answers;
+mod found;
+mod paths;
+mod walks;
+
+pub use walks::{WalkFault, Walked, walk};
