@@ -1,0 +1,4 @@
+pub mod PartMaps
+pub mod Swaps
+pub mod Changes
+pub mod Assembled

@@ -1,0 +1,5 @@
+pub mod Codes
+pub mod Endings
+pub mod Parts
+pub mod Refused
+pub mod Assembly
