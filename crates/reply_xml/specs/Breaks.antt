@@ -1,6 +1,6 @@
 -- Where a document has a fault: what stands in front reads as texts and elements, and what stands here is none of the
 -- grammar, has a bad reference, or is a text out of the form of its element.
-use Rattle.std.specs.Prelude.{◌≡◌, ◌≢◌, ◌-◌, ⊤, ℕ, true, false, Result, Ok, Err, List, [], ◌∷◌, length}
+use Rattle.std.specs.Prelude.{◌≡◌, ◌≢◌, ◌-◌, ⊤, ℕ, true, false, Result, Ok, Err, List, [], ◌∷◌, Option, Some, length}
 use Rattle.reply_xml.specs.declared.elements.Element.{Element}
 use Rattle.reply_xml.specs.declared.runs.Sort.TheVariants as sort
 use Rattle.reply_xml.specs.declared.faults.DocFault.{DocFault}
@@ -12,8 +12,9 @@ use Rattle.reply_xml.specs.Documents.{BeginsDocument, NamesRoot, ReadsSpace}
 use Rattle.reply_xml.specs.Reading.{AtEnd, HoldsSome, IsTagOf, NamesChild, ReadsSome}
 use Rattle.reply_xml.specs.Leaves.{HasBadReference, LeavesEndTag, LeavesStart, LeavesTagEnd, LeavesText}
 use Rattle.reply_xml.specs.Runs.{ReadsRun}
+use Rattle.reply_xml.specs.Tables.{Done, IsOutside, Table, first_missing, form_in, inside_in, stands_alone, stood}
 use Rattle.reply_xml.specs.Tags.{NameEnds, NamesTag}
-use Rattle.reply_xml.specs.Unfit.{Form, HasText, IsUnfit, is_read_as}
+use Rattle.reply_xml.specs.Unfit.{Form, HasText, IsUnfit}
 
 -- the fault stands where so many bytes are left of a document of this size
 abbrev pub Stands : (size left : ℕ) → DocFault → Type 0
@@ -25,51 +26,90 @@ pub data BreaksText (size : ℕ) (reason : DocFault) (bytes : List ℕ) : Type 0
   BadReference : (text rest : List ℕ) → ReadsRun sort.Text text bytes rest → HasBadReference text
       → reason ≡ fault.BadEscape → BreaksText size reason bytes
 
--- What stands behind the tag of an element that has a text has a fault: the text is out of the form of the element, or
--- the end tag does not follow it.
+-- What stands behind the tag of an element that is read as a text has a fault: the text leaves the grammar, or is out of
+-- the form of the element, or the end tag does not follow it.
 pub data BreaksLeaf (size : ℕ) (reason : DocFault) (form : Form) (of : Element)
     (tag : Tag) (bytes : List ℕ) : Type 0 where
+  InText : tag.closed ≡ false → BreaksText size reason bytes → BreaksLeaf size reason form of tag bytes
   Unfit : (text rest : List ℕ) → HasText tag bytes rest text → IsUnfit form of text reason
       → BreaksLeaf size reason form of tag bytes
   NoEndBehind : (text end : List ℕ) (left : ℕ) → tag.closed ≡ false → ReadsText text bytes end
       → LeavesEndTag tag.name.now end left → Stands size left reason
       → BreaksLeaf size reason form of tag bytes
 
--- What stands behind the tag of an element has a fault: at a text, at the tag of an element inside or behind its name,
--- inside such an element, at its text where it has one, behind the whole element, or at the end tag. On the level below
--- the sixteenth no element may stand.
-pub data BreaksIn (size : ℕ) (reason : DocFault) : Tag → List ℕ → Type 0 where
-  AtText : {tag : Tag} {bytes : List ℕ} → tag.closed ≡ false → BreaksText size reason bytes
-      → BreaksIn size reason tag bytes
-  AtStart : {tag : Tag} {bytes : List ℕ} (text at : List ℕ) (left : ℕ) → tag.closed ≡ false → ReadsText text bytes at
-      → ((more : List ℕ) → ¬ (at ≡ 60 ∷ 47 ∷ more)) → LeavesStart at left → Stands size left reason
-      → BreaksIn size reason tag bytes
-  TooLow : {tag : Tag} {bytes : List ℕ} (text at name rest : List ℕ) → tag.closed ≡ false → ReadsText text bytes at
-      → NamesTag name at rest → NameEnds rest → tag.room ≡ 0 → reason ≡ fault.TooDeep → BreaksIn size reason tag bytes
-  InTag : {tag : Tag} {bytes : List ℕ} (child : Child) (from : List ℕ) (left : ℕ) → tag.closed ≡ false
-      → NamesChild tag.room bytes child from → LeavesTagEnd from left → Stands size left reason
-      → BreaksIn size reason tag bytes
-  Inside : {tag : Tag} {bytes : List ℕ} (child : Child) (inner : Tag) (from at : List ℕ) → tag.closed ≡ false
-      → NamesChild tag.room bytes child from → IsTagOf child inner from at → BreaksIn size reason inner at
-      → BreaksIn size reason tag bytes
-  InLeaf : {tag : Tag} {bytes : List ℕ} (child : Child) (inner : Tag) (form : Form) (of : Element) (from at : List ℕ)
-      → tag.closed ≡ false → NamesChild tag.room bytes child from → IsTagOf child inner from at
-      → is_the of child.element ≡ true → is_read_as of form ≡ true → BreaksLeaf size reason form of inner at
-      → BreaksIn size reason tag bytes
-  Behind : {tag : Tag} {bytes : List ℕ} (child : Child) (from next : List ℕ) → tag.closed ≡ false
-      → NamesChild tag.room bytes child from → ReadsSome child from next → BreaksIn size reason tag next
-      → BreaksIn size reason tag bytes
-  AtEndTag : {tag : Tag} {bytes : List ℕ} (at : List ℕ) (left : ℕ) → tag.closed ≡ false → AtEnd tag bytes at
-      → LeavesEndTag tag.name.now at left → Stands size left reason → BreaksIn size reason tag bytes
+-- an element of this name begins, which may stand once, and did so in front
+pub record IsAgain (table : Table) (front : List (Option Element)) (child : Child) (of : Element) : Type 0 where
+  pub same : is_the of child.element ≡ true
+  pub alone : stands_alone table of ≡ true
+  pub before : stood of front ≡ true
 
--- what stands behind the name of an element has a fault: in its tag, or behind that
-pub data BreaksElement (size : ℕ) (reason : DocFault) (child : Child) (bytes : List ℕ) : Type 0 where
-  BehindName : (left : ℕ) → LeavesTagEnd bytes left → Stands size left reason → BreaksElement size reason child bytes
-  BehindTag : (tag : Tag) (at : List ℕ) → IsTagOf child tag bytes at → BreaksIn size reason tag at
-      → BreaksElement size reason child bytes
-  InText : (tag : Tag) (form : Form) (of : Element) (at : List ℕ) → IsTagOf child tag bytes at
-      → is_the of child.element ≡ true → is_read_as of form ≡ true → BreaksLeaf size reason form of tag at
-      → BreaksElement size reason child bytes
+-- the table has the text of an element read in this form
+pub record IsTextOf (table : Table) (child : Child) (of : Element) (form : Form) : Type 0 where
+  pub same : is_the of child.element ≡ true
+  pub read_so : form_in table of ≡ Some form
+
+-- the table has these elements read inside an element
+pub record IsParentOf (table : Table) (child : Child) (of : Element) (inside : Table) : Type 0 where
+  pub same : is_the of child.element ≡ true
+  pub read_so : inside_in table of ≡ Some inside
+
+-- What stands behind the tag of an element has a fault, where these elements are read inside it and those stood in
+-- front: at a text, at the tag of an element inside or behind its name, at an element that stands twice, inside an
+-- element, at its text where that is read, behind the whole element, at the end tag, or where an element is missing
+-- there. On the level below the sixteenth no element may stand. In an element that is passed over, none are read.
+pub data BreaksIn (size : ℕ) (reason : DocFault) : Table → List (Option Element) → Tag → List ℕ → Type 0 where
+  AtText : {table : Table} {front : List (Option Element)} {tag : Tag} {bytes : List ℕ} → tag.closed ≡ false
+      → BreaksText size reason bytes → BreaksIn size reason table front tag bytes
+  AtStart : {table : Table} {front : List (Option Element)} {tag : Tag} {bytes : List ℕ} (text at : List ℕ) (left : ℕ)
+      → tag.closed ≡ false → ReadsText text bytes at → ((more : List ℕ) → ¬ (at ≡ 60 ∷ 47 ∷ more))
+      → LeavesStart at left → Stands size left reason → BreaksIn size reason table front tag bytes
+  TooLow : {table : Table} {front : List (Option Element)} {tag : Tag} {bytes : List ℕ} (text at name rest : List ℕ)
+      → tag.closed ≡ false → ReadsText text bytes at → NamesTag name at rest → NameEnds rest → tag.room ≡ 0
+      → reason ≡ fault.TooDeep → BreaksIn size reason table front tag bytes
+  InTag : {table : Table} {front : List (Option Element)} {tag : Tag} {bytes : List ℕ} (child : Child) (from : List ℕ)
+      (left : ℕ) → tag.closed ≡ false → NamesChild tag.room bytes child from → LeavesTagEnd from left
+      → Stands size left reason → BreaksIn size reason table front tag bytes
+  Again : {table : Table} {front : List (Option Element)} {tag : Tag} {bytes : List ℕ} (child : Child) (of : Element)
+      (from : List ℕ) → tag.closed ≡ false → NamesChild tag.room bytes child from → IsAgain table front child of
+      → reason ≡ fault.Twice of → BreaksIn size reason table front tag bytes
+  InLeaf : {table : Table} {front : List (Option Element)} {tag : Tag} {bytes : List ℕ} (child : Child) (inner : Tag)
+      (form : Form) (of : Element) (from at : List ℕ) → tag.closed ≡ false → NamesChild tag.room bytes child from
+      → IsTagOf child inner from at → IsTextOf table child of form → BreaksLeaf size reason form of inner at
+      → BreaksIn size reason table front tag bytes
+  Inside : {table : Table} {front : List (Option Element)} {tag : Tag} {bytes : List ℕ} (child : Child) (inner : Tag)
+      (of : Element) (inside : Table) (from at : List ℕ) → tag.closed ≡ false → NamesChild tag.room bytes child from
+      → IsTagOf child inner from at → IsParentOf table child of inside → BreaksIn size reason inside [] inner at
+      → BreaksIn size reason table front tag bytes
+  InOther : {table : Table} {front : List (Option Element)} {tag : Tag} {bytes : List ℕ} (child : Child) (inner : Tag)
+      (from at : List ℕ) → tag.closed ≡ false → NamesChild tag.room bytes child from → IsTagOf child inner from at
+      → IsOutside table child.element → BreaksIn size reason Done [] inner at
+      → BreaksIn size reason table front tag bytes
+  Behind : {table : Table} {front : List (Option Element)} {tag : Tag} {bytes : List ℕ} (child : Child)
+      (from next : List ℕ) → tag.closed ≡ false → NamesChild tag.room bytes child from → ReadsSome child from next
+      → BreaksIn size reason table (child.element ∷ front) tag next → BreaksIn size reason table front tag bytes
+  AtEndTag : {table : Table} {front : List (Option Element)} {tag : Tag} {bytes : List ℕ} (at : List ℕ) (left : ℕ)
+      → tag.closed ≡ false → AtEnd tag bytes at → LeavesEndTag tag.name.now at left → Stands size left reason
+      → BreaksIn size reason table front tag bytes
+  Lacks : {table : Table} {front : List (Option Element)} {tag : Tag} {bytes : List ℕ} (of : Element) (at : List ℕ)
+      → AtEnd tag bytes at → first_missing table front ≡ Some of → reason ≡ fault.Missing of
+      → BreaksIn size reason table front tag bytes
+
+-- what stands behind the name of an element has a fault: the element stands again, or the fault is in its tag, or behind
+-- that
+pub data BreaksElement (size : ℕ) (reason : DocFault) (table : Table) (front : List (Option Element)) (child : Child)
+    (bytes : List ℕ) : Type 0 where
+  BehindName : (left : ℕ) → LeavesTagEnd bytes left → Stands size left reason
+      → BreaksElement size reason table front child bytes
+  StandsAgain : (of : Element) → IsAgain table front child of → reason ≡ fault.Twice of
+      → BreaksElement size reason table front child bytes
+  BehindLeafTag : (tag : Tag) (form : Form) (of : Element) (at : List ℕ) → IsTagOf child tag bytes at
+      → IsTextOf table child of form → BreaksLeaf size reason form of tag at
+      → BreaksElement size reason table front child bytes
+  BehindTag : (tag : Tag) (of : Element) (inside : Table) (at : List ℕ) → IsTagOf child tag bytes at
+      → IsParentOf table child of inside → BreaksIn size reason inside [] tag at
+      → BreaksElement size reason table front child bytes
+  BehindOtherTag : (tag : Tag) (at : List ℕ) → IsTagOf child tag bytes at → IsOutside table child.element
+      → BreaksIn size reason Done [] tag at → BreaksElement size reason table front child bytes
 
 -- the tag of the root stands in front, and this follows
 pub record HasRoot (root doc : List ℕ) (tag : Tag) (rest : List ℕ) : Type 0 where
@@ -77,24 +117,27 @@ pub record HasRoot (root doc : List ℕ) (tag : Tag) (rest : List ℕ) : Type 0 
   pub room : tag.room ≡ 15
   pub name : tag.name.now ≡ root
 
--- a document has a fault: it begins with no such root, or the fault stands in its tag, inside it, or behind it
-pub data Breaks (root doc : List ℕ) (reason : DocFault) : Type 0 where
+-- a document has a fault, whose root has these elements: it begins with no such root, or the fault stands in its tag,
+-- inside it, or behind it
+pub data Breaks (root : List ℕ) (table : Table) (doc : List ℕ) (reason : DocFault) : Type 0 where
   NoRoot : (place : ℕ) → ((at : List ℕ) → NamesRoot root doc at → ¬ (NameEnds at))
-      → reason ≡ fault.NotADocument place → Breaks root doc reason
+      → reason ≡ fault.NotADocument place → Breaks root table doc reason
   InRootTag : (at : List ℕ) (left : ℕ) → NamesRoot root doc at → LeavesTagEnd at left → Stands (length doc) left reason
-      → Breaks root doc reason
-  InRoot : (tag : Tag) (rest : List ℕ) → HasRoot root doc tag rest → BreaksIn (length doc) reason tag rest
-      → Breaks root doc reason
+      → Breaks root table doc reason
+  InRoot : (tag : Tag) (rest : List ℕ) → HasRoot root doc tag rest → BreaksIn (length doc) reason table [] tag rest
+      → Breaks root table doc reason
   BehindRoot : (tag : Tag) (rest at more : List ℕ) → HasRoot root doc tag rest → HoldsSome tag rest at
-      → ReadsSpace at more → more ≢ [] → Stands (length doc) (length more) reason → Breaks root doc reason
+      → ReadsSpace at more → more ≢ [] → Stands (length doc) (length more) reason → Breaks root table doc reason
 
--- the claim, where a fault is not want of memory, nor an element that is missing or stands twice
+-- the claim, where a fault is not want of memory
 abbrev pub OnBroken : DocFault → (DocFault → Type 0) → Type 0
 OnBroken fault.Memory Claim = ⊤
-OnBroken (fault.Missing element) Claim = ⊤
-OnBroken (fault.Twice element) Claim = ⊤
 OnBroken other Claim = Claim other
 
 abbrev pub IfBroken : {T : Type 0} → Result T DocFault → (DocFault → Type 0) → Type 0
 IfBroken (Ok value) Claim = ⊤
 IfBroken (Err reason) Claim = OnBroken reason Claim
+
+-- the fault is the first element that is missing
+abbrev pub IsMissing : Table → List (Option Element) → DocFault → Type 0
+IsMissing table front reason = (of : Element) × (reason ≡ fault.Missing of) × (first_missing table front ≡ Some of)

@@ -1,6 +1,6 @@
 -- Where bytes leave a production: they read as its parts up to a place, and the next part does not stand there. The
 -- place is told by the number of bytes that are left.
-use Rattle.std.specs.Prelude.{◌≡◌, ◌≢◌, ◌≤◌, ◌-◌, ◌⊎◌, ℕ, List, [], ◌∷◌, length, take}
+use Rattle.std.specs.Prelude.{◌≡◌, ◌≢◌, ◌≤◌, ◌<◌, ◌-◌, ◌⊎◌, ℕ, List, [], ◌∷◌, length, slice_index, take}
 use Rattle.std.specs.Str.{IsUtf8, IsValidUpTo}
 use Rattle.reply_values.specs.References.{IsBadReference}
 use Rattle.reply_xml.specs.declared.runs.Sort.TheVariants as sort
@@ -27,7 +27,8 @@ pub data LeavesValue (bytes : List ℕ) (left : ℕ) : Type 0 where
       → ReadsRun (sort.Value quote) value inside at → ¬ (IsUtf8 value) → size ≤ length value
       → left ≡ length inside - size → LeavesValue bytes left
   NoEndQuote : (quote : ℕ) (inside value at : List ℕ) → IsQuote quote → bytes ≡ quote ∷ inside
-      → ReadsRun (sort.Value quote) value inside at → Lacks quote at → left ≡ length at → LeavesValue bytes left
+      → ReadsRun (sort.Value quote) value inside at → IsUtf8 value → Lacks quote at → left ≡ length at
+      → LeavesValue bytes left
 
 -- an attribute does not stand here: its name, the `=` or its value
 pub data LeavesAttribute (bytes : List ℕ) (left : ℕ) : Type 0 where
@@ -58,14 +59,21 @@ pub data LeavesStart (bytes : List ℕ) (left : ℕ) : Type 0 where
   NoTagName : (more : List ℕ) → bytes ≡ 60 ∷ more → LeavesName more left → LeavesStart bytes left
   NoNameEnd : (name at : List ℕ) → NamesTag name bytes at → ¬ (NameEnds at) → left ≡ length at → LeavesStart bytes left
 
--- The end tag of an element with this name does not stand here: not its `<`, its `/`, a name or the `>`. Where another
--- name stands, the fault stands in it or behind it.
+-- so many bytes at the front of a name, and no more, stand at the front of another one too
+pub record IsCommonFront (name other : List ℕ) (size : ℕ) : Type 0 where
+  pub within : size ≤ length name
+  pub within_other : size ≤ length other
+  pub same : (k : ℕ) → k < size → slice_index other k ≡ slice_index name k
+  pub longest : size < length name → size < length other → slice_index other size ≢ slice_index name size
+
+-- The end tag of an element with this name does not stand here: not its `<`, its `/`, a name or the `>`. Another name is
+-- at fault behind the bytes that it has in common with this one.
 pub data LeavesEndTag (name bytes : List ℕ) (left : ℕ) : Type 0 where
   NoEndTag : Lacks 60 bytes → left ≡ length bytes → LeavesEndTag name bytes left
   NoSlash : (more : List ℕ) → bytes ≡ 60 ∷ more → Lacks 47 more → left ≡ length more → LeavesEndTag name bytes left
   NoEndName : (more : List ℕ) → bytes ≡ 60 ∷ 47 ∷ more → LeavesName more left → LeavesEndTag name bytes left
   OtherName : (size : ℕ) (more found at : List ℕ) → bytes ≡ 60 ∷ 47 ∷ more → ReadsName found more at → found ≢ name
-      → size ≤ length found → left ≡ length more - size → LeavesEndTag name bytes left
+      → IsCommonFront found name size → left ≡ length more - size → LeavesEndTag name bytes left
   NoEnd : (more space at close : List ℕ) → bytes ≡ 60 ∷ 47 ∷ more → ReadsName name more at
       → ReadsRun sort.Space space at close → Lacks 62 close → left ≡ length close → LeavesEndTag name bytes left
 

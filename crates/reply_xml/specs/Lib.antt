@@ -9,5 +9,6 @@ pub mod Meaning
 pub mod Places
 pub mod Reading
 pub mod Runs
+pub mod Tables
 pub mod Tags
 pub mod Unfit

@@ -1,8 +1,7 @@
 -- What is wrong with the text of an element: it is out of the form in which the element is read.
-use Rattle.std.specs.Prelude.{◌≡◌, ◌≢◌, ℕ, Bool, true, false, List, [], codes}
+use Rattle.std.specs.Prelude.{◌≡◌, ◌≢◌, ℕ, Bool, List, [], codes}
 use Rattle.std.specs.Bool.{MatchBool}
 use Rattle.reply_xml.specs.declared.elements.Element.{Element}
-use Rattle.reply_xml.specs.declared.elements.Element.TheVariants as element
 use Rattle.reply_xml.specs.declared.faults.DocFault.{DocFault}
 use Rattle.reply_xml.specs.declared.faults.DocFault.TheVariants as fault
 use Rattle.reply_xml.specs.declared.reader.Tag.{Tag}
@@ -20,25 +19,6 @@ pub data Form : Type 0 where
   ATruth : Form
   ATime : Form
   AnEncoding : Form
-
--- The form in which the text of an element is read; the entity tag of a completed upload may be any text. Elements that
--- have no text are read in none.
-abbrev pub is_read_as : Element → Form → Bool
-is_read_as element.Code OwnForm = true
-is_read_as element.Message OwnForm = true
-is_read_as element.IsTruncated ATruth = true
-is_read_as element.EncodingType AnEncoding = true
-is_read_as element.NextContinuationToken OwnForm = true
-is_read_as element.Key OwnForm = true
-is_read_as element.LastModified ATime = true
-is_read_as element.ETag OwnForm = true
-is_read_as element.ETag AnyText = true
-is_read_as element.Size ANumber = true
-is_read_as element.Prefix OwnForm = true
-is_read_as element.Name OwnForm = true
-is_read_as element.CreationDate ATime = true
-is_read_as element.UploadId OwnForm = true
-is_read_as other form = false
 
 -- the text of an element is out of the form, and this is the fault
 abbrev pub IsUnfit : Form → Element → List ℕ → DocFault → Type 0

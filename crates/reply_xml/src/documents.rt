@@ -7,6 +7,7 @@ ghost use Rattle.reply_xml.specs.Documents.{BeginsDocument, EndsAt, IsDocument, 
 ghost use Rattle.reply_xml.specs.Breaks.{Breaks, IfBroken, Stands};
 ghost use Rattle.reply_xml.specs.Faults.{IfRefused};
 ghost use Rattle.reply_xml.specs.Places.{BeginsOtherwise, HasOtherRoot, LacksName, LacksRoot};
+ghost use Rattle.reply_xml.specs.Tables.{Table};
 ghost use Rattle.reply_xml.specs.Tags.{NameEnds, ReadsTag};
 
 use crate::elements::element_named;
@@ -115,7 +116,7 @@ impl<'a> Reader<'a> {
         ensures shorter { IfOk result (λ parts. length parts.0.rest.now ≤ length doc.now) }
         ensures refused { IfRefused result ((closed : Bool) (rest : List ℕ) →
             ¬ (BeginsDocument root.now doc.now closed rest)) }
-        ensures broken { IfBroken result (Breaks root.now doc.now) }
+        ensures broken { IfBroken result (λ reason. (table : Table) → Breaks root.now table doc.now reason) }
         ensures other { (place : ℕ) → BeginsOtherwise root.now doc.now place →
             result ≡ Err (DocFault.NotADocument place) }
     {

@@ -1,12 +1,13 @@
 //! Elements that may be there once.
 
-ghost use Rattle.std.specs.Prelude.{◌≡◌, ◌≤◌, ℕ, List, IfOk, OnOk, length, true, None, Option, IsSome};
+ghost use Rattle.std.specs.Prelude.{◌≡◌, ◌≤◌, ◌∷◌, ℕ, List, [], IfOk, OnOk, length, true, None, Some, Option, IsSome};
+ghost use Rattle.reply_xml.specs.declared.elements.Element.{Element};
 ghost use Rattle.reply_xml.specs.Children.{IsLeafOf};
 ghost use Rattle.reply_xml.specs.Contents.{Content, is_the};
 ghost use Rattle.reply_xml.specs.Breaks.{BreaksElement, IfBroken};
 ghost use Rattle.reply_xml.specs.Faults.{IfRefused};
 ghost use Rattle.reply_xml.specs.Reading.{Advances, LeafLeft, Stops};
-ghost use Rattle.reply_xml.specs.Unfit.{is_read_as};
+ghost use Rattle.reply_xml.specs.Tables.{Done, ExactlyOnce, IsFound, Row, Table, form_in, stands_alone};
 
 use crate::elements::Element;
 use crate::faults::DocFault;
@@ -33,8 +34,7 @@ impl<'a> Reader<'a> {
         element: Element,
         found: &mut Option<L::Value>,
     ) -> Result<(), DocFault>
-        requires same { is_the element child.now.element ≡ true }
-        requires judged { is_read_as element L.form ≡ true }
+        requires { is_the element child.now.element ≡ true }
         ensures value { OnOk result (Advances (LeafLeft (L.spells element) element found.old)
             (LeafLeft (L.spells element) element found.new) child.now self.old.rest.now self.new.rest.now) }
         ensures first { OnOk result (found.old ≡ None) }
@@ -43,7 +43,9 @@ impl<'a> Reader<'a> {
         ensures refused { IfRefused result (Stops (LeafLeft (L.spells element) element found.old)
             child.now self.old.rest.now) }
         ensures size { self.new.size ≡ self.old.size }
-        ensures broken { IfBroken result (λ reason. BreaksElement self.old.size reason child.now self.old.rest.now) }
+        ensures broken { IfBroken result (λ reason. (table : Table) (front : List (Option Element)) →
+            form_in table element ≡ Some L.form → stands_alone table element ≡ true → IsFound element found.old front →
+            BreaksElement self.old.size reason table front child.now self.old.rest.now) }
     {
         if found.is_some() {
             return Err(DocFault::Twice(element));
@@ -58,13 +60,16 @@ impl<'a> Reader<'a> {
 pub struct Only<L: Leaf> {
     pub element: Element,
     pub found: Option<L::Value>,
-    ghost judged: { is_read_as element L.form ≡ true },
 }
 
 impl<L: Leaf> Parts for Only<L> {
     type Whole = L::Value;
 
     ghost left = { λ s content value. LeafLeft (L.spells s.element) s.element s.found content value };
+
+    ghost table = { λ s. Row s.element ExactlyOnce (Some L.form) Done Done };
+
+    ghost knows = { λ s front. IsFound s.element s.found front };
 
     fn take<'a>(&mut self, reader: &mut Reader<'a>, child: &Child<'a>) -> Result<(), DocFault> {
         if !is_the(self.element, child.element) {

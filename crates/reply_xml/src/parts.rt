@@ -1,12 +1,14 @@
 //! What an element holds, by the parts that are looked for in it.
 
-ghost use Rattle.std.specs.Prelude.{◌≡◌, ◌≤◌, ℕ, List, IfOk, OnOk, length};
-ghost use Rattle.reply_xml.specs.Contents.{Content, Only};
+ghost use Rattle.std.specs.Prelude.{◌≡◌, ◌≤◌, ◌∷◌, ℕ, List, [], Option, Some, IfOk, OnOk, length, true};
+ghost use Rattle.reply_xml.specs.declared.elements.Element.{Element};
+ghost use Rattle.reply_xml.specs.Contents.{Content, Only, is_the};
 ghost use Rattle.reply_xml.specs.Documents.{IsOf};
-ghost use Rattle.reply_xml.specs.Breaks.{Breaks, BreaksElement, BreaksIn, IfBroken};
+ghost use Rattle.reply_xml.specs.Breaks.{Breaks, BreaksElement, BreaksIn, IfBroken, IsMissing};
 ghost use Rattle.reply_xml.specs.Faults.{IfRefused, IsFault};
 ghost use Rattle.reply_xml.specs.Places.{BeginsOtherwise, HasBytesBehind};
 ghost use Rattle.reply_xml.specs.Reading.{Advances, HoldsAs, HoldsNone, ReadsAs, ReadsNone, Stops};
+ghost use Rattle.reply_xml.specs.Tables.{Table, inside_in};
 
 use crate::faults::DocFault;
 use crate::reader::{Child, Reader, Tag};
@@ -18,6 +20,12 @@ pub trait Parts: Drop {
 
     ghost left: { Self → Content → Self.Whole → Type 0 };
 
+    // The elements that are looked for.
+    ghost table: { Self → Table };
+
+    // Elements that may stand once were found exactly where they stood in front.
+    ghost knows: { Self → List (Option Element) → Type 0 };
+
     /// Takes in an element that begins inside, and passes over one that is not looked for.
     fn take<'a>(&mut self, reader: &mut Reader<'a>, child: &Child<'a>) -> Result<(), DocFault>
         ensures value { OnOk result (Advances (left self.old) (left self.new)
@@ -25,25 +33,31 @@ pub trait Parts: Drop {
         ensures no_longer { length reader.new.rest.now ≤ length reader.old.rest.now }
         ensures refused { IfRefused result (Stops (left self.old) child.now reader.old.rest.now) }
         ensures size { reader.new.size ≡ reader.old.size }
-        ensures broken { IfBroken result (λ reason.
-            BreaksElement reader.old.size reason child.now reader.old.rest.now) };
+        ensures same_table { table self.new ≡ table self.old }
+        ensures known { OnOk result ((front : List (Option Element)) → knows self.old front →
+            knows self.new (child.now.element ∷ front)) }
+        ensures broken { IfBroken result (λ reason. (front : List (Option Element)) → knows self.old front →
+            BreaksElement reader.old.size reason (table self.old) front child.now reader.old.rest.now) };
 
     /// The value, where nothing more stands inside; the first part that is missing otherwise.
     fn whole(self, alloc: Global) -> Result<Self::Whole, DocFault>
         ensures value { IfOk result (λ whole. (text : List ℕ) → left self (Only text) whole) }
         ensures refused { IfRefused result ((text : List ℕ) (whole : Self.Whole) → ¬ (left self (Only text) whole)) }
-        ensures unbroken { IfBroken result (λ reason. ⊥) };
+        ensures missing { IfBroken result (λ reason. (front : List (Option Element)) → knows self front →
+            IsMissing (table self) front reason) };
 }
 
 impl<'a> Reader<'a> {
     /// What stands inside an element, up to its end.
     pub fn inside<P: Parts>(&mut self, parent: &Tag<'a>, parts: P) -> Result<P::Whole, DocFault>
+        requires { P.knows parts [] }
         ensures value { IfOk result (λ whole. HoldsAs (P.left parts)
             parent.now self.old.rest.now self.new.rest.now whole) }
         ensures no_longer { length self.new.rest.now ≤ length self.old.rest.now }
         ensures refused { IfRefused result (HoldsNone (P.left parts) parent.now self.old.rest.now) }
         ensures size { self.new.size ≡ self.old.size }
-        ensures broken { IfBroken result (λ reason. BreaksIn self.old.size reason parent.now self.old.rest.now) }
+        ensures broken { IfBroken result (λ reason.
+            BreaksIn self.old.size reason (P.table parts) [] parent.now self.old.rest.now) }
     {
         let mut parts = parts;
         'children: while let Some(child) = self.next_child(parent)? {
@@ -56,12 +70,15 @@ impl<'a> Reader<'a> {
 
     /// The value of an element that begins here.
     pub fn element<P: Parts>(&mut self, child: &Child<'a>, parts: P) -> Result<P::Whole, DocFault>
+        requires { P.knows parts [] }
         ensures value { IfOk result (λ whole. ReadsAs (P.left parts)
             child.now self.old.rest.now self.new.rest.now whole) }
         ensures no_longer { length self.new.rest.now ≤ length self.old.rest.now }
         ensures refused { IfRefused result (ReadsNone (P.left parts) child.now self.old.rest.now) }
         ensures size { self.new.size ≡ self.old.size }
-        ensures broken { IfBroken result (λ reason. BreaksElement self.old.size reason child.now self.old.rest.now) }
+        ensures broken { IfBroken result (λ reason. (table : Table) (front : List (Option Element)) (of : Element) →
+            is_the of child.now.element ≡ true → inside_in table of ≡ Some (P.table parts) →
+            BreaksElement self.old.size reason table front child.now self.old.rest.now) }
     {
         let tag = self.tag(child)?;
         self.inside(&tag, parts)
@@ -75,9 +92,10 @@ pub fn read_document<P: Parts>(
     root: &str,
     parts: P,
 ) -> Result<P::Whole, DocFault>
+    requires { P.knows parts [] }
     ensures value { IfOk result (λ whole. IsOf root.now (P.left parts) doc.now whole) }
     ensures refused { IfRefused result ((whole : P.Whole) → ¬ (IsOf root.now (P.left parts) doc.now whole)) }
-    ensures broken { IfBroken result (Breaks root.now doc.now) }
+    ensures broken { IfBroken result (Breaks root.now (P.table parts) doc.now) }
     ensures other_root { (place : ℕ) → BeginsOtherwise root.now doc.now place →
         result ≡ Err (DocFault.NotADocument place) }
     ensures behind { (place : ℕ) → HasBytesBehind root.now (P.left parts) doc.now place →

@@ -3,6 +3,7 @@
 ghost use Rattle.std.specs.Prelude.{◌≡◌, ◌≢◌, ◌≤◌, length};
 ghost use Rattle.std.specs.Bool.{MatchBool};
 ghost use Rattle.std.specs.Str.{IsUtf8};
+ghost use Rattle.reply_xml.specs.Leaves.{IsCommonFront};
 
 pub(crate) fn is_same(one: &[u8], other: &[u8]) -> bool
     ensures { MatchBool result (one.now ≡ other.now) (one.now ≢ other.now) }
@@ -12,14 +13,15 @@ pub(crate) fn is_same(one: &[u8], other: &[u8]) -> bool
 
 /// How many bytes at the front of a name stand at the front of another one.
 pub(crate) fn common_front(name: &[u8], other: &[u8]) -> usize
-    ensures { result ≤ length name.now }
+    ensures { IsCommonFront name.now other.now result }
 {
-    for (i, byte) in name.iter().enumerate() {
-        if other.get(i) != Some(byte) {
+    let most = name.len().min(other.len());
+    for i in 0..most {
+        if other[i] != name[i] {
             return i;
         }
     }
-    name.len()
+    most
 }
 
 /// Whether a character of several bytes begins with this one (RFC 3629, section 4).

@@ -1,15 +1,16 @@
 //! A document that is read from its front.
 
-ghost use Rattle.std.specs.Prelude.{◌∷◌, [], ◌≡◌, ◌≤◌, ◌<◌, ◌+◌, ◌-◌, ℕ, List, Option, true};
+ghost use Rattle.std.specs.Prelude.{◌∷◌, [], ◌≡◌, ◌≤◌, ◌<◌, ◌+◌, ◌-◌, ℕ, List, Option, Some, true};
 ghost use Rattle.std.specs.Prelude.{IfOk, OnOk, length, Bool, false, IfSome, OnSome, IfNone};
 ghost use Rattle.std.specs.Bool.{MatchBool};
+ghost use Rattle.reply_xml.specs.declared.elements.Element.{Element};
 ghost use Rattle.reply_xml.specs.Contents.{Content, ReadsText, ReadsInner, is_the};
 ghost use Rattle.reply_xml.specs.Children.{IsLeafOf};
 ghost use Rattle.reply_xml.specs.Breaks.{BreaksElement, BreaksIn, BreaksText, IfBroken, OnBroken, Stands};
 ghost use Rattle.reply_xml.specs.Leaves.{LeavesTagEnd};
 ghost use Rattle.reply_xml.specs.Runs.{ReadsRun};
 ghost use Rattle.reply_xml.specs.declared.runs.Sort.TheVariants as sort;
-ghost use Rattle.reply_xml.specs.Unfit.{is_read_as};
+ghost use Rattle.reply_xml.specs.Tables.{Done, IsOutside, Table, form_in};
 ghost use Rattle.std.specs.Str.{IsUtf8};
 ghost use Rattle.reply_xml.specs.Faults.{IfRefused};
 ghost use Rattle.reply_xml.specs.Tags.{ReadsTag, ReadsTagEnd, ReadsEndTag};
@@ -127,7 +128,8 @@ impl<'a> Reader<'a> {
         ensures refused { IfRefused result ((inner : Content) (rest : List ℕ) →
             ¬ (ReadsInner parent.now.closed inner parent.now.room parent.now.name.now self.old.rest.now rest)) }
         ensures size { self.new.size ≡ self.old.size }
-        ensures broken { IfBroken result (λ reason. BreaksIn self.old.size reason parent.now self.old.rest.now) }
+        ensures broken { IfBroken result (λ reason. (table : Table) (front : List (Option Element)) →
+            BreaksIn self.old.size reason table front parent.now self.old.rest.now) }
     {
         if parent.closed {
             return Ok(None);
@@ -184,7 +186,7 @@ impl<'a> Reader<'a> {
             ¬ (ReadsInner parent.now.closed inner parent.now.room parent.now.name.now before rest)) }
         ensures size { self.new.size ≡ self.old.size }
         ensures broken { IfBroken result (λ reason. (before : List ℕ) → AtEnd parent.now before self.old.rest.now →
-            BreaksIn self.old.size reason parent.now before) }
+            (table : Table) (front : List (Option Element)) → BreaksIn self.old.size reason table front parent.now before) }
     {
         if parent.closed {
             return Ok(());
@@ -210,14 +212,15 @@ impl<'a> Reader<'a> {
 
     /// The value of a leaf.
     pub fn leaf<L: Leaf>(&mut self, child: &Child<'a>, of: Element) -> Result<L::Value, DocFault>
-        requires same { is_the of child.now.element ≡ true }
-        requires judged { is_read_as of L.form ≡ true }
+        requires { is_the of child.now.element ≡ true }
         ensures value { IfOk result (λ value. ReadsAs (IsLeafOf (L.spells of))
             child.now self.old.rest.now self.new.rest.now value) }
         ensures no_longer { length self.new.rest.now ≤ length self.old.rest.now }
         ensures refused { IfRefused result (ReadsNone (IsLeafOf (L.spells of)) child.now self.old.rest.now) }
         ensures size { self.new.size ≡ self.old.size }
-        ensures broken { IfBroken result (λ reason. BreaksElement self.old.size reason child.now self.old.rest.now) }
+        ensures broken { IfBroken result (λ reason. (table : Table) (front : List (Option Element)) →
+            form_in table of ≡ Some L.form →
+            BreaksElement self.old.size reason table front child.now self.old.rest.now) }
     {
         let tag = self.tag(child)?;
         if tag.closed {
@@ -240,7 +243,9 @@ impl<'a> Reader<'a> {
         ensures no_longer { length self.new.rest.now ≤ length self.old.rest.now }
         ensures refused { IfRefused result ((rest : List ℕ) → ¬ (ReadsSome child.now self.old.rest.now rest)) }
         ensures size { self.new.size ≡ self.old.size }
-        ensures broken { IfBroken result (λ reason. BreaksElement self.old.size reason child.now self.old.rest.now) }
+        ensures broken { IfBroken result (λ reason. (table : Table) (front : List (Option Element)) →
+            IsOutside table child.now.element →
+            BreaksElement self.old.size reason table front child.now self.old.rest.now) }
     {
         let tag = self.tag(child)?;
         self.skip_content(&tag)
@@ -252,7 +257,7 @@ impl<'a> Reader<'a> {
         ensures no_longer { length self.new.rest.now ≤ length self.old.rest.now }
         ensures refused { IfRefused result ((rest : List ℕ) → ¬ (HoldsSome tag.now self.old.rest.now rest)) }
         ensures size { self.new.size ≡ self.old.size }
-        ensures broken { IfBroken result (λ reason. BreaksIn self.old.size reason tag.now self.old.rest.now) }
+        ensures broken { IfBroken result (λ reason. BreaksIn self.old.size reason Done [] tag.now self.old.rest.now) }
     {
         let mut inner = *tag;
         let mut outer = Vec::new(self.alloc);

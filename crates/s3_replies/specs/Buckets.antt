@@ -2,11 +2,14 @@
 use Rattle.std.specs.Prelude.{◌≡◌, ℕ, List, [], Option, Some, None, codes}
 use Rattle.s3_model.specs.Lists.{Reserved}
 use Rattle.s3_model.specs.declared.places.Entry.{Entry}
+use Rattle.reply_xml.specs.declared.elements.Element.{Element}
 use Rattle.reply_xml.specs.declared.elements.Element.TheVariants as element
 use Rattle.reply_xml.specs.Contents.{Content, named}
 use Rattle.reply_xml.specs.Children.{Each, HasLeaf, IsFormed, IsLeafOf, Once}
 use Rattle.reply_xml.specs.Documents.{IsOf}
 use Rattle.reply_xml.specs.Reading.{EachLeft, LeafLeft, OnceLeft}
+use Rattle.reply_xml.specs.Tables.{AnyNumber, Done, ExactlyOnce, IsFound, Row, Table}
+use Rattle.reply_xml.specs.Unfit.{ATime, OwnForm}
 use Rattle.reply_values.specs.Times.{SpellsTime}
 
 -- a bucket: its name, and when it was made; it has no size and no entity tag
@@ -38,3 +41,17 @@ BucketsLeft rows content entries = EachLeft HasBucket rows (named element.Bucket
 abbrev pub ListLeft : Option (Reserved Entry) → Content → List Entry → Type 0
 ListLeft None content entries = OnceLeft HasEachBucket None (named element.Buckets content) entries
 ListLeft (Some rows) content entries = OnceLeft HasEachBucket (Some rows.items) (named element.Buckets content) entries
+
+-- the elements of a bucket, of the buckets, and of their list
+abbrev pub bucket_table : Table
+bucket_table = Row element.Name ExactlyOnce (Some OwnForm) Done (Row element.CreationDate ExactlyOnce (Some ATime) Done Done)
+
+abbrev pub buckets_table : Table
+buckets_table = Row element.Bucket AnyNumber None bucket_table Done
+
+abbrev pub bucket_list_table : Table
+bucket_list_table = Row element.Buckets ExactlyOnce None buckets_table Done
+
+-- those of a bucket that stood in front were found
+abbrev pub KnowsBucket : Option (List ℕ) → Option ℕ → List (Option Element) → Type 0
+KnowsBucket name created front = IsFound element.Name name front × IsFound element.CreationDate created front

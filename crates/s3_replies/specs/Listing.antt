@@ -1,8 +1,9 @@
 -- A page of a listing (Amazon S3 API Reference, ListObjectsV2).
-use Rattle.std.specs.Prelude.{◌≡◌, ◌⊎◌, ℕ, Bool, true, false, List, [], ◌∷◌, Option, codes}
+use Rattle.std.specs.Prelude.{◌≡◌, ◌⊎◌, ℕ, Bool, true, false, List, [], ◌∷◌, Option, Some, None, codes}
 use Rattle.std.specs.List.{AllZip}
 use Rattle.s3_model.specs.declared.answers.Listed.{Listed}
 use Rattle.s3_model.specs.declared.places.Entry.{Entry}
+use Rattle.reply_xml.specs.declared.elements.Element.{Element}
 use Rattle.reply_xml.specs.declared.elements.Element.TheVariants as element
 use Rattle.reply_xml.specs.declared.faults.DocFault.{DocFault}
 use Rattle.reply_xml.specs.declared.faults.DocFault.TheVariants as fault
@@ -12,6 +13,8 @@ use Rattle.reply_xml.specs.Documents.{IsOf}
 use Rattle.reply_values.specs.Forms.{IsKey}
 use Rattle.reply_values.specs.Numbers.{SpellsNumber, SpellsTruth}
 use Rattle.reply_xml.specs.Reading.{AtMostLeft, EachLeft, LeafLeft}
+use Rattle.reply_xml.specs.Tables.{AnyNumber, AtMostOne, Done, ExactlyOnce, IsFound, Row, Table, stood}
+use Rattle.reply_xml.specs.Unfit.{ANumber, ATime, ATruth, AnEncoding, OwnForm}
 use Rattle.reply_values.specs.Times.{SpellsTime}
 use Rattle.reply_values.specs.UrlText.{SpellsUrlText}
 
@@ -105,3 +108,32 @@ ObjectLeft key modified etag size content entry =
     × LeafLeft SpellsTime element.LastModified modified content entry.micros)
     × (LeafLeft (IsFormed element.ETag) element.ETag etag content entry.etag
     × LeafLeft SpellsNumber element.Size size content entry.size)
+
+-- the elements of an object, of a prefix, and of a page
+abbrev pub object_table : Table
+object_table =
+    Row element.Key ExactlyOnce (Some OwnForm) Done
+    (Row element.LastModified ExactlyOnce (Some ATime) Done
+    (Row element.ETag ExactlyOnce (Some OwnForm) Done (Row element.Size ExactlyOnce (Some ANumber) Done Done)))
+
+abbrev pub prefix_table : Table
+prefix_table = Row element.Prefix ExactlyOnce (Some OwnForm) Done Done
+
+abbrev pub page_table : Table
+page_table =
+    Row element.IsTruncated ExactlyOnce (Some ATruth) Done
+    (Row element.EncodingType AtMostOne (Some AnEncoding) Done
+    (Row element.NextContinuationToken AtMostOne (Some OwnForm) Done
+    (Row element.Contents AnyNumber None object_table (Row element.CommonPrefixes AnyNumber None prefix_table Done))))
+
+-- those that stood in front were found
+abbrev pub KnowsObject : (key : Option (List ℕ)) (modified : Option ℕ) (etag : Option (List ℕ)) (size : Option ℕ)
+    → List (Option Element) → Type 0
+KnowsObject key modified etag size front =
+    IsFound element.Key key front × IsFound element.LastModified modified front × IsFound element.ETag etag front
+    × IsFound element.Size size front
+
+abbrev pub KnowsPage : Option Bool → Option (List ℕ) → Bool → List (Option Element) → Type 0
+KnowsPage more token url front =
+    IsFound element.IsTruncated more front × IsFound element.NextContinuationToken token front
+    × (url ≡ stood element.EncodingType front)

@@ -1,9 +1,12 @@
 //! The list of buckets.
 
-ghost use Rattle.std.specs.Prelude.{◌≡◌, ◌≤◌, ℕ, List, None, Option, Err, IfOk, OnOk, codes, length};
+ghost use Rattle.std.specs.Prelude.{◌≡◌, ◌≤◌, ◌∷◌, ⊤, ℕ, List, None, Option, Err, IfOk, OnOk, codes, length};
 ghost use Rattle.s3_model.specs.declared.places.Entry.{Entry};
 ghost use Rattle.s3_replies.specs.Buckets.{BucketLeft, BucketsLeft, HasBucket, HasBuckets};
-ghost use Rattle.s3_replies.specs.Buckets.{HasEachBucket, IsBucketList, ListLeft};
+ghost use Rattle.s3_replies.specs.Buckets.{HasEachBucket, IsBucketList, KnowsBucket, ListLeft};
+ghost use Rattle.s3_replies.specs.Buckets.{bucket_list_table, bucket_table, buckets_table};
+ghost use Rattle.reply_xml.specs.declared.elements.Element.TheVariants as elements;
+ghost use Rattle.reply_xml.specs.Tables.{IsFound};
 ghost use Rattle.reply_xml.specs.Contents.{Content};
 ghost use Rattle.reply_xml.specs.Breaks.{Breaks, IfBroken};
 ghost use Rattle.reply_xml.specs.Faults.{IfRefused, IsFault};
@@ -24,6 +27,10 @@ impl Parts for BucketFields {
     type Whole = (Text, u64);
 
     ghost left = { λ s content value. BucketLeft s.name s.created content value };
+
+    ghost table = { λ s. bucket_table };
+
+    ghost knows = { λ s front. KnowsBucket s.name s.created front };
 
     fn take<'a>(&mut self, reader: &mut Reader<'a>, child: &Child<'a>) -> Result<(), DocFault> {
         if is_the(Element::Name, child.element) {
@@ -57,6 +64,10 @@ impl Parts for Buckets {
     type Whole = Entries;
 
     ghost left = { λ s content rows. BucketsLeft s.rows.items content rows.items };
+
+    ghost table = { λ s. buckets_table };
+
+    ghost knows = { λ s front. ⊤ };
 
     fn take<'a>(&mut self, reader: &mut Reader<'a>, child: &Child<'a>) -> Result<(), DocFault> {
         if !is_the(Element::Bucket, child.element) {
@@ -96,6 +107,10 @@ impl Parts for BucketList {
 
     ghost left = { λ s content rows. ListLeft s.found content rows.items };
 
+    ghost table = { λ s. bucket_list_table };
+
+    ghost knows = { λ s front. IsFound elements.Buckets s.found front };
+
     fn take<'a>(&mut self, reader: &mut Reader<'a>, child: &Child<'a>) -> Result<(), DocFault> {
         if !is_the(Element::Buckets, child.element) {
             return reader.skip(child);
@@ -124,7 +139,7 @@ impl Parts for BucketList {
 pub fn read_buckets(alloc: Global, doc: &[u8]) -> Result<Entries, DocFault>
     ensures value { IfOk result (λ rows. IsBucketList doc.now rows.items) }
     ensures refused { IfRefused result ((entries : List Entry) → ¬ (IsBucketList doc.now entries)) }
-    ensures broken { IfBroken result (Breaks (codes "ListAllMyBucketsResult") doc.now) }
+    ensures broken { IfBroken result (Breaks (codes "ListAllMyBucketsResult") bucket_list_table doc.now) }
     ensures other_root { (place : ℕ) → BeginsOtherwise (codes "ListAllMyBucketsResult") doc.now place →
         result ≡ Err (DocFault.NotADocument place) }
     ensures behind { (place : ℕ) → HasBytesBehind (codes "ListAllMyBucketsResult") HasBuckets doc.now place →

@@ -1,7 +1,7 @@
 //! The document of an error.
 
 ghost use Rattle.std.specs.Prelude.{◌≡◌, ◌≤◌, ℕ, List, None, Option, Err, IfOk, OnOk, codes, length};
-ghost use Rattle.s3_replies.specs.Errors.{ErrorLeft, HasError, IsError};
+ghost use Rattle.s3_replies.specs.Errors.{ErrorLeft, HasError, IsError, KnowsError, error_table};
 ghost use Rattle.reply_xml.specs.Contents.{Content};
 ghost use Rattle.reply_xml.specs.Breaks.{Breaks, IfBroken};
 ghost use Rattle.reply_xml.specs.Faults.{IfRefused, IsFault};
@@ -22,6 +22,10 @@ impl Parts for ErrorFields {
     type Whole = (Text, Option<Text>);
 
     ghost left = { λ s content value. ErrorLeft s.code s.message content value };
+
+    ghost table = { λ s. error_table };
+
+    ghost knows = { λ s front. KnowsError s.code s.message front };
 
     fn take<'a>(&mut self, reader: &mut Reader<'a>, child: &Child<'a>) -> Result<(), DocFault> {
         if is_the(Element::Code, child.element) {
@@ -46,7 +50,7 @@ impl Parts for ErrorFields {
 pub fn read_error(alloc: Global, doc: &[u8]) -> Result<(Text, Text), DocFault>
     ensures value { IfOk result (IsError doc.now) }
     ensures refused { IfRefused result ((error : List ℕ × List ℕ) → ¬ (IsError doc.now error)) }
-    ensures broken { IfBroken result (Breaks (codes "Error") doc.now) }
+    ensures broken { IfBroken result (Breaks (codes "Error") error_table doc.now) }
     ensures other_root { (place : ℕ) → BeginsOtherwise (codes "Error") doc.now place →
         result ≡ Err (DocFault.NotADocument place) }
     ensures behind { (place : ℕ) → HasBytesBehind (codes "Error") HasError doc.now place →

@@ -1,6 +1,6 @@
 //! A page of a listing, as it is written.
 
-ghost use Rattle.std.specs.Prelude.{◌≡◌, ◌≤◌, ℕ, List, [], None, Option, IfOk, OnOk, length, codes, true, refl};
+ghost use Rattle.std.specs.Prelude.{◌≡◌, ◌≤◌, ◌∷◌, ℕ, List, [], None, Option, IfOk, OnOk, length, codes, true, refl};
 ghost use Rattle.reply_xml.specs.Contents.{Content, is_the};
 ghost use Rattle.reply_xml.specs.declared.elements.Element.TheVariants as element;
 ghost use Rattle.reply_xml.specs.Unfit.{AnEncoding};
@@ -8,7 +8,9 @@ ghost use Rattle.reply_xml.specs.Breaks.{BreaksElement, BreaksIn, IfBroken};
 ghost use Rattle.reply_xml.specs.Faults.{IfRefused};
 ghost use Rattle.reply_xml.specs.Reading.{Advances, HoldsAs, HoldsNone, Stops};
 ghost use Rattle.s3_replies.specs.Listing.{EncodingLeft, HasPage, ObjectLeft, ObjectsLeft};
-ghost use Rattle.s3_replies.specs.Listing.{Page, PageLeft, PrefixesLeft};
+ghost use Rattle.s3_replies.specs.Listing.{KnowsObject, KnowsPage, Page, PageLeft, PrefixesLeft, object_table, page_table};
+ghost use Rattle.reply_xml.specs.declared.elements.Element.{Element};
+ghost use Rattle.reply_xml.specs.Tables.{stood};
 
 use reply_xml::{
     Child, DocFault, Element, FormedText, Leaf, Meaning, Number, Only, Parts, Reader, Tag, Time,
@@ -31,6 +33,10 @@ impl Parts for ObjectFields {
     type Whole = Entry;
 
     ghost left = { λ s content entry. ObjectLeft s.key s.modified s.etag s.size content entry };
+
+    ghost table = { λ s. object_table };
+
+    ghost knows = { λ s front. KnowsObject s.key s.modified s.etag s.size front };
 
     fn take<'a>(&mut self, reader: &mut Reader<'a>, child: &Child<'a>) -> Result<(), DocFault> {
         if is_the(Element::Key, child.element) {
@@ -88,7 +94,8 @@ fn take_object<'a>(
     ensures no_longer { length reader.new.rest.now ≤ length reader.old.rest.now }
     ensures refused { IfRefused result (Stops (ObjectsLeft rows.old.items) child.now reader.old.rest.now) }
     ensures size { reader.new.size ≡ reader.old.size }
-    ensures broken { IfBroken result (λ reason. BreaksElement reader.old.size reason child.now reader.old.rest.now) }
+    ensures broken { IfBroken result (λ reason. (front : List (Option Element)) →
+        BreaksElement reader.old.size reason page_table front child.now reader.old.rest.now) }
 {
     let object = ObjectFields {
         key: None,
@@ -115,7 +122,8 @@ fn take_prefix<'a>(
     ensures no_longer { length reader.new.rest.now ≤ length reader.old.rest.now }
     ensures refused { IfRefused result (Stops (PrefixesLeft rows.old.items) child.now reader.old.rest.now) }
     ensures size { reader.new.size ≡ reader.old.size }
-    ensures broken { IfBroken result (λ reason. BreaksElement reader.old.size reason child.now reader.old.rest.now) }
+    ensures broken { IfBroken result (λ reason. (front : List (Option Element)) →
+        BreaksElement reader.old.size reason page_table front child.now reader.old.rest.now) }
 {
     let only: Only<FormedText> = Only {
         element: Element::Prefix,
@@ -160,7 +168,10 @@ fn take_encoding<'a>(
     ensures no_longer { length reader.new.rest.now ≤ length reader.old.rest.now }
     ensures refused { IfRefused result (Stops (EncodingLeft url.old) child.now reader.old.rest.now) }
     ensures size { reader.new.size ≡ reader.old.size }
-    ensures broken { IfBroken result (λ reason. BreaksElement reader.old.size reason child.now reader.old.rest.now) }
+    ensures named { OnOk result (url.new ≡ true) }
+    ensures broken { IfBroken result (λ reason. (front : List (Option Element)) →
+        url.old ≡ stood element.EncodingType front →
+        BreaksElement reader.old.size reason page_table front child.now reader.old.rest.now) }
 {
     if *url {
         return Err(DocFault::Twice(Element::EncodingType));
@@ -208,6 +219,10 @@ impl Parts for PageFields {
     type Whole = Written;
 
     ghost left = { λ s content page. PageLeft s.more s.token s.url s.entries.items s.prefixes.items content page };
+
+    ghost table = { λ s. page_table };
+
+    ghost knows = { λ s front. KnowsPage s.more s.token s.url front };
 
     fn take<'a>(&mut self, reader: &mut Reader<'a>, child: &Child<'a>) -> Result<(), DocFault> {
         if is_the(Element::Contents, child.element) {
@@ -258,7 +273,8 @@ pub(crate) fn written_page<'a>(reader: &mut Reader<'a>, root: &Tag<'a>) -> Resul
     ensures value { IfOk result (HoldsAs HasPage root.now reader.old.rest.now reader.new.rest.now) }
     ensures no_longer { length reader.new.rest.now ≤ length reader.old.rest.now }
     ensures refused { IfRefused result (HoldsNone HasPage root.now reader.old.rest.now) }
-    ensures broken { IfBroken result (λ reason. BreaksIn reader.old.size reason root.now reader.old.rest.now) }
+    ensures broken { IfBroken result (λ reason.
+        BreaksIn reader.old.size reason page_table [] root.now reader.old.rest.now) }
 {
     let fields = PageFields {
         more: None,

@@ -8,6 +8,7 @@ ghost use Rattle.reply_xml.specs.Breaks.{Breaks, IfBroken};
 ghost use Rattle.reply_xml.specs.Faults.{IfRefused, IsFault};
 ghost use Rattle.reply_xml.specs.Places.{BeginsOtherwise, HasBytesBehind};
 ghost use Rattle.s3_replies.specs.Listing.{HasListing, IsKeyFault, IsListing, MeansEntry, MeansPage, MeansText};
+ghost use Rattle.s3_replies.specs.Listing.{page_table};
 
 use crate::keys::first_fault;
 use crate::listing::{Written, written_page};
@@ -138,7 +139,8 @@ fn listed(alloc: Global, page: Written) -> Result<Listed, DocFault>
 pub fn read_list(alloc: Global, doc: &[u8]) -> Result<Listed, DocFault>
     ensures value { IfOk result (λ listed. IsListing doc.now listed) }
     ensures refused { IfRefused result ((listed : Listed) → ¬ (IsListing doc.now listed)) }
-    ensures broken { IfBroken result (λ reason. Breaks (codes "ListBucketResult") doc.now reason ⊎ IsKeyFault reason) }
+    ensures broken { IfBroken result (λ reason. Breaks (codes "ListBucketResult") page_table doc.now reason
+        ⊎ IsKeyFault reason) }
     ensures other_root { (place : ℕ) → BeginsOtherwise (codes "ListBucketResult") doc.now place →
         result ≡ Err (DocFault.NotADocument place) }
     ensures behind { (place : ℕ) → HasBytesBehind (codes "ListBucketResult") HasListing doc.now place →

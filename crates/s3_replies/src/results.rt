@@ -1,14 +1,15 @@
 //! The answers that have one value: an id of an upload or an entity tag.
 
-ghost use Rattle.std.specs.Prelude.{◌≡◌, ℕ, List, Err, IfOk, OnOk, codes, true};
+ghost use Rattle.std.specs.Prelude.{◌≡◌, ℕ, List, Some, Err, IfOk, OnOk, codes};
 ghost use Rattle.reply_xml.specs.Children.{HasLeaf, HasOnly, IsPlain};
 ghost use Rattle.reply_xml.specs.declared.elements.Element.TheVariants as elements;
 ghost use Rattle.reply_xml.specs.Documents.{IsOf};
 ghost use Rattle.reply_xml.specs.Breaks.{Breaks, IfBroken};
 ghost use Rattle.reply_xml.specs.Faults.{IfRefused, IsFault};
-ghost use Rattle.reply_xml.specs.Unfit.{is_read_as};
+ghost use Rattle.reply_xml.specs.Tables.{Done, ExactlyOnce, Row};
 ghost use Rattle.reply_xml.specs.Places.{BeginsOtherwise, HasBytesBehind};
 ghost use Rattle.s3_replies.specs.Results.{copy_root, IsCompleted, IsCopied, IsCreated};
+ghost use Rattle.s3_replies.specs.Results.{completed_table, copied_table, created_table};
 
 use reply_xml::{DocFault, Element, FormedText, Leaf, Only, PlainText, read_document};
 use s3_model::Text;
@@ -21,11 +22,10 @@ fn only_leaf<L: Leaf>(
     root: &str,
     element: Element,
 ) -> Result<L::Value, DocFault>
-    requires { is_read_as element L.form ≡ true }
     ensures value { IfOk result (IsOf root.now (HasOnly (L.spells element) element) doc.now) }
     ensures refused { IfRefused result ((value : L.Value) →
         ¬ (IsOf root.now (HasOnly (L.spells element) element) doc.now value)) }
-    ensures broken { IfBroken result (Breaks root.now doc.now) }
+    ensures broken { IfBroken result (Breaks root.now (Row element ExactlyOnce (Some L.form) Done Done) doc.now) }
     ensures other_root { (place : ℕ) → BeginsOtherwise root.now doc.now place →
         result ≡ Err (DocFault.NotADocument place) }
     ensures behind { (place : ℕ) → HasBytesBehind root.now (HasOnly (L.spells element) element) doc.now place →
@@ -42,7 +42,7 @@ fn only_leaf<L: Leaf>(
 pub fn read_created(alloc: Global, doc: &[u8]) -> Result<Text, DocFault>
     ensures value { IfOk result (IsCreated doc.now) }
     ensures refused { IfRefused result ((id : List ℕ) → ¬ (IsCreated doc.now id)) }
-    ensures broken { IfBroken result (Breaks (codes "InitiateMultipartUploadResult") doc.now) }
+    ensures broken { IfBroken result (Breaks (codes "InitiateMultipartUploadResult") created_table doc.now) }
     ensures other_root { (place : ℕ) → BeginsOtherwise (codes "InitiateMultipartUploadResult") doc.now place →
         result ≡ Err (DocFault.NotADocument place) }
     ensures behind { (place : ℕ) →
@@ -61,7 +61,7 @@ pub fn read_created(alloc: Global, doc: &[u8]) -> Result<Text, DocFault>
 pub fn read_completed(alloc: Global, doc: &[u8]) -> Result<(), DocFault>
     ensures value { OnOk result ((etag : List ℕ) × IsCompleted doc.now etag) }
     ensures refused { IfRefused result ((etag : List ℕ) → ¬ (IsCompleted doc.now etag)) }
-    ensures broken { IfBroken result (Breaks (codes "CompleteMultipartUploadResult") doc.now) }
+    ensures broken { IfBroken result (Breaks (codes "CompleteMultipartUploadResult") completed_table doc.now) }
     ensures other_root { (place : ℕ) → BeginsOtherwise (codes "CompleteMultipartUploadResult") doc.now place →
         result ≡ Err (DocFault.NotADocument place) }
     ensures behind { (place : ℕ) →
@@ -76,7 +76,7 @@ pub fn read_completed(alloc: Global, doc: &[u8]) -> Result<(), DocFault>
 pub fn read_copied(alloc: Global, doc: &[u8], part: bool) -> Result<Text, DocFault>
     ensures value { IfOk result (IsCopied part doc.now) }
     ensures refused { IfRefused result ((etag : List ℕ) → ¬ (IsCopied part doc.now etag)) }
-    ensures broken { IfBroken result (Breaks (copy_root part) doc.now) }
+    ensures broken { IfBroken result (Breaks (copy_root part) copied_table doc.now) }
     ensures other_root { (place : ℕ) → BeginsOtherwise (copy_root part) doc.now place →
         result ≡ Err (DocFault.NotADocument place) }
     ensures behind { (place : ℕ) → HasBytesBehind (copy_root part) (HasLeaf elements.ETag) doc.now place →

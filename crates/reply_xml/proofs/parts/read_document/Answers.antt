@@ -3,7 +3,7 @@ use Rattle.reply_xml.proofs.FaultLemmas.{Tells-map, err_same, fault_past, not_er
 use Rattle.reply_xml.proofs.WholeLemmas.{behind_root, behind_there, no_root, no_inside, no_whole, whole}
 use Rattle.reply_xml.specs.declared.faults.DocFault.TheVariants as fault
 use Rattle.reply_xml.specs.Breaks.{BehindRoot, InRoot}
-use Rattle.reply_xml.proofs.BreakLemmas.{broken_past, sized}
+use Rattle.reply_xml.proofs.BreakLemmas.{OnBroken-map, broken_past, sized}
 use Rattle.reply_xml.proofs.parts.read_document.Goals as goal
 
 pub returns-in-Err-clause-refused : goal.returns-in-Err-clause-refused
@@ -69,7 +69,7 @@ returns-in_err-whole-clause-broken g c =
     broken_past c.from_residual.result c.in_err-whole.field-0.0 c.from_residual.ensures.1
     (
     λ reason b. InRoot c.in-Ok.parts.1 _ (record { begins = c.in-Ok.ensures.begins; room = c.in-Ok.ensures.room; name = c.in-Ok.ensures.named })
-    (sized _ _ reason _ _ c.in-Ok.ensures.size b)
+    (sized _ _ reason _ _ _ _ c.in-Ok.ensures.size b)
     )
     c.in_err-whole.ensures.broken
 
@@ -82,3 +82,6 @@ returns-in_err-close-clause-broken g c =
     (held.0, held.1) h.1 h.2 h.3
     )
     c.in_err-close.ensures.broken
+
+pub returns-in-Err-clause-broken : goal.returns-in-Err-clause-broken
+returns-in-Err-clause-broken g c = OnBroken-map c.in-Err.fault (λ reason b. b (g.P.Parts.table c.args.parts)) c.in-Err.ensures.broken

@@ -1,3 +1,7 @@
+use Rattle.s3_replies.specs.Listing.{page_table}
+use Rattle.reply_xml.specs.Breaks.{StandsAgain}
+use Rattle.reply_xml.specs.declared.elements.Element.TheVariants as element
+use Rattle.std.proofs.Common.{◌∙◌, sym}
 use Rattle.std.proofs.Common.{codes, refl}
 use Rattle.reply_xml.proofs.FaultLemmas.{refused_past}
 use Rattle.s3_replies.proofs.PageLemmas.{encoding_advanced, encoding_none, encoding_twice}
@@ -20,4 +24,8 @@ returns-clause-value c =
 
 pub returns-in_err-leaf-clause-broken : goal.returns-in_err-leaf-clause-broken
 returns-in_err-leaf-clause-broken c =
-    broken_past c.from_residual.result c.in_err-leaf.field-0.0 c.from_residual.ensures.1 (λ reason b. b) c.in_err-leaf.ensures.broken
+    broken_past c.from_residual.result c.in_err-leaf.field-0.0 c.from_residual.ensures.1 (λ reason b front found. b page_table front refl) c.in_err-leaf.ensures.broken
+
+pub returns-then-url-clause-broken : goal.returns-then-url-clause-broken
+returns-then-url-clause-broken c front found =
+    StandsAgain element.EncodingType (record { same = c.requires; alone = refl; before = sym found ∙ c.if-url.true }) refl

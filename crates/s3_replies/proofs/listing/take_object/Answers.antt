@@ -1,5 +1,6 @@
+use Rattle.std.proofs.Common.{refl}
 use Rattle.reply_xml.specs.declared.elements.Element.TheVariants as element
-use Rattle.s3_replies.specs.Listing.{HasObject}
+use Rattle.s3_replies.specs.Listing.{HasObject, page_table}
 use Rattle.reply_xml.proofs.FaultLemmas.{refused_past}
 use Rattle.s3_replies.proofs.EachLemmas.{each_advanced, each_stopped}
 use Rattle.s3_replies.proofs.ObjectLemmas.{HasObject-same, object_closed, object_opened}
@@ -22,4 +23,4 @@ returns-clause-value c =
 
 pub returns-in_err-row-clause-broken : goal.returns-in_err-row-clause-broken
 returns-in_err-row-clause-broken c =
-    broken_past c.from_residual.result c.in_err-row.field-0.0 c.from_residual.ensures.1 (λ reason b. b) c.in_err-row.ensures.broken
+    broken_past c.from_residual.result c.in_err-row.field-0.0 c.from_residual.ensures.1 (λ reason b front. b page_table front element.Contents c.requires refl) c.in_err-row.ensures.broken

@@ -1,3 +1,5 @@
+use Rattle.std.proofs.Common.{refl}
+use Rattle.s3_replies.specs.Listing.{page_table}
 use Rattle.reply_xml.specs.declared.elements.Element.TheVariants as element
 use Rattle.reply_xml.specs.Children.{HasLeaf}
 use Rattle.reply_xml.proofs.FaultLemmas.{refused_past}
@@ -18,4 +20,4 @@ returns-clause-value c =
 
 pub returns-in_err-row-clause-broken : goal.returns-in_err-row-clause-broken
 returns-in_err-row-clause-broken c =
-    broken_past c.from_residual.result c.in_err-row.field-0.0 c.from_residual.ensures.1 (λ reason b. b) c.in_err-row.ensures.broken
+    broken_past c.from_residual.result c.in_err-row.field-0.0 c.from_residual.ensures.1 (λ reason b front. b page_table front element.CommonPrefixes c.requires refl) c.in_err-row.ensures.broken

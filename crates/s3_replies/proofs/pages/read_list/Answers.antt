@@ -1,7 +1,7 @@
 use Rattle.std.proofs.Common.{◌∙◌, Err, List, ap, codes, inl, subst, sym, ℕ}
 use Rattle.reply_xml.specs.Documents.{ReadsSpace}
 use Rattle.reply_xml.specs.declared.faults.DocFault.TheVariants as fault
-use Rattle.s3_replies.specs.Listing.{HasListing, HasPage, IsKeyFault}
+use Rattle.s3_replies.specs.Listing.{HasListing, HasPage, IsKeyFault, page_table}
 use Rattle.reply_xml.proofs.FaultLemmas.{Tells-map, err_same, fault_past, not_err, refused_past, same_fault, told_instead, untold}
 use Rattle.reply_xml.proofs.WholeLemmas.{behind_root, inside_root, no_root, no_whole, whole}
 use Rattle.s3_replies.proofs.ListingLemmas.{no_listing, said_there}
@@ -105,23 +105,23 @@ returns-clause-behind c place b =
 
 pub returns-in-Err-written_page-clause-broken : goal.returns-in-Err-written_page-clause-broken
 returns-in-Err-written_page-clause-broken c =
-    broken_told (Breaks (codes "ListBucketResult") c.args.doc.now) IsKeyFault c.in-Err-written_page.fault c.first_fault.result c.first_fault.ensures.broken
+    broken_told (Breaks (codes "ListBucketResult") page_table c.args.doc.now) IsKeyFault c.in-Err-written_page.fault c.first_fault.result c.first_fault.ensures.broken
     (
     OnBroken-map c.in-Err-written_page.fault
     (
     λ reason b. InRoot c.in-Ok.parts.1 _ (record { begins = c.in-Ok.ensures.begins; room = c.in-Ok.ensures.room; name = c.in-Ok.ensures.named })
-    (sized _ _ reason _ _ c.in-Ok.ensures.size b)
+    (sized _ _ reason _ _ _ _ c.in-Ok.ensures.size b)
     )
     c.in-Err-written_page.ensures.broken
     )
 
 pub returns-in-Err-listed-clause-broken : goal.returns-in-Err-listed-clause-broken
 returns-in-Err-listed-clause-broken c =
-    key_told (Breaks (codes "ListBucketResult") c.args.doc.now) IsKeyFault c.in-Err-listed.fault c.first_fault-in-Err-listed.result c.first_fault-in-Err-listed.ensures.broken
+    key_told (Breaks (codes "ListBucketResult") page_table c.args.doc.now) IsKeyFault c.in-Err-listed.fault c.first_fault-in-Err-listed.result c.first_fault-in-Err-listed.ensures.broken
     c.in-Err-listed.ensures.keyed
 
 pub returns-in-Err-clause-broken : goal.returns-in-Err-clause-broken
-returns-in-Err-clause-broken c = OnBroken-map c.in-Err.fault (λ reason b. inl b) c.in-Err.ensures.broken
+returns-in-Err-clause-broken c = OnBroken-map c.in-Err.fault (λ reason b. inl (b page_table)) c.in-Err.ensures.broken
 
 pub returns-in_err-close-clause-broken : goal.returns-in_err-close-clause-broken
 returns-in_err-close-clause-broken c =

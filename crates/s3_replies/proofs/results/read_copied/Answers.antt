@@ -3,7 +3,7 @@ use Rattle.reply_xml.specs.Faults.{IfRefused}
 use Rattle.reply_xml.specs.Places.{BeginsOtherwise, HasBytesBehind}
 use Rattle.reply_xml.specs.Children.{HasLeaf}
 use Rattle.reply_xml.specs.declared.elements.Element.TheVariants as element
-use Rattle.s3_replies.specs.Results.{IsCopied, copy_root}
+use Rattle.s3_replies.specs.Results.{IsCopied, copied_table, copy_root}
 use Rattle.reply_xml.specs.Breaks.{Breaks, IfBroken}
 use Rattle.s3_replies.proofs.results.read_copied.Goals as goal
 
@@ -39,8 +39,8 @@ returns-clause-behind c place b =
 
 pub returns-then-part-clause-broken : goal.returns-then-part-clause-broken
 returns-then-part-clause-broken c =
-    subst (λ (part : Bool). IfBroken c.only_leaf.result (Breaks (copy_root part) c.args.doc.now)) (sym c.if-part.true) c.only_leaf.ensures.broken
+    subst (λ (part : Bool). IfBroken c.only_leaf.result (Breaks (copy_root part) copied_table c.args.doc.now)) (sym c.if-part.true) c.only_leaf.ensures.broken
 
 pub returns-clause-broken : goal.returns-clause-broken
 returns-clause-broken c =
-    subst (λ (part : Bool). IfBroken c.only_leaf-2.result (Breaks (copy_root part) c.args.doc.now)) (sym c.if-part.false) c.only_leaf-2.ensures.broken
+    subst (λ (part : Bool). IfBroken c.only_leaf-2.result (Breaks (copy_root part) copied_table c.args.doc.now)) (sym c.if-part.false) c.only_leaf-2.ensures.broken

@@ -19,9 +19,12 @@ returns-clause-refused g c =
 
 pub returns-in_err-tag-clause-broken : goal.returns-in_err-tag-clause-broken
 returns-in_err-tag-clause-broken g c =
-    broken_past c.from_residual.result c.in_err-tag.field-0.0 c.from_residual.ensures.1 (λ reason t. BehindName t.0 t.1 t.2) c.in_err-tag.ensures.broken
+    broken_past c.from_residual.result c.in_err-tag.field-0.0 c.from_residual.ensures.1 (λ reason t table front of same parent. BehindName t.0 t.1 t.2) c.in_err-tag.ensures.broken
 
 pub returns-clause-broken : goal.returns-clause-broken
 returns-clause-broken g c =
-    broken_so c.inside.result (λ reason b. BehindTag c.in_ok-tag.tag _ c.in_ok-tag.ensures.value (sized _ _ reason _ _ c.in_ok-tag.ensures.size b))
+    broken_so c.inside.result (
+    λ reason b table front of same parent. BehindTag c.in_ok-tag.tag of _ _ c.in_ok-tag.ensures.value (record { same = same; read_so = parent })
+    (sized _ _ reason _ _ _ _ c.in_ok-tag.ensures.size b)
+    )
     c.inside.ensures.broken

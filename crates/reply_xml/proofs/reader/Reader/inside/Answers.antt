@@ -1,9 +1,9 @@
-use Rattle.std.proofs.Common.{refl, arith, ◌∙◌}
+use Rattle.std.proofs.Common.{refl, arith, ◌∙◌, ◌∷◌}
 use Rattle.reply_xml.proofs.FaultLemmas.{refused_past}
 use Rattle.reply_xml.proofs.OpenLemmas.{iff_past}
 use Rattle.reply_xml.proofs.TakeLemmas.{advanced, stopped, ended, at_end_left}
 use Rattle.reply_xml.specs.Breaks.{Behind}
-use Rattle.reply_xml.proofs.BreakLemmas.{broken_past, child_breaks, sized}
+use Rattle.reply_xml.proofs.BreakLemmas.{broken_past, child_breaks, lacks_there, sized, tabled}
 use Rattle.reply_xml.proofs.reader.Reader.inside.Goals as goal
 
 pub returns-in_err-child-clause-refused : goal.returns-in_err-child-clause-refused
@@ -19,9 +19,14 @@ children-preserved g c =
       same = λ rest whole. iff_past (c.children.invariant.same rest whole)
           (advanced (g.P.Parts.left c.children.parts) (g.P.Parts.left c.take.new.self) c.args.parent.now c.in-Some.child _ _ _ rest whole now.apart now.child c.in_ok-take.ensures.value);
       size = c.in_ok-take.ensures.size ∙ now.size ∙ c.children.invariant.size;
-      broken = λ reason b. let element = c.in_ok-take.ensures.value in
-          c.children.invariant.broken reason
-          (sized _ _ reason _ _ (c.in_ok-take.ensures.size ∙ now.size) (Behind c.in-Some.child _ _ now.apart now.child (element.0, element.1) b));
+      table = c.in_ok-take.ensures.same_table ∙ c.children.invariant.table;
+      front = (
+        c.in-Some.child.element ∷ c.children.invariant.front.0,
+        c.in_ok-take.ensures.known c.children.invariant.front.0 c.children.invariant.front.1,
+        λ reason b. let element = c.in_ok-take.ensures.value in
+            c.children.invariant.front.2 reason
+            (sized _ _ reason _ _ _ _ (c.in_ok-take.ensures.size ∙ now.size) (Behind c.in-Some.child _ _ now.apart now.child (element.0, element.1) b)),
+      );
     }
 
 pub returns-in_err-take-clause-refused : goal.returns-in_err-take-clause-refused
@@ -60,7 +65,7 @@ returns-clause-value g c =
 
 pub returns-in_err-child-clause-broken : goal.returns-in_err-child-clause-broken
 returns-in_err-child-clause-broken g c =
-    broken_past c.from_residual.result c.in_err-child.field-0.0 c.from_residual.ensures.1 (λ reason b. c.children.invariant.broken reason b)
+    broken_past c.from_residual.result c.in_err-child.field-0.0 c.from_residual.ensures.1 (λ reason b. c.children.invariant.front.2 reason (b _ _))
     c.in_err-child.ensures.broken
 
 pub returns-in_err-take-clause-broken : goal.returns-in_err-take-clause-broken
@@ -68,18 +73,26 @@ returns-in_err-take-clause-broken g c =
     let now = rw c.in-Some.is at c.in_ok-child.ensures in
     broken_past c.from_residual-in_err-take.result c.in_err-take.field-0.0 c.from_residual-in_err-take.ensures.1
     (
-    λ reason b. c.children.invariant.broken reason
-    (sized _ _ reason _ _ now.size (child_breaks _ reason c.args.parent.now c.in-Some.child _ _ now.apart now.child b))
+    λ reason b. c.children.invariant.front.2 reason
+    (sized _ _ reason _ _ _ _ now.size
+    (child_breaks _ reason _ _ c.args.parent.now c.in-Some.child _ _ now.apart now.child
+    (tabled _ reason _ _ c.children.invariant.front.0 c.in-Some.child _ c.children.invariant.table (b c.children.invariant.front.0 c.children.invariant.front.1))))
     )
     c.in_err-take.ensures.broken
 
 pub returns-in_err-whole-clause-broken : goal.returns-in_err-whole-clause-broken
 returns-in_err-whole-clause-broken g c =
-    broken_past c.from_residual-in_err-whole.result c.in_err-whole.field-0.0 c.from_residual-in_err-whole.ensures.1 (λ reason none. absurd none)
-    c.in_err-whole.ensures.unbroken
+    let now = rw c.in_default.is at c.in_ok-child.ensures in
+    broken_past c.from_residual-in_err-whole.result c.in_err-whole.field-0.0 c.from_residual-in_err-whole.ensures.1
+    (
+    λ reason m. c.children.invariant.front.2 reason
+    (sized _ _ reason _ _ _ _ now.size
+    (lacks_there _ reason _ _ c.children.invariant.front.0 c.args.parent.now _ _ c.children.invariant.table now.end (m c.children.invariant.front.0 c.children.invariant.front.1)))
+    )
+    c.in_err-whole.ensures.missing
 
 pub returns-in_err-end-clause-broken : goal.returns-in_err-end-clause-broken
 returns-in_err-end-clause-broken g c =
     let now = rw c.in_default.is at c.in_ok-child.ensures in
     broken_past c.from_residual-in_err-end.result c.in_err-end.field-0.0 c.from_residual-in_err-end.ensures.1
-    (λ reason b. c.children.invariant.broken reason (sized _ _ reason _ _ now.size (b _ now.end))) c.in_err-end.ensures.broken
+    (λ reason b. c.children.invariant.front.2 reason (sized _ _ reason _ _ _ _ now.size (b _ now.end _ _))) c.in_err-end.ensures.broken

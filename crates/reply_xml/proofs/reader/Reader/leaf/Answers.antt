@@ -3,8 +3,8 @@ use Rattle.reply_xml.proofs.LeafLemmas.{leaf_read, leaf_closed, leaf_no_closed, 
 use Rattle.reply_xml.specs.Children.{IsLeafOf}
 use Rattle.std.proofs.Common.{ap, ◌-◌, ◌∙◌, []}
 use Rattle.reply_xml.specs.declared.faults.DocFault.TheVariants as fault
-use Rattle.reply_xml.specs.Breaks.{AtText, BehindName, BehindTag, InText, NoEndBehind, Unfit}
-use Rattle.reply_xml.proofs.BreakLemmas.{broken_past, broken_so, sized, text_closed, text_open}
+use Rattle.reply_xml.specs.Breaks.{BehindLeafTag, BehindName, InText, NoEndBehind, Unfit}
+use Rattle.reply_xml.proofs.BreakLemmas.{broken_past, broken_so, text_closed, text_open, text_sized}
 use Rattle.reply_xml.proofs.reader.Reader.leaf.Goals as goal
 
 pub returns-in_err-tag-clause-refused : goal.returns-in_err-tag-clause-refused
@@ -40,13 +40,13 @@ returns-then-tag-clause-refused g c =
 
 pub returns-in_err-tag-clause-broken : goal.returns-in_err-tag-clause-broken
 returns-in_err-tag-clause-broken g c =
-    broken_past c.from_residual.result c.in_err-tag.field-0.0 c.from_residual.ensures.1 (λ reason t. BehindName t.0 t.1 t.2) c.in_err-tag.ensures.broken
+    broken_past c.from_residual.result c.in_err-tag.field-0.0 c.from_residual.ensures.1 (λ reason t table front form. BehindName t.0 t.1 t.2) c.in_err-tag.ensures.broken
 
 pub returns-then-tag-clause-broken : goal.returns-then-tag-clause-broken
 returns-then-tag-clause-broken g c =
     broken_so c.value_of.result
     (
-    λ reason u. InText c.in_ok-tag.tag _ c.args.of _ c.in_ok-tag.ensures.value c.requires.same c.requires.judged
+    λ reason u table front form. BehindLeafTag c.in_ok-tag.tag _ c.args.of _ c.in_ok-tag.ensures.value (record { same = c.requires; read_so = form })
     (Unfit [] _ (text_closed c.in_ok-tag.tag _ c.if-tag.true) u)
     )
     c.value_of.ensures.unfit
@@ -54,21 +54,24 @@ returns-then-tag-clause-broken g c =
 pub returns-in_err-text-clause-broken : goal.returns-in_err-text-clause-broken
 returns-in_err-text-clause-broken g c =
     broken_past c.from_residual-in_err-text.result c.in_err-text.field-0.0 c.from_residual-in_err-text.ensures.1
-    (λ reason t. BehindTag c.in_ok-tag.tag _ c.in_ok-tag.ensures.value (sized _ _ reason _ _ c.in_ok-tag.ensures.size (AtText c.if-tag.false t)))
+    (
+    λ reason t table front form. BehindLeafTag c.in_ok-tag.tag _ c.args.of _ c.in_ok-tag.ensures.value (record { same = c.requires; read_so = form })
+    (InText c.if-tag.false (text_sized _ _ reason _ c.in_ok-tag.ensures.size t))
+    )
     c.in_err-text.ensures.broken
 
 pub returns-in_err-value-clause-broken : goal.returns-in_err-value-clause-broken
 returns-in_err-value-clause-broken g c =
     broken_past c.from_residual-in_err-value.result c.in_err-value.field-0.0 c.from_residual-in_err-value.ensures.1
     (
-    λ reason u. InText c.in_ok-tag.tag _ c.args.of _ c.in_ok-tag.ensures.value c.requires.same c.requires.judged
+    λ reason u table front form. BehindLeafTag c.in_ok-tag.tag _ c.args.of _ c.in_ok-tag.ensures.value (record { same = c.requires; read_so = form })
     (Unfit _ _ (text_open c.in_ok-tag.tag _ _ _ _ c.if-tag.false c.in_ok-text.ensures.value.1 c.in_ok-text.ensures.value.2) u)
     )
     c.in_err-value.ensures.unfit
 
 pub returns-in-Err-clause-broken : goal.returns-in-Err-clause-broken
-returns-in-Err-clause-broken g c =
-    InText c.in_ok-tag.tag _ c.args.of _ c.in_ok-tag.ensures.value c.requires.same c.requires.judged
+returns-in-Err-clause-broken g c table front form =
+    BehindLeafTag c.in_ok-tag.tag _ c.args.of _ c.in_ok-tag.ensures.value (record { same = c.requires; read_so = form })
     (
     NoEndBehind _ _ c.in-Err.left c.if-tag.false c.in_ok-text.ensures.value.1 c.in-Err.ensures.leaves
     (ap (λ n. fault.NotADocument n) (c.place.ensures ∙ ap (λ s. s - c.in-Err.left) (c.in_ok-text.ensures.size ∙ c.in_ok-tag.ensures.size)))

@@ -32,14 +32,14 @@ returns-in-Err-clause-refused c inner rest r =
 pub returns-in_err-text-clause-broken : goal.returns-in_err-text-clause-broken
 returns-in_err-text-clause-broken c =
     broken_past c.from_residual.result c.in_err-text.field-0.0 c.from_residual.ensures.1
-    (λ reason t. AtText c.if-parent.false t) c.in_err-text.ensures.broken
+    (λ reason t table front. AtText c.if-parent.false t) c.in_err-text.ensures.broken
 
 pub returns-in-Err-clause-broken : goal.returns-in-Err-clause-broken
-returns-in-Err-clause-broken c =
+returns-in-Err-clause-broken c table front =
     AtStart c.in_ok-text.ensures.value.0 _ c.in-Err.left c.if-parent.false c.in_ok-text.ensures.value.1 c.if-at_end_tag.ensures
     c.in-Err.ensures.leaves
     (ap (λ n. fault.NotADocument n) (c.place.ensures ∙ ap (λ s. s - c.in-Err.left) c.in_ok-text.ensures.size))
 
 pub returns-then-parent-eq0-clause-broken : goal.returns-then-parent-eq0-clause-broken
-returns-then-parent-eq0-clause-broken c =
+returns-then-parent-eq0-clause-broken c table front =
     TooLow c.in_ok-text.ensures.value.0 _ _ _ c.if-parent.false c.in_ok-text.ensures.value.1 c.in-Ok.ensures.value c.in-Ok.ensures.ended (omega arith) refl

@@ -36,9 +36,9 @@ returns-clause-other c place o =
     )
 
 pub returns-in-Err-clause-broken : goal.returns-in-Err-clause-broken
-returns-in-Err-clause-broken c = NoRoot _ c.in-Err.ensures.unnamed refl
+returns-in-Err-clause-broken c table = NoRoot _ c.in-Err.ensures.unnamed refl
 
 pub returns-in-Err-after_tag_end-clause-broken : goal.returns-in-Err-after_tag_end-clause-broken
-returns-in-Err-after_tag_end-clause-broken c =
+returns-in-Err-after_tag_end-clause-broken c table =
     InRootTag _ c.in-Err-after_tag_end.left c.in-Ok.ensures.value
     c.in-Err-after_tag_end.ensures.leaves refl

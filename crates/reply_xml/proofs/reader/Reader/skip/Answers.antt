@@ -1,6 +1,6 @@
 use Rattle.reply_xml.proofs.FaultLemmas.{OnOk-map, refused_past, refused_so}
 use Rattle.reply_xml.proofs.OpenLemmas.{element_of, inner_of}
-use Rattle.reply_xml.specs.Breaks.{BehindName, BehindTag}
+use Rattle.reply_xml.specs.Breaks.{BehindName, BehindOtherTag}
 use Rattle.reply_xml.proofs.BreakLemmas.{broken_past, broken_so, sized}
 use Rattle.reply_xml.proofs.reader.Reader.skip.Goals as goal
 
@@ -18,9 +18,9 @@ returns-clause-refused c =
 
 pub returns-in_err-tag-clause-broken : goal.returns-in_err-tag-clause-broken
 returns-in_err-tag-clause-broken c =
-    broken_past c.from_residual.result c.in_err-tag.field-0.0 c.from_residual.ensures.1 (λ reason t. BehindName t.0 t.1 t.2) c.in_err-tag.ensures.broken
+    broken_past c.from_residual.result c.in_err-tag.field-0.0 c.from_residual.ensures.1 (λ reason t table front outside. BehindName t.0 t.1 t.2) c.in_err-tag.ensures.broken
 
 pub returns-clause-broken : goal.returns-clause-broken
 returns-clause-broken c =
-    broken_so c.skip_content.result (λ reason b. BehindTag c.in_ok-tag.tag _ c.in_ok-tag.ensures.value (sized _ _ reason _ _ c.in_ok-tag.ensures.size b))
+    broken_so c.skip_content.result (λ reason b table front outside. BehindOtherTag c.in_ok-tag.tag _ c.in_ok-tag.ensures.value outside (sized _ _ reason _ _ _ _ c.in_ok-tag.ensures.size b))
     c.skip_content.ensures.broken

@@ -1,13 +1,14 @@
-use Rattle.std.proofs.Common.{◌∙◌, Some, sym}
+use Rattle.reply_xml.specs.Breaks.{StandsAgain}
+use Rattle.std.proofs.Common.{◌∙◌, Some, refl, sym}
 use Rattle.s3_model.specs.Lists.{Reserved}
 use Rattle.s3_model.specs.declared.places.Entry.{Entry}
-use Rattle.s3_replies.specs.Buckets.{HasBucket, ListLeft}
+use Rattle.s3_replies.specs.Buckets.{HasBucket, ListLeft, bucket_list_table}
 use Rattle.reply_xml.specs.declared.elements.Element.TheVariants as element
-use Rattle.reply_xml.proofs.FaultLemmas.{refused_past, refused_so}
+use Rattle.reply_xml.proofs.FaultLemmas.{OnOk-map, refused_past, refused_so}
 use Rattle.reply_xml.proofs.TakeLemmas.{part_advanced, part_stopped, stops_there}
 use Rattle.s3_replies.proofs.EachLemmas.{each_started}
 use Rattle.s3_replies.proofs.BucketLemmas.{list_advanced, list_stopped}
-use Rattle.reply_xml.proofs.BreakLemmas.{broken_past}
+use Rattle.reply_xml.proofs.BreakLemmas.{broken_past, broken_so, found_past, stood_here}
 use Rattle.s3_replies.proofs.buckets.BucketListParts.take.Goals as goal
 
 pub returns-then-not-is_the-clause-refused : goal.returns-then-not-is_the-clause-refused
@@ -39,4 +40,22 @@ returns-clause-value c =
 
 pub returns-in_err-element-clause-broken : goal.returns-in_err-element-clause-broken
 returns-in_err-element-clause-broken c =
-    broken_past c.from_residual.result c.in_err-element.field-0.0 c.from_residual.ensures.1 (λ reason b. b) c.in_err-element.ensures.broken
+    broken_past c.from_residual.result c.in_err-element.field-0.0 c.from_residual.ensures.1 (λ reason b front found. b bucket_list_table front element.Buckets (sym c.is_the.ensures ∙ c.if-not-is_the.false) refl) c.in_err-element.ensures.broken
+
+pub returns-then-not-is_the-clause-broken : goal.returns-then-not-is_the-clause-broken
+returns-then-not-is_the-clause-broken c =
+    broken_so c.skip.result (λ reason b front found. b bucket_list_table front (sym c.is_the.ensures ∙ c.if-not-is_the.true, tt)) c.skip.ensures.broken
+
+pub returns-then-not-is_the-clause-known : goal.returns-then-not-is_the-clause-known
+returns-then-not-is_the-clause-known c =
+    OnOk-map c.skip.result
+    (λ read front found. found_past element.Buckets c.args.self.now.found c.args.child.now.element front (sym c.is_the.ensures ∙ c.if-not-is_the.true) found)
+    c.skip.ensures.value
+
+pub returns-then-is_some-clause-broken : goal.returns-then-is_some-clause-broken
+returns-then-is_some-clause-broken c front found =
+    StandsAgain element.Buckets
+    (record { same = sym c.is_the.ensures ∙ c.if-not-is_the.false; alone = refl; before = sym found ∙ (sym c.is_some.ensures ∙ c.if-is_some.true) }) refl
+
+pub returns-clause-known : goal.returns-clause-known
+returns-clause-known c front found = stood_here element.Buckets c.args.child.now.element front (sym c.is_the.ensures ∙ c.if-not-is_the.false)

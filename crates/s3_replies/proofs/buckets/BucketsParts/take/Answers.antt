@@ -2,12 +2,12 @@ use Rattle.std.proofs.Common.{◌++◌, ◌∷◌, [], ◌∙◌, ap, refl, sym}
 use Rattle.s3_model.specs.Lists.{Reserved}
 use Rattle.s3_model.specs.declared.places.Entry.{Entry}
 use Rattle.reply_xml.specs.declared.elements.Element.TheVariants as element
-use Rattle.s3_replies.specs.Buckets.{BucketsLeft, HasBucket}
-use Rattle.reply_xml.proofs.FaultLemmas.{refused_past, refused_so}
+use Rattle.s3_replies.specs.Buckets.{BucketsLeft, HasBucket, buckets_table}
+use Rattle.reply_xml.proofs.FaultLemmas.{OnOk-map, refused_past, refused_so}
 use Rattle.reply_xml.proofs.TakeLemmas.{part_advanced, part_stopped, stops_there}
 use Rattle.s3_replies.proofs.EachLemmas.{each_advanced, each_stopped}
 use Rattle.s3_replies.proofs.BucketLemmas.{HasBucket-same, bucket_closed, bucket_opened}
-use Rattle.reply_xml.proofs.BreakLemmas.{broken_past}
+use Rattle.reply_xml.proofs.BreakLemmas.{broken_past, broken_so}
 use Rattle.s3_replies.proofs.buckets.BucketsParts.take.Goals as goal
 
 pub returns-then-not-is_the-clause-refused : goal.returns-then-not-is_the-clause-refused
@@ -34,4 +34,11 @@ returns-clause-value c =
 
 pub returns-in_err-key-clause-broken : goal.returns-in_err-key-clause-broken
 returns-in_err-key-clause-broken c =
-    broken_past c.from_residual.result c.in_err-key.field-0.0 c.from_residual.ensures.1 (λ reason b. b) c.in_err-key.ensures.broken
+    broken_past c.from_residual.result c.in_err-key.field-0.0 c.from_residual.ensures.1 (λ reason b front found. b buckets_table front element.Bucket (sym c.is_the.ensures ∙ c.if-not-is_the.false) refl) c.in_err-key.ensures.broken
+
+pub returns-then-not-is_the-clause-broken : goal.returns-then-not-is_the-clause-broken
+returns-then-not-is_the-clause-broken c =
+    broken_so c.skip.result (λ reason b front found. b buckets_table front (sym c.is_the.ensures ∙ c.if-not-is_the.true, tt)) c.skip.ensures.broken
+
+pub returns-then-not-is_the-clause-known : goal.returns-then-not-is_the-clause-known
+returns-then-not-is_the-clause-known c = OnOk-map c.skip.result (λ read front found. tt) c.skip.ensures.value

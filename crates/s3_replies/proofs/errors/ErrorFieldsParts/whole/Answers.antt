@@ -1,3 +1,5 @@
+use Rattle.reply_xml.specs.declared.elements.Element.TheVariants as element
+use Rattle.reply_xml.proofs.BreakLemmas.{missing_here}
 use Rattle.s3_replies.proofs.ErrorLemmas.{error_left, no_code}
 use Rattle.std.proofs.Common.{refl}
 use Rattle.s3_replies.proofs.errors.ErrorFieldsParts.whole.Goals as goal
@@ -7,3 +9,6 @@ returns-in-Some-clause-value c text = error_left c.in-Some.code c.args.self.mess
 
 pub returns-in-None-clause-refused : goal.returns-in-None-clause-refused
 returns-in-None-clause-refused c text value left = no_code c.args.self.code c.args.self.message text value c.in-None.is left
+
+pub returns-in-None-clause-missing : goal.returns-in-None-clause-missing
+returns-in-None-clause-missing c front found = (element.Code, refl, missing_here element.Code c.args.self.code front _ c.in-None.is found.0)

@@ -1,3 +1,8 @@
+use Rattle.std.proofs.Common.{refl}
+use Rattle.reply_xml.specs.declared.elements.Element.TheVariants as element
+use Rattle.reply_xml.proofs.ChildLemmas.{is_other}
+use Rattle.reply_xml.proofs.BreakLemmas.{broken_so, found_here, found_past}
+use Rattle.s3_replies.specs.Listing.{object_table}
 use Rattle.std.proofs.Common.{◌∙◌, sym}
 use Rattle.s3_replies.specs.Listing.{ObjectLeft}
 use Rattle.reply_xml.proofs.FaultLemmas.{refused_so, OnOk-map}
@@ -42,3 +47,55 @@ returns-clause-value c = OnOk-map c.skip.result (object_skipped c.args.self.now.
 
 pub returns-clause-refused : goal.returns-clause-refused
 returns-clause-refused c = refused_so c.skip.result (stops_there (ObjectLeft c.args.self.now.key c.args.self.now.modified c.args.self.now.etag c.args.self.now.size) c.args.child.now c.args.reader.now.rest.now) c.skip.ensures.refused
+
+pub returns-then-is_the-clause-known : goal.returns-then-is_the-clause-known
+returns-then-is_the-clause-known c =
+    OnOk-map c.take.result
+    (λ some front found. (found_here element.Key c.take.new.found c.args.child.now.element front (sym c.is_the.ensures ∙ c.if-is_the.true) some, found_past element.LastModified c.args.self.now.modified c.args.child.now.element front (is_other element.Key element.LastModified c.args.child.now.element (sym c.is_the.ensures ∙ c.if-is_the.true) refl) found.1, found_past element.ETag c.args.self.now.etag c.args.child.now.element front (is_other element.Key element.ETag c.args.child.now.element (sym c.is_the.ensures ∙ c.if-is_the.true) refl) found.2, found_past element.Size c.args.self.now.size c.args.child.now.element front (is_other element.Key element.Size c.args.child.now.element (sym c.is_the.ensures ∙ c.if-is_the.true) refl) found.3))
+    c.take.ensures.some
+
+pub returns-then-is_the-clause-broken : goal.returns-then-is_the-clause-broken
+returns-then-is_the-clause-broken c =
+    broken_so c.take.result (λ reason b front found. b object_table front refl refl found.0) c.take.ensures.broken
+
+pub returns-then-is_the-2-clause-known : goal.returns-then-is_the-2-clause-known
+returns-then-is_the-2-clause-known c =
+    OnOk-map c.take-then-is_the-2.result
+    (λ some front found. (found_past element.Key c.args.self.now.key c.args.child.now.element front (is_other element.LastModified element.Key c.args.child.now.element (sym c.is_the-2.ensures ∙ c.if-is_the-2.true) refl) found.0, found_here element.LastModified c.take-then-is_the-2.new.found c.args.child.now.element front (sym c.is_the-2.ensures ∙ c.if-is_the-2.true) some, found_past element.ETag c.args.self.now.etag c.args.child.now.element front (is_other element.LastModified element.ETag c.args.child.now.element (sym c.is_the-2.ensures ∙ c.if-is_the-2.true) refl) found.2, found_past element.Size c.args.self.now.size c.args.child.now.element front (is_other element.LastModified element.Size c.args.child.now.element (sym c.is_the-2.ensures ∙ c.if-is_the-2.true) refl) found.3))
+    c.take-then-is_the-2.ensures.some
+
+pub returns-then-is_the-2-clause-broken : goal.returns-then-is_the-2-clause-broken
+returns-then-is_the-2-clause-broken c =
+    broken_so c.take-then-is_the-2.result (λ reason b front found. b object_table front refl refl found.1) c.take-then-is_the-2.ensures.broken
+
+pub returns-then-is_the-3-clause-known : goal.returns-then-is_the-3-clause-known
+returns-then-is_the-3-clause-known c =
+    OnOk-map c.take-then-is_the-3.result
+    (λ some front found. (found_past element.Key c.args.self.now.key c.args.child.now.element front (is_other element.ETag element.Key c.args.child.now.element (sym c.is_the-3.ensures ∙ c.if-is_the-3.true) refl) found.0, found_past element.LastModified c.args.self.now.modified c.args.child.now.element front (is_other element.ETag element.LastModified c.args.child.now.element (sym c.is_the-3.ensures ∙ c.if-is_the-3.true) refl) found.1, found_here element.ETag c.take-then-is_the-3.new.found c.args.child.now.element front (sym c.is_the-3.ensures ∙ c.if-is_the-3.true) some, found_past element.Size c.args.self.now.size c.args.child.now.element front (is_other element.ETag element.Size c.args.child.now.element (sym c.is_the-3.ensures ∙ c.if-is_the-3.true) refl) found.3))
+    c.take-then-is_the-3.ensures.some
+
+pub returns-then-is_the-3-clause-broken : goal.returns-then-is_the-3-clause-broken
+returns-then-is_the-3-clause-broken c =
+    broken_so c.take-then-is_the-3.result (λ reason b front found. b object_table front refl refl found.2) c.take-then-is_the-3.ensures.broken
+
+pub returns-then-is_the-4-clause-known : goal.returns-then-is_the-4-clause-known
+returns-then-is_the-4-clause-known c =
+    OnOk-map c.take-then-is_the-4.result
+    (λ some front found. (found_past element.Key c.args.self.now.key c.args.child.now.element front (is_other element.Size element.Key c.args.child.now.element (sym c.is_the-4.ensures ∙ c.if-is_the-4.true) refl) found.0, found_past element.LastModified c.args.self.now.modified c.args.child.now.element front (is_other element.Size element.LastModified c.args.child.now.element (sym c.is_the-4.ensures ∙ c.if-is_the-4.true) refl) found.1, found_past element.ETag c.args.self.now.etag c.args.child.now.element front (is_other element.Size element.ETag c.args.child.now.element (sym c.is_the-4.ensures ∙ c.if-is_the-4.true) refl) found.2, found_here element.Size c.take-then-is_the-4.new.found c.args.child.now.element front (sym c.is_the-4.ensures ∙ c.if-is_the-4.true) some))
+    c.take-then-is_the-4.ensures.some
+
+pub returns-then-is_the-4-clause-broken : goal.returns-then-is_the-4-clause-broken
+returns-then-is_the-4-clause-broken c =
+    broken_so c.take-then-is_the-4.result (λ reason b front found. b object_table front refl refl found.3) c.take-then-is_the-4.ensures.broken
+
+pub returns-clause-known : goal.returns-clause-known
+returns-clause-known c =
+    OnOk-map c.skip.result
+    (λ read front found. (found_past element.Key c.args.self.now.key c.args.child.now.element front (sym c.is_the.ensures ∙ c.if-is_the.false) found.0, found_past element.LastModified c.args.self.now.modified c.args.child.now.element front (sym c.is_the-2.ensures ∙ c.if-is_the-2.false) found.1, found_past element.ETag c.args.self.now.etag c.args.child.now.element front (sym c.is_the-3.ensures ∙ c.if-is_the-3.false) found.2, found_past element.Size c.args.self.now.size c.args.child.now.element front (sym c.is_the-4.ensures ∙ c.if-is_the-4.false) found.3))
+    c.skip.ensures.value
+
+pub returns-clause-broken : goal.returns-clause-broken
+returns-clause-broken c =
+    broken_so c.skip.result
+    (λ reason b front found. b object_table front ((sym c.is_the.ensures ∙ c.if-is_the.false), ((sym c.is_the-2.ensures ∙ c.if-is_the-2.false), ((sym c.is_the-3.ensures ∙ c.if-is_the-3.false), ((sym c.is_the-4.ensures ∙ c.if-is_the-4.false), tt)))))
+    c.skip.ensures.broken

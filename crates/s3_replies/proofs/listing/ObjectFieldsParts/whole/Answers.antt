@@ -1,3 +1,5 @@
+use Rattle.std.proofs.Common.{refl}
+use Rattle.reply_xml.proofs.BreakLemmas.{missing_here, missing_later}
 use Rattle.reply_xml.specs.declared.elements.Element.TheVariants as element
 use Rattle.reply_xml.specs.Children.{IsFormed}
 use Rattle.reply_values.specs.Numbers.{SpellsNumber}
@@ -19,3 +21,39 @@ returns-in_default-size-clause-refused c text entry left = part_missing SpellsNu
 
 pub returns-clause-value : goal.returns-clause-value
 returns-clause-value c text = object_left _ text c.args.self.key c.args.self.modified c.args.self.etag c.args.self.size c.in-Some.is c.in-Some-modified.is c.in-Some-etag.is c.in-Some-size.is
+
+pub returns-in_default-clause-missing : goal.returns-in_default-clause-missing
+returns-in_default-clause-missing c front found = (element.Key, refl, missing_here element.Key c.args.self.key front _ c.in_default.is found.0)
+
+pub returns-in_default-modified-clause-missing : goal.returns-in_default-modified-clause-missing
+returns-in_default-modified-clause-missing c front found = (
+  element.LastModified,
+  refl,
+  missing_later element.Key c.args.self.key c.in-Some.key front _ _ c.in-Some.is found.0
+      (missing_here element.LastModified c.args.self.modified front _ c.in_default-modified.is found.1),
+)
+
+pub returns-in_default-etag-clause-missing : goal.returns-in_default-etag-clause-missing
+returns-in_default-etag-clause-missing c front found = (
+  element.ETag,
+  refl,
+  missing_later element.Key c.args.self.key c.in-Some.key front _ _ c.in-Some.is found.0
+      (
+      missing_later element.LastModified c.args.self.modified c.in-Some-modified.micros front _ _ c.in-Some-modified.is found.1
+      (missing_here element.ETag c.args.self.etag front _ c.in_default-etag.is found.2)
+      ),
+)
+
+pub returns-in_default-size-clause-missing : goal.returns-in_default-size-clause-missing
+returns-in_default-size-clause-missing c front found = (
+  element.Size,
+  refl,
+  missing_later element.Key c.args.self.key c.in-Some.key front _ _ c.in-Some.is found.0
+      (
+      missing_later element.LastModified c.args.self.modified c.in-Some-modified.micros front _ _ c.in-Some-modified.is found.1
+      (
+      missing_later element.ETag c.args.self.etag c.in-Some-etag.etag front _ _ c.in-Some-etag.is found.2
+      (missing_here element.Size c.args.self.size front _ c.in_default-size.is found.3)
+      )
+      ),
+)

@@ -1,7 +1,10 @@
+use Rattle.std.proofs.Common.{refl}
+use Rattle.reply_xml.proofs.ChildLemmas.{is_other}
+use Rattle.reply_xml.proofs.BreakLemmas.{broken_so, found_here, found_past, stood_here, stood_past}
 use Rattle.std.proofs.Common.{◌∙◌, sym}
 use Rattle.reply_xml.specs.declared.elements.Element.TheVariants as element
 use Rattle.reply_xml.specs.Children.{IsFormed}
-use Rattle.s3_replies.specs.Listing.{PageLeft}
+use Rattle.s3_replies.specs.Listing.{PageLeft, page_table}
 use Rattle.reply_xml.proofs.FaultLemmas.{refused_so, OnOk-map, OnOk-all}
 use Rattle.reply_xml.proofs.TakeLemmas.{stops_there, at_most_advanced, at_most_stopped}
 use Rattle.s3_replies.proofs.PageLemmas.{entries_advanced, entries_stopped, prefixes_advanced, prefixes_stopped, more_advanced, more_stopped, token_advanced, token_stopped, url_advanced, url_stopped, page_skipped}
@@ -59,3 +62,101 @@ returns-clause-value c = OnOk-map c.skip.result (page_skipped c.args.self.now.mo
 
 pub returns-clause-refused : goal.returns-clause-refused
 returns-clause-refused c = refused_so c.skip.result (stops_there (PageLeft c.args.self.now.more c.args.self.now.token c.args.self.now.url c.args.self.now.entries.items c.args.self.now.prefixes.items) c.args.child.now c.args.reader.now.rest.now) c.skip.ensures.refused
+
+pub returns-then-is_the-clause-known : goal.returns-then-is_the-clause-known
+returns-then-is_the-clause-known c =
+    OnOk-map c.take_object.result
+    (
+    λ read front found. (
+      found_past element.IsTruncated c.args.self.now.more c.args.child.now.element front (is_other element.Contents element.IsTruncated c.args.child.now.element (sym c.is_the.ensures ∙ c.if-is_the.true) refl) found.0,
+      found_past element.NextContinuationToken c.args.self.now.token c.args.child.now.element front (is_other element.Contents element.NextContinuationToken c.args.child.now.element (sym c.is_the.ensures ∙ c.if-is_the.true) refl) found.1,
+      stood_past element.EncodingType c.args.self.now.url c.args.child.now.element front (is_other element.Contents element.EncodingType c.args.child.now.element (sym c.is_the.ensures ∙ c.if-is_the.true) refl) found.2,
+    )
+    )
+    c.take_object.ensures.value
+
+pub returns-then-is_the-clause-broken : goal.returns-then-is_the-clause-broken
+returns-then-is_the-clause-broken c = broken_so c.take_object.result (λ reason b front found. b front) c.take_object.ensures.broken
+
+pub returns-then-is_the-2-clause-known : goal.returns-then-is_the-2-clause-known
+returns-then-is_the-2-clause-known c =
+    OnOk-map c.take_prefix.result
+    (
+    λ read front found. (
+      found_past element.IsTruncated c.args.self.now.more c.args.child.now.element front (is_other element.CommonPrefixes element.IsTruncated c.args.child.now.element (sym c.is_the-2.ensures ∙ c.if-is_the-2.true) refl) found.0,
+      found_past element.NextContinuationToken c.args.self.now.token c.args.child.now.element front (is_other element.CommonPrefixes element.NextContinuationToken c.args.child.now.element (sym c.is_the-2.ensures ∙ c.if-is_the-2.true) refl) found.1,
+      stood_past element.EncodingType c.args.self.now.url c.args.child.now.element front (is_other element.CommonPrefixes element.EncodingType c.args.child.now.element (sym c.is_the-2.ensures ∙ c.if-is_the-2.true) refl) found.2,
+    )
+    )
+    c.take_prefix.ensures.value
+
+pub returns-then-is_the-2-clause-broken : goal.returns-then-is_the-2-clause-broken
+returns-then-is_the-2-clause-broken c = broken_so c.take_prefix.result (λ reason b front found. b front) c.take_prefix.ensures.broken
+
+pub returns-then-is_the-3-clause-known : goal.returns-then-is_the-3-clause-known
+returns-then-is_the-3-clause-known c =
+    OnOk-map c.take.result
+    (
+    λ some front found. (
+      found_here element.IsTruncated c.take.new.found c.args.child.now.element front (sym c.is_the-3.ensures ∙ c.if-is_the-3.true) some,
+      found_past element.NextContinuationToken c.args.self.now.token c.args.child.now.element front (is_other element.IsTruncated element.NextContinuationToken c.args.child.now.element (sym c.is_the-3.ensures ∙ c.if-is_the-3.true) refl) found.1,
+      stood_past element.EncodingType c.args.self.now.url c.args.child.now.element front (is_other element.IsTruncated element.EncodingType c.args.child.now.element (sym c.is_the-3.ensures ∙ c.if-is_the-3.true) refl) found.2,
+    )
+    )
+    c.take.ensures.some
+
+pub returns-then-is_the-3-clause-broken : goal.returns-then-is_the-3-clause-broken
+returns-then-is_the-3-clause-broken c =
+    broken_so c.take.result (λ reason b front found. b page_table front refl refl found.0) c.take.ensures.broken
+
+pub returns-then-is_the-4-clause-known : goal.returns-then-is_the-4-clause-known
+returns-then-is_the-4-clause-known c =
+    OnOk-map c.take-then-is_the-4.result
+    (
+    λ some front found. (
+      found_past element.IsTruncated c.args.self.now.more c.args.child.now.element front (is_other element.NextContinuationToken element.IsTruncated c.args.child.now.element (sym c.is_the-4.ensures ∙ c.if-is_the-4.true) refl) found.0,
+      found_here element.NextContinuationToken c.take-then-is_the-4.new.found c.args.child.now.element front (sym c.is_the-4.ensures ∙ c.if-is_the-4.true) some,
+      stood_past element.EncodingType c.args.self.now.url c.args.child.now.element front (is_other element.NextContinuationToken element.EncodingType c.args.child.now.element (sym c.is_the-4.ensures ∙ c.if-is_the-4.true) refl) found.2,
+    )
+    )
+    c.take-then-is_the-4.ensures.some
+
+pub returns-then-is_the-4-clause-broken : goal.returns-then-is_the-4-clause-broken
+returns-then-is_the-4-clause-broken c =
+    broken_so c.take-then-is_the-4.result (λ reason b front found. b page_table front refl refl found.1) c.take-then-is_the-4.ensures.broken
+
+pub returns-then-is_the-5-clause-known : goal.returns-then-is_the-5-clause-known
+returns-then-is_the-5-clause-known c =
+    OnOk-map c.take_encoding.result
+    (
+    λ named front found. (
+      found_past element.IsTruncated c.args.self.now.more c.args.child.now.element front (is_other element.EncodingType element.IsTruncated c.args.child.now.element (sym c.is_the-5.ensures ∙ c.if-is_the-5.true) refl) found.0,
+      found_past element.NextContinuationToken c.args.self.now.token c.args.child.now.element front (is_other element.EncodingType element.NextContinuationToken c.args.child.now.element (sym c.is_the-5.ensures ∙ c.if-is_the-5.true) refl) found.1,
+      named ∙ stood_here element.EncodingType c.args.child.now.element front (sym c.is_the-5.ensures ∙ c.if-is_the-5.true),
+    )
+    )
+    c.take_encoding.ensures.named
+
+pub returns-then-is_the-5-clause-broken : goal.returns-then-is_the-5-clause-broken
+returns-then-is_the-5-clause-broken c = broken_so c.take_encoding.result (λ reason b front found. b front found.2) c.take_encoding.ensures.broken
+
+pub returns-clause-known : goal.returns-clause-known
+returns-clause-known c =
+    OnOk-map c.skip.result
+    (
+    λ read front found. (
+      found_past element.IsTruncated c.args.self.now.more c.args.child.now.element front (sym c.is_the-3.ensures ∙ c.if-is_the-3.false) found.0,
+      found_past element.NextContinuationToken c.args.self.now.token c.args.child.now.element front (sym c.is_the-4.ensures ∙ c.if-is_the-4.false) found.1,
+      stood_past element.EncodingType c.args.self.now.url c.args.child.now.element front (sym c.is_the-5.ensures ∙ c.if-is_the-5.false) found.2,
+    )
+    )
+    c.skip.ensures.value
+
+pub returns-clause-broken : goal.returns-clause-broken
+returns-clause-broken c =
+    broken_so c.skip.result
+    (
+    λ reason b front found. b page_table front
+    ((sym c.is_the-3.ensures ∙ c.if-is_the-3.false), ((sym c.is_the-5.ensures ∙ c.if-is_the-5.false), ((sym c.is_the-4.ensures ∙ c.if-is_the-4.false), ((sym c.is_the.ensures ∙ c.if-is_the.false), ((sym c.is_the-2.ensures ∙ c.if-is_the-2.false), tt)))))
+    )
+    c.skip.ensures.broken

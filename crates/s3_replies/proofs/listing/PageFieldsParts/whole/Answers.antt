@@ -1,3 +1,6 @@
+use Rattle.std.proofs.Common.{refl}
+use Rattle.reply_xml.specs.declared.elements.Element.TheVariants as element
+use Rattle.reply_xml.proofs.BreakLemmas.{missing_here}
 use Rattle.reply_values.specs.Numbers.{SpellsTruth}
 use Rattle.s3_replies.specs.Listing.{Page}
 use Rattle.s3_replies.proofs.ObjectLemmas.{part_missing}
@@ -11,3 +14,6 @@ returns-in-Some-clause-value c text =
 
 pub returns-in-None-clause-refused : goal.returns-in-None-clause-refused
 returns-in-None-clause-refused c text page left = part_missing SpellsTruth c.args.self.more page.more c.in-None.is left.0.0
+
+pub returns-in-None-clause-missing : goal.returns-in-None-clause-missing
+returns-in-None-clause-missing c front found = (element.IsTruncated, refl, missing_here element.IsTruncated c.args.self.more front _ c.in-None.is found.0)

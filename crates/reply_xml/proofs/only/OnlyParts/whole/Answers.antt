@@ -1,0 +1,8 @@
+use Rattle.std.proofs.Common.{◌∙◌, ap, refl, sym}
+use Rattle.std.specs.Option.{is_some}
+use Rattle.reply_xml.proofs.BreakLemmas.{only_missing}
+use Rattle.reply_xml.proofs.only.OnlyParts.whole.Goals as goal
+
+pub returns-in-None-clause-missing : goal.returns-in-None-clause-missing
+returns-in-None-clause-missing g c front found =
+    (c.args.self.element, refl, only_missing c.args.self.element g.L.Leaf.form front (sym (ap (λ o. is_some o) c.in-None.is) ∙ found))
