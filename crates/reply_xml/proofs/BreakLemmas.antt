@@ -5,12 +5,14 @@ use Rattle.reply_xml.specs.declared.faults.DocFault.{DocFault}
 use Rattle.reply_xml.specs.declared.faults.DocFault.TheVariants as fault
 use Rattle.reply_xml.specs.declared.reader.Child.{Child}
 use Rattle.reply_xml.specs.declared.reader.Tag.{Tag}
-use Rattle.reply_xml.specs.Breaks.{Again, AtEndTag, AtStart, AtText, BreaksElement, BreaksIn, BehindLeafTag, BehindName, BehindOtherTag, BehindTag, Behind, IfBroken, InLeaf, InOther, InTag, Inside, IsMissing, IsTextOf, BreaksText, Lacks, OnBroken, StandsAgain, TooLow}
-use Rattle.reply_xml.specs.Tables.{Done, ExactlyOnce, IsFound, Row, Table, first_missing, form_in, stands_alone, stood}
+use Rattle.reply_xml.specs.Breaks.{Again, AtEndTag, AtStart, AtText, BreaksElement, BreaksIn, BehindLeafTag, BehindName, BehindOtherTag, BehindTag, Behind, IfBroken, InLeaf, InOther, InTag, Inside, IsMissing, BreaksText, Lacks, OnBroken, StandsAgain, TooLow}
+use Rattle.reply_xml.specs.Tables.{Done, Table, first_missing}
 use Rattle.reply_xml.specs.Unfit.{Form}
 use Rattle.reply_xml.specs.declared.elements.Element.{Element}
 use Rattle.reply_xml.specs.Contents.{is_the, row_of}
 use Rattle.std.specs.Option.{IsSome, is_some}
+use Rattle.reply_xml.specs.Fits.{Fits, Passed}
+use Rattle.reply_xml.proofs.FrontLemmas.{fits_any, fresh_done, none_is_some, nothing_missing}
 use Rattle.reply_xml.specs.Reading.{AtEnd, EndsContent, HoldsSome, IsTagOf, NamesChild, ReadsOpen}
 use Rattle.reply_xml.proofs.OpenLemmas.{child_begins, element_of, open_in, open_out, some_before}
 use Rattle.std.specs.Bool.{MatchBool}
@@ -54,12 +56,12 @@ text_sized size other reason bytes same b = subst (λ (s : ℕ). BreaksText s re
 pub child_breaks : (size : ℕ) (reason : DocFault) (table : Table) (front : List (Option Element)) (tag : Tag) (child : Child) (bytes from : List ℕ)
     → tag.closed ≡ false → NamesChild tag.room bytes child from → BreaksElement size reason table front child from
     → BreaksIn size reason table front tag bytes
-child_breaks size reason table front tag child bytes from plain names (BehindName left leaves stands) = InTag child from left plain names leaves stands
+child_breaks size reason table front tag child bytes from plain names (BehindName left fresh leaves stands) = InTag child from left plain names fresh leaves stands
 child_breaks size reason table front tag child bytes from plain names (StandsAgain of again is) = Again child of from plain names again is
-child_breaks size reason table front tag child bytes from plain names (BehindLeafTag inner form of at is text breaks) =
-    InLeaf child inner form of from at plain names is text breaks
-child_breaks size reason table front tag child bytes from plain names (BehindTag inner of inside at is parent breaks) =
-    Inside child inner of inside from at plain names is parent breaks
+child_breaks size reason table front tag child bytes from plain names (BehindLeafTag inner form of at fresh is text breaks) =
+    InLeaf child inner form of from at plain names fresh is text breaks
+child_breaks size reason table front tag child bytes from plain names (BehindTag inner of inside at fresh is parent breaks) =
+    Inside child inner of inside from at plain names fresh is parent breaks
 child_breaks size reason table front tag child bytes from plain names (BehindOtherTag inner at is outside breaks) =
     InOther child inner from at plain names is outside breaks
 
@@ -73,9 +75,6 @@ pub lacks_there : (size : ℕ) (reason : DocFault) (table other : Table) (front 
 lacks_there size reason table other front tag bytes at same ends m =
     Lacks m.0 at ends (subst (λ (t : Table). first_missing t front ≡ Some m.0) same m.2) m.1
 
-none_is_some : {V : Type 0} (x : V) → None ≡ Some x → ⊥
-none_is_some x e = cc
-
 -- where no elements are read, it is of no account which stood in front
 pub front_is_any : (size : ℕ) (reason : DocFault) (table : Table) (front other : List (Option Element)) (tag : Tag) (bytes : List ℕ)
     → table ≡ Done → BreaksIn size reason table front tag bytes → BreaksIn size reason table other tag bytes
@@ -84,21 +83,23 @@ front_is_any size reason table front other tag bytes e (AtStart text at left pla
     AtStart text at left plain reads other_tag leaves stands
 front_is_any size reason table front other tag bytes e (TooLow text at name rest plain reads names ends low is) =
     TooLow text at name rest plain reads names ends low is
-front_is_any size reason table front other tag bytes e (InTag child from left plain names leaves stands) =
-    InTag child from left plain names leaves stands
+front_is_any size reason table front other tag bytes e (InTag child from left plain names fresh leaves stands) =
+    InTag child from left plain names (fresh_done table other child.element e) leaves stands
 front_is_any size reason table front other tag bytes e (Again child of from plain names again is) =
-    absurd (false≢true (subst (λ (t : Table). stands_alone t of ≡ true) e again.alone))
-front_is_any size reason table front other tag bytes e (InLeaf child inner form of from at plain names is text breaks) =
-    InLeaf child inner form of from at plain names is text breaks
-front_is_any size reason table front other tag bytes e (Inside child inner of inside from at plain names is parent breaks) =
-    Inside child inner of inside from at plain names is parent breaks
+    absurd (fresh_done table front child.element e of again)
+front_is_any size reason table front other tag bytes e (InLeaf child inner form of from at plain names fresh is text breaks) =
+    InLeaf child inner form of from at plain names (fresh_done table other child.element e) is text breaks
+front_is_any size reason table front other tag bytes e (Inside child inner of inside from at plain names fresh is parent breaks) =
+    Inside child inner of inside from at plain names (fresh_done table other child.element e) is parent breaks
 front_is_any size reason table front other tag bytes e (InOther child inner from at plain names is outside breaks) =
     InOther child inner from at plain names is outside breaks
 front_is_any size reason table front other tag bytes e (Behind child from next plain names reads breaks) =
-    Behind child from next plain names reads (front_is_any size reason table (child.element ∷ front) (child.element ∷ other) tag next e breaks)
-front_is_any size reason table front other tag bytes e (AtEndTag at left plain ends leaves stands) = AtEndTag at left plain ends leaves stands
+    Behind child from next plain names (reads.0, reads.1, fits_any (λ inside. Fits reads.0 inside []) table front other child.element reads.0 e reads.2)
+    (front_is_any size reason table (child.element ∷ front) (child.element ∷ other) tag next e breaks)
+front_is_any size reason table front other tag bytes e (AtEndTag at left plain ends complete leaves stands) =
+    AtEndTag at left plain ends (nothing_missing table other e) leaves stands
 front_is_any size reason table front other tag bytes e (Lacks of at ends first is) =
-    absurd (none_is_some of (subst (λ (t : Table). first_missing t front ≡ Some of) e first))
+    absurd (none_is_some of (sym (nothing_missing table front e) ∙ first))
 
 -- what is left of open elements that are passed over breaks, the innermost last
 abbrev pub BreaksOuter : (size : ℕ) (reason : DocFault) → List Tag → List ℕ → Type 0
@@ -140,7 +141,7 @@ opened_in size reason outer items inner within child here from at plain names is
     (
     λ o. let out = breaks_out size reason outer inner o.0 (subst (λ (ts : List Tag). BreaksOuter size reason ts o.0) e o.2) in
     ⊎_elim
-    (λ i. inl (Behind child from o.0 plain names (o.1.0, element_of child within o.1.0 from at o.0 is o.1.1) (front_is_any size reason Done [] (child.element ∷ []) inner o.0 refl i)))
+    (λ i. inl (Behind child from o.0 plain names (o.1.0, element_of child within o.1.0 from at o.0 is o.1.1, Passed tt) (front_is_any size reason Done [] (child.element ∷ []) inner o.0 refl i)))
     (λ p. inr (p.0, some_before inner within here at p.0 plain (child_begins inner.room here from at child within names is) o.0 o.1 p.1, p.2)) out
     )
     b
@@ -185,44 +186,3 @@ text_closed tag bytes e = none tag.closed e
 pub text_open : (tag : Tag) (bytes rest raw text : List ℕ) → tag.closed ≡ false → ReadsText raw bytes rest → IsUnescaped raw text → HasText tag bytes rest text
 text_open tag bytes rest raw text e r u =
     subst (λ (b : Bool). MatchBool b ((text ≡ []) × (rest ≡ bytes)) ((raw : List ℕ) × ReadsText raw bytes rest × IsUnescaped raw text)) (sym e) (raw, r, u)
-
--- what was found, with one more element in front
-pub stood_here : (of : Element) (child : Option Element) (front : List (Option Element)) → is_the of child ≡ true → true ≡ stood of (child ∷ front)
-stood_here of child front h = subst (λ (b : Bool). true ≡ (b || stood of front)) (sym h) refl
-
-pub stood_past : (of : Element) (found : Bool) (child : Option Element) (front : List (Option Element)) → is_the of child ≡ false → found ≡ stood of front
-    → found ≡ stood of (child ∷ front)
-stood_past of found child front h f = subst (λ (b : Bool). found ≡ (b || stood of front)) (sym h) f
-
-pub found_here : {V : Type 0} (of : Element) (found : Option V) (child : Option Element) (front : List (Option Element)) → is_the of child ≡ true → IsSome found
-    → IsFound of found (child ∷ front)
-found_here of None child front h some = absurd (false≢true some)
-found_here of (Some x) child front h some = stood_here of child front h
-
-pub found_past : {V : Type 0} (of : Element) (found : Option V) (child : Option Element) (front : List (Option Element)) → is_the of child ≡ false → IsFound of found front
-    → IsFound of found (child ∷ front)
-found_past of found child front h f = stood_past of (is_some found) child front h f
-
--- the first element that was not found is the one that is missing
-pub missing_here : {V : Type 0} (of : Element) (found : Option V) (front : List (Option Element)) (later : Option Element) → found ≡ None → IsFound of found front
-    → cond (stood of front) later (Some of) ≡ Some of
-missing_here {V} of found front later none f = subst (λ (b : Bool). cond b later (Some of) ≡ Some of) (sym (ap (λ (o : Option V). is_some o) none) ∙ f) refl
-
-pub missing_later : {V : Type 0} (of : Element) (found : Option V) (value : V) (front : List (Option Element)) (later missing : Option Element) → found ≡ Some value
-    → IsFound of found front → later ≡ missing → cond (stood of front) later (Some of) ≡ missing
-missing_later {V} of found value front later missing some f rest =
-    subst (λ (b : Bool). cond b later (Some of) ≡ missing) (sym (ap (λ (o : Option V). is_some o) some) ∙ f) rest
-
--- a table with one text
-row_is_same : (of : Element) → nat_eq (row_of of) (row_of of) ≡ true
-row_is_same of = eq-eqb (row_of of) (row_of of) refl
-
-pub only_form : (of : Element) (form : Form) → form_in (Row of ExactlyOnce (Some form) Done Done) of ≡ Some form
-only_form of form = subst (λ (b : Bool). cond b (Some form) None ≡ Some form) (sym (row_is_same of)) refl
-
-pub only_alone : (of : Element) (form : Form) → stands_alone (Row of ExactlyOnce (Some form) Done Done) of ≡ true
-only_alone of form = subst (λ (b : Bool). cond b true false ≡ true) (sym (row_is_same of)) refl
-
-pub only_missing : (of : Element) (form : Form) (front : List (Option Element)) → false ≡ stood of front
-    → first_missing (Row of ExactlyOnce (Some form) Done Done) front ≡ Some of
-only_missing of form front absent = subst (λ (b : Bool). cond b None (Some of) ≡ Some of) absent refl

@@ -36,6 +36,11 @@ OnEnds-any (text_fault.Ends place) f = f place
 OnEnds-any text_fault.BadReference f = tt
 OnEnds-any text_fault.Memory f = tt
 
+pub OnEnds-map : {P Q : ℕ → Type 0} (e : TextFault) → ((place : ℕ) → P place → Q place) → OnEnds e P → OnEnds e Q
+OnEnds-map (text_fault.Ends place) f h = f place h
+OnEnds-map text_fault.BadReference f h = tt
+OnEnds-map text_fault.Memory f h = tt
+
 pub ends_at : (P : ℕ → Type 0) (e : TextFault) (place : ℕ) → e ≡ text_fault.Ends place → OnEnds e P → P place
 ends_at P e place same h = subst (λ (f : TextFault). OnEnds f P) same h
 

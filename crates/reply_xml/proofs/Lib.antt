@@ -3,6 +3,7 @@ pub mod ChildLemmas
 pub mod ContentLemmas
 pub mod DocumentLemmas
 pub mod FaultLemmas
+pub mod FrontLemmas
 pub mod LeafLemmas
 pub mod LeaveLemmas
 pub mod OpenLemmas

@@ -1,20 +1,22 @@
 -- Where a document has a fault: what stands in front reads as texts and elements, and what stands here is none of the
 -- grammar, has a bad reference, or is a text out of the form of its element.
-use Rattle.std.specs.Prelude.{◌≡◌, ◌≢◌, ◌-◌, ⊤, ℕ, true, false, Result, Ok, Err, List, [], ◌∷◌, Option, Some, length}
+use Rattle.std.specs.Prelude.{◌≡◌, ◌≢◌, ◌-◌, ⊤, ℕ, true, false, Result, Ok, Err, List, [], ◌∷◌, Option, Some, None, length}
 use Rattle.reply_xml.specs.declared.elements.Element.{Element}
 use Rattle.reply_xml.specs.declared.runs.Sort.TheVariants as sort
 use Rattle.reply_xml.specs.declared.faults.DocFault.{DocFault}
 use Rattle.reply_xml.specs.declared.faults.DocFault.TheVariants as fault
 use Rattle.reply_xml.specs.declared.reader.Child.{Child}
 use Rattle.reply_xml.specs.declared.reader.Tag.{Tag}
-use Rattle.reply_xml.specs.Contents.{ReadsText, is_the}
+use Rattle.reply_xml.specs.Contents.{ReadsText}
 use Rattle.reply_xml.specs.Documents.{BeginsDocument, NamesRoot, ReadsSpace}
-use Rattle.reply_xml.specs.Reading.{AtEnd, HoldsSome, IsTagOf, NamesChild, ReadsSome}
+use Rattle.reply_xml.specs.Reading.{AtEnd, IsTagOf, NamesChild}
+use Rattle.reply_xml.specs.Fits.{HoldsWell, ReadsWell}
+use Rattle.reply_values.specs.References.{IsUnescaped}
 use Rattle.reply_xml.specs.Leaves.{HasBadReference, LeavesEndTag, LeavesStart, LeavesTagEnd, LeavesText}
 use Rattle.reply_xml.specs.Runs.{ReadsRun}
-use Rattle.reply_xml.specs.Tables.{Done, IsOutside, Table, first_missing, form_in, inside_in, stands_alone, stood}
+use Rattle.reply_xml.specs.Tables.{Done, IsAgain, IsFresh, IsOutside, IsParentOf, IsTextOf, Table, first_missing}
 use Rattle.reply_xml.specs.Tags.{NameEnds, NamesTag}
-use Rattle.reply_xml.specs.Unfit.{Form, HasText, IsUnfit}
+use Rattle.reply_xml.specs.Unfit.{Form, HasText, IsFit, IsUnfit}
 
 -- the fault stands where so many bytes are left of a document of this size
 abbrev pub Stands : (size left : ℕ) → DocFault → Type 0
@@ -33,25 +35,9 @@ pub data BreaksLeaf (size : ℕ) (reason : DocFault) (form : Form) (of : Element
   InText : tag.closed ≡ false → BreaksText size reason bytes → BreaksLeaf size reason form of tag bytes
   Unfit : (text rest : List ℕ) → HasText tag bytes rest text → IsUnfit form of text reason
       → BreaksLeaf size reason form of tag bytes
-  NoEndBehind : (text end : List ℕ) (left : ℕ) → tag.closed ≡ false → ReadsText text bytes end
-      → LeavesEndTag tag.name.now end left → Stands size left reason
+  NoEndBehind : (raw text end : List ℕ) (left : ℕ) → tag.closed ≡ false → ReadsText raw bytes end
+      → IsUnescaped raw text → IsFit form of text → LeavesEndTag tag.name.now end left → Stands size left reason
       → BreaksLeaf size reason form of tag bytes
-
--- an element of this name begins, which may stand once, and did so in front
-pub record IsAgain (table : Table) (front : List (Option Element)) (child : Child) (of : Element) : Type 0 where
-  pub same : is_the of child.element ≡ true
-  pub alone : stands_alone table of ≡ true
-  pub before : stood of front ≡ true
-
--- the table has the text of an element read in this form
-pub record IsTextOf (table : Table) (child : Child) (of : Element) (form : Form) : Type 0 where
-  pub same : is_the of child.element ≡ true
-  pub read_so : form_in table of ≡ Some form
-
--- the table has these elements read inside an element
-pub record IsParentOf (table : Table) (child : Child) (of : Element) (inside : Table) : Type 0 where
-  pub same : is_the of child.element ≡ true
-  pub read_so : inside_in table of ≡ Some inside
 
 -- What stands behind the tag of an element has a fault, where these elements are read inside it and those stood in
 -- front: at a text, at the tag of an element inside or behind its name, at an element that stands twice, inside an
@@ -67,28 +53,31 @@ pub data BreaksIn (size : ℕ) (reason : DocFault) : Table → List (Option Elem
       → tag.closed ≡ false → ReadsText text bytes at → NamesTag name at rest → NameEnds rest → tag.room ≡ 0
       → reason ≡ fault.TooDeep → BreaksIn size reason table front tag bytes
   InTag : {table : Table} {front : List (Option Element)} {tag : Tag} {bytes : List ℕ} (child : Child) (from : List ℕ)
-      (left : ℕ) → tag.closed ≡ false → NamesChild tag.room bytes child from → LeavesTagEnd from left
-      → Stands size left reason → BreaksIn size reason table front tag bytes
+      (left : ℕ) → tag.closed ≡ false → NamesChild tag.room bytes child from → IsFresh table front child.element
+      → LeavesTagEnd from left → Stands size left reason → BreaksIn size reason table front tag bytes
   Again : {table : Table} {front : List (Option Element)} {tag : Tag} {bytes : List ℕ} (child : Child) (of : Element)
-      (from : List ℕ) → tag.closed ≡ false → NamesChild tag.room bytes child from → IsAgain table front child of
+      (from : List ℕ) → tag.closed ≡ false → NamesChild tag.room bytes child from → IsAgain table front child.element of
       → reason ≡ fault.Twice of → BreaksIn size reason table front tag bytes
   InLeaf : {table : Table} {front : List (Option Element)} {tag : Tag} {bytes : List ℕ} (child : Child) (inner : Tag)
       (form : Form) (of : Element) (from at : List ℕ) → tag.closed ≡ false → NamesChild tag.room bytes child from
-      → IsTagOf child inner from at → IsTextOf table child of form → BreaksLeaf size reason form of inner at
+      → IsFresh table front child.element → IsTagOf child inner from at → IsTextOf table child.element of form
+      → BreaksLeaf size reason form of inner at
       → BreaksIn size reason table front tag bytes
   Inside : {table : Table} {front : List (Option Element)} {tag : Tag} {bytes : List ℕ} (child : Child) (inner : Tag)
       (of : Element) (inside : Table) (from at : List ℕ) → tag.closed ≡ false → NamesChild tag.room bytes child from
-      → IsTagOf child inner from at → IsParentOf table child of inside → BreaksIn size reason inside [] inner at
+      → IsFresh table front child.element → IsTagOf child inner from at → IsParentOf table child.element of inside
+      → BreaksIn size reason inside [] inner at
       → BreaksIn size reason table front tag bytes
   InOther : {table : Table} {front : List (Option Element)} {tag : Tag} {bytes : List ℕ} (child : Child) (inner : Tag)
       (from at : List ℕ) → tag.closed ≡ false → NamesChild tag.room bytes child from → IsTagOf child inner from at
       → IsOutside table child.element → BreaksIn size reason Done [] inner at
       → BreaksIn size reason table front tag bytes
   Behind : {table : Table} {front : List (Option Element)} {tag : Tag} {bytes : List ℕ} (child : Child)
-      (from next : List ℕ) → tag.closed ≡ false → NamesChild tag.room bytes child from → ReadsSome child from next
+      (from next : List ℕ) → tag.closed ≡ false → NamesChild tag.room bytes child from → ReadsWell table front child from next
       → BreaksIn size reason table (child.element ∷ front) tag next → BreaksIn size reason table front tag bytes
   AtEndTag : {table : Table} {front : List (Option Element)} {tag : Tag} {bytes : List ℕ} (at : List ℕ) (left : ℕ)
-      → tag.closed ≡ false → AtEnd tag bytes at → LeavesEndTag tag.name.now at left → Stands size left reason
+      → tag.closed ≡ false → AtEnd tag bytes at → first_missing table front ≡ None
+      → LeavesEndTag tag.name.now at left → Stands size left reason
       → BreaksIn size reason table front tag bytes
   Lacks : {table : Table} {front : List (Option Element)} {tag : Tag} {bytes : List ℕ} (of : Element) (at : List ℕ)
       → AtEnd tag bytes at → first_missing table front ≡ Some of → reason ≡ fault.Missing of
@@ -98,15 +87,15 @@ pub data BreaksIn (size : ℕ) (reason : DocFault) : Table → List (Option Elem
 -- that
 pub data BreaksElement (size : ℕ) (reason : DocFault) (table : Table) (front : List (Option Element)) (child : Child)
     (bytes : List ℕ) : Type 0 where
-  BehindName : (left : ℕ) → LeavesTagEnd bytes left → Stands size left reason
+  BehindName : (left : ℕ) → IsFresh table front child.element → LeavesTagEnd bytes left → Stands size left reason
       → BreaksElement size reason table front child bytes
-  StandsAgain : (of : Element) → IsAgain table front child of → reason ≡ fault.Twice of
+  StandsAgain : (of : Element) → IsAgain table front child.element of → reason ≡ fault.Twice of
       → BreaksElement size reason table front child bytes
-  BehindLeafTag : (tag : Tag) (form : Form) (of : Element) (at : List ℕ) → IsTagOf child tag bytes at
-      → IsTextOf table child of form → BreaksLeaf size reason form of tag at
+  BehindLeafTag : (tag : Tag) (form : Form) (of : Element) (at : List ℕ) → IsFresh table front child.element
+      → IsTagOf child tag bytes at → IsTextOf table child.element of form → BreaksLeaf size reason form of tag at
       → BreaksElement size reason table front child bytes
-  BehindTag : (tag : Tag) (of : Element) (inside : Table) (at : List ℕ) → IsTagOf child tag bytes at
-      → IsParentOf table child of inside → BreaksIn size reason inside [] tag at
+  BehindTag : (tag : Tag) (of : Element) (inside : Table) (at : List ℕ) → IsFresh table front child.element
+      → IsTagOf child tag bytes at → IsParentOf table child.element of inside → BreaksIn size reason inside [] tag at
       → BreaksElement size reason table front child bytes
   BehindOtherTag : (tag : Tag) (at : List ℕ) → IsTagOf child tag bytes at → IsOutside table child.element
       → BreaksIn size reason Done [] tag at → BreaksElement size reason table front child bytes
@@ -126,7 +115,7 @@ pub data Breaks (root : List ℕ) (table : Table) (doc : List ℕ) (reason : Doc
       → Breaks root table doc reason
   InRoot : (tag : Tag) (rest : List ℕ) → HasRoot root doc tag rest → BreaksIn (length doc) reason table [] tag rest
       → Breaks root table doc reason
-  BehindRoot : (tag : Tag) (rest at more : List ℕ) → HasRoot root doc tag rest → HoldsSome tag rest at
+  BehindRoot : (tag : Tag) (rest at more : List ℕ) → HasRoot root doc tag rest → HoldsWell table tag rest at
       → ReadsSpace at more → more ≢ [] → Stands (length doc) (length more) reason → Breaks root table doc reason
 
 -- the claim, where a fault is not want of memory

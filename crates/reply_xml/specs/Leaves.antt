@@ -2,7 +2,7 @@
 -- place is told by the number of bytes that are left.
 use Rattle.std.specs.Prelude.{◌≡◌, ◌≢◌, ◌≤◌, ◌<◌, ◌-◌, ◌⊎◌, ℕ, List, [], ◌∷◌, length, slice_index, take}
 use Rattle.std.specs.Str.{IsUtf8, IsValidUpTo}
-use Rattle.reply_values.specs.References.{IsBadReference}
+use Rattle.reply_values.specs.References.{IsBadReference, IsUnescaped}
 use Rattle.reply_xml.specs.declared.runs.Sort.TheVariants as sort
 use Rattle.reply_xml.specs.Runs.{BeginsOutside, ReadsRun, is_name_byte}
 use Rattle.reply_xml.specs.Tags.{NameEnds, NamesTag, ReadsAttributes, ReadsName}
@@ -77,13 +77,6 @@ pub data LeavesEndTag (name bytes : List ℕ) (left : ℕ) : Type 0 where
   NoEnd : (more space at close : List ℕ) → bytes ≡ 60 ∷ 47 ∷ more → ReadsName name more at
       → ReadsRun sort.Space space at close → Lacks 62 close → left ≡ length close → LeavesEndTag name bytes left
 
--- a text does not stand here: no tag follows it, or some of its bytes are not UTF-8
-pub data LeavesText (bytes : List ℕ) (left : ℕ) : Type 0 where
-  NoTagBehind : (size : ℕ) (text : List ℕ) → ReadsRun sort.Text text bytes [] → size ≤ length text
-      → (IsUtf8 text → size ≡ length text) → left ≡ length bytes - size → LeavesText bytes left
-  NotUtf8 : (size : ℕ) (text at : List ℕ) → ReadsRun sort.Text text bytes at → ¬ (IsUtf8 text) → size ≤ length text
-      → left ≡ length bytes - size → LeavesText bytes left
-
 -- the longest front of a text that is UTF-8: all of it, or what stands before the first byte at fault
 abbrev pub IsFront : (front text : List ℕ) → Type 0
 IsFront front text =
@@ -92,3 +85,16 @@ IsFront front text =
 -- the first bad reference of a text, before which nothing is at fault
 abbrev pub HasBadReference : List ℕ → Type 0
 HasBadReference text = (front : List ℕ) × (place : ℕ) × IsFront front text × IsBadReference front place
+
+-- before the first byte of a text that is at fault each reference stands for a character
+abbrev pub IsSound : List ℕ → Type 0
+IsSound text = (front : List ℕ) × IsFront front text × ((meaning : List ℕ) × IsUnescaped front meaning)
+
+-- A text does not stand here: no tag follows it, or some of its bytes are not UTF-8. No reference is bad before the
+-- first of these.
+pub data LeavesText (bytes : List ℕ) (left : ℕ) : Type 0 where
+  NoTagBehind : (size : ℕ) (text : List ℕ) → ReadsRun sort.Text text bytes [] → size ≤ length text
+      → (IsUtf8 text → size ≡ length text) → (¬ (IsUtf8 text) → IsSound text) → left ≡ length bytes - size
+      → LeavesText bytes left
+  NotUtf8 : (size : ℕ) (text at : List ℕ) → ReadsRun sort.Text text bytes at → ¬ (IsUtf8 text) → IsSound text
+      → size ≤ length text → left ≡ length bytes - size → LeavesText bytes left

@@ -4,6 +4,7 @@ pub mod Contents
 pub mod Documents
 pub mod Elements
 pub mod Faults
+pub mod Fits
 pub mod Leaves
 pub mod Meaning
 pub mod Places

@@ -58,3 +58,23 @@ first_missing (Row of other form inside more) front = first_missing more front
 -- an element was found exactly where it stood in front
 abbrev pub IsFound : {V : Type 0} → Element → Option V → List (Option Element) → Type 0
 IsFound of found front = is_some found ≡ stood of front
+
+-- an element of this name begins, which may stand once, and did so in front
+pub record IsAgain (table : Table) (front : List (Option Element)) (child : Option Element) (of : Element) : Type 0 where
+  pub same : is_the of child ≡ true
+  pub alone : stands_alone table of ≡ true
+  pub before : stood of front ≡ true
+
+-- the element that begins stands for the first time, or may stand again
+abbrev pub IsFresh : Table → List (Option Element) → Option Element → Type 0
+IsFresh table front child = (of : Element) → ¬ (IsAgain table front child of)
+
+-- the table has the text of an element read in this form
+pub record IsTextOf (table : Table) (child : Option Element) (of : Element) (form : Form) : Type 0 where
+  pub same : is_the of child ≡ true
+  pub read_so : form_in table of ≡ Some form
+
+-- the table has these elements read inside an element
+pub record IsParentOf (table : Table) (child : Option Element) (of : Element) (inside : Table) : Type 0 where
+  pub same : is_the of child ≡ true
+  pub read_so : inside_in table of ≡ Some inside

@@ -29,6 +29,10 @@ IsUnfit ATruth of text reason = (reason ≡ fault.BadNumber) × ((truth : Bool) 
 IsUnfit ATime of text reason = (reason ≡ fault.BadTime) × ((moment : ℕ) → ¬ (SpellsTime text moment))
 IsUnfit AnEncoding of text reason = (reason ≡ fault.BadText of) × (text ≢ codes "url")
 
+-- the text of an element is in the form
+abbrev pub IsFit : Form → Element → List ℕ → Type 0
+IsFit form of text = (reason : DocFault) → ¬ (IsUnfit form of text reason)
+
 -- the text behind the tag of an element, unescaped, and what follows it: none stands behind a closed tag
 abbrev pub HasText : Tag → (bytes rest text : List ℕ) → Type 0
 HasText tag bytes rest text =

@@ -22,7 +22,7 @@ use std::alloc::Global;
 /// A sort of leaves: what their texts spell.
 pub trait Leaf {
     ghost use Rattle.reply_xml.specs.declared.elements.Element.{Element};
-    ghost use Rattle.reply_xml.specs.Unfit.{Form, IsUnfit};
+    ghost use Rattle.reply_xml.specs.Unfit.{Form, IsFit, IsUnfit};
 
     type Value: Drop;
 
@@ -38,6 +38,8 @@ pub trait Leaf {
 
     ghost alone: { (of : Element) (text : List ℕ) (v w : Self.Value) →
         spells of text v → spells of text w → w ≡ v };
+
+    ghost fits: { (of : Element) (text : List ℕ) (v : Self.Value) → spells of text v → IsFit form of text };
 }
 
 /// Whether a text has the form of its element, where that has one.
@@ -74,6 +76,8 @@ impl Leaf for FormedText {
 
     ghost alone = { λ of text v w r s. s.0 ∙ sym r.0 };
 
+    ghost fits = { λ of text v s reason u. u.1 s.1 };
+
     fn value_of(alloc: Global, of: Element, text: Meaning<'_>) -> Result<Text, DocFault> {
         if !has_form(of, text.as_str()) {
             return Err(DocFault::BadText(of));
@@ -94,6 +98,8 @@ impl Leaf for PlainText {
 
     ghost alone = { λ of text v w r s. s ∙ sym r };
 
+    ghost fits = { λ of text v s reason u. u };
+
     fn value_of(alloc: Global, _: Element, text: Meaning<'_>) -> Result<Text, DocFault> {
         text_of(alloc, text)
     }
@@ -110,6 +116,8 @@ impl Leaf for Number {
     ghost form = { ANumber };
 
     ghost alone = { λ of text v w a b. SpellsNumber-same text w v b a };
+
+    ghost fits = { λ of text v s reason u. u.1 v s };
 
     fn value_of(_: Global, _: Element, text: Meaning<'_>) -> Result<u64, DocFault> {
         let Some(number) = number(text.as_str()) else {
@@ -131,6 +139,8 @@ impl Leaf for Truth {
 
     ghost alone = { λ of text v w a b. SpellsTruth-same text w v b a };
 
+    ghost fits = { λ of text v s reason u. u.1 v s };
+
     fn value_of(_: Global, _: Element, text: Meaning<'_>) -> Result<bool, DocFault> {
         let Some(truth) = truth(text.as_str()) else {
             return Err(DocFault::BadNumber);
@@ -150,6 +160,8 @@ impl Leaf for Time {
     ghost form = { ATime };
 
     ghost alone = { λ of text v w a b. SpellsTime-same text w v b a };
+
+    ghost fits = { λ of text v s reason u. u.1 v s };
 
     fn value_of(_: Global, _: Element, text: Meaning<'_>) -> Result<u64, DocFault> {
         let Some(moment) = time(text.as_str()) else {

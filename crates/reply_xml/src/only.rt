@@ -6,6 +6,7 @@ ghost use Rattle.reply_xml.specs.Children.{IsLeafOf};
 ghost use Rattle.reply_xml.specs.Contents.{Content, is_the};
 ghost use Rattle.reply_xml.specs.Breaks.{BreaksElement, IfBroken};
 ghost use Rattle.reply_xml.specs.Faults.{IfRefused};
+ghost use Rattle.reply_xml.specs.Fits.{ReadsWell};
 ghost use Rattle.reply_xml.specs.Reading.{Advances, LeafLeft, Stops};
 ghost use Rattle.reply_xml.specs.Tables.{Done, ExactlyOnce, IsFound, Row, Table, form_in, stands_alone};
 
@@ -43,6 +44,9 @@ impl<'a> Reader<'a> {
         ensures refused { IfRefused result (Stops (LeafLeft (L.spells element) element found.old)
             child.now self.old.rest.now) }
         ensures size { self.new.size ≡ self.old.size }
+        ensures well { OnOk result ((table : Table) (front : List (Option Element)) →
+            form_in table element ≡ Some L.form → IsFound element found.old front →
+            ReadsWell table front child.now self.old.rest.now self.new.rest.now) }
         ensures broken { IfBroken result (λ reason. (table : Table) (front : List (Option Element)) →
             form_in table element ≡ Some L.form → stands_alone table element ≡ true → IsFound element found.old front →
             BreaksElement self.old.size reason table front child.now self.old.rest.now) }

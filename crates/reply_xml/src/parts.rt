@@ -1,14 +1,15 @@
 //! What an element holds, by the parts that are looked for in it.
 
-ghost use Rattle.std.specs.Prelude.{◌≡◌, ◌≤◌, ◌∷◌, ℕ, List, [], Option, Some, IfOk, OnOk, length, true};
+ghost use Rattle.std.specs.Prelude.{◌≡◌, ◌≤◌, ◌∷◌, ℕ, List, [], Option, None, IfOk, OnOk, length};
 ghost use Rattle.reply_xml.specs.declared.elements.Element.{Element};
-ghost use Rattle.reply_xml.specs.Contents.{Content, Only, is_the};
+ghost use Rattle.reply_xml.specs.Contents.{Content, Only};
 ghost use Rattle.reply_xml.specs.Documents.{IsOf};
 ghost use Rattle.reply_xml.specs.Breaks.{Breaks, BreaksElement, BreaksIn, IfBroken, IsMissing};
 ghost use Rattle.reply_xml.specs.Faults.{IfRefused, IsFault};
+ghost use Rattle.reply_xml.specs.Fits.{HoldsWell, ReadsWell};
 ghost use Rattle.reply_xml.specs.Places.{BeginsOtherwise, HasBytesBehind};
 ghost use Rattle.reply_xml.specs.Reading.{Advances, HoldsAs, HoldsNone, ReadsAs, ReadsNone, Stops};
-ghost use Rattle.reply_xml.specs.Tables.{Table, inside_in};
+ghost use Rattle.reply_xml.specs.Tables.{IsFresh, IsParentOf, Table, first_missing};
 
 use crate::faults::DocFault;
 use crate::reader::{Child, Reader, Tag};
@@ -36,6 +37,8 @@ pub trait Parts: Drop {
         ensures same_table { table self.new ≡ table self.old }
         ensures known { OnOk result ((front : List (Option Element)) → knows self.old front →
             knows self.new (child.now.element ∷ front)) }
+        ensures well { OnOk result ((front : List (Option Element)) → knows self.old front →
+            ReadsWell (table self.old) front child.now reader.old.rest.now reader.new.rest.now) }
         ensures broken { IfBroken result (λ reason. (front : List (Option Element)) → knows self.old front →
             BreaksElement reader.old.size reason (table self.old) front child.now reader.old.rest.now) };
 
@@ -43,6 +46,8 @@ pub trait Parts: Drop {
     fn whole(self, alloc: Global) -> Result<Self::Whole, DocFault>
         ensures value { IfOk result (λ whole. (text : List ℕ) → left self (Only text) whole) }
         ensures refused { IfRefused result ((text : List ℕ) (whole : Self.Whole) → ¬ (left self (Only text) whole)) }
+        ensures complete { OnOk result ((front : List (Option Element)) → knows self front →
+            first_missing (table self) front ≡ None) }
         ensures missing { IfBroken result (λ reason. (front : List (Option Element)) → knows self front →
             IsMissing (table self) front reason) };
 }
@@ -56,6 +61,7 @@ impl<'a> Reader<'a> {
         ensures no_longer { length self.new.rest.now ≤ length self.old.rest.now }
         ensures refused { IfRefused result (HoldsNone (P.left parts) parent.now self.old.rest.now) }
         ensures size { self.new.size ≡ self.old.size }
+        ensures well { OnOk result (HoldsWell (P.table parts) parent.now self.old.rest.now self.new.rest.now) }
         ensures broken { IfBroken result (λ reason.
             BreaksIn self.old.size reason (P.table parts) [] parent.now self.old.rest.now) }
     {
@@ -76,8 +82,11 @@ impl<'a> Reader<'a> {
         ensures no_longer { length self.new.rest.now ≤ length self.old.rest.now }
         ensures refused { IfRefused result (ReadsNone (P.left parts) child.now self.old.rest.now) }
         ensures size { self.new.size ≡ self.old.size }
+        ensures well { OnOk result ((table : Table) (front : List (Option Element)) (of : Element) →
+            IsParentOf table child.now.element of (P.table parts) → IsFresh table front child.now.element →
+            ReadsWell table front child.now self.old.rest.now self.new.rest.now) }
         ensures broken { IfBroken result (λ reason. (table : Table) (front : List (Option Element)) (of : Element) →
-            is_the of child.now.element ≡ true → inside_in table of ≡ Some (P.table parts) →
+            IsParentOf table child.now.element of (P.table parts) → IsFresh table front child.now.element →
             BreaksElement self.old.size reason table front child.now self.old.rest.now) }
     {
         let tag = self.tag(child)?;

@@ -1,6 +1,6 @@
 //! A document that is read from its front.
 
-ghost use Rattle.std.specs.Prelude.{◌∷◌, [], ◌≡◌, ◌≤◌, ◌<◌, ◌+◌, ◌-◌, ℕ, List, Option, Some, true};
+ghost use Rattle.std.specs.Prelude.{◌∷◌, [], ◌≡◌, ◌≤◌, ◌<◌, ◌+◌, ◌-◌, ℕ, List, Option, Some, None, true};
 ghost use Rattle.std.specs.Prelude.{IfOk, OnOk, length, Bool, false, IfSome, OnSome, IfNone};
 ghost use Rattle.std.specs.Bool.{MatchBool};
 ghost use Rattle.reply_xml.specs.declared.elements.Element.{Element};
@@ -10,7 +10,7 @@ ghost use Rattle.reply_xml.specs.Breaks.{BreaksElement, BreaksIn, BreaksText, If
 ghost use Rattle.reply_xml.specs.Leaves.{LeavesTagEnd};
 ghost use Rattle.reply_xml.specs.Runs.{ReadsRun};
 ghost use Rattle.reply_xml.specs.declared.runs.Sort.TheVariants as sort;
-ghost use Rattle.reply_xml.specs.Tables.{Done, IsOutside, Table, form_in};
+ghost use Rattle.reply_xml.specs.Tables.{Done, IsFresh, IsOutside, Table, first_missing, form_in};
 ghost use Rattle.std.specs.Str.{IsUtf8};
 ghost use Rattle.reply_xml.specs.Faults.{IfRefused};
 ghost use Rattle.reply_xml.specs.Tags.{ReadsTag, ReadsTagEnd, ReadsEndTag};
@@ -186,7 +186,8 @@ impl<'a> Reader<'a> {
             ¬ (ReadsInner parent.now.closed inner parent.now.room parent.now.name.now before rest)) }
         ensures size { self.new.size ≡ self.old.size }
         ensures broken { IfBroken result (λ reason. (before : List ℕ) → AtEnd parent.now before self.old.rest.now →
-            (table : Table) (front : List (Option Element)) → BreaksIn self.old.size reason table front parent.now before) }
+            (table : Table) (front : List (Option Element)) → first_missing table front ≡ None →
+            BreaksIn self.old.size reason table front parent.now before) }
     {
         if parent.closed {
             return Ok(());
@@ -219,7 +220,7 @@ impl<'a> Reader<'a> {
         ensures refused { IfRefused result (ReadsNone (IsLeafOf (L.spells of)) child.now self.old.rest.now) }
         ensures size { self.new.size ≡ self.old.size }
         ensures broken { IfBroken result (λ reason. (table : Table) (front : List (Option Element)) →
-            form_in table of ≡ Some L.form →
+            form_in table of ≡ Some L.form → IsFresh table front child.now.element →
             BreaksElement self.old.size reason table front child.now self.old.rest.now) }
     {
         let tag = self.tag(child)?;

@@ -5,5 +5,6 @@ pub mod EntryLemmas
 pub mod ObjectLemmas
 pub mod PageLemmas
 pub mod PlainLemmas
+mod TableExamples
 pub mod ListingLemmas
 pub mod OneValueLemmas

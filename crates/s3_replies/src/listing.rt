@@ -6,6 +6,7 @@ ghost use Rattle.reply_xml.specs.declared.elements.Element.TheVariants as elemen
 ghost use Rattle.reply_xml.specs.Unfit.{AnEncoding};
 ghost use Rattle.reply_xml.specs.Breaks.{BreaksElement, BreaksIn, IfBroken};
 ghost use Rattle.reply_xml.specs.Faults.{IfRefused};
+ghost use Rattle.reply_xml.specs.Fits.{HoldsWell, ReadsWell};
 ghost use Rattle.reply_xml.specs.Reading.{Advances, HoldsAs, HoldsNone, Stops};
 ghost use Rattle.s3_replies.specs.Listing.{EncodingLeft, HasPage, ObjectLeft, ObjectsLeft};
 ghost use Rattle.s3_replies.specs.Listing.{KnowsObject, KnowsPage, Page, PageLeft, PrefixesLeft, object_table, page_table};
@@ -94,6 +95,8 @@ fn take_object<'a>(
     ensures no_longer { length reader.new.rest.now ≤ length reader.old.rest.now }
     ensures refused { IfRefused result (Stops (ObjectsLeft rows.old.items) child.now reader.old.rest.now) }
     ensures size { reader.new.size ≡ reader.old.size }
+    ensures well { OnOk result ((front : List (Option Element)) →
+        ReadsWell page_table front child.now reader.old.rest.now reader.new.rest.now) }
     ensures broken { IfBroken result (λ reason. (front : List (Option Element)) →
         BreaksElement reader.old.size reason page_table front child.now reader.old.rest.now) }
 {
@@ -122,6 +125,8 @@ fn take_prefix<'a>(
     ensures no_longer { length reader.new.rest.now ≤ length reader.old.rest.now }
     ensures refused { IfRefused result (Stops (PrefixesLeft rows.old.items) child.now reader.old.rest.now) }
     ensures size { reader.new.size ≡ reader.old.size }
+    ensures well { OnOk result ((front : List (Option Element)) →
+        ReadsWell page_table front child.now reader.old.rest.now reader.new.rest.now) }
     ensures broken { IfBroken result (λ reason. (front : List (Option Element)) →
         BreaksElement reader.old.size reason page_table front child.now reader.old.rest.now) }
 {
@@ -148,6 +153,8 @@ impl Leaf for UrlName {
 
     ghost alone = { λ of text v w a b. refl };
 
+    ghost fits = { λ of text v s reason u. u.1 s };
+
     fn value_of(_: Global, of: Element, text: Meaning<'_>) -> Result<(), DocFault> {
         if text.as_str() != "url" {
             return Err(DocFault::BadText(of));
@@ -169,6 +176,8 @@ fn take_encoding<'a>(
     ensures refused { IfRefused result (Stops (EncodingLeft url.old) child.now reader.old.rest.now) }
     ensures size { reader.new.size ≡ reader.old.size }
     ensures named { OnOk result (url.new ≡ true) }
+    ensures well { OnOk result ((front : List (Option Element)) → url.old ≡ stood element.EncodingType front →
+        ReadsWell page_table front child.now reader.old.rest.now reader.new.rest.now) }
     ensures broken { IfBroken result (λ reason. (front : List (Option Element)) →
         url.old ≡ stood element.EncodingType front →
         BreaksElement reader.old.size reason page_table front child.now reader.old.rest.now) }
@@ -273,6 +282,7 @@ pub(crate) fn written_page<'a>(reader: &mut Reader<'a>, root: &Tag<'a>) -> Resul
     ensures value { IfOk result (HoldsAs HasPage root.now reader.old.rest.now reader.new.rest.now) }
     ensures no_longer { length reader.new.rest.now ≤ length reader.old.rest.now }
     ensures refused { IfRefused result (HoldsNone HasPage root.now reader.old.rest.now) }
+    ensures well { OnOk result (HoldsWell page_table root.now reader.old.rest.now reader.new.rest.now) }
     ensures broken { IfBroken result (λ reason.
         BreaksIn reader.old.size reason page_table [] root.now reader.old.rest.now) }
 {

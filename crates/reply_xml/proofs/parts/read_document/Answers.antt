@@ -75,11 +75,10 @@ returns-in_err-whole-clause-broken g c =
 
 pub returns-in_err-close-clause-broken : goal.returns-in_err-close-clause-broken
 returns-in_err-close-clause-broken g c =
-    let held = c.in_ok-whole.ensures.value in
     broken_past c.from_residual-in_err-close.result c.in_err-close.field-0.0 c.from_residual-in_err-close.ensures.1
     (
     λ reason h. BehindRoot c.in-Ok.parts.1 _ _ h.0 (record { begins = c.in-Ok.ensures.begins; room = c.in-Ok.ensures.room; name = c.in-Ok.ensures.named })
-    (held.0, held.1) h.1 h.2 h.3
+    c.in_ok-whole.ensures.well h.1 h.2 h.3
     )
     c.in_err-close.ensures.broken
 

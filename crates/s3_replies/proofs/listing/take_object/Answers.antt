@@ -1,3 +1,4 @@
+use Rattle.reply_xml.proofs.FrontLemmas.{fresh_many}
 use Rattle.std.proofs.Common.{refl}
 use Rattle.reply_xml.specs.declared.elements.Element.TheVariants as element
 use Rattle.s3_replies.specs.Listing.{HasObject, page_table}
@@ -23,4 +24,12 @@ returns-clause-value c =
 
 pub returns-in_err-row-clause-broken : goal.returns-in_err-row-clause-broken
 returns-in_err-row-clause-broken c =
-    broken_past c.from_residual.result c.in_err-row.field-0.0 c.from_residual.ensures.1 (λ reason b front. b page_table front element.Contents c.requires refl) c.in_err-row.ensures.broken
+    broken_past c.from_residual.result c.in_err-row.field-0.0 c.from_residual.ensures.1 (
+    λ reason b front. b page_table front element.Contents (record { same = c.requires; read_so = refl })
+    (fresh_many page_table front c.args.child.now.element element.Contents c.requires refl)
+    ) c.in_err-row.ensures.broken
+
+pub returns-clause-well : goal.returns-clause-well
+returns-clause-well c front =
+    c.in_ok-row.ensures.well page_table front element.Contents (record { same = c.requires; read_so = refl })
+    (fresh_many page_table front c.args.child.now.element element.Contents c.requires refl)

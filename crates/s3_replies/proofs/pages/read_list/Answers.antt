@@ -125,13 +125,12 @@ returns-in-Err-clause-broken c = OnBroken-map c.in-Err.fault (λ reason b. inl (
 
 pub returns-in_err-close-clause-broken : goal.returns-in_err-close-clause-broken
 returns-in_err-close-clause-broken c =
-    let held = c.in-Ok-written_page.ensures.value in
     broken_past c.from_residual.result c.in_err-close.field-0.0 c.from_residual.ensures.1
     (
     λ reason h. inl
     (
     BehindRoot c.in-Ok.parts.1 _ _ h.0 (record { begins = c.in-Ok.ensures.begins; room = c.in-Ok.ensures.room; name = c.in-Ok.ensures.named })
-    (held.0, held.1) h.1 h.2 h.3
+    c.in-Ok-written_page.ensures.well h.1 h.2 h.3
     )
     )
     c.in_err-close.ensures.broken

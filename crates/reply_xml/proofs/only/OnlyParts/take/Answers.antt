@@ -2,7 +2,9 @@ use Rattle.std.proofs.Common.{◌∙◌, sym}
 use Rattle.reply_xml.specs.Children.{IsLeafOf}
 use Rattle.reply_xml.specs.Reading.{LeafLeft, OnceLeft}
 use Rattle.reply_xml.proofs.FaultLemmas.{OnOk-map, refused_so}
-use Rattle.reply_xml.proofs.BreakLemmas.{broken_so, found_here, found_past, only_alone, only_form}
+use Rattle.reply_xml.specs.Fits.{Passed}
+use Rattle.reply_xml.proofs.BreakLemmas.{broken_so}
+use Rattle.reply_xml.proofs.FrontLemmas.{found_here, found_past, only_alone, only_form}
 use Rattle.reply_xml.proofs.TakeLemmas.{named_passes, skipped, stops_there}
 use Rattle.reply_xml.proofs.only.OnlyParts.take.Goals as goal
 
@@ -43,3 +45,12 @@ returns-clause-broken g c =
     λ reason b front found. b _ front (only_form c.args.self.now.element g.L.Leaf.form) (only_alone c.args.self.now.element g.L.Leaf.form) found
     )
     c.take.ensures.broken
+
+pub returns-then-not-is_the-clause-well : goal.returns-then-not-is_the-clause-well
+returns-then-not-is_the-clause-well g c =
+    OnOk-map c.skip.result (λ read front found. (read.0, read.1, Passed (sym c.is_the.ensures ∙ c.if-not-is_the.true, tt))) c.skip.ensures.value
+
+pub returns-clause-well : goal.returns-clause-well
+returns-clause-well g c =
+    OnOk-map c.take.result
+    (λ well front found. well _ front (only_form c.args.self.now.element g.L.Leaf.form) found) c.take.ensures.well

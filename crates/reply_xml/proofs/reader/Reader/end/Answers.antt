@@ -14,6 +14,6 @@ pub returns-in-Err-clause-refused : goal.returns-in-Err-clause-refused
 returns-in-Err-clause-refused c before at inner rest r = no_open_end c.args.parent.now before _ rest inner c.if-parent.false at c.in-Err.ensures.refused r
 
 pub returns-in-Err-clause-broken : goal.returns-in-Err-clause-broken
-returns-in-Err-clause-broken c before at table front =
-    AtEndTag _ c.in-Err.left c.if-parent.false at c.in-Err.ensures.leaves
+returns-in-Err-clause-broken c before at table front complete =
+    AtEndTag _ c.in-Err.left c.if-parent.false at complete c.in-Err.ensures.leaves
     (ap (λ n. fault.NotADocument n) c.place.ensures)

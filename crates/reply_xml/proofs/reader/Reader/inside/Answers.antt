@@ -3,6 +3,7 @@ use Rattle.reply_xml.proofs.FaultLemmas.{refused_past}
 use Rattle.reply_xml.proofs.OpenLemmas.{iff_past}
 use Rattle.reply_xml.proofs.TakeLemmas.{advanced, stopped, ended, at_end_left}
 use Rattle.reply_xml.specs.Breaks.{Behind}
+use Rattle.reply_xml.proofs.FrontLemmas.{complete_so, goes_on_before, goes_on_end, read_so}
 use Rattle.reply_xml.proofs.BreakLemmas.{broken_past, child_breaks, lacks_there, sized, tabled}
 use Rattle.reply_xml.proofs.reader.Reader.inside.Goals as goal
 
@@ -23,9 +24,15 @@ children-preserved g c =
       front = (
         c.in-Some.child.element ∷ c.children.invariant.front.0,
         c.in_ok-take.ensures.known c.children.invariant.front.0 c.children.invariant.front.1,
-        λ reason b. let element = c.in_ok-take.ensures.value in
-            c.children.invariant.front.2 reason
-            (sized _ _ reason _ _ _ _ (c.in_ok-take.ensures.size ∙ now.size) (Behind c.in-Some.child _ _ now.apart now.child (element.0, element.1) b)),
+        λ reason b. c.children.invariant.front.2 reason
+            (sized _ _ reason _ _ _ _ (c.in_ok-take.ensures.size ∙ now.size)
+            (Behind c.in-Some.child _ _ now.apart now.child
+            (read_so _ _ c.children.invariant.front.0 c.in-Some.child _ _ c.children.invariant.table (c.in_ok-take.ensures.well c.children.invariant.front.0 c.children.invariant.front.1))
+            b)),
+        λ rest r. c.children.invariant.front.3 rest
+            (goes_on_before _ c.children.invariant.front.0 c.args.parent.now c.in-Some.child _ _ _ rest now.apart now.child
+            (read_so _ _ c.children.invariant.front.0 c.in-Some.child _ _ c.children.invariant.table (c.in_ok-take.ensures.well c.children.invariant.front.0 c.children.invariant.front.1))
+            r),
       );
     }
 
@@ -95,4 +102,12 @@ pub returns-in_err-end-clause-broken : goal.returns-in_err-end-clause-broken
 returns-in_err-end-clause-broken g c =
     let now = rw c.in_default.is at c.in_ok-child.ensures in
     broken_past c.from_residual-in_err-end.result c.in_err-end.field-0.0 c.from_residual-in_err-end.ensures.1
-    (λ reason b. c.children.invariant.front.2 reason (sized _ _ reason _ _ _ _ now.size (b _ now.end _ _))) c.in_err-end.ensures.broken
+    (λ reason b. c.children.invariant.front.2 reason (sized _ _ reason _ _ _ _ now.size (b _ now.end _ c.children.invariant.front.0 (complete_so _ _ c.children.invariant.front.0 c.children.invariant.table (c.in_ok-whole.ensures.complete c.children.invariant.front.0 c.children.invariant.front.1))))) c.in_err-end.ensures.broken
+
+pub returns-clause-well : goal.returns-clause-well
+returns-clause-well g c =
+    let now = rw c.in_default.is at c.in_ok-child.ensures in
+    let ends = c.in_ok-end.ensures.value _ now.end in
+    c.children.invariant.front.3 _
+    (goes_on_end _ c.children.invariant.front.0 c.args.parent.now _ _ ends
+    (complete_so _ _ c.children.invariant.front.0 c.children.invariant.table (c.in_ok-whole.ensures.complete c.children.invariant.front.0 c.children.invariant.front.1)))

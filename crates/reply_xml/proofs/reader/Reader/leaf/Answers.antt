@@ -40,13 +40,13 @@ returns-then-tag-clause-refused g c =
 
 pub returns-in_err-tag-clause-broken : goal.returns-in_err-tag-clause-broken
 returns-in_err-tag-clause-broken g c =
-    broken_past c.from_residual.result c.in_err-tag.field-0.0 c.from_residual.ensures.1 (λ reason t table front form. BehindName t.0 t.1 t.2) c.in_err-tag.ensures.broken
+    broken_past c.from_residual.result c.in_err-tag.field-0.0 c.from_residual.ensures.1 (λ reason t table front form fresh. BehindName t.0 fresh t.1 t.2) c.in_err-tag.ensures.broken
 
 pub returns-then-tag-clause-broken : goal.returns-then-tag-clause-broken
 returns-then-tag-clause-broken g c =
     broken_so c.value_of.result
     (
-    λ reason u table front form. BehindLeafTag c.in_ok-tag.tag _ c.args.of _ c.in_ok-tag.ensures.value (record { same = c.requires; read_so = form })
+    λ reason u table front form fresh. BehindLeafTag c.in_ok-tag.tag _ c.args.of _ fresh c.in_ok-tag.ensures.value (record { same = c.requires; read_so = form })
     (Unfit [] _ (text_closed c.in_ok-tag.tag _ c.if-tag.true) u)
     )
     c.value_of.ensures.unfit
@@ -55,7 +55,7 @@ pub returns-in_err-text-clause-broken : goal.returns-in_err-text-clause-broken
 returns-in_err-text-clause-broken g c =
     broken_past c.from_residual-in_err-text.result c.in_err-text.field-0.0 c.from_residual-in_err-text.ensures.1
     (
-    λ reason t table front form. BehindLeafTag c.in_ok-tag.tag _ c.args.of _ c.in_ok-tag.ensures.value (record { same = c.requires; read_so = form })
+    λ reason t table front form fresh. BehindLeafTag c.in_ok-tag.tag _ c.args.of _ fresh c.in_ok-tag.ensures.value (record { same = c.requires; read_so = form })
     (InText c.if-tag.false (text_sized _ _ reason _ c.in_ok-tag.ensures.size t))
     )
     c.in_err-text.ensures.broken
@@ -64,15 +64,16 @@ pub returns-in_err-value-clause-broken : goal.returns-in_err-value-clause-broken
 returns-in_err-value-clause-broken g c =
     broken_past c.from_residual-in_err-value.result c.in_err-value.field-0.0 c.from_residual-in_err-value.ensures.1
     (
-    λ reason u table front form. BehindLeafTag c.in_ok-tag.tag _ c.args.of _ c.in_ok-tag.ensures.value (record { same = c.requires; read_so = form })
+    λ reason u table front form fresh. BehindLeafTag c.in_ok-tag.tag _ c.args.of _ fresh c.in_ok-tag.ensures.value (record { same = c.requires; read_so = form })
     (Unfit _ _ (text_open c.in_ok-tag.tag _ _ _ _ c.if-tag.false c.in_ok-text.ensures.value.1 c.in_ok-text.ensures.value.2) u)
     )
     c.in_err-value.ensures.unfit
 
 pub returns-in-Err-clause-broken : goal.returns-in-Err-clause-broken
-returns-in-Err-clause-broken g c table front form =
-    BehindLeafTag c.in_ok-tag.tag _ c.args.of _ c.in_ok-tag.ensures.value (record { same = c.requires; read_so = form })
+returns-in-Err-clause-broken g c table front form fresh =
+    BehindLeafTag c.in_ok-tag.tag _ c.args.of _ fresh c.in_ok-tag.ensures.value (record { same = c.requires; read_so = form })
     (
-    NoEndBehind _ _ c.in-Err.left c.if-tag.false c.in_ok-text.ensures.value.1 c.in-Err.ensures.leaves
+    NoEndBehind _ _ _ c.in-Err.left c.if-tag.false c.in_ok-text.ensures.value.1 c.in_ok-text.ensures.value.2
+    (g.met.L.Leaf.fits c.args.of _ _ c.in_ok-value.ensures.value) c.in-Err.ensures.leaves
     (ap (λ n. fault.NotADocument n) (c.place.ensures ∙ ap (λ s. s - c.in-Err.left) (c.in_ok-text.ensures.size ∙ c.in_ok-tag.ensures.size)))
     )

@@ -2,6 +2,7 @@ use Rattle.reply_xml.proofs.FaultLemmas.{OnOk-map, refused_past, refused_so}
 use Rattle.reply_xml.proofs.OpenLemmas.{element_of, inner_of}
 use Rattle.reply_xml.specs.Breaks.{BehindName, BehindOtherTag}
 use Rattle.reply_xml.proofs.BreakLemmas.{broken_past, broken_so, sized}
+use Rattle.reply_xml.proofs.FrontLemmas.{fresh_outside}
 use Rattle.reply_xml.proofs.reader.Reader.skip.Goals as goal
 
 pub returns-in_err-tag-clause-refused : goal.returns-in_err-tag-clause-refused
@@ -18,7 +19,7 @@ returns-clause-refused c =
 
 pub returns-in_err-tag-clause-broken : goal.returns-in_err-tag-clause-broken
 returns-in_err-tag-clause-broken c =
-    broken_past c.from_residual.result c.in_err-tag.field-0.0 c.from_residual.ensures.1 (λ reason t table front outside. BehindName t.0 t.1 t.2) c.in_err-tag.ensures.broken
+    broken_past c.from_residual.result c.in_err-tag.field-0.0 c.from_residual.ensures.1 (λ reason t table front outside. BehindName t.0 (fresh_outside table front c.args.child.now.element outside) t.1 t.2) c.in_err-tag.ensures.broken
 
 pub returns-clause-broken : goal.returns-clause-broken
 returns-clause-broken c =

@@ -1,5 +1,6 @@
-use Rattle.std.proofs.Common.{◌-◌, [], take, ap, arith, ◌∙◌, inl}
+use Rattle.std.proofs.Common.{◌-◌, [], refl, take, ap, arith, ◌∙◌, inl}
 use Rattle.reply_xml.specs.Tables.{Done}
+use Rattle.reply_xml.proofs.FrontLemmas.{fresh_outside}
 use Rattle.std.proofs.lemmas.List.{append-nil}
 use Rattle.reply_xml.proofs.FaultLemmas.{refused_past}
 use Rattle.reply_xml.proofs.OpenLemmas.{child_begins, left_in, left_out, left_end, left_none, left_no_child, iff_past}
@@ -67,11 +68,11 @@ pub returns-in_err-within-in-Some-clause-broken : goal.returns-in_err-within-in-
 returns-in_err-within-in-Some-clause-broken c =
     let now = rw c.in-Some.is at c.in_ok-child.ensures in
     broken_past c.from_residual-in_err-within-in-Some.result c.in_err-within-in-Some.field-0.0 c.from_residual-in_err-within-in-Some.ensures.1
-    (λ reason t. c.elements.invariant.broken reason (inl (sized _ _ reason Done [] _ _ now.size (InTag c.in-Some.child _ t.0 now.apart now.child t.1 t.2))))
+    (λ reason t. c.elements.invariant.broken reason (inl (sized _ _ reason Done [] _ _ now.size (InTag c.in-Some.child _ t.0 now.apart now.child (fresh_outside Done [] c.in-Some.child.element tt) t.1 t.2))))
     c.in_err-within-in-Some.ensures.broken
 
 pub returns-in_err-end-in-None-clause-broken : goal.returns-in_err-end-in-None-clause-broken
 returns-in_err-end-in-None-clause-broken c =
     let now = rw c.in-None.is at c.in_ok-child.ensures in
     broken_past c.from_residual-in_err-end-in-None.result c.in_err-end-in-None.field-0.0 c.from_residual-in_err-end-in-None.ensures.1
-    (λ reason b. c.elements.invariant.broken reason (inl (sized _ _ reason Done [] _ _ now.size (b _ now.end Done [])))) c.in_err-end-in-None.ensures.broken
+    (λ reason b. c.elements.invariant.broken reason (inl (sized _ _ reason Done [] _ _ now.size (b _ now.end Done [] refl)))) c.in_err-end-in-None.ensures.broken

@@ -1,5 +1,7 @@
 use Rattle.std.proofs.Common.{◌∙◌, refl, sym}
 use Rattle.reply_xml.specs.Breaks.{StandsAgain}
+use Rattle.reply_xml.specs.Fits.{IsText}
+use Rattle.reply_xml.proofs.FrontLemmas.{fresh_none}
 use Rattle.reply_xml.proofs.FaultLemmas.{refused_past}
 use Rattle.reply_xml.proofs.TakeLemmas.{leaf_taken_at, leaf_bad_at, leaf_twice_at}
 use Rattle.reply_xml.proofs.BreakLemmas.{broken_past}
@@ -22,8 +24,21 @@ returns-clause-value g c =
 
 pub returns-in_err-leaf-clause-broken : goal.returns-in_err-leaf-clause-broken
 returns-in_err-leaf-clause-broken g c =
-    broken_past c.from_residual.result c.in_err-leaf.field-0.0 c.from_residual.ensures.1 (λ reason b table front form alone found. b table front form) c.in_err-leaf.ensures.broken
+    broken_past c.from_residual.result c.in_err-leaf.field-0.0 c.from_residual.ensures.1 (
+    λ reason b table front form alone found. b table front form
+    (fresh_none table front c.args.child.now.element c.args.element c.requires (sym (sym c.is_some.ensures ∙ c.if-is_some.false) ∙ found))
+    ) c.in_err-leaf.ensures.broken
 
 pub returns-then-is_some-clause-broken : goal.returns-then-is_some-clause-broken
 returns-then-is_some-clause-broken g c table front form alone found =
     StandsAgain c.args.element (record { same = c.requires; alone = alone; before = sym found ∙ (sym c.is_some.ensures ∙ c.if-is_some.true) }) refl
+
+pub returns-clause-well : goal.returns-clause-well
+returns-clause-well g c table front form found =
+    let read = c.in_ok-leaf.ensures.value in (
+      read.0,
+      read.1,
+      IsText c.args.element g.L.Leaf.form read.2.0
+          (fresh_none table front c.args.child.now.element c.args.element c.requires (sym (sym c.is_some.ensures ∙ c.if-is_some.false) ∙ found))
+          (record { same = c.requires; read_so = form }) read.2.1 (g.met.L.Leaf.fits c.args.element read.2.0 _ read.2.2),
+    )

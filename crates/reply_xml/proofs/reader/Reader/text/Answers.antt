@@ -29,6 +29,7 @@ returns-in-Err-Ends-clause-broken c =
     Leaves _
     (
     NotUtf8 fails.place _ _ c.split_text.ensures.value (ends_at _ fails.field-0 fails.place fails.field-0-is fails.ensures.broken)
+    (ends_at _ fails.field-0 fails.place fails.field-0-is fails.ensures.sound)
     (ends_within fails.field-0 fails.place _ fails.field-0-is fails.ensures.place) refl
     )
     (ap (λ n. fault.NotADocument n) (rw fails.field-0-is at c.place.ensures))

@@ -1,6 +1,6 @@
 use Rattle.std.proofs.Common.{refl}
 use Rattle.reply_xml.specs.declared.elements.Element.TheVariants as element
-use Rattle.reply_xml.proofs.BreakLemmas.{missing_here, missing_later}
+use Rattle.reply_xml.proofs.FrontLemmas.{missing_here, missing_later}
 use Rattle.s3_replies.proofs.BucketLemmas.{bucket_left, no_bucket_name, no_bucket_date}
 use Rattle.s3_replies.proofs.buckets.BucketFieldsParts.whole.Goals as goal
 
@@ -23,3 +23,9 @@ returns-in_default-created-clause-missing c front found = (
   missing_later element.Name c.args.self.name c.in-Some.name front _ _ c.in-Some.is found.0
       (missing_here element.CreationDate c.args.self.created front _ c.in_default-created.is found.1),
 )
+
+pub returns-clause-complete : goal.returns-clause-complete
+returns-clause-complete c front found =
+    missing_later element.Name c.args.self.name c.in-Some.name front _ _ c.in-Some.is found.0
+    (missing_later element.CreationDate c.args.self.created c.in-Some-created.created front _ _ c.in-Some-created.is found.1
+    (refl))

@@ -1,3 +1,5 @@
+use Rattle.reply_xml.specs.Fits.{Passed}
+use Rattle.reply_xml.proofs.FrontLemmas.{fresh_none}
 use Rattle.reply_xml.specs.Breaks.{StandsAgain}
 use Rattle.std.proofs.Common.{◌∙◌, Some, refl, sym}
 use Rattle.s3_model.specs.Lists.{Reserved}
@@ -8,7 +10,8 @@ use Rattle.reply_xml.proofs.FaultLemmas.{OnOk-map, refused_past, refused_so}
 use Rattle.reply_xml.proofs.TakeLemmas.{part_advanced, part_stopped, stops_there}
 use Rattle.s3_replies.proofs.EachLemmas.{each_started}
 use Rattle.s3_replies.proofs.BucketLemmas.{list_advanced, list_stopped}
-use Rattle.reply_xml.proofs.BreakLemmas.{broken_past, broken_so, found_past, stood_here}
+use Rattle.reply_xml.proofs.BreakLemmas.{broken_past, broken_so}
+use Rattle.reply_xml.proofs.FrontLemmas.{found_past, stood_here}
 use Rattle.s3_replies.proofs.buckets.BucketListParts.take.Goals as goal
 
 pub returns-then-not-is_the-clause-refused : goal.returns-then-not-is_the-clause-refused
@@ -40,7 +43,11 @@ returns-clause-value c =
 
 pub returns-in_err-element-clause-broken : goal.returns-in_err-element-clause-broken
 returns-in_err-element-clause-broken c =
-    broken_past c.from_residual.result c.in_err-element.field-0.0 c.from_residual.ensures.1 (λ reason b front found. b bucket_list_table front element.Buckets (sym c.is_the.ensures ∙ c.if-not-is_the.false) refl) c.in_err-element.ensures.broken
+    broken_past c.from_residual.result c.in_err-element.field-0.0 c.from_residual.ensures.1 (
+    λ reason b front found. b bucket_list_table front element.Buckets (record { same = sym c.is_the.ensures ∙ c.if-not-is_the.false; read_so = refl })
+    (fresh_none bucket_list_table front c.args.child.now.element element.Buckets (sym c.is_the.ensures ∙ c.if-not-is_the.false)
+    (sym (sym c.is_some.ensures ∙ c.if-is_some.false) ∙ found))
+    ) c.in_err-element.ensures.broken
 
 pub returns-then-not-is_the-clause-broken : goal.returns-then-not-is_the-clause-broken
 returns-then-not-is_the-clause-broken c =
@@ -59,3 +66,13 @@ returns-then-is_some-clause-broken c front found =
 
 pub returns-clause-known : goal.returns-clause-known
 returns-clause-known c front found = stood_here element.Buckets c.args.child.now.element front (sym c.is_the.ensures ∙ c.if-not-is_the.false)
+
+pub returns-then-not-is_the-clause-well : goal.returns-then-not-is_the-clause-well
+returns-then-not-is_the-clause-well c =
+    OnOk-map c.skip.result (λ read front found. (read.0, read.1, Passed (sym c.is_the.ensures ∙ c.if-not-is_the.true, tt))) c.skip.ensures.value
+
+pub returns-clause-well : goal.returns-clause-well
+returns-clause-well c front found =
+    c.in_ok-element.ensures.well bucket_list_table front element.Buckets (record { same = sym c.is_the.ensures ∙ c.if-not-is_the.false; read_so = refl })
+    (fresh_none bucket_list_table front c.args.child.now.element element.Buckets (sym c.is_the.ensures ∙ c.if-not-is_the.false)
+    (sym (sym c.is_some.ensures ∙ c.if-is_some.false) ∙ found))

@@ -1,6 +1,7 @@
+use Rattle.reply_xml.proofs.FrontLemmas.{missing_later}
 use Rattle.std.proofs.Common.{refl}
 use Rattle.reply_xml.specs.declared.elements.Element.TheVariants as element
-use Rattle.reply_xml.proofs.BreakLemmas.{missing_here}
+use Rattle.reply_xml.proofs.FrontLemmas.{missing_here}
 use Rattle.s3_replies.proofs.BucketLemmas.{list_left, no_list}
 use Rattle.s3_replies.proofs.buckets.BucketListParts.whole.Goals as goal
 
@@ -12,3 +13,8 @@ returns-in-None-clause-refused c text rows left = no_list c.args.self.found text
 
 pub returns-in-None-clause-missing : goal.returns-in-None-clause-missing
 returns-in-None-clause-missing c front found = (element.Buckets, refl, missing_here element.Buckets c.args.self.found front _ c.in-None.is found)
+
+pub returns-in-Some-clause-complete : goal.returns-in-Some-clause-complete
+returns-in-Some-clause-complete c front found =
+    missing_later element.Buckets c.args.self.found c.in-Some.rows front _ _ c.in-Some.is found
+    (refl)

@@ -1,3 +1,5 @@
+use Rattle.reply_xml.specs.Fits.{Passed}
+use Rattle.reply_xml.proofs.FrontLemmas.{fresh_many}
 use Rattle.std.proofs.Common.{◌++◌, ◌∷◌, [], ◌∙◌, ap, refl, sym}
 use Rattle.s3_model.specs.Lists.{Reserved}
 use Rattle.s3_model.specs.declared.places.Entry.{Entry}
@@ -34,7 +36,10 @@ returns-clause-value c =
 
 pub returns-in_err-key-clause-broken : goal.returns-in_err-key-clause-broken
 returns-in_err-key-clause-broken c =
-    broken_past c.from_residual.result c.in_err-key.field-0.0 c.from_residual.ensures.1 (λ reason b front found. b buckets_table front element.Bucket (sym c.is_the.ensures ∙ c.if-not-is_the.false) refl) c.in_err-key.ensures.broken
+    broken_past c.from_residual.result c.in_err-key.field-0.0 c.from_residual.ensures.1 (
+    λ reason b front found. b buckets_table front element.Bucket (record { same = sym c.is_the.ensures ∙ c.if-not-is_the.false; read_so = refl })
+    (fresh_many buckets_table front c.args.child.now.element element.Bucket (sym c.is_the.ensures ∙ c.if-not-is_the.false) refl)
+    ) c.in_err-key.ensures.broken
 
 pub returns-then-not-is_the-clause-broken : goal.returns-then-not-is_the-clause-broken
 returns-then-not-is_the-clause-broken c =
@@ -42,3 +47,12 @@ returns-then-not-is_the-clause-broken c =
 
 pub returns-then-not-is_the-clause-known : goal.returns-then-not-is_the-clause-known
 returns-then-not-is_the-clause-known c = OnOk-map c.skip.result (λ read front found. tt) c.skip.ensures.value
+
+pub returns-then-not-is_the-clause-well : goal.returns-then-not-is_the-clause-well
+returns-then-not-is_the-clause-well c =
+    OnOk-map c.skip.result (λ read front found. (read.0, read.1, Passed (sym c.is_the.ensures ∙ c.if-not-is_the.true, tt))) c.skip.ensures.value
+
+pub returns-clause-well : goal.returns-clause-well
+returns-clause-well c front found =
+    c.in_ok-key.ensures.well buckets_table front element.Bucket (record { same = sym c.is_the.ensures ∙ c.if-not-is_the.false; read_so = refl })
+    (fresh_many buckets_table front c.args.child.now.element element.Bucket (sym c.is_the.ensures ∙ c.if-not-is_the.false) refl)

@@ -1,7 +1,9 @@
+use Rattle.reply_xml.specs.Fits.{Passed}
 use Rattle.std.proofs.Common.{refl}
 use Rattle.reply_xml.specs.declared.elements.Element.TheVariants as element
 use Rattle.reply_xml.proofs.ChildLemmas.{is_other}
-use Rattle.reply_xml.proofs.BreakLemmas.{broken_so, found_here, found_past}
+use Rattle.reply_xml.proofs.BreakLemmas.{broken_so}
+use Rattle.reply_xml.proofs.FrontLemmas.{found_here, found_past}
 use Rattle.s3_replies.specs.Listing.{object_table}
 use Rattle.std.proofs.Common.{◌∙◌, sym}
 use Rattle.s3_replies.specs.Listing.{ObjectLeft}
@@ -99,3 +101,25 @@ returns-clause-broken c =
     broken_so c.skip.result
     (λ reason b front found. b object_table front ((sym c.is_the.ensures ∙ c.if-is_the.false), ((sym c.is_the-2.ensures ∙ c.if-is_the-2.false), ((sym c.is_the-3.ensures ∙ c.if-is_the-3.false), ((sym c.is_the-4.ensures ∙ c.if-is_the-4.false), tt)))))
     c.skip.ensures.broken
+
+pub returns-then-is_the-clause-well : goal.returns-then-is_the-clause-well
+returns-then-is_the-clause-well c =
+    OnOk-map c.take.result (λ well front found. well object_table front refl found.0) c.take.ensures.well
+
+pub returns-then-is_the-2-clause-well : goal.returns-then-is_the-2-clause-well
+returns-then-is_the-2-clause-well c =
+    OnOk-map c.take-then-is_the-2.result (λ well front found. well object_table front refl found.1) c.take-then-is_the-2.ensures.well
+
+pub returns-then-is_the-3-clause-well : goal.returns-then-is_the-3-clause-well
+returns-then-is_the-3-clause-well c =
+    OnOk-map c.take-then-is_the-3.result (λ well front found. well object_table front refl found.2) c.take-then-is_the-3.ensures.well
+
+pub returns-then-is_the-4-clause-well : goal.returns-then-is_the-4-clause-well
+returns-then-is_the-4-clause-well c =
+    OnOk-map c.take-then-is_the-4.result (λ well front found. well object_table front refl found.3) c.take-then-is_the-4.ensures.well
+
+pub returns-clause-well : goal.returns-clause-well
+returns-clause-well c =
+    OnOk-map c.skip.result
+    (λ read front found. (read.0, read.1, Passed ((sym c.is_the.ensures ∙ c.if-is_the.false), ((sym c.is_the-2.ensures ∙ c.if-is_the-2.false), ((sym c.is_the-3.ensures ∙ c.if-is_the-3.false), ((sym c.is_the-4.ensures ∙ c.if-is_the-4.false), tt))))))
+    c.skip.ensures.value

@@ -1,5 +1,5 @@
 use Rattle.std.proofs.Common.{refl}
-use Rattle.reply_xml.proofs.BreakLemmas.{missing_here, missing_later}
+use Rattle.reply_xml.proofs.FrontLemmas.{missing_here, missing_later}
 use Rattle.reply_xml.specs.declared.elements.Element.TheVariants as element
 use Rattle.reply_xml.specs.Children.{IsFormed}
 use Rattle.reply_values.specs.Numbers.{SpellsNumber}
@@ -57,3 +57,11 @@ returns-in_default-size-clause-missing c front found = (
       )
       ),
 )
+
+pub returns-clause-complete : goal.returns-clause-complete
+returns-clause-complete c front found =
+    missing_later element.Key c.args.self.key c.in-Some.key front _ _ c.in-Some.is found.0
+    (missing_later element.LastModified c.args.self.modified c.in-Some-modified.micros front _ _ c.in-Some-modified.is found.1
+    (missing_later element.ETag c.args.self.etag c.in-Some-etag.etag front _ _ c.in-Some-etag.is found.2
+    (missing_later element.Size c.args.self.size c.in-Some-size.size front _ _ c.in-Some-size.is found.3
+    (refl))))

@@ -1,6 +1,8 @@
+use Rattle.reply_xml.specs.Fits.{Passed}
 use Rattle.std.proofs.Common.{refl}
 use Rattle.reply_xml.proofs.ChildLemmas.{is_other}
-use Rattle.reply_xml.proofs.BreakLemmas.{broken_so, found_here, found_past, stood_here, stood_past}
+use Rattle.reply_xml.proofs.BreakLemmas.{broken_so}
+use Rattle.reply_xml.proofs.FrontLemmas.{found_here, found_past, stood_here, stood_past}
 use Rattle.std.proofs.Common.{◌∙◌, sym}
 use Rattle.reply_xml.specs.declared.elements.Element.TheVariants as element
 use Rattle.reply_xml.specs.Children.{IsFormed}
@@ -160,3 +162,32 @@ returns-clause-broken c =
     ((sym c.is_the-3.ensures ∙ c.if-is_the-3.false), ((sym c.is_the-5.ensures ∙ c.if-is_the-5.false), ((sym c.is_the-4.ensures ∙ c.if-is_the-4.false), ((sym c.is_the.ensures ∙ c.if-is_the.false), ((sym c.is_the-2.ensures ∙ c.if-is_the-2.false), tt)))))
     )
     c.skip.ensures.broken
+
+pub returns-then-is_the-clause-well : goal.returns-then-is_the-clause-well
+returns-then-is_the-clause-well c = OnOk-map c.take_object.result (λ well front found. well front) c.take_object.ensures.well
+
+pub returns-then-is_the-2-clause-well : goal.returns-then-is_the-2-clause-well
+returns-then-is_the-2-clause-well c = OnOk-map c.take_prefix.result (λ well front found. well front) c.take_prefix.ensures.well
+
+pub returns-then-is_the-3-clause-well : goal.returns-then-is_the-3-clause-well
+returns-then-is_the-3-clause-well c =
+    OnOk-map c.take.result (λ well front found. well page_table front refl found.0) c.take.ensures.well
+
+pub returns-then-is_the-4-clause-well : goal.returns-then-is_the-4-clause-well
+returns-then-is_the-4-clause-well c =
+    OnOk-map c.take-then-is_the-4.result (λ well front found. well page_table front refl found.1) c.take-then-is_the-4.ensures.well
+
+pub returns-then-is_the-5-clause-well : goal.returns-then-is_the-5-clause-well
+returns-then-is_the-5-clause-well c = OnOk-map c.take_encoding.result (λ well front found. well front found.2) c.take_encoding.ensures.well
+
+pub returns-clause-well : goal.returns-clause-well
+returns-clause-well c =
+    OnOk-map c.skip.result
+    (
+    λ read front found. (
+      read.0,
+      read.1,
+      Passed ((sym c.is_the-3.ensures ∙ c.if-is_the-3.false), ((sym c.is_the-5.ensures ∙ c.if-is_the-5.false), ((sym c.is_the-4.ensures ∙ c.if-is_the-4.false), ((sym c.is_the.ensures ∙ c.if-is_the.false), ((sym c.is_the-2.ensures ∙ c.if-is_the-2.false), tt))))),
+    )
+    )
+    c.skip.ensures.value

@@ -1,6 +1,7 @@
+use Rattle.reply_xml.proofs.FrontLemmas.{missing_later}
 use Rattle.std.proofs.Common.{refl}
 use Rattle.reply_xml.specs.declared.elements.Element.TheVariants as element
-use Rattle.reply_xml.proofs.BreakLemmas.{missing_here}
+use Rattle.reply_xml.proofs.FrontLemmas.{missing_here}
 use Rattle.reply_values.specs.Numbers.{SpellsTruth}
 use Rattle.s3_replies.specs.Listing.{Page}
 use Rattle.s3_replies.proofs.ObjectLemmas.{part_missing}
@@ -17,3 +18,8 @@ returns-in-None-clause-refused c text page left = part_missing SpellsTruth c.arg
 
 pub returns-in-None-clause-missing : goal.returns-in-None-clause-missing
 returns-in-None-clause-missing c front found = (element.IsTruncated, refl, missing_here element.IsTruncated c.args.self.more front _ c.in-None.is found.0)
+
+pub returns-in-Some-clause-complete : goal.returns-in-Some-clause-complete
+returns-in-Some-clause-complete c front found =
+    missing_later element.IsTruncated c.args.self.more c.in-Some.more front _ _ c.in-Some.is found.0
+    (refl)
