@@ -1,0 +1,9 @@
+//! Sets of numbers below a bound, whose least member is found at once.
+#![tactic(auto)]
+
+mod bits;
+mod number_set;
+#[cfg(test)]
+mod tests;
+
+pub use number_set::NumberSet;
