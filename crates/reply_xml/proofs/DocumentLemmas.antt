@@ -3,7 +3,7 @@ use Rattle.std.proofs.Common.{◌≡◌, ◌<◌, ◌+◌, ◌∙◌, ℕ, Bool,
 use Rattle.std.proofs.lemmas.List.{append_cancel_left}
 use Rattle.reply_xml.specs.declared.runs.Sort.TheVariants as sort
 use Rattle.reply_xml.specs.Documents.{EndsAt, ReadsDeclaration, MayDeclare, BeginsDocument, NamesRoot}
-use Rattle.reply_xml.specs.Places.{BeginsOtherwise, HasOtherRoot, LacksName, LacksRoot}
+use Rattle.reply_xml.specs.Places.{BeginsOtherwise, HasOtherRoot, LacksDeclaration, LacksName, LacksRoot, ReachesRoot}
 use Rattle.reply_xml.specs.Runs.{ReadsRun}
 use Rattle.reply_xml.specs.Tags.{NamesTag, ReadsTag, ReadsTagEnd}
 use Rattle.reply_xml.proofs.RunLemmas.{ReadsRun-same, no_run, parts_same}
@@ -90,12 +90,34 @@ undeclared at rest none d = ⊎_elim (λ r. absurd (none _ r.opens)) (λ r. r.0)
 pub may_be_undeclared : (at : List ℕ) → ((more : List ℕ) → ¬ (at ≡ 60 ∷ 63 ∷ more)) → MayDeclare at at
 may_be_undeclared at none = inr (refl, λ after e. none _ e)
 
--- and the root has to begin behind the white space in front
-pub root_there : (bytes space at at_space between at_root : List ℕ) → ReadsRun sort.Space space bytes at → MayDeclare at at_space → ReadsRun sort.Space between at_space at_root
-    → ((more : List ℕ) → ¬ (at ≡ 60 ∷ 63 ∷ more)) → at_root ≡ at
-root_there bytes space at at_space between at_root run declared gap none =
-    let same = undeclared at at_space none declared in
+-- where the root has to begin
+pub reached_declared : (bytes space at rest : List ℕ) → ReadsRun sort.Space space bytes at → (r : ReachesRoot bytes rest) → MayDeclare at r.at_space
+reached_declared bytes space at rest run r =
+    subst (λ (t : List ℕ). MayDeclare t r.at_space) (ReadsRun-same sort.Space space r.before.0 bytes at r.at_declaration run r.before.1).1 r.declared
+
+pub reached : (bytes space at at_space between at_root rest : List ℕ) → ReadsRun sort.Space space bytes at → MayDeclare at at_space → ReadsRun sort.Space between at_space at_root
+    → ReachesRoot bytes rest → rest ≡ at_root
+reached bytes space at at_space between at_root rest run declared gap r =
+    let there = MayDeclare-same at at_space r.at_space declared (reached_declared bytes space at rest run r) in
+    sym (ReadsRun-same sort.Space r.between.0 between at_space rest at_root (subst (λ (t : List ℕ). ReadsRun sort.Space r.between.0 t rest) there r.between.1) gap).1
+
+pub reaches : (bytes space at at_space between at_root : List ℕ) → ReadsRun sort.Space space bytes at → MayDeclare at at_space → ReadsRun sort.Space between at_space at_root
+    → ReachesRoot bytes at_root
+reaches bytes space at at_space between at_root run declared gap =
+    record { at_declaration = at; before = (space, run); at_space = at_space; declared = declared; between = (between, gap) }
+
+-- without a declaration it begins where one could
+pub root_there : (at at_space space bytes between at_root : List ℕ) → ReadsRun sort.Space space bytes at → at_space ≡ at → ReadsRun sort.Space between at_space at_root → at_root ≡ at
+root_there at at_space space bytes between at_root run same gap =
     (no_run sort.Space at between at_root run.ends (subst (λ (b : List ℕ). ReadsRun sort.Space between b at_root) same gap)).1
+
+-- behind a declaration it stands behind `<?xml`
+pub root_left : (at at_space between at_root : List ℕ) → ReadsDeclaration at at_space → ReadsRun sort.Space between at_space at_root → length at_root + 5 ≤ length at
+root_left at at_space between at_root d gap =
+    let opens : length at ≡ 5 + length d.after = ap length d.opens ∙ length-append (codes "<?xml") d.after in
+    let behind : length at_space ≡ length d.after - (d.place + 2) = ap length d.behind ∙ length-drop (d.place + 2) d.after in
+    let space : length at_space ≡ length between + length at_root = ap length gap.split ∙ length-append between at_root in
+    omega (arith, opens, behind, space)
 
 -- the place at which bytes begin otherwise, by what is left there
 pub otherwise_at : (root doc : List ℕ) (place left : ℕ) → BeginsOtherwise root doc place → ((o : HasOtherRoot root doc place) → left ≡ length o.rest) → ((l : LacksRoot doc place) → left ≡ length l.rest)

@@ -1,6 +1,7 @@
 -- Where a document has a fault: what stands in front reads as texts and elements, and what stands here is none of the
 -- grammar, has a bad reference, or is a text out of the form of its element.
-use Rattle.std.specs.Prelude.{◌≡◌, ◌≢◌, ◌-◌, ⊤, ℕ, true, false, Result, Ok, Err, List, [], ◌∷◌, Option, Some, None, length}
+use Rattle.std.specs.Prelude.{◌≡◌, ◌≢◌, ◌-◌, ◌⊎◌, ⊤, ℕ, true, false, Result, Ok, Err, List, [], ◌∷◌, length}
+use Rattle.std.specs.Prelude.{Option, Some, None}
 use Rattle.reply_xml.specs.declared.elements.Element.{Element}
 use Rattle.reply_xml.specs.declared.runs.Sort.TheVariants as sort
 use Rattle.reply_xml.specs.declared.faults.DocFault.{DocFault}
@@ -13,6 +14,7 @@ use Rattle.reply_xml.specs.Reading.{AtEnd, IsTagOf, NamesChild}
 use Rattle.reply_xml.specs.Fits.{HoldsWell, ReadsWell}
 use Rattle.reply_values.specs.References.{IsUnescaped}
 use Rattle.reply_xml.specs.Leaves.{HasBadReference, LeavesEndTag, LeavesStart, LeavesTagEnd, LeavesText}
+use Rattle.reply_xml.specs.Places.{BeginsOtherwise, LacksDeclaration}
 use Rattle.reply_xml.specs.Runs.{ReadsRun}
 use Rattle.reply_xml.specs.Tables.{Done, IsAgain, IsFresh, IsOutside, IsParentOf, IsTextOf, Table, first_missing}
 use Rattle.reply_xml.specs.Tags.{NameEnds, NamesTag}
@@ -28,8 +30,8 @@ pub data BreaksText (size : ℕ) (reason : DocFault) (bytes : List ℕ) : Type 0
   BadReference : (text rest : List ℕ) → ReadsRun sort.Text text bytes rest → HasBadReference text
       → reason ≡ fault.BadEscape → BreaksText size reason bytes
 
--- What stands behind the tag of an element that is read as a text has a fault: the text leaves the grammar, or is out of
--- the form of the element, or the end tag does not follow it.
+-- What stands behind the tag of an element that is read as a text has a fault: the text leaves the grammar, or is out
+-- of the form of the element, or the end tag does not follow it.
 pub data BreaksLeaf (size : ℕ) (reason : DocFault) (form : Form) (of : Element)
     (tag : Tag) (bytes : List ℕ) : Type 0 where
   InText : tag.closed ≡ false → BreaksText size reason bytes → BreaksLeaf size reason form of tag bytes
@@ -73,8 +75,9 @@ pub data BreaksIn (size : ℕ) (reason : DocFault) : Table → List (Option Elem
       → IsOutside table child.element → BreaksIn size reason Done [] inner at
       → BreaksIn size reason table front tag bytes
   Behind : {table : Table} {front : List (Option Element)} {tag : Tag} {bytes : List ℕ} (child : Child)
-      (from next : List ℕ) → tag.closed ≡ false → NamesChild tag.room bytes child from → ReadsWell table front child from next
-      → BreaksIn size reason table (child.element ∷ front) tag next → BreaksIn size reason table front tag bytes
+      (from next : List ℕ) → tag.closed ≡ false → NamesChild tag.room bytes child from
+      → ReadsWell table front child from next → BreaksIn size reason table (child.element ∷ front) tag next
+      → BreaksIn size reason table front tag bytes
   AtEndTag : {table : Table} {front : List (Option Element)} {tag : Tag} {bytes : List ℕ} (at : List ℕ) (left : ℕ)
       → tag.closed ≡ false → AtEnd tag bytes at → first_missing table front ≡ None
       → LeavesEndTag tag.name.now at left → Stands size left reason
@@ -83,8 +86,8 @@ pub data BreaksIn (size : ℕ) (reason : DocFault) : Table → List (Option Elem
       → AtEnd tag bytes at → first_missing table front ≡ Some of → reason ≡ fault.Missing of
       → BreaksIn size reason table front tag bytes
 
--- what stands behind the name of an element has a fault: the element stands again, or the fault is in its tag, or behind
--- that
+-- what stands behind the name of an element has a fault: the element stands again, or the fault is in its tag, or
+-- behind that
 pub data BreaksElement (size : ℕ) (reason : DocFault) (table : Table) (front : List (Option Element)) (child : Child)
     (bytes : List ℕ) : Type 0 where
   BehindName : (left : ℕ) → IsFresh table front child.element → LeavesTagEnd bytes left → Stands size left reason
@@ -109,7 +112,7 @@ pub record HasRoot (root doc : List ℕ) (tag : Tag) (rest : List ℕ) : Type 0 
 -- a document has a fault, whose root has these elements: it begins with no such root, or the fault stands in its tag,
 -- inside it, or behind it
 pub data Breaks (root : List ℕ) (table : Table) (doc : List ℕ) (reason : DocFault) : Type 0 where
-  NoRoot : (place : ℕ) → ((at : List ℕ) → NamesRoot root doc at → ¬ (NameEnds at))
+  NoRoot : (place : ℕ) → BeginsOtherwise root doc place ⊎ LacksDeclaration doc place
       → reason ≡ fault.NotADocument place → Breaks root table doc reason
   InRootTag : (at : List ℕ) (left : ℕ) → NamesRoot root doc at → LeavesTagEnd at left → Stands (length doc) left reason
       → Breaks root table doc reason

@@ -66,8 +66,8 @@ pub record IsCommonFront (name other : List ℕ) (size : ℕ) : Type 0 where
   pub same : (k : ℕ) → k < size → slice_index other k ≡ slice_index name k
   pub longest : size < length name → size < length other → slice_index other size ≢ slice_index name size
 
--- The end tag of an element with this name does not stand here: not its `<`, its `/`, a name or the `>`. Another name is
--- at fault behind the bytes that it has in common with this one.
+-- The end tag of an element with this name does not stand here: not its `<`, its `/`, a name or the `>`. Another name
+-- is at fault behind the bytes that it has in common with this one.
 pub data LeavesEndTag (name bytes : List ℕ) (left : ℕ) : Type 0 where
   NoEndTag : Lacks 60 bytes → left ≡ length bytes → LeavesEndTag name bytes left
   NoSlash : (more : List ℕ) → bytes ≡ 60 ∷ more → Lacks 47 more → left ≡ length more → LeavesEndTag name bytes left

@@ -60,7 +60,8 @@ abbrev pub IsFound : {V : Type 0} → Element → Option V → List (Option Elem
 IsFound of found front = is_some found ≡ stood of front
 
 -- an element of this name begins, which may stand once, and did so in front
-pub record IsAgain (table : Table) (front : List (Option Element)) (child : Option Element) (of : Element) : Type 0 where
+pub record IsAgain (table : Table) (front : List (Option Element))
+    (child : Option Element) (of : Element) : Type 0 where
   pub same : is_the of child ≡ true
   pub alone : stands_alone table of ≡ true
   pub before : stood of front ≡ true

@@ -1,12 +1,12 @@
 //! The front and the end of a document.
 
-ghost use Rattle.std.specs.Prelude.{◌≡◌, ◌≢◌, ◌++◌, ◌<◌, ◌≤◌, ◌+◌, ◌-◌, ◌∷◌, ℕ, Bool, List, []};
+ghost use Rattle.std.specs.Prelude.{◌≡◌, ◌≢◌, ◌++◌, ◌<◌, ◌≤◌, ◌+◌, ◌-◌, ◌∷◌, ◌⊎◌, ℕ, Bool, List, []};
 ghost use Rattle.std.specs.Prelude.{Err, IfOk, OnOk, IfErr, OnErr, MatchOption, codes, length, drop, take};
 ghost use Rattle.reply_xml.specs.Contents.{Content};
 ghost use Rattle.reply_xml.specs.Documents.{BeginsDocument, EndsAt, IsDocument, MayDeclare, NamesRoot, ReadsSpace};
 ghost use Rattle.reply_xml.specs.Breaks.{Breaks, IfBroken, Stands};
 ghost use Rattle.reply_xml.specs.Faults.{IfRefused};
-ghost use Rattle.reply_xml.specs.Places.{BeginsOtherwise, HasOtherRoot, LacksName, LacksRoot};
+ghost use Rattle.reply_xml.specs.Places.{BeginsOtherwise, HasOtherRoot, LacksDeclaration, LacksName, LacksRoot};
 ghost use Rattle.reply_xml.specs.Tables.{Table};
 ghost use Rattle.reply_xml.specs.Tags.{NameEnds, ReadsTag};
 
@@ -52,6 +52,8 @@ fn after_declaration(bytes: &[u8]) -> Result<&[u8], usize>
     ensures shorter { IfOk result (λ rest. length rest.now ≤ length bytes.now) }
     ensures left { IfErr result (λ left. left ≤ length bytes.now) }
     ensures refused { OnErr result ((rest : List ℕ) → ¬ (MayDeclare bytes.now rest)) }
+    ensures opens { IfErr result (λ left. (after : List ℕ) × (bytes.now ≡ codes "<?xml" ++ after)
+        × (left ≤ length after)) }
 {
     let Some(after) = after_opening(bytes) else {
         return Ok(bytes);
@@ -71,6 +73,7 @@ fn root_left(at_declaration: &[u8], left: usize) -> usize
     ensures most { result ≤ left }
     ensures undeclared { ((more : List ℕ) → ¬ (at_declaration.now ≡ 60 ∷ 63 ∷ more)) → result ≡ left }
     ensures behind { left + 5 ≤ length at_declaration.now → result ≡ left }
+    ensures opening { (more : List ℕ) → at_declaration.now ≡ 60 ∷ 63 ∷ more → result ≤ length more }
 {
     match at_declaration {
         [b'<', b'?', b'x', b'm', b'l', ..] => left.min(at_declaration.len() - 5),
@@ -88,7 +91,8 @@ fn split_root<'a>(doc: &'a [u8], root: &str) -> Result<(&'a [u8], &'a [u8]), usi
     ensures shorter { IfOk result (λ parts. length parts.1.now ≤ length doc.now) }
     ensures left { IfErr result (λ left. left ≤ length doc.now) }
     ensures refused { OnErr result ((closed : Bool) (rest : List ℕ) → ¬ (BeginsDocument root.now doc.now closed rest)) }
-    ensures unnamed { OnErr result ((at : List ℕ) → NamesRoot root.now doc.now at → ¬ (NameEnds at)) }
+    ensures fails { IfErr result (λ left. BeginsOtherwise root.now doc.now (length doc.now - left)
+        ⊎ LacksDeclaration doc.now (length doc.now - left)) }
     ensures other { (place : ℕ) → (o : HasOtherRoot root.now doc.now place) → result ≡ Err (length o.rest) }
     ensures bare { (place : ℕ) → (l : LacksRoot doc.now place) → result ≡ Err (length l.rest) }
     ensures nameless { (place : ℕ) → (l : LacksName doc.now place) → result ≡ Err (length l.rest) }

@@ -44,7 +44,8 @@ ListLeft (Some rows) content entries = OnceLeft HasEachBucket (Some rows.items) 
 
 -- the elements of a bucket, of the buckets, and of their list
 abbrev pub bucket_table : Table
-bucket_table = Row element.Name ExactlyOnce (Some OwnForm) Done (Row element.CreationDate ExactlyOnce (Some ATime) Done Done)
+bucket_table =
+    Row element.Name ExactlyOnce (Some OwnForm) Done (Row element.CreationDate ExactlyOnce (Some ATime) Done Done)
 
 abbrev pub buckets_table : Table
 buckets_table = Row element.Bucket AnyNumber None bucket_table Done

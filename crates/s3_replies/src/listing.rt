@@ -9,7 +9,8 @@ ghost use Rattle.reply_xml.specs.Faults.{IfRefused};
 ghost use Rattle.reply_xml.specs.Fits.{HoldsWell, ReadsWell};
 ghost use Rattle.reply_xml.specs.Reading.{Advances, HoldsAs, HoldsNone, Stops};
 ghost use Rattle.s3_replies.specs.Listing.{EncodingLeft, HasPage, ObjectLeft, ObjectsLeft};
-ghost use Rattle.s3_replies.specs.Listing.{KnowsObject, KnowsPage, Page, PageLeft, PrefixesLeft, object_table, page_table};
+ghost use Rattle.s3_replies.specs.Listing.{KnowsObject, KnowsPage, Page, PageLeft, PrefixesLeft};
+ghost use Rattle.s3_replies.specs.Listing.{object_table, page_table};
 ghost use Rattle.reply_xml.specs.declared.elements.Element.{Element};
 ghost use Rattle.reply_xml.specs.Tables.{stood};
 

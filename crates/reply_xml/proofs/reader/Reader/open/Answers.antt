@@ -36,7 +36,7 @@ returns-clause-other c place o =
     )
 
 pub returns-in-Err-clause-broken : goal.returns-in-Err-clause-broken
-returns-in-Err-clause-broken c table = NoRoot _ c.in-Err.ensures.unnamed refl
+returns-in-Err-clause-broken c table = NoRoot _ c.in-Err.ensures.fails refl
 
 pub returns-in-Err-after_tag_end-clause-broken : goal.returns-in-Err-after_tag_end-clause-broken
 returns-in-Err-after_tag_end-clause-broken c table =
