@@ -1,5 +1,5 @@
 -- Where a document has a fault, from the innermost element outwards.
-use Rattle.std.proofs.Common.{◌≡◌, ◌++◌, ◌⊎◌, ◌||◌, ℕ, Bool, true, false, nat_eq, eq-eqb, cond, Option, Some, None, zero, suc, ap, ◌∙◌, Result, Ok, Err, List, [], ◌∷◌, inl, inr, refl, subst, sym, ⊎_elim}
+use Rattle.std.proofs.Common.{◌≡◌, ◌++◌, ◌⊎◌, ℕ, Bool, true, false, Option, Some, ◌∙◌, Result, Ok, Err, List, [], ◌∷◌, inl, inr, refl, subst, sym, ⊎_elim}
 use Rattle.std.specs.Result.{IsErrAnd}
 use Rattle.reply_xml.specs.declared.faults.DocFault.{DocFault}
 use Rattle.reply_xml.specs.declared.faults.DocFault.TheVariants as fault
@@ -7,10 +7,7 @@ use Rattle.reply_xml.specs.declared.reader.Child.{Child}
 use Rattle.reply_xml.specs.declared.reader.Tag.{Tag}
 use Rattle.reply_xml.specs.Breaks.{Again, AtEndTag, AtStart, AtText, BreaksElement, BreaksIn, BehindLeafTag, BehindName, BehindOtherTag, BehindTag, Behind, IfBroken, InLeaf, InOther, InTag, Inside, IsMissing, BreaksText, Lacks, OnBroken, StandsAgain, TooLow}
 use Rattle.reply_xml.specs.Tables.{Done, Table, first_missing}
-use Rattle.reply_xml.specs.Unfit.{Form}
 use Rattle.reply_xml.specs.declared.elements.Element.{Element}
-use Rattle.reply_xml.specs.Contents.{is_the, row_of}
-use Rattle.std.specs.Option.{IsSome, is_some}
 use Rattle.reply_xml.specs.Fits.{Fits, Passed}
 use Rattle.reply_xml.proofs.FrontLemmas.{fits_any, fresh_done, none_is_some, nothing_missing}
 use Rattle.reply_xml.specs.Reading.{AtEnd, EndsContent, HoldsSome, IsTagOf, NamesChild, ReadsOpen}

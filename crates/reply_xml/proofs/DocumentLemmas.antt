@@ -3,7 +3,7 @@ use Rattle.std.proofs.Common.{◌≡◌, ◌<◌, ◌+◌, ◌∙◌, ℕ, Bool,
 use Rattle.std.proofs.lemmas.List.{append_cancel_left}
 use Rattle.reply_xml.specs.declared.runs.Sort.TheVariants as sort
 use Rattle.reply_xml.specs.Documents.{EndsAt, ReadsDeclaration, MayDeclare, BeginsDocument, NamesRoot}
-use Rattle.reply_xml.specs.Places.{BeginsOtherwise, HasOtherRoot, LacksDeclaration, LacksName, LacksRoot, ReachesRoot}
+use Rattle.reply_xml.specs.Places.{BeginsOtherwise, HasOtherRoot, LacksName, LacksRoot, ReachesRoot}
 use Rattle.reply_xml.specs.Runs.{ReadsRun}
 use Rattle.reply_xml.specs.Tags.{NamesTag, ReadsTag, ReadsTagEnd}
 use Rattle.reply_xml.proofs.RunLemmas.{ReadsRun-same, no_run, parts_same}

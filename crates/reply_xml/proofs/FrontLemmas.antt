@@ -6,7 +6,7 @@ use Rattle.reply_xml.specs.declared.elements.Element.{Element}
 use Rattle.reply_xml.specs.declared.reader.Child.{Child}
 use Rattle.reply_xml.specs.declared.reader.Tag.{Tag}
 use Rattle.reply_xml.specs.Contents.{Content, Only, Then, is_the, row_of}
-use Rattle.reply_xml.specs.Fits.{Fits, FitsChild, GoesOnWell, IsParent, IsText, Passed, ReadsWell}
+use Rattle.reply_xml.specs.Fits.{FitsChild, GoesOnWell, Passed, ReadsWell}
 use Rattle.reply_xml.specs.Reading.{EndsContent, NamesChild}
 use Rattle.reply_xml.specs.Tables.{Done, ExactlyOnce, IsFound, IsFresh, IsOutside, Row, Table, first_missing, form_in, is_single, stands_alone, stood}
 use Rattle.reply_xml.specs.Unfit.{Form}

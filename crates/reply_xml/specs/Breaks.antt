@@ -1,6 +1,6 @@
 -- Where a document has a fault: what stands in front reads as texts and elements, and what stands here is none of the
 -- grammar, has a bad reference, or is a text out of the form of its element.
-use Rattle.std.specs.Prelude.{◌≡◌, ◌≢◌, ◌-◌, ◌⊎◌, ⊤, ℕ, true, false, Result, Ok, Err, List, [], ◌∷◌, length}
+use Rattle.std.specs.Prelude.{◌≡◌, ◌≢◌, ◌-◌, ◌⊎◌, ⊤, ℕ, false, Result, Ok, Err, List, [], ◌∷◌, length}
 use Rattle.std.specs.Prelude.{Option, Some, None}
 use Rattle.reply_xml.specs.declared.elements.Element.{Element}
 use Rattle.reply_xml.specs.declared.runs.Sort.TheVariants as sort

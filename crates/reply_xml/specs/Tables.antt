@@ -1,5 +1,5 @@
 -- Which elements are read inside an element, and which of them stood in front or are missing.
-use Rattle.std.specs.Prelude.{◌≡◌, ◌||◌, ⊤, ℕ, Bool, true, false, List, [], ◌∷◌, Option, Some, None, if◌then◌else◌}
+use Rattle.std.specs.Prelude.{◌≡◌, ◌||◌, ⊤, Bool, true, false, List, [], ◌∷◌, Option, Some, None, if◌then◌else◌}
 use Rattle.std.specs.Option.{is_some}
 use Rattle.reply_xml.specs.declared.elements.Element.{Element}
 use Rattle.reply_xml.specs.Contents.{is_the}
