@@ -1,5 +1,5 @@
 -- The laws of the rule of moves.
-use Rattle.std.proofs.Common.{◌≡◌, ◌==◌, ◌&&◌, ◌+◌, ◌<◌, ◌≤◌, ℕ, zero, suc, Bool, true, false, List, [], ◌∷◌, Option, Some, None, IfSome, refl, subst, sym, arith}
+use Rattle.std.proofs.Common.{◌≡◌, ◌==◌, ◌&&◌, ◌+◌, ◌<◌, ◌≤◌, ℕ, zero, suc, Bool, true, false, List, [], ◌∷◌, Option, Some, None, IfSome, refl, ap, subst, sym, arith}
 use Rattle.std.specs.Prelude.{◌++◌, drop, length, take, not, is_some, slice_get, unwrap_or, if◌then◌else◌, nat_lt}
 use Rattle.std.specs.Option.{option_or}
 use Rattle.std.proofs.lemmas.List.{length-append, length-drop}
@@ -9,10 +9,10 @@ use Rattle.s3_model.specs.declared.requests.Op.{Op}
 use Rattle.task_acts.specs.declared.acts.Act.{Act}
 use Rattle.task_acts.specs.declared.acts.Act.TheVariants as act
 use Rattle.task_acts.specs.declared.work.Work.{Work}
-use Rattle.std.proofs.lemmas.Bool.{and_parts, eqb-true, ltb-true}
+use Rattle.std.proofs.lemmas.Bool.{and_parts, eqb-true, ltb-false, ltb-true}
 use Rattle.manager_moves.specs.declared.moves.Move.{Move}
 use Rattle.manager_moves.specs.declared.moves.Move.TheVariants as move
-use Rattle.manager_moves.specs.Laws.{GoesToTheFreest, IsRun, JobsGoToTheFreest, LanesKeepTheirDepth}
+use Rattle.manager_moves.specs.Laws.{GoesToTheFreest, IsRun, JobsGoToTheFreest, LanesKeepTheirDepth, IsFreest}
 use Rattle.manager_moves.specs.Lanes.{freest, jobs_in, out_in}
 use Rattle.manager_moves.specs.Moves.{call_of, first_call, first_giving, giving_of, has_free_part, has_room, if_ready, is_any_out, lacks_part, line_for, made, next_make, next_move, ready, unfinished_from}
 use Rattle.manager_moves.specs.Runs.{Events, Shared, Made, Sent, Back, Called, Lined, Stopped, lined_count, made_count, outcome_in}
@@ -27,6 +27,57 @@ both P (Some m) b x y = x
 from_default : (P : Move → Type 0) → (a : Option Move) → (d : Move) → IfSome a P → P d → P (unwrap_or a d)
 from_default P None d x y = y
 from_default P (Some m) d x y = x
+
+-- ---- the freest lane
+
+strictly : (x j : ℕ) → x < suc j → (x == j) ≡ false → x < j
+strictly x j t e = grind arith
+
+at_or_below : (P : Type 0) (b : Bool) (x j : ℕ) → (x == j) ≡ b → x < suc j → (x < j → P) → (x ≡ j → P) → P
+at_or_below P true x j e t below same = same (eqb-true x j e)
+at_or_below P false x j e t below same = below (strictly x j t e)
+
+module _ (events : Events) where
+  abbrev out : ℕ → ℕ
+  out lane = out_in lane events
+
+  abbrev IsBest : (count lane : ℕ) → Type 0
+  IsBest count lane = ((other : ℕ) → other < count → out lane ≤ out other) × ((other : ℕ) → other < lane → out lane < out other)
+      × (lane ≤ count)
+
+  best_of : (b : Bool) (j : ℕ) (lower : ℕ) → nat_lt (out j) (out lower) ≡ b → IsBest j lower → lower < suc j
+      → IsBest (suc j) (if b then j else lower) × ((if b then j else lower) < suc j)
+  best_of true j lower e (least, first, few) w =
+      let less = ltb-true (out j) (out lower) e in (
+        (
+          (λ other t. at_or_below _ (other == j) other j refl t (λ l. let h = least other l in omega arith) (λ same. let h = ap out same in omega arith)),
+          (λ other l. let h = least other l in omega arith),
+          omega arith,
+        ),
+        omega arith,
+      )
+  best_of false j lower e (least, first, few) w =
+      let more = ltb-false (out j) (out lower) e in
+      (((λ other t. at_or_below _ (other == j) other j refl t (λ l. least other l) (λ same. let h = ap out same in omega arith)), first, omega arith), w)
+
+  best : (count : ℕ) → IsBest (suc count) (freest (suc count) events) × (freest (suc count) events < suc count)
+  best zero = best_of (nat_lt (out 0) (out 0)) 0 0 refl ((λ other l. absurd (omega arith)), (λ other l. absurd (omega arith)), omega arith) (omega arith)
+  best (suc j) =
+      let lower = best j in
+      best_of (nat_lt (out (suc j)) (out (freest (suc j) events))) (suc j) (freest (suc j) events) refl lower.0 (omega arith)
+
+is_freest : (s : Shared) (events : Events) → IsFreest s events (freest s.lanes events)
+is_freest s events = by s.lanes
+  where
+    by : (count : ℕ) → IsFreest (record s { lanes = count }) events (freest count events)
+    by zero = record {
+      within = λ l. absurd (omega arith);
+      least = λ other l. absurd (omega arith);
+      first = λ other l. absurd (omega arith);
+    }
+    by (suc count) =
+        let b = best events count in
+        record { within = λ l. b.1; least = b.0.0; first = b.0.1 }
 
 -- a front of a list has its elements at their places
 in_front : {X : Type 0} (n : ℕ) (xs : List X) (i : ℕ) (x : X) → slice_get (take n xs) i ≡ Some x → slice_get xs i ≡ Some x
@@ -124,7 +175,9 @@ module _ (s : Shared) (events : Events) where
   given task o k to e = subst (λ (m : Move). Fits m) e moving
 
   goes : (m : Move) → Fits m → GoesToTheFreest s events m
-  goes (move.Give task o k lane) h = (h.room, h.to)
+  goes (move.Give task o k lane) h =
+      let room = ltb-true (out_in (freest s.lanes events) events) s.depth h.room in
+      subst (λ (l : ℕ). (out_in l events < s.depth) × IsFreest s events l) (sym h.to) (room, is_freest s events)
   goes (move.Make n) h = tt
   goes (move.Read n k) h = tt
   goes (move.Place n k) h = tt

@@ -1,5 +1,5 @@
 -- The law of parts: no more are held than there are.
-use Rattle.std.proofs.Common.{◌≡◌, ◌∙◌, ◌==◌, ◌&&◌, ◌+◌, ◌≤◌, ℕ, Bool, true, false, List, [], ◌∷◌, Option, Some, None, IfSome, refl, sym, subst, ap, arith, length, not, slice_get}
+use Rattle.std.proofs.Common.{◌≡◌, ◌∙◌, ◌==◌, ◌&&◌, ◌+◌, ◌≤◌, ℕ, Bool, true, false, List, [], ◌∷◌, Option, Some, None, refl, sym, subst, ap, arith, length, not, slice_get}
 use Rattle.std.proofs.lemmas.Bool.{and_parts, eqb-true, ltb-true}
 use Rattle.std.specs.List.{find}
 use Rattle.std.specs.Prelude.{filter, is_some, if◌then◌else◌}
@@ -280,13 +280,11 @@ module _ (s : Shared) (before : Events) where
     came_step (Some t) of_task = sums (coming (Some t)) held t 0 0 s.works
         (λ i m w e is apart. other_share w (t == m) (Came c ∷ share w m before) (share w m before) (flip m t apart))
         (λ i w e is. own_share w (t == t) (Came c ∷ share w t before) (share w t before) 0 (same_number t)
-        (came_none w c (share w t before)
-        (if_some (slice_get s.works t) w (subst (λ (j : ℕ). slice_get s.works j ≡ Some w) (omega arith) is) of_task).0))
+        (came_none w c (share w t before) (own_work w (subst (λ (j : ℕ). slice_get s.works j ≡ Some w) (omega arith) is)).0))
       where
-        if_some : (x : Option Work) (w : Work) → x ≡ Some w
-            → IfSome x (λ (v : Work). MayHappen v (share v t before) (Came c)) → MayHappen w (share w t before) (Came c)
-        if_some None w e h = absurd (nothing e)
-        if_some (Some v) w e h = subst (λ (u : Work). MayHappen u (share u t before) (Came c)) (same_value e) h
+        own_work : (w : Work) → slice_get s.works t ≡ Some w → MayHappen w (share w t before) (Came c)
+        own_work w is = subst (λ (v : Work). MayHappen v (share v t before) (Came c))
+            (same_value (sym of_task.1 ∙ is)) of_task.2
 
   -- ---- a call on files
 

@@ -1,7 +1,8 @@
 -- The law of the queue: how many tasks are made and unfinished.
 use Rattle.std.proofs.Common.{◌≡◌, ◌==◌, ◌+◌, ◌≤◌, ℕ, zero, suc, Bool, true, false, List, [], ◌∷◌, Option, Some, None, refl, subst, arith}
+use Rattle.std.proofs.lemmas.Bool.{lt-ltb, ltb-true}
 use Rattle.std.specs.Option.{option_or}
-use Rattle.std.specs.Prelude.{is_some, take, if◌then◌else◌}
+use Rattle.std.specs.Prelude.{is_some, nat_lt, take, if◌then◌else◌}
 use Rattle.s3_model.specs.declared.outcomes.Cause.TheVariants as cause
 use Rattle.s3_model.specs.declared.outcomes.Outcome.{Outcome}
 use Rattle.s3_model.specs.declared.outcomes.Outcome.TheVariants as outcome
@@ -74,10 +75,27 @@ module _ (w : Work) where
   ended_by false true x y f g h = refl
   ended_by false false x y f g h = g h
 
+  where_made : (a b : Bool) (x y : Option Outcome) → (a ≡ true → b ≡ true) → (is_some x ≡ true → is_some y ≡ true)
+      → is_some (if a then x else None) ≡ true → is_some (if b then y else None) ≡ true
+  where_made true true x y f g h = g h
+  where_made true false x y f g h = no (f refl)
+  where_made false b x y f g h = no h
+
+  made_on : (n : ℕ) (before : Events) (e : Event) → nat_lt n (made_count before) ≡ true
+      → nat_lt n (made_count (e ∷ before)) ≡ true
+  made_on n before (Made fits) x = let l = ltb-true n (made_count before) x in lt-ltb n (made_count before + 1) (omega arith)
+  made_on n before (Sent t o k lane) x = x
+  made_on n before (Back lane c) x = x
+  made_on n before (Called t a r) x = x
+  made_on n before Lined x = x
+  made_on n before (Stopped r) x = x
+
   pub ended_on : (n : ℕ) (before : Events) (e : Event) → is_some (outcome_in w n before) ≡ true
       → is_some (outcome_in w n (e ∷ before)) ≡ true
-  ended_on n before e = ended_by (lacks_memory n before) (lacks_memory n (e ∷ before)) (outcome_of w (share w n before))
-      (outcome_of w (share w n (e ∷ before))) (lacks_on n before e) (share_goes_on n before e)
+  ended_on n before e = where_made (nat_lt n (made_count before)) (nat_lt n (made_count (e ∷ before))) _ _
+      (made_on n before e) (ended_by (lacks_memory n before) (lacks_memory n (e ∷ before))
+      (outcome_of w (share w n before)) (outcome_of w (share w n (e ∷ before))) (lacks_on n before e)
+      (share_goes_on n before e))
 
 -- ---- how many are unfinished
 

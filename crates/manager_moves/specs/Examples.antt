@@ -19,6 +19,8 @@ use Rattle.task_acts.specs.declared.work.Work.{Work}
 use Rattle.task_acts.specs.Examples.{one_piece}
 use Rattle.manager_moves.specs.declared.moves.Move.{Move}
 use Rattle.manager_moves.specs.declared.moves.Move.TheVariants as move
+use Rattle.s3_model.specs.declared.bytes.Part.{Part}
+use Rattle.manager_moves.specs.Laws.{IsRun}
 use Rattle.manager_moves.specs.Moves.{next_move}
 use Rattle.manager_moves.specs.Runs.{Event, Events, Shared, Made, Sent, Back, Called, Lined, Stopped, outcome_in}
 
@@ -156,3 +158,20 @@ module _ (for : What) (cell : Holder) where
       × Moves s (Made true ∷ Lined ∷ stored 0 0 ∷ cancelled) (move.Line 1)
       × (outcome_in upload 1 (Made true ∷ Lined ∷ stored 0 0 ∷ cancelled)
       ≡ Some (outcome.Failed (cause.Cancelled reason_of.OutputFailed)))
+
+  -- ---- a whole run
+
+  -- One small upload, with its part, is a run that can come about.
+  abbrev pub IsWhole : Part → Type 0
+  IsWhole part =
+      IsRun (shared (upload ∷ []) 1 1 1) (Lined ∷ Back 0 (record {
+        job = record {
+          id = record { task = Some 0; op = op.Put; number = 0 };
+          what = for;
+          part = Some part;
+          cell = Some cell;
+          had = 0;
+        };
+        tries = mark.Success ∷ [];
+        ending = ending.Gained reply.Stored;
+      }) ∷ put_out 0 0 (Made true ∷ []))

@@ -1,5 +1,5 @@
 -- Which jobs are out in which lane, and which lane the next job goes to.
-use Rattle.std.specs.Prelude.{◌+◌, ◌==◌, ◌&&◌, ◌++◌, [], ◌∷◌, ℕ, zero, suc, List, drop, length, nat_lt, if◌then◌else◌}
+use Rattle.std.specs.Prelude.{◌+◌, ◌==◌, ◌++◌, [], ◌∷◌, ℕ, zero, suc, List, drop, length, nat_lt, if◌then◌else◌}
 use Rattle.run_promise.specs.Schedule.{job_of}
 use Rattle.s3_model.specs.declared.outcomes.JobId.{JobId}
 use Rattle.manager_moves.specs.Runs.{Events, Sent, Back}
@@ -25,4 +25,4 @@ abbrev pub freest : ℕ → Events → ℕ
 freest zero events = 0
 freest (suc lane) events =
     let lower = freest lane events in
-    if nat_lt 0 lane && nat_lt (out_in lane events) (out_in lower events) then lane else lower
+    if nat_lt (out_in lane events) (out_in lower events) then lane else lower

@@ -1,13 +1,16 @@
 -- What the rule of moves keeps, in every run.
-use Rattle.std.specs.Prelude.{◌≡◌, ◌≢◌, ◌≤◌, [], ◌∷◌, ℕ, true, Option, Some, None, IfSome, slice_get}
+use Rattle.std.specs.Prelude.{◌≡◌, ◌≢◌, ◌≤◌, ◌<◌, [], ◌∷◌, ℕ, Bool, true, false, Option, Some, None, is_some, slice_get}
 use Rattle.jobs.specs.Endings.{SeenCarried}
 use Rattle.s3_model.specs.declared.outcomes.Reason.TheVariants as reason_of
+use Rattle.s3_model.specs.declared.requests.Op.{Op}
+use Rattle.s3_model.specs.declared.requests.Op.TheVariants as op
+use Rattle.task_acts.specs.declared.work.Work.{Work}
 use Rattle.task_acts.specs.Kept.{MayCome, MayHappen}
 use Rattle.task_acts.specs.Histories.{Came}
 use Rattle.manager_moves.specs.declared.moves.Move.{Move}
 use Rattle.manager_moves.specs.declared.moves.Move.TheVariants as move
-use Rattle.manager_moves.specs.Lanes.{freest, jobs_in, out_in}
-use Rattle.manager_moves.specs.Moves.{call_of, has_room, made, next_move, unfinished_from}
+use Rattle.manager_moves.specs.Lanes.{jobs_in, out_in}
+use Rattle.manager_moves.specs.Moves.{call_of, made, next_move, unfinished_from}
 use Rattle.manager_moves.specs.Parts.{lent}
 use Rattle.manager_moves.specs.Runs.{Event, Events, Shared, Made, Sent, Back, Called, Lined, Stopped, lined_count, made_count, share}
 
@@ -15,7 +18,14 @@ use Rattle.manager_moves.specs.Runs.{Event, Events, Shared, Made, Sent, Back, Ca
 abbrev pub IsOfTask : Shared → Events → Option ℕ → SeenCarried → Type 0
 IsOfTask s events None carried = ⊥
 IsOfTask s events (Some n) carried =
-    IfSome (slice_get s.works n) (λ w. MayHappen w (share w n events) (Came carried))
+    (w : Work) × (slice_get s.works n ≡ Some w) × MayHappen w (share w n events) (Came carried)
+
+-- the bytes of a Put or a Part, and those that a Get brings, stand in a part
+abbrev pub takes_part : Op → Bool
+takes_part op.Put = true
+takes_part op.Part = true
+takes_part op.Get = true
+takes_part of_op = false
 
 -- A move is made where the rule names it; what is out comes back at any time, in the order of its lane.
 abbrev pub MayFollow : Shared → Events → Event → Type 0
@@ -23,6 +33,7 @@ MayFollow s events (Made fits) = next_move s events ≡ move.Make (made_count ev
 MayFollow s events (Sent task of_op number lane) = next_move s events ≡ move.Give task of_op number lane
 MayFollow s events (Back lane carried) =
     (slice_get (jobs_in lane events) 0 ≡ Some carried.job.id) × IsOfTask s events carried.job.id.task carried
+    × (is_some carried.job.part ≡ takes_part carried.job.id.op)
 MayFollow s events (Called task called result) =
     (call_of s events task called ≡ Some (next_move s events)) × MayCome called result
 MayFollow s events Lined = next_move s events ≡ move.Line (lined_count events)
@@ -32,10 +43,16 @@ abbrev pub IsRun : Shared → Events → Type 0
 IsRun s [] = Unit {0}
 IsRun s (event ∷ before) = MayFollow s before event × IsRun s before
 
+-- no lane has fewer jobs out, and each lower one has more
+pub record IsFreest (s : Shared) (events : Events) (lane : ℕ) : Type 0 where
+  pub within : 1 ≤ s.lanes → lane < s.lanes
+  pub least : (other : ℕ) → other < s.lanes → out_in lane events ≤ out_in other events
+  pub first : (other : ℕ) → other < lane → out_in lane events < out_in other events
+
 -- a job goes to the freest lane, which has room
 abbrev pub GoesToTheFreest : Shared → Events → Move → Type 0
 GoesToTheFreest s events (move.Give task of_op number lane) =
-    (has_room s events ≡ true) × (lane ≡ freest s.lanes events)
+    (out_in lane events < s.depth) × IsFreest s events lane
 GoesToTheFreest s events moved = Unit {0}
 
 abbrev pub JobsGoToTheFreest : Type 0

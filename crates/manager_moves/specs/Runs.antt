@@ -1,5 +1,5 @@
 -- What happened in a run of many tasks, and each task's share of it.
-use Rattle.std.specs.Prelude.{◌+◌, ◌==◌, [], ◌∷◌, ℕ, Bool, true, false, List, Option, Some, None, is_some, if◌then◌else◌}
+use Rattle.std.specs.Prelude.{◌+◌, ◌==◌, [], ◌∷◌, ℕ, Bool, true, false, List, Option, Some, None, is_some, nat_lt, if◌then◌else◌}
 use Rattle.jobs.specs.Endings.{SeenCarried}
 use Rattle.s3_model.specs.declared.outcomes.Cause.TheVariants as cause
 use Rattle.s3_model.specs.declared.outcomes.Outcome.{Outcome}
@@ -24,7 +24,7 @@ pub data Event : Type 0 where
   Back : (lane : ℕ) → (carried : SeenCarried) → Event
   -- a call on files was made for a task
   Called : (task : ℕ) → (called : Act) → (result : FileCame) → Event
-  -- the line of the next task was printed
+  -- the line of the next task was due, and was printed where the run prints such lines
   Lined : Event
   -- the run was cancelled
   Stopped : (reason : Reason) → Event
@@ -86,7 +86,9 @@ share w n (Stopped reason ∷ before) = Cancelled reason ∷ share w n before
 share w n (Made fits ∷ before) = share w n before
 share w n (Lined ∷ before) = share w n before
 
--- a task that found no memory has failed, any other made one ends by its share
+-- A task that was not made has no outcome, one that found no memory has failed, and any other ends by its share.
 abbrev pub outcome_in : Work → ℕ → Events → Option Outcome
 outcome_in w n events =
-    if lacks_memory n events then Some (outcome.Failed cause.Memory) else outcome_of w (share w n events)
+    if nat_lt n (made_count events)
+    then (if lacks_memory n events then Some (outcome.Failed cause.Memory) else outcome_of w (share w n events))
+    else None

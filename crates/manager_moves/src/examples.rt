@@ -2,18 +2,21 @@
 
 ghost use Rattle.jobs.specs.Holders.{Holder};
 ghost use Rattle.jobs.specs.declared.what.What.{What};
+ghost use Rattle.s3_model.specs.declared.bytes.Part.{Part};
 ghost use Rattle.manager_moves.specs.Examples.{
   CancelsEnd,
   FreeLanes,
+  IsWhole,
   LinesInOrder,
   OneAfterTheOther,
   PartsAreShared,
   SmallUpload,
 };
 
-/// One small file goes up.
+/// One small file goes up, move by move, and that is a run that can come about.
 pub fn uploads()
-    ensures { (for : What) (cell : Holder) → SmallUpload for cell }
+    ensures moves { (for : What) (cell : Holder) → SmallUpload for cell }
+    ensures met { (for : What) (cell : Holder) (part : Part) → IsWhole for cell part }
 {}
 
 /// A job goes to the lane with the fewest out, and lines come in the order of their tasks.
