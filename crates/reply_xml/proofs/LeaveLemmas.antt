@@ -5,7 +5,7 @@ use Rattle.std.specs.Result.{IsErrAnd}
 use Rattle.reply_xml.specs.declared.runs.Sort.TheVariants as sort
 use Rattle.reply_xml.specs.declared.texts.TextFault.{TextFault}
 use Rattle.reply_xml.specs.declared.texts.TextFault.TheVariants as text_fault
-use Rattle.reply_xml.specs.Faults.{EndsIn, OnBad, OnEnds}
+use Rattle.reply_xml.specs.Faults.{OnBad, OnEnds}
 use Rattle.reply_xml.specs.Leaves.{LeavesTagEnd}
 use Rattle.reply_xml.specs.Runs.{ReadsRun}
 use Rattle.reply_xml.specs.Tags.{ReadsAttribute, ReadsName}
@@ -36,19 +36,16 @@ OnEnds-any (text_fault.Ends place) f = f place
 OnEnds-any text_fault.BadReference f = tt
 OnEnds-any text_fault.Memory f = tt
 
-pub OnEnds-map : {P Q : ℕ → Type 0} (e : TextFault) → ((place : ℕ) → P place → Q place) → OnEnds e P → OnEnds e Q
-OnEnds-map (text_fault.Ends place) f h = f place h
-OnEnds-map text_fault.BadReference f h = tt
-OnEnds-map text_fault.Memory f h = tt
+pub OnEnds-both : {P Q S : ℕ → Type 0} (e : TextFault) → ((place : ℕ) → P place → Q place → S place) → OnEnds e P → OnEnds e Q → OnEnds e S
+OnEnds-both (text_fault.Ends place) f p q = f place p q
+OnEnds-both text_fault.BadReference f p q = tt
+OnEnds-both text_fault.Memory f p q = tt
 
 pub ends_at : (P : ℕ → Type 0) (e : TextFault) (place : ℕ) → e ≡ text_fault.Ends place → OnEnds e P → P place
 ends_at P e place same h = subst (λ (f : TextFault). OnEnds f P) same h
 
 pub bad_at : (P : Type 0) (e : TextFault) → e ≡ text_fault.BadReference → OnBad e P → P
 bad_at P e same h = subst (λ (f : TextFault). OnBad f P) same h
-
-pub ends_within : (e : TextFault) (place size : ℕ) → e ≡ text_fault.Ends place → EndsIn e size → place ≤ size
-ends_within e place size same h = subst (λ (f : TextFault). EndsIn f size) same h
 
 -- a text that ends with the bytes, and a name that is this one
 pub text_ends : (text bytes rest : List ℕ) → ReadsRun sort.Text text bytes rest → rest ≡ [] → ReadsRun sort.Text text bytes []

@@ -1,6 +1,6 @@
 -- Where bytes leave a production: they read as its parts up to a place, and the next part does not stand there. The
 -- place is told by the number of bytes that are left.
-use Rattle.std.specs.Prelude.{◌≡◌, ◌≢◌, ◌≤◌, ◌<◌, ◌-◌, ◌⊎◌, ℕ, List, [], ◌∷◌, length, slice_index, take}
+use Rattle.std.specs.Prelude.{◌≡◌, ◌≢◌, ◌≤◌, ◌<◌, ◌+◌, ◌-◌, ◌⊎◌, ℕ, List, [], ◌∷◌, length, slice_index, take}
 use Rattle.std.specs.Str.{IsUtf8, IsValidUpTo}
 use Rattle.reply_values.specs.References.{IsBadReference, IsUnescaped}
 use Rattle.reply_xml.specs.declared.runs.Sort.TheVariants as sort
@@ -16,6 +16,11 @@ pub record LeavesName (bytes : List ℕ) (left : ℕ) : Type 0 where
   pub outside : BeginsOutside is_name_byte bytes
   pub at : left ≡ length bytes
 
+-- a place in the first bytes of a text that are not UTF-8: at the first of them, or at most three behind it
+abbrev pub IsAtFault : List ℕ → ℕ → Type 0
+IsAtFault text size =
+    (place : ℕ) × IsValidUpTo text place × (place ≤ size) × (size < place + 4) × (size ≤ length text)
+
 -- one of the two quotes
 abbrev pub IsQuote : ℕ → Type 0
 IsQuote byte = (byte ≡ 34) ⊎ (byte ≡ 39)
@@ -24,7 +29,7 @@ IsQuote byte = (byte ≡ 34) ⊎ (byte ≡ 39)
 pub data LeavesValue (bytes : List ℕ) (left : ℕ) : Type 0 where
   NoQuote : Lacks 34 bytes → Lacks 39 bytes → left ≡ length bytes → LeavesValue bytes left
   NoValue : (quote size : ℕ) (inside value at : List ℕ) → IsQuote quote → bytes ≡ quote ∷ inside
-      → ReadsRun (sort.Value quote) value inside at → ¬ (IsUtf8 value) → size ≤ length value
+      → ReadsRun (sort.Value quote) value inside at → ¬ (IsUtf8 value) → IsAtFault value size
       → left ≡ length inside - size → LeavesValue bytes left
   NoEndQuote : (quote : ℕ) (inside value at : List ℕ) → IsQuote quote → bytes ≡ quote ∷ inside
       → ReadsRun (sort.Value quote) value inside at → IsUtf8 value → Lacks quote at → left ≡ length at
@@ -94,7 +99,7 @@ IsSound text = (front : List ℕ) × IsFront front text × ((meaning : List ℕ)
 -- first of these.
 pub data LeavesText (bytes : List ℕ) (left : ℕ) : Type 0 where
   NoTagBehind : (size : ℕ) (text : List ℕ) → ReadsRun sort.Text text bytes [] → size ≤ length text
-      → (IsUtf8 text → size ≡ length text) → (¬ (IsUtf8 text) → IsSound text) → left ≡ length bytes - size
-      → LeavesText bytes left
+      → (IsUtf8 text → size ≡ length text) → (¬ (IsUtf8 text) → IsSound text × IsAtFault text size)
+      → left ≡ length bytes - size → LeavesText bytes left
   NotUtf8 : (size : ℕ) (text at : List ℕ) → ReadsRun sort.Text text bytes at → ¬ (IsUtf8 text) → IsSound text
-      → size ≤ length text → left ≡ length bytes - size → LeavesText bytes left
+      → IsAtFault text size → left ≡ length bytes - size → LeavesText bytes left

@@ -3,7 +3,7 @@
 ghost use Rattle.std.specs.Prelude.{◌≡◌, ◌≢◌, ◌≤◌, length};
 ghost use Rattle.std.specs.Bool.{MatchBool};
 ghost use Rattle.std.specs.Str.{IsUtf8};
-ghost use Rattle.reply_xml.specs.Leaves.{IsCommonFront};
+ghost use Rattle.reply_xml.specs.Leaves.{IsAtFault, IsCommonFront};
 
 pub(crate) fn is_same(one: &[u8], other: &[u8]) -> bool
     ensures { MatchBool result (one.now ≡ other.now) (one.now ≢ other.now) }
@@ -33,6 +33,7 @@ fn is_lead(byte: u8) -> bool {
 pub(crate) fn utf8_front(bytes: &[u8]) -> usize
     ensures most { result ≤ length bytes.now }
     ensures whole { IsUtf8 bytes.now → result ≡ length bytes.now }
+    ensures fault { ¬ (IsUtf8 bytes.now) → IsAtFault bytes.now result }
 {
     let Err(fault) = std::str::from_utf8(bytes) else {
         return bytes.len();

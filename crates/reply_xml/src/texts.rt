@@ -3,7 +3,7 @@
 ghost use Rattle.std.specs.Prelude.{◌≡◌, ℕ, List, IfOk, length};
 ghost use Rattle.std.specs.Str.{IsUtf8};
 ghost use Rattle.reply_xml.specs.Faults.{EndsIn, EndsWithin, IfBad, IfEnds, OnBad, OnEnds, TellsText};
-ghost use Rattle.reply_xml.specs.Leaves.{HasBadReference, IsSound};
+ghost use Rattle.reply_xml.specs.Leaves.{HasBadReference, IsAtFault, IsSound};
 ghost use Rattle.reply_xml.specs.Meaning.{meaning_of};
 ghost use Rattle.reply_values.specs.References.{IsUnescaped};
 
@@ -55,7 +55,7 @@ pub(crate) fn read_meaning<'a>(alloc: Global, bytes: &'a [u8]) -> Result<Meaning
     ensures refused { TellsText result (IsUtf8 bytes.now → (text : List ℕ) → ¬ (IsUnescaped bytes.now text)) }
     ensures place { EndsWithin result (length bytes.now) }
     ensures broken { IfEnds result (λ place. ¬ (IsUtf8 bytes.now)) }
-    ensures sound { IfEnds result (λ place. IsSound bytes.now) }
+    ensures sound { IfEnds result (λ place. IsSound bytes.now × IsAtFault bytes.now place) }
     ensures bad { IfBad result (HasBadReference bytes.now) }
 {
     let Ok(raw) = std::str::from_utf8(bytes) else {
@@ -77,6 +77,7 @@ pub(crate) fn text_fault(bytes: &[u8], last: bool) -> TextFault
     ensures place { EndsIn result (length bytes.now) }
     ensures whole { OnEnds result (λ place. IsUtf8 bytes.now → place ≡ length bytes.now) }
     ensures sound { OnEnds result (λ place. ¬ (IsUtf8 bytes.now) → IsSound bytes.now) }
+    ensures fault { OnEnds result (λ place. ¬ (IsUtf8 bytes.now) → IsAtFault bytes.now place) }
     ensures bad { OnBad result (HasBadReference bytes.now) }
 {
     let (raw, whole) = match std::str::from_utf8(bytes) {

@@ -5,7 +5,7 @@ use Rattle.reply_values.specs.References.{IsUnescaped}
 use Rattle.reply_xml.proofs.RunLemmas.{no_byte}
 use Rattle.reply_values.proofs.ReferenceLemmas.{Lacks, lacks_from}
 use Rattle.reply_values.proofs.UnescapeLemmas.{plain_run}
-use Rattle.reply_xml.proofs.LeaveLemmas.{OnEnds-any, OnEnds-map}
+use Rattle.reply_xml.proofs.LeaveLemmas.{OnEnds-any, OnEnds-both}
 use Rattle.reply_xml.proofs.texts.read_meaning.Goals as goal
 
 pub returns-then-is_none-clause-value : goal.returns-then-is_none-clause-value
@@ -32,4 +32,5 @@ returns-in-Err-Bad-clause-bad c = (
 
 pub returns-in_default-clause-sound : goal.returns-in_default-clause-sound
 returns-in_default-clause-sound c =
-    OnEnds-map c.text_fault.result (λ place sound. sound c.in_default.ensures.cases.0) c.text_fault.ensures.sound
+    OnEnds-both c.text_fault.result (λ place sound fault. (sound c.in_default.ensures.cases.0, fault c.in_default.ensures.cases.0))
+    c.text_fault.ensures.sound c.text_fault.ensures.fault

@@ -5,7 +5,7 @@ use Rattle.reply_xml.proofs.TagLemmas.{none_from_test}
 use Rattle.reply_xml.specs.declared.faults.DocFault.TheVariants as fault
 use Rattle.reply_xml.specs.Breaks.{BadReference, Leaves}
 use Rattle.reply_xml.specs.Leaves.{NotUtf8}
-use Rattle.reply_xml.proofs.LeaveLemmas.{bad_at, ends_at, ends_within, run_within, text_ends}
+use Rattle.reply_xml.proofs.LeaveLemmas.{bad_at, ends_at, run_within, text_ends}
 use Rattle.reply_xml.proofs.reader.Reader.text.Goals as goal
 
 pub returns-then-is_empty-clause-refused : goal.returns-then-is_empty-clause-refused
@@ -29,8 +29,8 @@ returns-in-Err-Ends-clause-broken c =
     Leaves _
     (
     NotUtf8 fails.place _ _ c.split_text.ensures.value (ends_at _ fails.field-0 fails.place fails.field-0-is fails.ensures.broken)
-    (ends_at _ fails.field-0 fails.place fails.field-0-is fails.ensures.sound)
-    (ends_within fails.field-0 fails.place _ fails.field-0-is fails.ensures.place) refl
+    (ends_at _ fails.field-0 fails.place fails.field-0-is fails.ensures.sound).0
+    (ends_at _ fails.field-0 fails.place fails.field-0-is fails.ensures.sound).1 refl
     )
     (ap (λ n. fault.NotADocument n) (rw fails.field-0-is at c.place.ensures))
 
