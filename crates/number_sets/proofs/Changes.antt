@@ -167,3 +167,10 @@ written long after items is = grind (arith, common_steps)
 
 pub is_below : (words : List ℕ) (count number : ℕ) (seen : List Bool) → flags words count ≡ seen → number < length seen → number < count
 is_below words count number seen is below = let long = length_flags words count in let same = ap (λ (bs : List Bool). length bs) is in omega arith
+
+-- ---- the set of all numbers
+
+pub all_members : (members : List Bool) (count : ℕ) → length members ≡ count → ((k : ℕ) → k < count → get_or members k false ≡ true) → members ≡ replicate count true
+all_members members count long each =
+    fill_by_all (λ _. true) members count false long each
+    ∙ sym (fill_by_all (λ _. true) (replicate count true) count false (length-replicate count true) (λ k below. get_or-replicate count k true false below))

@@ -1,6 +1,6 @@
 //! Sets of numbers below a bound.
 
-ghost use Rattle.std.specs.Prelude.{◌≡◌, ◌<◌, ◌≤◌, false, length, replicate, set, IfOk};
+ghost use Rattle.std.specs.Prelude.{◌≡◌, ◌<◌, ◌≤◌, false, true, length, replicate, set, IfOk};
 ghost use Rattle.std.specs.List.{position};
 ghost use Rattle.number_sets.specs.Members.{is_set};
 
@@ -44,6 +44,17 @@ impl NumberSet {
             words,
             summary,
         })
+    }
+
+    /// The set of all numbers below `count`. It takes all the memory of the set.
+    pub fn all(alloc: Global, count: u32) -> Result<NumberSet, AllocError>
+        ensures { IfOk result (λ set. set ≡ replicate count true) }
+    {
+        let mut set = NumberSet::make(alloc, count)?;
+        for number in 0..count {
+            set.put(number, true);
+        }
+        Ok(set)
     }
 
     /// Makes a number a member, or takes it out.

@@ -24,3 +24,13 @@ fn the_least_member_is_found(rt: HostRuntime) -> Result<(), Fail> {
     assert_eq!(rt; set.first(), None);
     Ok(())
 }
+
+#[test]
+fn all_numbers_are_members(rt: HostRuntime) -> Result<(), Fail> {
+    let mut set = NumberSet::all(rt.alloc(), 65)?;
+    assert_eq!(rt; set.first(), Some(0));
+    set.put(0, false);
+    assert_eq!(rt; set.first(), Some(1));
+    assert_eq!(rt; NumberSet::all(rt.alloc(), 0)?.first(), None);
+    Ok(())
+}
