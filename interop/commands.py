@@ -1,6 +1,7 @@
 """Command lines, settings files and presigned URLs, tried with the built program as a person or a script would."""
 
 import os
+import re
 import shutil
 import subprocess
 import time
@@ -201,10 +202,46 @@ def presigned(checks, runs, service, client):
         checks.check(f"presign: {name} is refused with an expired URL", fetch(short)[0] == 403)
 
 
+def words_of_main(checks, runs):
+    """What the program answers before its call: its version, and a word that is no text."""
+    status, out, err = runs.run(("--version",), {})
+    checks.check("--version: the line", status == 0 and err == "" and re.fullmatch(r"s3 \d+\.\d+\.\d+\n", out) is not None, out)
+    shown = runs.run(("cp", b"a\xff \\.txt", "s3://b/a.txt", *ENDPOINT), {})
+    said = "s3: this word is not UTF-8: a\\xff\\x20\\x5c.txt\n"
+    checks.check("a word that is not UTF-8: status and line", shown == (252, "", said), line_of(shown))
+
+
+# Standard descriptors that are closed, what is copied, and the status: an output that is closed cannot be written.
+CLOSED = [
+    ("standard input", "<&-", "notes.txt", 0),
+    ("standard output", ">&-", "notes.txt", 74),
+    ("standard error", "2>&-", "notes.txt", 0),
+    ("standard error, and a line for it", "2>&-", "gone.txt", 74),
+    ("all three", "<&- >&- 2>&-", "notes.txt", 74),
+]
+
+
+def closed_descriptors(checks, runs, service, client):
+    """No connection and no file gets the number of a descriptor that is closed: what is stored is the file's bytes."""
+    shells = type(runs)("sh", runs.folder)
+    with open(os.path.join(runs.folder, "notes.txt"), "rb") as file:
+        content = file.read()
+    for number, (name, closed, path, due) in enumerate(CLOSED):
+        key = f"closed/{number}"
+        words = ("cp", path, f"s3://{BUCKET}/{key}", "--endpoint-url", service.url)
+        shown = shells.run(("-c", f'exec "$0" "$@" {closed}', runs.program, *words), service.keys)
+        checks.check(f"closed {name}: status", shown[0] == due, line_of(shown))
+        if path == "notes.txt":
+            stored = client.get_object(Bucket=BUCKET, Key=key)["Body"].read()
+            checks.check(f"closed {name}: bytes", stored == content, key)
+
+
 def try_commands(checks, runs, service, client):
     """On a service whose bucket is there."""
     faults(checks, runs, service.keys)
+    words_of_main(checks, runs)
     copies = Copies(checks, runs, service, client)
     options(copies)
+    closed_descriptors(checks, runs, service, client)
     settings(copies)
     presigned(checks, runs, service, client)

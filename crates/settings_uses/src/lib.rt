@@ -1,7 +1,0 @@
-//! Settings of files and of environments in memory.
-#![tactic(auto)]
-
-#[cfg(test)]
-mod environments;
-#[cfg(test)]
-mod files;
