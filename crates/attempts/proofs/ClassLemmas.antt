@@ -28,7 +28,7 @@ use Rattle.attempts.specs.Steps.{IsJudged, exchange_of}
 
 -- ---- no limit is the greatest one
 
-answered_within : (head_only : Bool) (limit : Option ℕ) (talk : Talk) (answered : Answered) (body behind : List ℕ)
+pub answered_within : (head_only : Bool) (limit : Option ℕ) (talk : Talk) (answered : Answered) (body behind : List ℕ)
     → IsAnswer head_only limit talk.got talk.ending answered body behind → HasAnswer head_only (Some (unwrap_or limit 8388608)) talk.got talk.ending answered body
 answered_within head_only None talk answered body behind a =
     (behind, record { head = a.head; rest = a.rest; reads = a.reads; framed = a.framed; says = a.says; has_body = a.has_body; within = a.within; taken = a.taken; no_fault = a.no_fault })

@@ -1,5 +1,5 @@
 -- One attempt of a request over a wire: what the wire gains, and what the talk comes to.
-use Rattle.std.specs.Prelude.{◌≡◌, ◌≢◌, ◌⊎◌, ◌++◌, ℕ, List, [], ◌∷◌, Option, Some, None, unwrap_or}
+use Rattle.std.specs.Prelude.{◌≡◌, ◌≢◌, ◌⊎◌, ◌++◌, ℕ, List, [], ◌∷◌, Option, Some, None, unwrap_or, IsSome}
 use Rattle.s3_model.specs.declared.requests.Ask.{Ask}
 use Rattle.s3_model.specs.declared.requests.Ask.TheVariants as ask
 use Rattle.s3_model.specs.declared.answers.Class.{Class}
@@ -11,10 +11,12 @@ use Rattle.s3_model.specs.declared.tries.Mark.{Mark}
 use Rattle.s3_model.specs.Talks.{Talk, Note, Moment, Began, Failed}
 use Rattle.s3_requests.specs.Requests.{request_text}
 use Rattle.answer_grammar.specs.Answer.{Begins}
-use Rattle.answer_classes.specs.Showing.{Shows}
+use Rattle.answer_classes.specs.Showing.{HasStatus, Shows}
 use Rattle.run_promise.specs.Carried.{mark_of}
+use Rattle.run_promise.specs.Dispatches.{last_of}
 use Rattle.attempts.specs.declared.send.Attempted.{Attempted}
 use Rattle.attempts.specs.declared.send.Attempted.TheVariants as attempted
+use Rattle.attempts.specs.declared.send.Judged.{Judged}
 
 -- ---- the request
 
@@ -86,17 +88,32 @@ pub record IsSilent (talks : List Talk) (notes : List Note) : Type 0 where
   pub no_talk : talks ≡ []
   pub idle : (notes ≡ []) ⊎ ((moment : ℕ) × (notes ≡ Moment moment ∷ []))
 
+-- A status that is told is that of the last talk's answer.
+abbrev pub TellsStatus : SignedRequest → Option ℕ → List Talk → Type 0
+TellsStatus r None talks = Unit {0}
+TellsStatus r (Some status) talks =
+    (talk : Talk) × (last_of talks ≡ Some talk) × HasStatus r.asked (most_of r) talk status
+
 -- what the wire gains by one attempt
 abbrev pub Makes : SignedRequest → Attempted → (place : List ℕ) → List Talk → List Note → Type 0
 Makes r attempted.Memory place talks notes = IsSilent talks notes
-Makes r (attempted.Made shown) place talks notes = IsOneTalk r shown place talks notes
+Makes r (attempted.Made judged) place talks notes =
+    IsOneTalk r judged.class place talks notes × TellsStatus r judged.status talks
 
 -- the marks of a job that was attempted once
 abbrev pub tries_of : Attempted → List Mark
 tries_of attempted.Memory = []
-tries_of (attempted.Made shown) = mark_of shown ∷ []
+tries_of (attempted.Made judged) = mark_of judged.class ∷ []
 
--- P of the class, if a talk was made
-abbrev pub IfMade : Attempted → (Class → Type 0) → Type 0
+-- P of what the talk came to, if one was made
+abbrev pub IfMade : Attempted → (Judged → Type 0) → Type 0
 IfMade attempted.Memory P = Unit {0}
-IfMade (attempted.Made shown) P = P shown
+IfMade (attempted.Made judged) P = P judged
+
+-- a refusal is an answer, whose status is told
+abbrev pub IsToldOf : Class → Option ℕ → Type 0
+IsToldOf (class.Refusal code message) status = IsSome status
+IsToldOf shown status = Unit {0}
+
+abbrev pub HasStatusIfRefused : Judged → Type 0
+HasStatusIfRefused judged = IsToldOf judged.class judged.status

@@ -9,4 +9,4 @@ mod send;
 pub use client::Client;
 pub use marks::{mark_of, tries_of};
 pub use payload::Payload;
-pub use send::{Attempted, attempt};
+pub use send::{Attempted, Judged, attempt};

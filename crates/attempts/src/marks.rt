@@ -23,8 +23,8 @@ pub fn tries_of(attempted: &Attempted) -> Tries
     ensures marks { result ≡ tries_of attempted.now }
 {
     let mut tries = Tries::none();
-    if let Attempted::Made(class) = attempted {
-        tries.add(mark_of(class));
+    if let Attempted::Made(judged) = attempted {
+        tries.add(mark_of(&judged.class));
     }
     tries
 }

@@ -3,26 +3,43 @@
 ghost use Rattle.std.specs.Prelude.{◌≡◌, ◌≢◌, ◌≤◌, false, true, Some, None, IfSome, IfOk, OnErr};
 ghost use Rattle.s3_model.specs.Counts.{Rose};
 ghost use Rattle.answer_dates.specs.Dates.{HasDates};
-ghost use Rattle.attempts.specs.Attempts.{IfMade, IsGet, IsOfSomeTalk, IsSilent, Makes, signed_request};
+ghost use Rattle.attempts.specs.Attempts.{
+  HasStatusIfRefused,
+  IfMade,
+  IsGet,
+  IsOfSomeTalk,
+  IsSilent,
+  Makes,
+  signed_request,
+};
 ghost use Rattle.run_promise.specs.Gains.{Gains};
-ghost use Rattle.attempts.specs.Steps.{IsAnsweredBy, IsSigned};
+ghost use Rattle.attempts.specs.Steps.{IsAnsweredBy, IsSigned, status_of};
 ghost use Rattle.answer_classes.specs.Showing.{is_head};
 
 use crate::client::Client;
 use crate::payload::Payload;
 use answer_classes::classify;
 use http_exchange::exchange;
-use s3_model::{Ask, Bytes, Class, OutOfMemory, Text, Why};
+use s3_model::{Ask, Bytes, Class, OutOfMemory, Talked, Text, Why};
 use s3_outside::Wire;
 use std::alloc::Global;
+
+/// What one talk came to.
+#[derive(Debug, Drop)]
+pub struct Judged {
+    /// What the answer means.
+    pub class: Class,
+    /// The status of the answer, if there was one.
+    pub status: Option<u16>,
+}
 
 /// What came of one attempt.
 #[derive(Debug, Drop)]
 pub enum Attempted {
     /// Memory ran out before the talk.
     Memory,
-    /// One talk was made; the class is what its answer means.
-    Made(Class),
+    /// One talk was made.
+    Made(Judged),
 }
 
 /// The head of a request, signed at the wire's moment.
@@ -58,6 +75,16 @@ fn is_head(ask: &Ask) -> bool
     matches!(ask, Ask::Head { .. })
 }
 
+/// The status of an answer, if one came.
+fn status_of(talked: &Talked) -> Option<u16>
+    ensures { result ≡ status_of talked.now }
+{
+    match talked {
+        Talked::Answered(answered) => Some(answered.status),
+        Talked::Broken(_) => None,
+    }
+}
+
 /// Sends a request whose head is signed, and judges the answer.
 fn send<W: Wire>(
     alloc: Global,
@@ -69,13 +96,14 @@ fn send<W: Wire>(
     limit: Option<u64>,
     into: &mut Bytes,
     keep: bool,
-) -> Class
+) -> Judged
     requires limit { IfSome limit (λ most. IsGet ask.now × (most ≤ into.old.room)) }
     ensures answered { IsAnsweredBy (signed_request client.old.endpoint client.old.signer ask.now payload.now limit)
         keep head.now (W.seen wire.old) (W.seen wire.new) (W.alive wire.new) (W.faults wire.old) (W.faults wire.new)
         into.old into.new result }
-    ensures dated { HasDates result }
-    ensures failed { result ≡ Class.Uncertain Why.WireFailed → Rose (W.faults wire.old) (W.faults wire.new) }
+    ensures dated { HasDates result.class }
+    ensures refused { HasStatusIfRefused result }
+    ensures failed { result.class ≡ Class.Uncertain Why.WireFailed → Rose (W.faults wire.old) (W.faults wire.new) }
     ensures later { W.faults wire.old ≤ W.faults wire.new }
     ensures endpoint { client.new.endpoint ≡ client.old.endpoint }
     ensures keys { client.new.signer ≡ client.old.signer }
@@ -94,7 +122,9 @@ fn send<W: Wire>(
         limit,
         into,
     );
-    classify(alloc, ask, talked)
+    let status = status_of(&talked);
+    let class = classify(alloc, ask, talked);
+    Judged { class, status }
 }
 
 /// Makes one attempt of a request: signs it at the wire's moment, sends it in one talk, and judges the answer.
@@ -107,7 +137,8 @@ fn send<W: Wire>(
 /// # Errors
 ///
 /// `Memory` where memory ran out before the talk. Else the class is that of the talk, or `Uncertain(Memory)` where
-/// memory ran out in it or behind it; `Uncertain(WireFailed)` comes only where a call of the wire failed.
+/// memory ran out in it or behind it; `Uncertain(WireFailed)` comes only where a call of the wire failed. A refusal has a
+/// status.
 pub fn attempt<W: Wire>(
     alloc: Global,
     wire: &mut W,
@@ -122,11 +153,12 @@ pub fn attempt<W: Wire>(
     ensures gained { Gains (W.seen wire.old) (W.seen wire.new)
         (Makes (signed_request client.old.endpoint client.old.signer ask.now payload.now limit)
         result into.new.bytes) }
-    ensures classed { IfMade result (λ shown. IsOfSomeTalk ask.now limit shown into.new.bytes) }
-    ensures dated { IfMade result HasDates }
-    ensures kept { IfMade result (λ shown. keep ≡ false → W.alive wire.new ≢ Some true) }
-    ensures failed { result ≡ Attempted.Made (Class.Uncertain Why.WireFailed)
-        → Rose (W.faults wire.old) (W.faults wire.new) }
+    ensures classed { IfMade result (λ judged. IsOfSomeTalk ask.now limit judged.class into.new.bytes) }
+    ensures dated { IfMade result (λ judged. HasDates judged.class) }
+    ensures refused { IfMade result HasStatusIfRefused }
+    ensures kept { IfMade result (λ judged. keep ≡ false → W.alive wire.new ≢ Some true) }
+    ensures failed { IfMade result (λ judged. judged.class ≡ Class.Uncertain Why.WireFailed
+        → Rose (W.faults wire.old) (W.faults wire.new)) }
     ensures later { W.faults wire.old ≤ W.faults wire.new }
     ensures endpoint { client.new.endpoint ≡ client.old.endpoint }
     ensures keys { client.new.signer ≡ client.old.signer }

@@ -49,7 +49,7 @@ EndIn last tries = (front : List Mark) × (tries ≡ front ++ last ∷ []) × Ha
 -- what is true of every job that was carried
 abbrev pub IsEnded : Ending → Op → Option Part → Option Holder → List Mark → Type 0
 IsEnded (ending.Gained said) of_op part cell tries = EndIn mark.Success tries × IsReplyTo of_op said × HasBody said part
-IsEnded (ending.Refused code message) of_op part cell tries = EndIn mark.Refusal tries
+IsEnded (ending.Refused status code message) of_op part cell tries = EndIn mark.Refusal tries
 IsEnded (ending.Uncertain reason) of_op part cell tries = EndIn mark.Uncertain tries
 IsEnded (ending.Cancelled reason) of_op part cell tries = (tries ≡ []) × IsSome cell
 IsEnded ending.Memory of_op part cell tries = HaveNoSuccess tries

@@ -39,7 +39,7 @@ use Rattle.jobs.specs.declared.ending.Ending.{Ending}
 use Rattle.jobs.specs.declared.ending.Ending.TheVariants as ending
 use Rattle.jobs.specs.declared.what.What.{What}
 use Rattle.jobs.specs.declared.what.What.TheVariants as what
-use Rattle.lane_jobs.specs.Lanes.{Carries, EndsByCell, EndsByClass, EndsByMemory, IsGained, IsPlace, KeepsPart, SeenCarrier, bytes_of, ending_of, limit_of, reason_of, request_for, request_to}
+use Rattle.lane_jobs.specs.Lanes.{Carries, EndsByCell, EndsByClass, EndsByMemory, IsGained, IsPlace, KeepsPart, SeenCarrier, bytes_of, class_ending, limit_of, reason_of, request_for, request_to}
 
 false_is_true : false ≡ true → ⊥
 false_is_true e = cc
@@ -205,20 +205,20 @@ has_cell (Some cell) reason is = refl
 
 module _ (r : SignedRequest) (had most : ℕ) (part : Option Part) (cell : Option Holder) (place : List ℕ) (before after : Option WireLog) (tries : List Mark) (size : ℕ) (placed : IsPlace r.asked part place)
     (limited : r.limit ≡ limit_of r.asked size) where
-  by_class : (shown : Class) → EndIn (mark_of shown) tries → IsGained r place (ending_of shown) → IsEnded (ending_of shown) (op_of r.asked) part cell tries
-  by_class (class.Success said) ends gained = (
+  by_class : (status : ℕ) (shown : Class) → EndIn (mark_of shown) tries → IsGained r place (class_ending status shown) → IsEnded (class_ending status shown) (op_of r.asked) part cell tries
+  by_class status (class.Success said) ends gained = (
     ends,
     reply_fits r.asked r.limit said place gained,
     body_fits r.asked size said place part placed (subst (λ (l : Option ℕ). IsOfSomeTalk r.asked l (class.Success said) place) limited gained),
   )
-  by_class (class.Refusal code message) ends gained = ends
-  by_class (class.Uncertain reason) ends gained = ends
+  by_class status (class.Refusal code message) ends gained = ends
+  by_class status (class.Uncertain reason) ends gained = ends
 
   -- the facts of a job that was carried
   pub ended_so : (ended : Ending) → Carries r had most (reason_of cell) place before after tries ended → IsEnded ended (op_of r.asked) part cell tries
   ended_so ended c = elim c.ends [
     | inl h ↦ subst (λ (e : Ending). IsEnded e (op_of r.asked) part cell tries) (sym h.ending_is)
-        (by_class h.shown (subst (λ (ms : List Mark). EndIn (mark_of h.shown) ms) (sym c.marks) (ends_in c.classes h.shown c.again h.last))
+        (by_class h.status h.shown (subst (λ (ms : List Mark). EndIn (mark_of h.shown) ms) (sym c.marks) (ends_in c.classes h.shown c.again h.last))
         (subst (λ (e : Ending). IsGained r place e) h.ending_is c.gained))
     | inr others ↦ elim others [
       | inl h ↦ subst (λ (e : Ending). IsEnded e (op_of r.asked) part cell tries) (sym h.ending_is)

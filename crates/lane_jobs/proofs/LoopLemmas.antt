@@ -1,7 +1,7 @@
 -- The attempts of a job so far, and how they end.
 use Rattle.shared_lemmas.proofs.Clashes.{none_is_some, some_is}
 use Rattle.std.proofs.Common.{◌≡◌, ◌∙◌, ◌⊎◌, ◌+◌, ◌<◌, ◌≤◌, ◌++◌, ℕ, Bool, true, false, List, [], ◌∷◌, Option, Some, None, refl, sym, ap, subst, inl, inr, map, length, append_assoc, append-nil, arith}
-use Rattle.std.specs.Prelude.{IfSome, IsSome, max}
+use Rattle.std.specs.Prelude.{IfSome, IsSome, max, unwrap_or}
 use Rattle.s3_model.specs.declared.answers.Class.{Class}
 use Rattle.s3_model.specs.declared.answers.Class.TheVariants as class
 use Rattle.s3_model.specs.declared.outcomes.Reason.{Reason}
@@ -13,15 +13,16 @@ use Rattle.s3_model.specs.Classes.{is_tried_again}
 use Rattle.s3_model.specs.Talks.{Talk, Note, WireLog}
 use Rattle.run_promise.specs.Carried.{mark_of}
 use Rattle.run_promise.specs.Dispatches.{last_of}
-use Rattle.attempts.specs.Attempts.{IsOfSomeTalk, SignedRequest}
+use Rattle.attempts.specs.Attempts.{HasStatusIfRefused, IsOfSomeTalk, IsToldOf, SignedRequest, TellsStatus}
 use Rattle.run_promise.specs.Gains.{Gains}
 use Rattle.attempts.specs.declared.send.Attempted.{Attempted}
 use Rattle.attempts.specs.declared.send.Attempted.TheVariants as attempted
+use Rattle.attempts.specs.declared.send.Judged.{Judged}
 use Rattle.run_promise.proofs.GainLemmas.{gains_as, gains_both, gains_nothing}
 use Rattle.jobs.specs.Holders.{Holder}
 use Rattle.jobs.specs.declared.ending.Ending.{Ending}
 use Rattle.jobs.specs.declared.ending.Ending.TheVariants as ending
-use Rattle.lane_jobs.specs.Lanes.{AreBehind, AreMade, Attempts, Carries, Ends, IsGained, IsMade, IsShare, IsWithoutTalk, Looks, ending_by, ending_of, most_attempts, reason_of}
+use Rattle.lane_jobs.specs.Lanes.{AreBehind, AreMade, Attempts, Carries, Ends, HasLastStatus, IsGained, IsMade, IsShare, IsWithoutTalk, KeepsCell, Looks, class_ending, ending_by, ending_of, most_attempts, reason_of}
 use Rattle.lane_jobs.proofs.MadeLemmas.{AreTriedAgain, all_but_last, all_elsewhere, each_again, last_again, last_more, made_more, marks_more, none_last, one_longer, tried_more}
 
 false_is_true : false ≡ true → ⊥
@@ -40,6 +41,18 @@ unheard None None h = (refl, refl)
 unheard (Some before) (Some after) h = (ap (λ (c : Holder). Some c) h.0, ap (λ (c : Holder). c.known) h.0 ∙ h.1)
 unheard before after h = absurd h
 
+stays_known : (known : Option Reason) → IfSome known (λ reason. known ≡ Some reason)
+stays_known None = tt
+stays_known (Some reason) = refl
+
+keeps_self : (cell : Option Holder) → KeepsCell cell cell
+keeps_self None = tt
+keeps_self (Some cell) = record { cell = refl; stays = stays_known cell.known }
+
+pub keeps_same : (first before after : Option Holder) → before ≡ first → Looks before after None → KeepsCell first after
+keeps_same first before after same h =
+    subst (λ (c : Option Holder). KeepsCell first c) (sym ((unheard before after h).0 ∙ same)) (keeps_self first)
+
 -- ---- the service
 
 -- an attempt with the same endpoint and keys
@@ -50,6 +63,31 @@ pub to_service : (first endpoint : Endpoint) (old keys : Keys) (asked : Ask) (bo
 to_service first endpoint old keys asked body limit number made place now after e k h =
     subst (λ (x : Endpoint). Gains now after (Attempts (record { endpoint = x; keys = old; asked = asked; body = body; limit = limit }) number made place)) e
     (subst (λ (y : Keys). Gains now after (Attempts (record { endpoint = endpoint; keys = y; asked = asked; body = body; limit = limit }) number made place)) k h)
+
+-- ---- the ending by what the last attempt came to
+
+pub behind_class : (status : ℕ) (shown : Class) (n : ℕ) → AreBehind (class_ending status shown) n []
+behind_class status (class.Success said) n = refl
+behind_class status (class.Refusal code message) n = refl
+behind_class status (class.Uncertain reason) n = refl
+
+pub status_told : (r : SignedRequest) (shown : Class) (status : Option ℕ) (talks : List Talk) → IsToldOf shown status → TellsStatus r status talks
+    → HasLastStatus r (class_ending (unwrap_or status 0) shown) talks
+status_told r (class.Success said) status talks told tells = tt
+status_told r (class.Uncertain reason) status talks told tells = tt
+status_told r (class.Refusal code message) (Some status) talks told tells = tells
+status_told r (class.Refusal code message) None talks told tells = absurd (false_is_true told)
+
+-- the last of some talks is the last of more in front of them
+last_behind : (talks more : List Talk) (talk : Talk) → last_of more ≡ Some talk → last_of (talks ++ more) ≡ Some talk
+last_behind [] more talk is = is
+last_behind (one ∷ []) [] talk is = absurd (none_is_some talk is)
+last_behind (one ∷ []) (two ∷ more) talk is = is
+last_behind (one ∷ two ∷ talks) more talk is = last_behind (two ∷ talks) more talk is
+
+pub told_behind : (r : SignedRequest) (status : Option ℕ) (talks more : List Talk) → TellsStatus r status more → TellsStatus r status (talks ++ more)
+told_behind r None talks more tells = tt
+told_behind r (Some status) talks more tells = (tells.0, last_behind talks more tells.0 tells.1, tells.2)
 
 -- ---- no attempt
 
@@ -68,18 +106,31 @@ nothing_tried r had most gave place seen tries ended left none is =
       again = λ k shown at below. absurd (omega arith);
       ends = inr (inr (record { ending_is = refl; goes_on = tt; left = omega arith }));
       gained = tt;
-      shared = gains_nothing (IsShare r had place [] ending.Memory) seen ([], [], refl, (refl, refl), inl refl);
+      shared = gains_nothing (IsShare r had place [] ending.Memory) seen ([], [], refl, (refl, refl), inl refl, tt);
     }))
 
 module _ (r : SignedRequest) (had : ℕ) where
-  -- the attempts below that number, each tried again, and the class of the last
-  pub record Underway (number : ℕ) (place : List ℕ) (before now : Option WireLog) (tries : List Mark) (last : Option Class) : Type 0 where
+  abbrev pub class_in : Option Judged → Option Class
+  class_in None = None
+  class_in (Some judged) = Some judged.class
+
+  -- what is told of the last attempt, if there is one
+  abbrev pub TellsLast : Option Judged → List Talk → Type 0
+  TellsLast None talks = Unit {0}
+  TellsLast (Some judged) talks = TellsStatus r judged.status talks
+
+  abbrev pub AreTold : (place : List ℕ) → List Class → Option Judged → List Talk → List Note → Type 0
+  AreTold place classes last talks notes = AreMade r (had + 1) place classes talks notes × TellsLast last talks
+
+  -- the attempts below that number, each tried again, and what the last came to
+  pub record Underway (number : ℕ) (place : List ℕ) (before now : Option WireLog) (tries : List Mark) (last : Option Judged) : Type 0 where
     pub classes : List Class
     pub marks : tries ≡ map mark_of classes
     pub count : number ≡ had + 1 + length classes
     pub each : AreTriedAgain classes
-    pub last_is : last ≡ last_of classes
-    pub made : Gains before now (AreMade r (had + 1) place classes)
+    pub last_is : class_in last ≡ last_of classes
+    pub told : IfSome last HasStatusIfRefused
+    pub made : Gains before now (AreTold place classes last)
 
   pub begins : (place : List ℕ) (now : Option WireLog) → Underway (had + 1) place now now [] None
   begins place now = record {
@@ -88,28 +139,34 @@ module _ (r : SignedRequest) (had : ℕ) where
     count = omega arith;
     each = tt;
     last_is = refl;
-    made = gains_nothing (AreMade r (had + 1) place []) now (refl, refl);
+    told = tt;
+    made = gains_nothing (AreTold place [] None) now ((refl, refl), tt);
   }
 
-  pub none_made : (number : ℕ) (place : List ℕ) (before now : Option WireLog) (tries : List Mark) (last : Option Class) → Underway number place before now tries last → last ≡ None → number ≡ had + 1
+  pub none_made : (number : ℕ) (place : List ℕ) (before now : Option WireLog) (tries : List Mark) (last : Option Judged) → Underway number place before now tries last → last ≡ None → number ≡ had + 1
   none_made number place before now tries last u is =
-      let none = none_last u.classes (sym u.last_is ∙ is) in
+      let none = none_last u.classes (sym u.last_is ∙ ap class_in is) in
       let empty : length u.classes ≡ 0 = ap (λ (cs : List Class). length cs) none in
       let count = u.count in
       omega arith
 
   -- an attempt was made
-  module _ (number : ℕ) (place other : List ℕ) (before now after : Option WireLog) (tries : List Mark) (last : Option Class) (u : Underway number place before now tries last)
-      (shown : Class) (one : Gains now after (Attempts r number (attempted.Made shown) other)) where
+  module _ (number : ℕ) (place other : List ℕ) (before now after : Option WireLog) (tries : List Mark) (last : Option Judged) (u : Underway number place before now tries last)
+      (judged : Judged) (one : Gains now after (Attempts r number (attempted.Made judged) other)) where
+    abbrev shown : Class
+    shown = judged.class
+
     abbrev with_one : List Class
     with_one = u.classes ++ shown ∷ []
 
-    both_made : Gains before after (AreMade r (had + 1) other with_one)
+    both_made : Gains before after (AreTold other with_one (Some judged))
     both_made =
-        gains_both (AreMade r (had + 1) place u.classes) (Attempts r number (attempted.Made shown) other) (AreMade r (had + 1) other with_one)
-        (λ talks more notes others made is.
-        made_more r u.classes (had + 1) other shown talks more notes others (all_elsewhere r u.classes (had + 1) place other talks notes u.each made)
-        (subst (λ (n : ℕ). IsMade r n shown other more others) u.count is))
+        gains_both (AreTold place u.classes last) (Attempts r number (attempted.Made judged) other) (AreTold other with_one (Some judged))
+        (λ talks more notes others made is. (
+          made_more r u.classes (had + 1) other shown talks more notes others (all_elsewhere r u.classes (had + 1) place other talks notes u.each made.0)
+              (subst (λ (n : ℕ). IsMade r n shown other more others) u.count is.0),
+          told_behind r judged.status talks more is.1,
+        ))
         before now after u.made one
 
     marked : tries ++ mark_of shown ∷ [] ≡ map mark_of with_one
@@ -118,83 +175,83 @@ module _ (r : SignedRequest) (had : ℕ) where
     counted : number ≡ had + length with_one
     counted = let count = u.count in let longer = one_longer u.classes shown in omega arith
 
-    pub goes_on : is_tried_again shown ≡ true → Underway (number + 1) other before after (tries ++ mark_of shown ∷ []) (Some shown)
-    goes_on again = record {
+    pub goes_on : is_tried_again shown ≡ true → HasStatusIfRefused judged → Underway (number + 1) other before after (tries ++ mark_of shown ∷ []) (Some judged)
+    goes_on again told = record {
       classes = with_one;
       marks = marked;
       count = let is = counted in omega arith;
       each = tried_more u.classes shown u.each again;
       last_is = sym (last_more u.classes shown);
+      told = told;
       made = both_made;
     }
 
-    nothing_behind : (ended : Ending) → ended ≡ ending_of shown → (n : ℕ) → AreBehind ended n []
-    nothing_behind ended is n = subst (λ (e : Ending). AreBehind e n []) (sym is) (of_class shown n)
-      where
-        of_class : (c : Class) (n : ℕ) → AreBehind (ending_of c) n []
-        of_class (class.Success said) n = refl
-        of_class (class.Refusal code message) n = refl
-        of_class (class.Uncertain reason) n = refl
-
-    gained_by : (c : Class) → IsOfSomeTalk r.asked r.limit c other → IsGained r other (ending_of c)
-    gained_by (class.Success said) is = is
-    gained_by (class.Refusal code message) is = tt
-    gained_by (class.Uncertain reason) is = tt
+    gained_by : (status : ℕ) (c : Class) → IsOfSomeTalk r.asked r.limit c other → IsGained r other (class_ending status c)
+    gained_by status (class.Success said) is = is
+    gained_by status (class.Refusal code message) is = tt
+    gained_by status (class.Uncertain reason) is = tt
 
     -- it was the last, since it is not tried again
-    pub ends_there : (most : ℕ) (gave : Option Reason) → number ≤ most → IsOfSomeTalk r.asked r.limit shown other → is_tried_again shown ≡ false
-        → Carries r had most gave other before after (tries ++ mark_of shown ∷ []) (ending_of shown)
-    ends_there most gave within is final = record {
+    pub ends_there : (most : ℕ) (gave : Option Reason) → number ≤ most → IsOfSomeTalk r.asked r.limit shown other → HasStatusIfRefused judged → is_tried_again shown ≡ false
+        → Carries r had most gave other before after (tries ++ mark_of shown ∷ []) (ending_of judged)
+    ends_there most gave within is told final = record {
       classes = with_one;
       marks = marked;
       at_most = let is = counted in omega arith;
       again = all_but_last u.classes shown u.each;
-      ends = inl (record { shown = shown; last = last_more u.classes shown; ending_is = refl; is_through = inl final });
-      gained = gained_by shown is;
-      shared = gains_as (AreMade r (had + 1) other with_one) (IsShare r had other with_one (ending_of shown))
-          (λ talks notes made. (notes, [], sym (append-nil notes), made, nothing_behind (ending_of shown) refl (had + length with_one + 1))) before after both_made;
+      ends = inl (record { shown = shown; status = unwrap_or judged.status 0; last = last_more u.classes shown; ending_is = refl; is_through = inl final });
+      gained = gained_by (unwrap_or judged.status 0) shown is;
+      shared = gains_as (AreTold other with_one (Some judged)) (IsShare r had other with_one (ending_of judged))
+          (λ talks notes made. (
+            notes,
+            [],
+            sym (append-nil notes),
+            made.0,
+            behind_class (unwrap_or judged.status 0) shown (had + length with_one + 1),
+            status_told r judged.class judged.status talks told made.1,
+          ))
+          before after both_made;
     }
 
   -- ---- no further attempt
 
-  module _ (number : ℕ) (place : List ℕ) (before now : Option WireLog) (tries : List Mark) (last : Option Class) (u : Underway number place before now tries last) (most : ℕ) (within : number ≤ most + 1) where
-    of_again : (shown : Class) → is_tried_again shown ≡ true → IsGained r place (ending_of shown)
-    of_again (class.Success said) again = absurd (false_is_true again)
-    of_again (class.Refusal code message) again = tt
-    of_again (class.Uncertain reason) again = tt
-
-    behind_class : (shown : Class) (n : ℕ) → AreBehind (ending_of shown) n []
-    behind_class (class.Success said) n = refl
-    behind_class (class.Refusal code message) n = refl
-    behind_class (class.Uncertain reason) n = refl
+  module _ (number : ℕ) (place : List ℕ) (before now : Option WireLog) (tries : List Mark) (last : Option Judged) (u : Underway number place before now tries last) (most : ℕ) (within : number ≤ most + 1) where
+    of_again : (status : ℕ) (shown : Class) → is_tried_again shown ≡ true → IsGained r place (class_ending status shown)
+    of_again status (class.Success said) again = absurd (false_is_true again)
+    of_again status (class.Refusal code message) again = tt
+    of_again status (class.Uncertain reason) again = tt
 
     few : had + length u.classes ≤ most
     few = let count = u.count in omega arith
 
     -- with this ending, behind which nothing is noted
     ended : (gave : Option Reason) (by : Ending) → Ends (had + length u.classes) most gave u.classes by → IsGained r place by → ((n : ℕ) → AreBehind by n [])
-        → Carries r had most gave place before now tries by
-    ended gave by ends gained behind = record {
+        → ((talks : List Talk) → TellsLast last talks → HasLastStatus r by talks) → Carries r had most gave place before now tries by
+    ended gave by ends gained behind status = record {
       classes = u.classes;
       marks = u.marks;
       at_most = few;
       again = λ k shown at below. each_again u.classes u.each k shown at;
       ends = ends;
       gained = gained;
-      shared = gains_as (AreMade r (had + 1) place u.classes) (IsShare r had place u.classes by)
-          (λ talks notes made. (notes, [], sym (append-nil notes), made, behind (had + length u.classes + 1))) before now u.made;
+      shared = gains_as (AreTold place u.classes last) (IsShare r had place u.classes by)
+          (λ talks notes made. (notes, [], sym (append-nil notes), made.0, behind (had + length u.classes + 1), status talks made.1)) before now u.made;
     }
 
-    -- the last class is this one
-    by_last : (shown : Class) → last ≡ Some shown → (gave : Option Reason) → ((had + length u.classes ≡ most) ⊎ IsSome gave) → Carries r had most gave place before now tries (ending_of shown)
-    by_last shown is gave through =
-        let known = sym u.last_is ∙ is in
-        ended gave (ending_of shown) (inl (record { shown = shown; last = known; ending_is = refl; is_through = inr through }))
-        (of_again shown (last_again u.classes shown u.each known)) (behind_class shown)
+    -- the last attempt came to this
+    by_last : (judged : Judged) → last ≡ Some judged → (gave : Option Reason) → ((had + length u.classes ≡ most) ⊎ IsSome gave)
+        → Carries r had most gave place before now tries (ending_of judged)
+    by_last judged is gave through =
+        let known = sym u.last_is ∙ ap class_in is in
+        let told : HasStatusIfRefused judged = subst (λ (l : Option Judged). IfSome l HasStatusIfRefused) is u.told in
+        let status = unwrap_or judged.status 0 in
+        ended gave (ending_of judged) (inl (record { shown = judged.class; status = status; last = known; ending_is = refl; is_through = inr through }))
+        (of_again status judged.class (last_again u.classes judged.class u.each known)) (behind_class status judged.class)
+        (λ talks tells. status_told r judged.class judged.status talks told (subst (λ (l : Option Judged). TellsLast l talks) is tells))
 
     -- no attempt is left
-    pub runs_out : (shown : Class) → last ≡ Some shown → number ≡ most + 1 → (gave : Option Reason) → Carries r had most gave place before now tries (ending_of shown)
-    runs_out shown is out gave = by_last shown is gave (inl (let count = u.count in omega arith))
+    pub runs_out : (judged : Judged) → last ≡ Some judged → number ≡ most + 1 → (gave : Option Reason) → Carries r had most gave place before now tries (ending_of judged)
+    runs_out judged is out gave = by_last judged is gave (inl (let count = u.count in omega arith))
 
     -- the cell gave a reason
     pub stops : (reason : Reason) (gave : Option Reason) → gave ≡ Some reason → Carries r had most gave place before now tries (ending_by reason last)
@@ -203,15 +260,15 @@ module _ (r : SignedRequest) (had : ℕ) where
         given : IsSome gave
         given = subst (λ (g : Option Reason). IsSome g) (sym is) refl
 
-        by_case : (l : Option Class) → last ≡ l → Carries r had most gave place before now tries (ending_by reason l)
+        by_case : (l : Option Judged) → last ≡ l → Carries r had most gave place before now tries (ending_by reason l)
         by_case None e =
             ended gave (ending.Cancelled reason)
-            (inr (inl (record { reason = reason; none_made = none_last u.classes (sym u.last_is ∙ e); gave_is = is; ending_is = refl })))
-            tt (λ n. refl)
-        by_case (Some shown) e = by_last shown e gave (inr given)
+            (inr (inl (record { reason = reason; none_made = none_last u.classes (sym u.last_is ∙ ap class_in e); gave_is = is; ending_is = refl })))
+            tt (λ n. refl) (λ talks tells. tt)
+        by_case (Some judged) e = by_last judged e gave (inr given)
 
   -- memory ran out before an attempt
-  pub wants : (number : ℕ) (place other : List ℕ) (before now after : Option WireLog) (tries : List Mark) (last : Option Class) → Underway number place before now tries last
+  pub wants : (number : ℕ) (place other : List ℕ) (before now after : Option WireLog) (tries : List Mark) (last : Option Judged) → Underway number place before now tries last
       → (most : ℕ) → number ≤ most → (gave : Option Reason) → Gains now after (Attempts r number attempted.Memory other)
       → Carries r had most gave other before after tries ending.Memory
   wants number place other before now after tries last u most within gave silent =
@@ -224,8 +281,9 @@ module _ (r : SignedRequest) (had : ℕ) where
         ends = inr (inr (record { ending_is = refl; goes_on = goes (last_of u.classes) refl; left = omega arith }));
         gained = tt;
         shared =
-            gains_both (AreMade r (had + 1) place u.classes) (IsWithoutTalk number) (IsShare r had other u.classes ending.Memory)
-            (λ talks more notes others made is.
+            gains_both (AreTold place u.classes last) (IsWithoutTalk number) (IsShare r had other u.classes ending.Memory)
+            (λ talks more notes others told is.
+            let made = told.0 in
             let nothing : more ≡ [] = is.2.no_talk in
             let next : number ≡ had + length u.classes + 1 = omega arith in
             let all = ap (λ (ts : List Talk). talks ++ ts) nothing ∙ append-nil talks in (
@@ -234,6 +292,7 @@ module _ (r : SignedRequest) (had : ℕ) where
               refl,
               subst (λ (ts : List Talk). AreMade r (had + 1) other u.classes ts notes) (sym all) (all_elsewhere r u.classes (had + 1) place other talks notes u.each made),
               inr (subst (λ (n : ℕ). IsWithoutTalk n [] others) next (subst (λ (ts : List Talk). IsWithoutTalk number ts others) nothing is)),
+              tt,
             ))
             before now after u.made silent;
       }

@@ -1,6 +1,6 @@
 -- What a lane does for one job: its attempts, the pauses before them, and the ending.
 use Rattle.std.specs.Prelude.{◌≡◌, ◌⊎◌, ◌+◌, ◌<◌, ◌≤◌, ◌++◌, ℕ, true, false, List, [], ◌∷◌, Option, Some, None, IfSome}
-use Rattle.std.specs.Prelude.{IsSome, length, map, max, slice_get}
+use Rattle.std.specs.Prelude.{IsSome, length, map, max, slice_get, unwrap_or}
 use Rattle.s3_model.specs.declared.answers.Class.{Class}
 use Rattle.s3_model.specs.declared.answers.Class.TheVariants as class
 use Rattle.s3_model.specs.declared.bytes.Part.{Part}
@@ -16,11 +16,12 @@ use Rattle.s3_model.specs.Classes.{is_tried_again}
 use Rattle.s3_model.specs.Talks.{Talk, Note, Pause, WireLog}
 use Rattle.run_promise.specs.Carried.{mark_of, pauses_before}
 use Rattle.run_promise.specs.Dispatches.{last_of}
-use Rattle.attempts.specs.Attempts.{IsOfSomeTalk, IsOneTalk, IsSilent, SignedRequest, signed_request}
+use Rattle.attempts.specs.Attempts.{IsOfSomeTalk, IsOneTalk, IsSilent, SignedRequest, TellsStatus, signed_request}
 use Rattle.run_promise.specs.Gains.{Gains}
 use Rattle.attempts.specs.Payloads.{body_of}
 use Rattle.attempts.specs.declared.send.Attempted.{Attempted}
 use Rattle.attempts.specs.declared.send.Attempted.TheVariants as attempted
+use Rattle.attempts.specs.declared.send.Judged.{Judged}
 use Rattle.jobs.specs.Cells.{Hears, IsSameCell}
 use Rattle.jobs.specs.Endings.{SeenCarried}
 use Rattle.jobs.specs.Holders.{Holder}
@@ -72,25 +73,31 @@ IsWithoutTalk number talks notes = (own : List Note) × (notes ≡ noted_before 
 -- what the wire gains by the attempt of that number
 abbrev pub Attempts : SignedRequest → (number : ℕ) → Attempted → (place : List ℕ) → List Talk → List Note → Type 0
 Attempts r number attempted.Memory place talks notes = IsWithoutTalk number talks notes
-Attempts r number (attempted.Made shown) place talks notes = IsMade r number shown place talks notes
+Attempts r number (attempted.Made judged) place talks notes =
+    IsMade r number judged.class place talks notes × TellsStatus r judged.status talks
 
 -- ---- the ending
 
-abbrev pub ending_of : Class → Ending
-ending_of (class.Success said) = ending.Gained said
-ending_of (class.Refusal code message) = ending.Refused code message
-ending_of (class.Uncertain reason) = ending.Uncertain reason
+-- the ending by a class, and by the status of the answer where that is a refusal
+abbrev pub class_ending : (status : ℕ) → Class → Ending
+class_ending status (class.Success said) = ending.Gained said
+class_ending status (class.Refusal code message) = ending.Refused status code message
+class_ending status (class.Uncertain reason) = ending.Uncertain reason
 
--- where the cell gave a reason: the ending of the last class, if there is one
-abbrev pub ending_by : Reason → Option Class → Ending
+abbrev pub ending_of : Judged → Ending
+ending_of judged = class_ending (unwrap_or judged.status 0) judged.class
+
+-- where the cell gave a reason: the ending by the last attempt, if there is one
+abbrev pub ending_by : Reason → Option Judged → Ending
 ending_by reason None = ending.Cancelled reason
-ending_by reason (Some shown) = ending_of shown
+ending_by reason (Some judged) = ending_of judged
 
 -- The ending is that of the last class: it is not tried again, or no attempt is left, or the cell gave a reason.
 pub record EndsByClass (made most : ℕ) (gave : Option Reason) (classes : List Class) (ended : Ending) : Type 0 where
   pub shown : Class
+  pub status : ℕ
   pub last : last_of classes ≡ Some shown
-  pub ending_is : ended ≡ ending_of shown
+  pub ending_is : ended ≡ class_ending status shown
   pub is_through : (is_tried_again shown ≡ false) ⊎ (made ≡ most) ⊎ IsSome gave
 
 -- No attempt was made, since the cell gave this reason.
@@ -118,11 +125,16 @@ abbrev pub AreBehind : Ending → (number : ℕ) → List Note → Type 0
 AreBehind ending.Memory number notes = (notes ≡ []) ⊎ IsWithoutTalk number [] notes
 AreBehind ended number notes = notes ≡ []
 
+-- a refusal has the status of the last talk's answer
+abbrev pub HasLastStatus : SignedRequest → Ending → List Talk → Type 0
+HasLastStatus r (ending.Refused status code message) talks = TellsStatus r (Some status) talks
+HasLastStatus r ended talks = Unit {0}
+
 -- what the wire gains by a job of which `had` attempts were made before
 abbrev pub IsShare : SignedRequest → (had : ℕ) → (place : List ℕ) → List Class → Ending → List Talk → List Note → Type 0
 IsShare r had place classes ended talks notes =
     (own : List Note) × (behind : List Note) × (notes ≡ own ++ behind) × AreMade r (had + 1) place classes talks own
-    × AreBehind ended (had + length classes + 1) behind
+    × AreBehind ended (had + length classes + 1) behind × HasLastStatus r ended talks
 
 -- a success is that of a talk whose body stands in place, also where the wire shows none
 abbrev pub IsGained : SignedRequest → (place : List ℕ) → Ending → Type 0

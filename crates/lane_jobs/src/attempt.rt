@@ -1,15 +1,16 @@
 //! One attempt of a job: the look at its cell, the pause, and the talk.
 
-ghost use Rattle.std.specs.Prelude.{◌≡◌, ◌≤◌, ◌+◌, ◌-◌, ◌^◌, [], None, IfSome, map, min};
+ghost use Rattle.std.specs.Prelude.{◌≡◌, ◌≤◌, ◌+◌, ◌-◌, ◌^◌, [], None, IfSome, IsSome, map, min, unwrap_or};
 ghost use Rattle.s3_model.specs.Talks.{Pause};
 ghost use Rattle.run_promise.specs.Carried.{pauses_before};
-ghost use Rattle.attempts.specs.Attempts.{IfMade, IsGet, IsOfSomeTalk, signed_request};
+ghost use Rattle.attempts.specs.Attempts.{HasStatusIfRefused, IfMade, IsGet, IsOfSomeTalk, signed_request};
+ghost use Rattle.jobs.specs.declared.ending.Ending.TheVariants as ending;
 ghost use Rattle.run_promise.specs.Gains.{Gains};
 ghost use Rattle.lane_jobs.specs.Lanes.{Attempts, IsNotedBefore, Looks, ending_of, noted_before};
 
-use attempts::{Attempted, Client, Payload, attempt};
+use attempts::{Attempted, Client, Judged, Payload, attempt};
 use jobs::{CancelCell, Ending};
-use s3_model::{Ask, Bytes, Class, Reason};
+use s3_model::{Ask, Bytes, Class, Reason, Text};
 use s3_outside::Wire;
 use std::alloc::Global;
 
@@ -23,13 +24,28 @@ pub(crate) fn look(cell: &mut Option<CancelCell>) -> Option<Reason>
     }
 }
 
-/// How a job ends whose last attempt has that class.
-pub(crate) fn ending_of(class: Class) -> Ending
-    ensures { result ≡ ending_of class }
+/// How a job ends that was refused by an answer with this status.
+fn refused(status: Option<u16>, code: Text, message: Text) -> Ending
+    requires { IsSome status }
+    ensures { result ≡ ending.Refused (unwrap_or status 0) code message }
 {
+    let Some(status) = status else { unreachable!() };
+    Ending::Refused {
+        status,
+        code,
+        message,
+    }
+}
+
+/// How a job ends whose last attempt came to this.
+pub(crate) fn ending_of(judged: Judged) -> Ending
+    requires { HasStatusIfRefused judged }
+    ensures { result ≡ ending_of judged }
+{
+    let Judged { class, status } = judged;
     match class {
         Class::Success(reply) => Ending::Gained(reply),
-        Class::Refusal { code, message } => Ending::Refused { code, message },
+        Class::Refusal { code, message } => refused(status, code, message),
         Class::Uncertain(why) => Ending::Uncertain(why),
     }
 }
@@ -69,7 +85,8 @@ pub(crate) fn attempt_once<W: Wire>(
     ensures gained { Gains (W.seen wire.old) (W.seen wire.new)
         (Attempts (signed_request client.old.endpoint client.old.signer ask.now payload.now limit)
         number result into.new.bytes) }
-    ensures classed { IfMade result (λ shown. IsOfSomeTalk ask.now limit shown into.new.bytes) }
+    ensures classed { IfMade result (λ judged. IsOfSomeTalk ask.now limit judged.class into.new.bytes) }
+    ensures refused { IfMade result HasStatusIfRefused }
     ensures later { W.faults wire.old ≤ W.faults wire.new }
     ensures endpoint { client.new.endpoint ≡ client.old.endpoint }
     ensures keys { client.new.signer ≡ client.old.signer }

@@ -1,14 +1,14 @@
 //! The attempts of one job.
 
 ghost use Rattle.std.specs.Prelude.{◌≡◌, ◌≤◌, ◌<◌, [], None, IfSome, IsSome};
-ghost use Rattle.attempts.specs.Attempts.{IsGet, signed_request};
+ghost use Rattle.attempts.specs.Attempts.{HasStatusIfRefused, IsGet, signed_request};
 ghost use Rattle.lane_jobs.specs.Lanes.{Carries, KeepsCell, ending_by, reason_of};
 
 use crate::attempt::{attempt_once, ending_of, look};
 use answer_classes::again;
-use attempts::{Attempted, Client, Payload, mark_of};
+use attempts::{Attempted, Client, Judged, Payload, mark_of};
 use jobs::{CancelCell, Ending};
-use s3_model::{Ask, Bytes, Class, Reason, Tries};
+use s3_model::{Ask, Bytes, Reason, Tries};
 use s3_outside::Wire;
 use std::alloc::Global;
 
@@ -20,11 +20,12 @@ pub(crate) struct Went {
 }
 
 /// How a job ends whose cell gave this reason before its next attempt: as its last attempt says, if it made one.
-fn ending_by(reason: Reason, last: Option<Class>) -> Ending
+fn ending_by(reason: Reason, last: Option<Judged>) -> Ending
+    requires { IfSome last HasStatusIfRefused }
     ensures { result ≡ ending_by reason last }
 {
     match last {
-        Some(class) => ending_of(class),
+        Some(judged) => ending_of(judged),
         None => Ending::Cancelled(reason),
     }
 }
@@ -66,15 +67,15 @@ pub(crate) fn make_attempts<W: Wire>(
             };
         }
         match attempt_once(alloc, wire, client, ask, payload, limit, into, number) {
-            Attempted::Made(class) => {
-                tries.add(mark_of(&class));
-                if !again(&class) {
+            Attempted::Made(judged) => {
+                tries.add(mark_of(&judged.class));
+                if !again(&judged.class) {
                     return Went {
                         tries,
-                        ending: ending_of(class),
+                        ending: ending_of(judged),
                     };
                 }
-                last = Some(class);
+                last = Some(judged);
             }
             Attempted::Memory => {
                 return Went {
@@ -84,9 +85,9 @@ pub(crate) fn make_attempts<W: Wire>(
             }
         }
     }
-    let Some(class) = last else { unreachable!() };
+    let Some(judged) = last else { unreachable!() };
     Went {
         tries,
-        ending: ending_of(class),
+        ending: ending_of(judged),
     }
 }

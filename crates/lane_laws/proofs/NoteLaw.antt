@@ -82,7 +82,7 @@ left_by : (ended : Ending) (number : ℕ) (behind : List Note) → AreBehind end
 left_by ending.Memory number behind (inl none) = nothing_left ending.Memory behind none
 left_by ending.Memory number behind (inr silent) = let h = silent_notes number behind silent in record { quiet = h.0; few = inr (refl, h.1) }
 left_by (ending.Gained said) number behind none = nothing_left (ending.Gained said) behind none
-left_by (ending.Refused code message) number behind none = nothing_left (ending.Refused code message) behind none
+left_by (ending.Refused status code message) number behind none = nothing_left (ending.Refused status code message) behind none
 left_by (ending.Uncertain reason) number behind none = nothing_left (ending.Uncertain reason) behind none
 left_by (ending.Cancelled reason) number behind none = nothing_left (ending.Cancelled reason) behind none
 
@@ -173,7 +173,7 @@ module _ (endpoint : Endpoint) (keys : Keys) where
         subst (λ (ns : List Note). Noted (length (pauses left) + 0) [] ns) (sym (ap (λ (ns : List Note). left ++ ns) all.1 ∙ append-nil left))
         ((λ h. quiet (has left Began h)), inr (omega arith))
     run_noted (g ∷ givings) left talks notes quiet (first, more, noted, others, t, n, job, rest) want =
-        let (own, behind, noted_is, made, is_behind) = job.shared in
+        let (own, behind, noted_is, made, is_behind, status) = job.shared in
         let is_left = left_by g.ended _ behind is_behind in
         let count = sum_by-cons (λ (c : Dispatched). cond (wanted c) 1 0) g.of (dispatched_of givings) in
         let few = within_wanted g behind (want g (inl refl)) is_left in

@@ -17,7 +17,7 @@ use Rattle.answer_classes.specs.Showing.{Shows}
 use Rattle.answer_classes.proofs.OneShown.{one_shown}
 use Rattle.attempts.specs.Attempts.{HasClass, SignedRequest, text_of}
 use Rattle.jobs.specs.declared.ending.Ending.{Ending}
-use Rattle.lane_jobs.specs.Lanes.{ending_of, most_attempts}
+use Rattle.lane_jobs.specs.Lanes.{class_ending, most_attempts}
 use Rattle.run_promise.specs.Carried.{AreNoted, IsCarried, MayStop, WouldGoOn, in_lane, mark_of, numbered_from, talks_of}
 use Rattle.run_promise.specs.Dispatches.{Attempt, Dispatched, last_of}
 use Rattle.run_promise.specs.Schedule.{Setting, most_body}
@@ -42,8 +42,8 @@ same_again (class.Refusal c m) (class.Refusal d n) is = ap is_tried_again is
 same_again (class.Uncertain a) (class.Uncertain b) is = ap is_tried_again is
 same_again one same is = ap is_tried_again is
 
-ending_wants : (shown : Class) (ended : Ending) → shown ≡ class.Uncertain why.Memory → ended ≡ ending_of shown → RanOut ended
-ending_wants shown ended is e = inr (e ∙ ap ending_of is)
+ending_wants : (status : ℕ) (shown : Class) (ended : Ending) → shown ≡ class.Uncertain why.Memory → ended ≡ class_ending status shown → RanOut ended
+ending_wants status shown ended is e = inr (e ∙ ap (class_ending status) is)
 
 -- ---- lanes
 
@@ -73,7 +73,7 @@ module _ (endpoint : Endpoint) (keys : Keys) (s : Setting) where
   talks_gained : (givings : List Giving) (talks : List Talk) (notes : List Note) → AreCarriedJobs endpoint keys s.config.attempts givings talks notes → talks ≡ flat_map talks_of (dispatched_of givings)
   talks_gained [] talks notes all = all.0
   talks_gained (g ∷ givings) talks notes all =
-      let (own, behind, noted_is, made, is_behind) = all.6.shared in
+      let (own, behind, noted_is, made, is_behind, status) = all.6.shared in
       let own_talks : talks_of g.of ≡ all.0 = ap (λ (xs : List Attempt). map (λ (a : Attempt). a.talk) xs) all.6.attempts_are ∙ talks_same _ all.6.place g.classes _ all.0 own made in
       all.4 ∙ ap (λ (ts : List Talk). ts ++ all.1) (sym own_talks) ∙ ap (λ (ts : List Talk). talks_of g.of ++ ts) (talks_gained givings all.1 all.3 all.7)
 
@@ -108,7 +108,7 @@ module _ (endpoint : Endpoint) (keys : Keys) (s : Setting) where
     -- where the last class is want of memory, so is the ending
     memory_last : last_of g.classes ≡ Some (class.Uncertain why.Memory) → RanOut g.ended
     memory_last is = elim job.ends [
-      | inl h ↦ ending_wants h.shown g.ended (some_is _ _ (sym h.last ∙ is)) h.ending_is
+      | inl h ↦ ending_wants h.status h.shown g.ended (some_is _ _ (sym h.last ∙ is)) h.ending_is
       | inr others ↦ elim others [
         | inl h ↦ absurd (none_is_some _ (ap (λ (cs : List Class). last_of cs) (sym h.none_made) ∙ is))
         | inr h ↦ inl h.ending_is

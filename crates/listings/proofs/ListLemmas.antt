@@ -18,6 +18,7 @@ use Rattle.attempts.specs.Attempts.{IsOneTalk, Makes, tries_of}
 use Rattle.run_promise.specs.Gains.{Gains}
 use Rattle.attempts.specs.declared.send.Attempted.{Attempted}
 use Rattle.attempts.specs.declared.send.Attempted.TheVariants as attempted_as
+use Rattle.attempts.specs.declared.send.Judged.{Judged}
 use Rattle.run_promise.proofs.GainLemmas.{gains_as, gains_both, gains_nothing}
 use Rattle.list_walk.specs.Pages.{Gathered, IsSound, Walk, count_of, gathered_with, new_walk, next_ask, refusal_of, total_of, with_page}
 use Rattle.list_walk.proofs.LawLemmas.{taken_where_sound}
@@ -37,16 +38,17 @@ none_given endpoint keys asked number before after given seen none same =
     (gains_nothing (IsGiven endpoint keys asked number before after None) seen (inl (same, refl, refl)))
 
 -- one request was given, attempted, and came
-pub made_given : (endpoint : Endpoint) (keys : Keys) (asked : Ask) (of_op : Op) (number : ℕ) (before reserved first after : List Event) (tries : List Mark) (attempted : Attempted) (shown : Class) (body place : List ℕ)
+pub made_given : (endpoint : Endpoint) (keys : Keys) (asked : Ask) (of_op : Op) (number : ℕ) (before reserved first after : List Event) (tries : List Mark) (attempted : Attempted) (judged : Judged) (body place : List ℕ)
     (was now : Option WireLog) → of_op ≡ op_of asked → reserved ≡ before → first ≡ reserved ++ entry.Given (record { task = None; op = of_op; number = number }) 0 ∷ []
-    → after ≡ first ++ entry.Came (record { task = None; op = of_op; number = number }) 0 tries ∷ [] → tries ≡ tries_of attempted → attempted ≡ attempted_as.Made shown → body ≡ []
+    → after ≡ first ++ entry.Came (record { task = None; op = of_op; number = number }) 0 tries ∷ [] → tries ≡ tries_of attempted → attempted ≡ attempted_as.Made judged → body ≡ []
     → Gains was now (Makes (record { endpoint = endpoint; keys = keys; asked = asked; body = body; limit = None }) attempted place)
-    → Gains was now (IsGiven endpoint keys asked number before after (Some shown))
-made_given endpoint keys asked of_op number before reserved first after tries attempted shown body place was now op_is reserved_is first_is after_is tries_are made empty gained =
+    → Gains was now (IsGiven endpoint keys asked number before after (Some judged.class))
+made_given endpoint keys asked of_op number before reserved first after tries attempted judged body place was now op_is reserved_is first_is after_is tries_are made empty gained =
     let with_none = subst (λ (b : List ℕ). Gains was now (Makes (record { endpoint = endpoint; keys = keys; asked = asked; body = b; limit = None }) attempted place)) empty gained in
     let with_class = subst (λ (a : Attempted). Gains was now (Makes (request_for endpoint keys asked) a place)) made with_none in
-    let events = journals endpoint keys asked of_op number before reserved first after tries attempted op_is reserved_is first_is after_is tries_are (attempted_as.Made shown) made in
-    gains_as (IsOneTalk (request_for endpoint keys asked) shown place) (IsGiven endpoint keys asked number before after (Some shown)) (λ talks notes talk. (place, talk, events)) was now with_class
+    let events = journals endpoint keys asked of_op number before reserved first after tries attempted op_is reserved_is first_is after_is tries_are (attempted_as.Made judged) made in
+    gains_as (Makes (request_for endpoint keys asked) (attempted_as.Made judged) place) (IsGiven endpoint keys asked number before after (Some judged.class))
+    (λ talks notes made_one. (place, made_one.0, events)) was now with_class
 
 -- what a walk that is open asks next
 asked_next : (walk : Walk) (given : Option Ask) (a : Ask) → walk.over ≡ false → given ≡ next_ask walk → given ≡ Some a → a ≡ ask.List walk.bucket walk.prefix walk.delimited walk.token

@@ -15,6 +15,7 @@ use Rattle.answer_classes.specs.Showing.{Shows}
 use Rattle.attempts.specs.Attempts.{HasClass, IfMade, IsOfSomeTalk, IsOneTalk, SignedRequest, text_at, tries_of}
 use Rattle.attempts.specs.declared.send.Attempted.{Attempted}
 use Rattle.attempts.specs.declared.send.Attempted.TheVariants as attempted_as
+use Rattle.attempts.specs.declared.send.Judged.{Judged}
 use Rattle.listings.specs.Asked.{IsGiven, OfSomeTalks, request_for}
 
 -- the same, said otherwise
@@ -84,12 +85,13 @@ module _ (endpoint : Endpoint) (keys : Keys) (asked : Ask) (of_op : Op) (number 
       ∙ ap (λ (ms : List Mark). before ++ entry.Given (job of_op) 0 ∷ entry.Came (job of_op) 0 ms ∷ []) marks
       ∙ ap (λ (o : Op). before ++ entry.Given (job o) 0 ∷ entry.Came (job o) 0 (tries_of a) ∷ []) op_is
 
-  pub made_of_some : (shown : Class) (place : List ℕ) → attempted ≡ attempted_as.Made shown → IfMade attempted (λ s. IsOfSomeTalk asked None s place)
-      → OfSomeTalks (IsGiven endpoint keys asked number before after (Some shown))
-  made_of_some shown place made classed =
-      let of_talk : IsOfSomeTalk asked None shown place = subst (λ (a : Attempted). IfMade a (λ s. IsOfSomeTalk asked None s place)) made classed in
+  pub made_of_some : (judged : Judged) (place : List ℕ) → attempted ≡ attempted_as.Made judged → IfMade attempted (λ j. IsOfSomeTalk asked None j.class place)
+      → OfSomeTalks (IsGiven endpoint keys asked number before after (Some judged.class))
+  made_of_some judged place made classed =
+      let shown = judged.class in
+      let of_talk : IsOfSomeTalk asked None shown place = subst (λ (a : Attempted). IfMade a (λ j. IsOfSomeTalk asked None j.class place)) made classed in
       some_as (IsOneTalk (request_for endpoint keys asked) shown place) (IsGiven endpoint keys asked number before after (Some shown))
-      (λ talks notes talk. (place, talk, journals (attempted_as.Made shown) made)) (some_talk endpoint keys asked shown place of_talk)
+      (λ talks notes talk. (place, talk, journals (attempted_as.Made judged) made)) (some_talk endpoint keys asked shown place of_talk)
 
   pub silent_of_some : attempted ≡ attempted_as.Memory → OfSomeTalks (IsGiven endpoint keys asked number before after None)
   silent_of_some memory = ([], [], inr (journals attempted_as.Memory memory, record { no_talk = refl; idle = inl refl }))

@@ -50,7 +50,7 @@ pub(crate) fn give<W: Wire>(
         tries,
     });
     match attempted {
-        Attempted::Made(class) => Some(class),
+        Attempted::Made(judged) => Some(judged.class),
         Attempted::Memory => None,
     }
 }

@@ -22,7 +22,7 @@ use Rattle.answer_classes.specs.Showing.{HasStatus, Shows}
 use Rattle.attempts.specs.Attempts.{HasClass, SignedRequest}
 use Rattle.jobs.specs.declared.ending.Ending.{Ending}
 use Rattle.jobs.specs.declared.ending.Ending.TheVariants as ending
-use Rattle.lane_jobs.specs.Lanes.{AreMade, ending_of}
+use Rattle.lane_jobs.specs.Lanes.{AreMade, class_ending}
 use Rattle.run_promise.specs.Carried.{mark_of}
 use Rattle.run_promise.specs.Dispatches.{Attempt, Dispatched, last_of, paired}
 use Rattle.run_promise.specs.Outcomes.{HasOutcome}
@@ -220,8 +220,9 @@ module _ (endpoint : Endpoint) (keys : Keys) (Fails : ℕ → Cause → Type 0) 
     shows_by shown no_memory (inl memory) = absurd (no_memory memory)
     shows_by shown no_memory (inr h) = (h.0, h.1)
 
-    abbrev IsBy : Class → Type 0
-    IsBy shown = HasClass r last.talk shown c.place → last.mark ≡ mark_of shown → last_of c.classes ≡ Some shown → u.how ≡ outcome_of marks (ending_of shown) → Is (outcome_of marks (ending_of shown))
+    abbrev IsBy : (status : ℕ) → Class → Type 0
+    IsBy status shown = HasClass r last.talk shown c.place → last.mark ≡ mark_of shown → last_of c.classes ≡ Some shown → u.how ≡ outcome_of marks (class_ending status shown)
+        → Is (outcome_of marks (class_ending status shown))
 
     lost_class : (reason : Why) → (reason ≡ why.Memory → ⊥) → (class.Uncertain reason ≡ class.Uncertain why.Memory → ⊥) → lost_cause reason ≡ cause.Lost op.Put reason
         → HasClass r last.talk (class.Uncertain reason) c.place → last.mark ≡ mark.Uncertain → last_of c.classes ≡ Some (class.Uncertain reason)
@@ -229,37 +230,37 @@ module _ (endpoint : Endpoint) (keys : Keys) (Fails : ℕ → Cause → Type 0) 
     lost_class reason no_memory no_class same has is at how =
         lost_by (no_success (λ shown e success. uncertain_no_success reason (ap mark_of (some_is _ _ (sym at ∙ e)) ∙ success))) reason no_memory is (shows_by (class.Uncertain reason) no_class has) how
 
-    by_class : (shown : Class) → IsBy shown
-    by_class (class.Success said) has is at how = (outcomes.done_for Shows HasStatus Fails u attempts last is_last is, done_ordinary)
-    by_class (class.Refusal code message) has is at how =
+    by_class : (status : ℕ) (shown : Class) → IsBy status shown
+    by_class answered (class.Success said) has is at how = (outcomes.done_for Shows HasStatus Fails u attempts last is_last is, done_ordinary)
+    by_class answered (class.Refusal code message) has is at how =
         refused_by (no_success (λ shown e success. refusal_no_success code message (ap mark_of (some_is _ _ (sym at ∙ e)) ∙ success))) code message
         (shows_by (class.Refusal code message) (λ e. cc) has) (is_open marks) refl how
-    by_class (class.Uncertain why.Memory) has is at how = (
+    by_class answered (class.Uncertain why.Memory) has is at how = (
       outcomes.wanting_open Shows HasStatus Fails u attempts (no_success (λ shown e success. uncertain_no_success why.Memory (ap mark_of (some_is _ _ (sym at ∙ e)) ∙ success))) (last_at mark.Uncertain is)
           (wanted_open how),
       memory_open,
     )
-    by_class (class.Uncertain why.WireFailed) has is at how = lost_class why.WireFailed (λ e. cc) (λ e. cc) refl has is at how
-    by_class (class.Uncertain why.EndedEarly) has is at how = lost_class why.EndedEarly (λ e. cc) (λ e. cc) refl has is at how
-    by_class (class.Uncertain why.NotHttp) has is at how = lost_class why.NotHttp (λ e. cc) (λ e. cc) refl has is at how
-    by_class (class.Uncertain why.HeadTooLong) has is at how = lost_class why.HeadTooLong (λ e. cc) (λ e. cc) refl has is at how
-    by_class (class.Uncertain (why.BodyTooLong limit)) has is at how = lost_class (why.BodyTooLong limit) (λ e. cc) (λ e. cc) refl has is at how
-    by_class (class.Uncertain why.BadLength) has is at how = lost_class why.BadLength (λ e. cc) (λ e. cc) refl has is at how
-    by_class (class.Uncertain why.BadChunk) has is at how = lost_class why.BadChunk (λ e. cc) (λ e. cc) refl has is at how
-    by_class (class.Uncertain (why.Status status)) has is at how = lost_class (why.Status status) (λ e. cc) (λ e. cc) refl has is at how
-    by_class (class.Uncertain why.Internal) has is at how = lost_class why.Internal (λ e. cc) (λ e. cc) refl has is at how
-    by_class (class.Uncertain why.Document) has is at how = lost_class why.Document (λ e. cc) (λ e. cc) refl has is at how
+    by_class answered (class.Uncertain why.WireFailed) has is at how = lost_class why.WireFailed (λ e. cc) (λ e. cc) refl has is at how
+    by_class answered (class.Uncertain why.EndedEarly) has is at how = lost_class why.EndedEarly (λ e. cc) (λ e. cc) refl has is at how
+    by_class answered (class.Uncertain why.NotHttp) has is at how = lost_class why.NotHttp (λ e. cc) (λ e. cc) refl has is at how
+    by_class answered (class.Uncertain why.HeadTooLong) has is at how = lost_class why.HeadTooLong (λ e. cc) (λ e. cc) refl has is at how
+    by_class answered (class.Uncertain (why.BodyTooLong limit)) has is at how = lost_class (why.BodyTooLong limit) (λ e. cc) (λ e. cc) refl has is at how
+    by_class answered (class.Uncertain why.BadLength) has is at how = lost_class why.BadLength (λ e. cc) (λ e. cc) refl has is at how
+    by_class answered (class.Uncertain why.BadChunk) has is at how = lost_class why.BadChunk (λ e. cc) (λ e. cc) refl has is at how
+    by_class answered (class.Uncertain (why.Status status)) has is at how = lost_class (why.Status status) (λ e. cc) (λ e. cc) refl has is at how
+    by_class answered (class.Uncertain why.Internal) has is at how = lost_class why.Internal (λ e. cc) (λ e. cc) refl has is at how
+    by_class answered (class.Uncertain why.Document) has is at how = lost_class why.Document (λ e. cc) (λ e. cc) refl has is at how
 
   -- ---- every ending
 
   abbrev IsSo : Ending → Type 0
   IsSo ended = u.how ≡ outcome_of marks ended → Is u.how
 
-  of_class : (ended : Ending) (shown : Class) → last_of c.classes ≡ Some shown → ended ≡ ending_of shown → u.how ≡ outcome_of marks ended → Is u.how
-  of_class ended shown at ends how =
+  of_class : (ended : Ending) (status : ℕ) (shown : Class) → last_of c.classes ≡ Some shown → ended ≡ class_ending status shown → u.how ≡ outcome_of marks ended → Is u.how
+  of_class ended status shown at ends how =
       let (a, is_last, is, has) = last_made r c.place c.classes 1 talks c.shared.0 c.shared.3 shown at in
       let so = how ∙ ap (λ (e : Ending). outcome_of marks e) ends in
-      subst Is (sym so) (by_class a is_last shown has is at so)
+      subst Is (sym so) (by_class a is_last status shown has is at so)
 
   goes_on : (classes : List Class) → IfSome (last_of classes) (λ shown. is_tried_again shown ≡ true) → (shown : Class) → last_of classes ≡ Some shown → mark_of shown ≡ mark.Success → ⊥
   goes_on classes again shown e success =
@@ -273,7 +274,7 @@ module _ (endpoint : Endpoint) (keys : Keys) (Fails : ℕ → Cause → Type 0) 
   pub put_outcome : HasOutcome Shows HasStatus Fails (setting_of u) (put_with u (paired (map mark_of c.classes) talks) ∷ []) (put_with u (paired (map mark_of c.classes) talks) ∷ []) 0 (task_of u) u.how × IsOrdinary u.how
   put_outcome =
       elim c.ends [
-        | inl h ↦ of_class c.ended h.shown h.last h.ending_is c.comes_to
+        | inl h ↦ of_class c.ended h.status h.shown h.last h.ending_is c.comes_to
         | inr others ↦ elim others [
           | inl h ↦ absurd (none_is_some h.reason h.gave_is)
           | inr h ↦ of_memory c.ended h.ending_is h.goes_on c.comes_to

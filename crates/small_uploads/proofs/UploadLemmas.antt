@@ -111,7 +111,7 @@ module _ (before after : ℕ) (journal : List Event) (marks : List Mark) (is : j
 
   pub ended_wants : (ended : Ending) (of_op : Op) (part : Option Part) (cell : Option Holder) → cell ≡ None → IsEnded ended of_op part cell marks → WantsJournal before after (outcome_of marks ended) journal
   ended_wants (ending.Gained said) of_op part cell none h = (marks, is, h.0)
-  ended_wants (ending.Refused code message) of_op part cell none h = refused_wants code message (is_open marks) refl h
+  ended_wants (ending.Refused status code message) of_op part cell none h = refused_wants code message (is_open marks) refl h
   ended_wants (ending.Uncertain reason) of_op part cell none h = lost_wants reason h
   ended_wants (ending.Cancelled reason) of_op part None none h = absurd (false_true h.1)
   ended_wants (ending.Cancelled reason) of_op part (Some cell) none h = absurd (none_is_some cell (sym none))

@@ -80,7 +80,7 @@ failed_or_unknown marks why = if is_open marks then outcome.Unknown why else out
 -- the outcome of an upload whose Put had these marks and ended so
 abbrev pub outcome_of : List Mark → Ending → Outcome
 outcome_of marks (ending.Gained said) = outcome.Done
-outcome_of marks (ending.Refused code message) = failed_or_unknown marks (cause.Service op.Put code message)
+outcome_of marks (ending.Refused status code message) = failed_or_unknown marks (cause.Service op.Put code message)
 outcome_of marks (ending.Uncertain reason) = outcome.Unknown (lost_cause reason)
 outcome_of marks (ending.Cancelled reason) = failed_or_unknown marks (cause.Cancelled reason)
 outcome_of marks ending.Memory = failed_or_unknown marks cause.Memory

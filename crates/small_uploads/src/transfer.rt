@@ -84,7 +84,7 @@ fn outcome_of(tries: &Tries, ending: Ending) -> Outcome
 {
     match ending {
         Ending::Gained(_) => Outcome::Done,
-        Ending::Refused { code, message } => {
+        Ending::Refused { code, message, .. } => {
             let op = Op::Put;
             failed_or_unknown(tries, Cause::Service { op, code, message })
         }

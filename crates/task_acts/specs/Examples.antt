@@ -97,7 +97,7 @@ module _ (for : What) (cell : Holder) where
   -- refused for good
   abbrev pub refused : Op → ℕ → Happening
   refused of_op number =
-      came of_op number (mark.Refusal ∷ []) (ending.Refused (codes "AccessDenied") (codes "Access Denied"))
+      came of_op number (mark.Refusal ∷ []) (ending.Refused 403 (codes "AccessDenied") (codes "Access Denied"))
 
   abbrev pub denied : Op → Cause
   denied of_op = cause.Service of_op (codes "AccessDenied") (codes "Access Denied")
@@ -139,12 +139,12 @@ module _ (for : What) (cell : Holder) where
 
   abbrev pub put_lost : History
   put_lost = came op.Put 0 (mark.Uncertain ∷ mark.Refusal ∷ [])
-      (ending.Refused (codes "AccessDenied") (codes "Access Denied")) ∷ put_out
+      (ending.Refused 403 (codes "AccessDenied") (codes "Access Denied")) ∷ put_out
 
   -- the first giving was left open and cut short, the second refused
   abbrev pub put_twice : History
   put_twice = came_again op.Put 0 (mark.Refusal ∷ [])
-      (ending.Refused (codes "AccessDenied") (codes "Access Denied")) ∷ Gave (act.Send op.Put 0)
+      (ending.Refused 403 (codes "AccessDenied") (codes "Access Denied")) ∷ Gave (act.Send op.Put 0)
       ∷ came op.Put 0 (mark.Uncertain ∷ []) (ending.Uncertain reason.EndedEarly) ∷ put_out
 
   -- ---- histories of a download in three ranges
@@ -226,6 +226,20 @@ module _ (for : What) (cell : Holder) where
       (outcome.Unknown cause.Memory)
       × Ends w (refused op.Put 0 ∷ put_out) (outcome.Failed (denied op.Put))
 
+  -- The source has changed where the status of a refusal says so, or its code; and a Put reads no source.
+  abbrev pub SourceChanges : Type 0
+  SourceChanges =
+      let refuses : Op → (status : ℕ) → (code : List ℕ) → Happening =
+      λ of_op status code. came of_op 0 (mark.Refusal ∷ []) (ending.Refused status code (codes "m")) in
+      Ends (one_piece kind.Copy false) (refuses op.Copy 412 (codes "OperationAborted") ∷ copy_out)
+      (outcome.Failed cause.Changed)
+      × Ends (one_piece kind.Copy false) (refuses op.Copy 409 (codes "PreconditionFailed") ∷ copy_out)
+      (outcome.Failed cause.Changed)
+      × Ends (one_piece kind.Copy false) (refuses op.Copy 403 (codes "412") ∷ copy_out)
+      (outcome.Failed (cause.Service op.Copy (codes "412") (codes "m")))
+      × Ends (one_piece kind.Upload false) (refuses op.Put 412 (codes "PreconditionFailed") ∷ put_out)
+      (outcome.Failed (cause.Service op.Put (codes "PreconditionFailed") (codes "m")))
+
   -- Three ranges in the order third, first, second; a time that could not be set changes nothing.
   abbrev pub RangesInAnyOrder : Type 0
   RangesInAnyOrder =
@@ -242,7 +256,7 @@ module _ (for : What) (cell : Holder) where
   abbrev pub RangeFails : Type 0
   RangeFails =
       let w = in_pieces kind.Download false 3 12 in
-      let changed = came op.Get 3 (mark.Refusal ∷ []) (ending.Refused (codes "412") (codes "Precondition Failed"))
+      let changed = came op.Get 3 (mark.Refusal ∷ []) (ending.Refused 412 (codes "412") (codes "Precondition Failed"))
       ∷ ranges_out in
       Waits w (got 2 ∷ changed)
       × Gives w (refused op.Get 1 ∷ got 2 ∷ changed) act.DropTemp
@@ -267,7 +281,7 @@ module _ (for : What) (cell : Holder) where
       let w = in_pieces kind.Upload false 2 8 in
       let kept = came op.Part 1 (mark.Uncertain ∷ []) (ending.Uncertain reason.EndedEarly) ∷ both_out in
       let denies = came_again op.Abort 0 (mark.Refusal ∷ [])
-      (ending.Refused (codes "AccessDenied") (codes "Access Denied")) in
+      (ending.Refused 403 (codes "AccessDenied") (codes "Access Denied")) in
       Gives w kept (act.Send op.Part 1)
       × Waits w (Cancelled reason_of.OutputFailed ∷ kept)
       × Gives w (stored 2 ∷ Cancelled reason_of.OutputFailed ∷ kept) (act.Send op.Abort 0)

@@ -2,12 +2,12 @@
 use Rattle.std.specs.Option.{option_or}
 use Rattle.std.specs.Prelude.{◌+◌, ◌-◌, ◌==◌, ◌&&◌, ◌||◌, ◌∷◌, [], ℕ, Bool, true, false, List, Option, Some, None}
 use Rattle.std.specs.Prelude.{codes}
+use Rattle.std.specs.Str.{bytes_eq}
 use Rattle.std.specs.Prelude.{is_some, length, nat_lt, if◌then◌else◌}
 use Rattle.jobs.specs.Endings.{SeenCarried}
 use Rattle.jobs.specs.declared.ending.Ending.{Ending}
 use Rattle.jobs.specs.declared.ending.Ending.TheVariants as ending
 use Rattle.s3_model.specs.Classes.{is_tried_again}
-use Rattle.s3_model.specs.Files.{is_listed}
 use Rattle.s3_model.specs.Parts.{piece_range}
 use Rattle.s3_model.specs.declared.answers.Class.TheVariants as class
 use Rattle.s3_model.specs.declared.answers.Reply.{Reply}
@@ -34,7 +34,7 @@ use Rattle.task_acts.specs.declared.work.Work.{Work}
 -- no attempt was made, or the last one would be tried again and others were left
 abbrev pub is_unfinished : (attempts made : ℕ) → Ending → Bool
 is_unfinished attempts made (ending.Cancelled reason) = true
-is_unfinished attempts made (ending.Refused code message) =
+is_unfinished attempts made (ending.Refused status code message) =
     nat_lt made attempts && is_tried_again (class.Refusal code message)
 is_unfinished attempts made (ending.Uncertain reason) = nat_lt made attempts && is_tried_again (class.Uncertain reason)
 is_unfinished attempts made ended = false
@@ -49,8 +49,8 @@ is_same_range None first last size = false
 is_same_range (Some range) first last size = (range.0 == first) && (range.1 == last) && (range.2 == size)
 
 -- the reply to a Get is the whole of the planned size, or the range of its number
-abbrev pub is_whole : Work → (status length : ℕ) → Bool
-is_whole w status length = (status == 200) && (length == w.size)
+abbrev pub is_whole_object : Work → (status length : ℕ) → Bool
+is_whole_object w status length = (status == 200) && (length == w.size)
 
 abbrev pub is_range : Work → (number status : ℕ) → Option (ℕ × ℕ × ℕ) → (length : ℕ) → Bool
 is_range w number status range length =
@@ -59,12 +59,8 @@ is_range w number status range length =
 
 abbrev pub is_asked_for : Work → (number : ℕ) → Reply → Bool
 is_asked_for w number (reply.Got status range length) =
-    if number == 0 then is_whole w status length else is_range w number status range length
+    if number == 0 then is_whole_object w status length else is_range w number status range length
 is_asked_for w number said = true
-
--- the codes of refusals that say that the source is another one by now
-abbrev pub changed_codes : List (List ℕ)
-changed_codes = codes "PreconditionFailed" ∷ codes "412" ∷ []
 
 abbrev pub reads_source : Op → Bool
 reads_source op.Get = true
@@ -72,9 +68,13 @@ reads_source op.Copy = true
 reads_source op.PartCopy = true
 reads_source of_op = false
 
-abbrev pub refused_cause : Op → (code message : List ℕ) → Cause
-refused_cause of_op code message =
-    if reads_source of_op && is_listed changed_codes code then cause.Changed else cause.Service of_op code message
+-- the source is another one by now: the status of the refusal says so, or its code
+abbrev pub says_changed : Op → (status : ℕ) → (code : List ℕ) → Bool
+says_changed of_op status code = reads_source of_op && ((status == 412) || bytes_eq (codes "PreconditionFailed") code)
+
+abbrev pub refused_cause : Op → (status : ℕ) → (code message : List ℕ) → Cause
+refused_cause of_op status code message =
+    if says_changed of_op status code then cause.Changed else cause.Service of_op code message
 
 abbrev pub lost_cause : Op → Why → Cause
 lost_cause of_op reason_of.Memory = cause.Memory
@@ -84,7 +84,7 @@ lost_cause of_op reason = cause.Lost of_op reason
 abbrev pub ended_cause : Work → Op → (number : ℕ) → Ending → Option Cause
 ended_cause w of_op number (ending.Gained said) =
     if is_asked_for w number said then None else Some (cause.BadReply of_op)
-ended_cause w of_op number (ending.Refused code message) = Some (refused_cause of_op code message)
+ended_cause w of_op number (ending.Refused status code message) = Some (refused_cause of_op status code message)
 ended_cause w of_op number (ending.Uncertain reason) = Some (lost_cause of_op reason)
 ended_cause w of_op number (ending.Cancelled reason) = Some (cause.Cancelled reason)
 ended_cause w of_op number ending.Memory = Some cause.Memory

@@ -60,18 +60,21 @@ part_back w stopped carried = if is_kept w stopped carried then None else carrie
 
 -- ---- the upload and the entity tags
 
-abbrev pub upload_in : Ending → Option (List ℕ)
-upload_in (ending.Gained (reply.Created upload)) = Some upload
-upload_in ended = None
+abbrev pub created_in : Ending → Option (List ℕ)
+created_in (ending.Gained (reply.Created upload)) = Some upload
+created_in ended = None
+
+abbrev pub upload_in : SeenCarried → Option (List ℕ)
+upload_in carried = if is_act (act.Send op.Create 0) (sent carried) then created_in carried.ending else None
 
 abbrev pub etag_in : Ending → Option (List ℕ)
 etag_in (ending.Gained (reply.PartStored etag)) = Some etag
 etag_in ended = None
 
--- the upload that a reply named
+-- the upload that the reply to its Create named
 abbrev pub upload_of : History → Option (List ℕ)
 upload_of [] = None
-upload_of (Came carried ∷ before) = option_or (upload_in carried.ending) (upload_of before)
+upload_of (Came carried ∷ before) = option_or (upload_in carried) (upload_of before)
 upload_of (Gave given ∷ before) = upload_of before
 upload_of (Returned called result ∷ before) = upload_of before
 upload_of (Cancelled reason ∷ before) = upload_of before

@@ -13,6 +13,7 @@ ghost use Rattle.task_acts.specs.Examples.{
   RangeFails,
   RangesInAnyOrder,
   RenamedOrDropped,
+  SourceChanges,
 };
 
 /// An upload in parts is created, read, sent and completed in that order, whatever the order in which its parts come
@@ -35,10 +36,12 @@ pub fn moves()
     ensures { (for : What) (cell : Holder) → MovesLast for cell }
 {}
 
-/// A job that its cell cut short is given again, and a lost answer leaves it open what happened.
+/// A job that its cell cut short is given again, a lost answer leaves it open what happened, and a refusal with the
+/// status 412 says that the source has changed.
 pub fn refusals()
     ensures again { (for : What) (cell : Holder) → CutShort for cell }
     ensures open { (for : What) (cell : Holder) → LeftOpen for cell }
+    ensures changed { (for : What) (cell : Holder) → SourceChanges for cell }
 {}
 
 /// Calls on files decide what requests do not.
