@@ -1,0 +1,11 @@
+use Rattle.std.proofs.Common.{◌≡◌, ◌∙◌, Bool, List, ap}
+use Rattle.std.specs.List.{position}
+use Rattle.number_sets.specs.Members.{is_set}
+use Rattle.piece_stages.specs.Pieces.{SeenPieces, can_send}
+use Rattle.piece_stages.proofs.Index.{first_of}
+use Rattle.piece_stages.proofs.pieces.Pieces.first_send.Goals as goal
+
+pub returns : goal.returns
+returns c =
+    c.first.ensures ∙ ap (λ (flags : List Bool). position is_set flags) c.self.invariant.sends_are
+    ∙ first_of (can_send c.self.inside.reads_first) c.self.inside.stages.items ∙ ap (λ (s : SeenPieces). position (can_send s.reads_first) s.stages) c.self.view_is
