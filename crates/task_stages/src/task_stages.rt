@@ -1,0 +1,220 @@
+//! The acts of a task.
+
+ghost use Rattle.std.specs.Prelude.{◌≡◌, ◌<◌, ◌+◌, ◌^◌, if◌then◌else◌, length, IfOk};
+ghost use Rattle.run_promise.specs.Dispatches.{is_op};
+ghost use Rattle.task_acts.specs.declared.acts.Act.{Act};
+ghost use Rattle.task_acts.specs.declared.acts.Stage.TheVariants as at;
+ghost use Rattle.task_acts.specs.Histories.{is_act};
+ghost use Rattle.task_acts.specs.Work.{first_number, piece_op};
+ghost use Rattle.task_stages.specs.Stages.{HasAct, HasPiece, piece_at, sent_at, stage_by, with_piece, with_stage};
+
+use crate::singles::Singles;
+use piece_stages::{PieceStages, Pieces};
+use s3_model::{Kind, Op};
+use std::alloc::{AllocError, Global};
+use std::marker::Model;
+use task_acts::{Act, Stage, Work};
+
+/// How far each act of a task is.
+///
+/// Contracts see the work of the task, the stages of the acts that it has once, and those of each piece.
+#[derive(Drop)]
+pub struct TaskStages {
+    work: Work,
+    singles: Singles,
+    pieces: Pieces,
+}
+
+impl Model for TaskStages {
+    ghost use Rattle.std.specs.Prelude.{◌≡◌, length};
+    ghost use Rattle.task_stages.specs.Stages.{IsWhole, SeenStages};
+
+    ghost Value = { SeenStages };
+
+    ghost view = { λ t. record { work = t.work; singles = t.singles; pieces = t.pieces.stages } };
+
+    ghost invariant = { λ t. IsWhole t.work t.pieces };
+}
+
+impl TaskStages {
+    /// A task of which nothing was given. It takes all the memory that its acts need.
+    pub fn make(alloc: Global, work: Work) -> Result<TaskStages, AllocError>
+        requires { work.count + 1 < 2 ^ 32 }
+        ensures work { IfOk result (λ stages. stages.work ≡ work) }
+        ensures pieces { IfOk result (λ stages. length stages.pieces ≡ work.count) }
+        ensures waiting { IfOk result (λ stages. (of_act : Act) → stage_by stages of_act ≡ at.Waiting) }
+    {
+        let pieces = Pieces::make(alloc, work.count, matches!(work.of_kind, Kind::Upload))?;
+        Ok(TaskStages {
+            work,
+            singles: Singles::none(),
+            pieces,
+        })
+    }
+
+    /// The number of the first piece.
+    fn first_number(&self) -> u32
+        ensures { result ≡ first_number self.now.work }
+    {
+        if self.work.small { 0 } else { 1 }
+    }
+
+    /// Whether an op is that of the pieces' requests.
+    fn is_piece_op(&self, op: Op) -> bool
+        ensures { result ≡ is_op op (piece_op self.now.work.of_kind self.now.work.small) }
+    {
+        match (self.work.of_kind, self.work.small) {
+            (Kind::Upload, true) => matches!(op, Op::Put),
+            (Kind::Upload, false) => matches!(op, Op::Part),
+            (Kind::Download, _) => matches!(op, Op::Get),
+            (Kind::Copy, true) => matches!(op, Op::Copy),
+            (Kind::Copy, false) => matches!(op, Op::PartCopy),
+            (Kind::RemoveObject | Kind::RemoveFile, _) => matches!(op, Op::Delete),
+        }
+    }
+
+    /// How far the acts of the piece of that number are; nothing was given where there is none.
+    fn piece(&self, number: u32) -> PieceStages
+        ensures { result ≡ piece_at self.now number }
+    {
+        let first = self.first_number();
+        if number < first {
+            return PieceStages::none();
+        }
+        if number - first >= self.work.count {
+            return PieceStages::none();
+        }
+        self.pieces.get(number - first)
+    }
+
+    /// How far the request of a piece is.
+    fn piece_sent(&self, op: Op, number: u32) -> Stage
+        ensures { result ≡ sent_at self.now op number }
+    {
+        if self.is_piece_op(op) {
+            self.piece(number).send
+        } else {
+            Stage::Waiting
+        }
+    }
+
+    /// How far a job is.
+    fn sent(&self, op: Op, number: u32) -> Stage
+        ensures { result ≡ stage_by self.now (Act.Send op number) }
+    {
+        match (op, number) {
+            (Op::Create, 0) => self.singles.create,
+            (Op::Complete, 0) => self.singles.complete,
+            (Op::Abort, 0) => self.singles.abort,
+            (Op::Delete, 0) => self.singles.delete,
+            (Op::Put | Op::Part | Op::Get | Op::Copy | Op::PartCopy, _) => {
+                self.piece_sent(op, number)
+            }
+            _ => Stage::Waiting,
+        }
+    }
+
+    /// How far an act is.
+    pub fn stage(&self, act: Act) -> Stage
+        ensures { result ≡ stage_by self.now act }
+    {
+        match act {
+            Act::Send { op, number } => self.sent(op, number),
+            Act::Read { number } => self.piece(number).read,
+            Act::Place { number } => self.piece(number).place,
+            Act::Assemble => self.singles.assemble,
+            Act::Rename => self.singles.rename,
+            Act::DropTemp => self.singles.drop_temp,
+            Act::Remove => self.singles.remove,
+            Act::Stamp => self.singles.stamp,
+        }
+    }
+
+    /// The acts of the piece of that number are so far now.
+    fn put_piece(&mut self, number: u32, piece: PieceStages)
+        requires { HasPiece self.old number }
+        ensures { self.new ≡ with_piece self.old number piece }
+    {
+        let index = number - self.first_number();
+        self.pieces.put(index, piece);
+    }
+
+    /// A job is so far now.
+    fn put_sent(&mut self, op: Op, number: u32, stage: Stage)
+        requires { HasAct self.old (Act.Send op number) }
+        ensures { self.new ≡ with_stage self.old (Act.Send op number) stage }
+    {
+        match op {
+            Op::Create => self.singles.create = stage,
+            Op::Complete => self.singles.complete = stage,
+            Op::Abort => self.singles.abort = stage,
+            Op::Delete => self.singles.delete = stage,
+            _ => {
+                let piece = self.piece(number);
+                self.put_piece(
+                    number,
+                    PieceStages {
+                        send: stage,
+                        ..piece
+                    },
+                );
+            }
+        }
+    }
+
+    fn put_read(&mut self, number: u32, stage: Stage)
+        requires { HasPiece self.old number }
+        ensures { self.new ≡ with_stage self.old (Act.Read number) stage }
+    {
+        let piece = self.piece(number);
+        self.put_piece(
+            number,
+            PieceStages {
+                read: stage,
+                ..piece
+            },
+        );
+    }
+
+    fn put_place(&mut self, number: u32, stage: Stage)
+        requires { HasPiece self.old number }
+        ensures { self.new ≡ with_stage self.old (Act.Place number) stage }
+    {
+        let piece = self.piece(number);
+        self.put_piece(
+            number,
+            PieceStages {
+                place: stage,
+                ..piece
+            },
+        );
+    }
+
+    fn put(&mut self, act: Act, stage: Stage)
+        requires { HasAct self.old act }
+        ensures { self.new ≡ with_stage self.old act stage }
+    {
+        match act {
+            Act::Send { op, number } => self.put_sent(op, number, stage),
+            Act::Read { number } => self.put_read(number, stage),
+            Act::Place { number } => self.put_place(number, stage),
+            Act::Assemble => self.singles.assemble = stage,
+            Act::Rename => self.singles.rename = stage,
+            Act::DropTemp => self.singles.drop_temp = stage,
+            Act::Remove => self.singles.remove = stage,
+            Act::Stamp => self.singles.stamp = stage,
+        }
+    }
+
+    /// An act that the task has is so far now.
+    #[tactic(auto, using(crate::proofs::Agreement::agrees, crate::proofs::Agreement::same_many))]
+    pub fn set(&mut self, act: Act, stage: Stage)
+        requires { HasAct self.old act }
+        ensures work { self.new.work ≡ self.old.work }
+        ensures pieces { length self.new.pieces ≡ length self.old.pieces }
+        ensures stages { (other : Act) → stage_by self.new other ≡
+            (if is_act other act then stage else stage_by self.old other) }
+    {
+        self.put(act, stage);
+    }
+}
