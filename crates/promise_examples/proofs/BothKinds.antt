@@ -8,6 +8,7 @@ use Rattle.s3_model.specs.declared.answers.Class.TheVariants as class
 use Rattle.s3_model.specs.declared.answers.Listed.{Listed}
 use Rattle.s3_model.specs.declared.answers.Reply.{Reply}
 use Rattle.s3_model.specs.declared.answers.Reply.TheVariants as reply
+use Rattle.s3_model.specs.declared.answers.Why.{Why}
 use Rattle.s3_model.specs.declared.outcomes.Cause.TheVariants as cause
 use Rattle.s3_model.specs.declared.outcomes.JobId.{JobId}
 use Rattle.s3_model.specs.declared.outcomes.Outcome.{Outcome}
@@ -26,7 +27,7 @@ use Rattle.run_promise.specs.Fits.{Fits, IsAnswered, Names, request_at, requests
 use Rattle.run_promise.specs.Outcomes.{HasOutcome, IsFirstFailure, SaysChanged, came_with}
 use Rattle.run_promise.specs.Runs.{IsFitting, Run, moments}
 use Rattle.run_promise.specs.Schedule.{IsBefore, IsDecided, IsFailed, IsSchedule, job_of, most_body}
-use Rattle.run_promise.specs.Traces.{IsTrace, Serve, TraceEvent, begun_in, events_of}
+use Rattle.run_promise.specs.Traces.{External, IsTrace, Serve, TraceEvent, begun_in, events_of}
 use Rattle.run_promise.specs.Truthful.{FitsShown, IsDest}
 use Rattle.local_files.specs.Calls.{DropTemp, MakeTemp, Rename, WriteAt}
 use Rattle.shared_lemmas.proofs.Clashes.{false_true as never}
@@ -48,15 +49,16 @@ use Rattle.promise_examples.specs.Reading.{Reads, HasNoStatus, signed_body}
 use Rattle.promise_examples.specs.Services.{object_of, one_bucket}
 use Rattle.promise_examples.proofs.BothPlan.{s, last_task, no_task, object_is_no_file, task_numbers, of_plan, still, config_is_valid, upload_pieces, first_pieces, second_pieces, to_upload, from_first, from_second, source_is, body_is, dests_apart, files_apart, other_length, call_run}
 use Rattle.promise_examples.proofs.Carrying as carrying
-use Rattle.promise_examples.proofs.Concrete.{at, each, some_is}
+use Rattle.promise_examples.proofs.Concrete.{Each, at, each, some_is}
 use Rattle.promise_examples.proofs.Fitting as fitting
-use Rattle.promise_examples.proofs.Honest.{has_bucket, honest, one_bucket_is_faithful}
+use Rattle.promise_examples.proofs.Honest.{IsInside, has_bucket, honest, one_bucket_is_faithful}
 use Rattle.promise_examples.proofs.ManyCalls as many
 use Rattle.promise_examples.proofs.Noting as noting
 use Rattle.promise_examples.proofs.Readings.{names, refusal_success}
 use Rattle.promise_examples.proofs.Repeats.{other_job}
 use Rattle.promise_examples.proofs.Scheduling as scheduling
 use Rattle.promise_examples.proofs.Scheduling.{other_op}
+use Rattle.promise_examples.proofs.WillingBoth.{first_is_there as is_there, none_by_call, one_attempt, refusal_uncertain, success_uncertain, willing}
 
 module _ (page_of : List ℕ → Listed) where
   abbrev Shows : Ask → ℕ → Talk → Class → List ℕ → Type 0
@@ -623,6 +625,25 @@ module _ (page_of : List ℕ → Listed) where
         ),
       )
 
+  -- ---- a service that does what it may
+
+  abbrev IsCertainIn : Dispatched → Type 0
+  IsCertainIn c = (place : ℕ) (attempt : Attempt) (why : Why) (b : List ℕ) → slice_get c.dispatch.attempts place ≡ Some attempt → Shows c.ask c.limit attempt.talk (class.Uncertain why) b → ⊥
+
+  certain_by : (c : Dispatched) (only : Attempt) → c.dispatch.attempts ≡ only ∷ [] → ((why : Why) (b : List ℕ) → Shows c.ask c.limit only.talk (class.Uncertain why) b → ⊥) → IsCertainIn c
+  certain_by c only is never_shown place attempt why b at_place shows =
+      let same = one_attempt only attempt place (subst (λ (xs : List Attempt). slice_get xs place ≡ Some attempt) is at_place) in
+      never_shown why b (subst (λ (a : Attempt). Shows c.ask c.limit a.talk (class.Uncertain why) b) (sym same) shows)
+
+  all_certain : Each IsCertainIn jobs
+  all_certain = (
+    certain_by put_sent (well put_talk) refl (λ why b shows. success_uncertain reply.Stored why shows.0),
+    (
+      certain_by first_sent (well first_talk) refl (λ why b shows. success_uncertain (reply.Got 200 None 2) why shows.0),
+      (certain_by second_sent refused_get refl (λ why b shows. refusal_uncertain denied [] why shows.0), tt),
+    ),
+  )
+
   met : IsMetByBoth page_of
   met = record {
     dispatched = jobs;
@@ -635,6 +656,11 @@ module _ (page_of : List ℕ → Listed) where
       fits = fits;
     };
     whole = ([], refl, refl);
+    willing = willing;
+    certain = λ c place attempt why b known at shows. each IsCertainIn jobs all_certain c known place attempt why b at shows;
+    alone = λ write happened. each IsInside events (tt, (tt, (tt, (tt, (tt, (tt, (tt, (tt, (tt, (tt, (tt, (tt, tt)))))))))))) (External write) happened;
+    counted = λ n why at failed. absurd (none_by_call n why at failed);
+    there = is_there;
   }
 
 pub both_kinds_are_met : BothKindsAreMet

@@ -34,3 +34,4 @@ pub mod TwoPages
 pub mod WholePut
 pub mod WireBreaks
 pub mod Wiring
+pub mod WillingBoth

@@ -26,16 +26,18 @@ use Rattle.s3_service.specs.Serves.{Replied, Refused}
 use Rattle.run_promise.specs.Dispatches.{Dispatched}
 use Rattle.run_promise.specs.Runs.{HasJournal, IsFitting}
 use Rattle.run_promise.specs.Schedule.{job_of}
-use Rattle.run_promise.specs.Traces.{SentRequest, Step, Given, Begin, Serve, Came}
-use Rattle.run_promise.specs.Truthful.{IsDest, Shown}
+use Rattle.run_promise.specs.Traces.{SentRequest, Step, Given, Begin, Serve, Came, IsWilling}
+use Rattle.run_promise.specs.Truthful.{AreCertain, IsAlone, IsDest, Shown}
 use Rattle.run_promise.specs.Carried.{in_first}
 use Rattle.local_files.specs.Calls.{Call, DropTemp, MakeTemp, Remove, Rename, Stamp, WriteAt, written_at}
+use Rattle.world_laws.specs.Completeness.{AreCallsCounted}
 use Rattle.world_laws.specs.ExampleTasks as tasks
 use Rattle.world_laws.specs.Promises.{run_of}
 use Rattle.file_laws.specs.FileEnds.{HasFailedCall}
 use Rattle.file_laws.specs.FileTasks.{TaskCall}
 use Rattle.file_laws.specs.FileWitnesses.{file_removal}
 use Rattle.file_laws.specs.PlanEnds.{IsPlanCarriedOut}
+use Rattle.file_completeness.specs.FileCompleteness.{IsDownloadThere}
 use Rattle.promise_examples.specs.Everything.{step}
 use Rattle.promise_examples.specs.Reading.{Reads, HasNoStatus, signed_body}
 use Rattle.promise_examples.specs.Services.{object_of, one_bucket}
@@ -264,13 +266,19 @@ trace =
     ∷ step (Came (get_job 2) 0 (mark.Refusal ∷ [])) stored
     ∷ []
 
--- it is carried out over wires and files, and this trace is one that fits it
+-- It is carried out over wires and files, and this trace is one that fits it. It is that of a service which does what it
+-- may, and the object of the first download is there as planned.
 pub record IsMetByBoth (page_of : List ℕ → Listed) : Type 0 where
   pub dispatched : List Dispatched
   pub carried_out : IsPlanCarriedOut (Reads page_of) HasNoStatus (λ planning. planning ≡ []) (HasFailedCall calls)
       signed_body [] 80 shown dispatched dispatched calls
   pub fitting : IsFitting (Reads page_of) limits (run_of shown dispatched start trace) (IsDest plan)
   pub whole : HasJournal journal trace trace
+  pub willing : IsWilling limits start trace
+  pub certain : AreCertain (Reads page_of) dispatched
+  pub alone : IsAlone trace
+  pub counted : AreCallsCounted (Reads page_of) HasNoStatus (λ planning. planning ≡ []) (HasFailedCall calls) shown
+  pub there : IsDownloadThere plan start 1 first_load
 
 abbrev pub BothKindsAreMet : Type 0
 BothKindsAreMet = (page_of : List ℕ → Listed) → IsMetByBoth page_of
