@@ -26,7 +26,7 @@ ghost use Rattle.lane_jobs.specs.Lanes.{
 use crate::tries::{Went, make_attempts};
 use attempts::{Client, Payload};
 use jobs::{CancelCell, Carried, Ending, Job, What, ask_of};
-use s3_model::{Ask, Bytes, Endpoint, Keys, OutOfMemory, Part, Text, Tries};
+use s3_model::{Ask, Bytes, Endpoint, Keys, OutOfMemory, Part, Tries};
 use s3_outside::Wire;
 use std::alloc::Global;
 use std::marker::Model;
@@ -53,44 +53,6 @@ impl Model for Carrier {
     ghost view = { λ l. record { endpoint = l.client.endpoint; keys = l.client.signer; attempts = l.attempts } };
 
     ghost invariant = { λ l. IsWithin 1 l.attempts 10 };
-}
-
-fn copy_of(text: &Option<Text>) -> Result<Option<Text>, OutOfMemory>
-    ensures { IfOk result (λ copy. copy ≡ text.now) }
-{
-    match text {
-        Some(text) => Ok(Some(text.copy()?)),
-        None => Ok(None),
-    }
-}
-
-fn copy_endpoint(endpoint: &Endpoint) -> Result<Endpoint, OutOfMemory>
-    ensures { IfOk result (λ copy. copy ≡ endpoint.now) }
-{
-    Ok(Endpoint {
-        host: endpoint.host.copy()?,
-        port: endpoint.port,
-        written: endpoint.written.copy()?,
-    })
-}
-
-fn copy_keys(keys: &Keys) -> Result<Keys, OutOfMemory>
-    ensures { IfOk result (λ copy. copy ≡ keys.now) }
-{
-    Ok(Keys {
-        id: keys.id.copy()?,
-        secret: keys.secret.copy()?,
-        token: copy_of(&keys.token)?,
-        region: keys.region.copy()?,
-    })
-}
-
-/// A client of the service at a copy of the endpoint, with a copy of the keys.
-fn client_of(alloc: Global, endpoint: &Endpoint, keys: &Keys) -> Result<Client, OutOfMemory>
-    ensures endpoint { IfOk result (λ client. client.endpoint ≡ endpoint.now) }
-    ensures keys { IfOk result (λ client. client.signer ≡ keys.now) }
-{
-    Client::make(alloc, copy_endpoint(endpoint)?, copy_keys(keys)?)
 }
 
 /// The bytes of a part, none where there is no part.
@@ -125,19 +87,19 @@ fn out_of_memory() -> Went
 }
 
 impl Carrier {
-    /// A carrier of jobs of at most `attempts` attempts each, from 1 to 10, for a service at a copy of this endpoint,
-    /// with a copy of these keys. It takes some 800 KiB of memory.
+    /// A carrier of jobs of at most `attempts` attempts each, from 1 to 10, for the service at this endpoint. It takes
+    /// some 800 KiB of memory.
     pub fn make(
         alloc: Global,
-        endpoint: &Endpoint,
-        keys: &Keys,
+        endpoint: Endpoint,
+        keys: Keys,
         attempts: u32,
     ) -> Result<Carrier, OutOfMemory>
         requires { IsWithin 1 attempts 10 }
         ensures { IfOk result (λ carrier.
-            carrier ≡ record { endpoint = endpoint.now; keys = keys.now; attempts = attempts }) }
+            carrier ≡ record { endpoint = endpoint; keys = keys; attempts = attempts }) }
     {
-        let client = client_of(alloc, endpoint, keys)?;
+        let client = Client::make(alloc, endpoint, keys)?;
         let nowhere = Bytes::make(alloc, 0)?;
         Ok(Carrier {
             client,

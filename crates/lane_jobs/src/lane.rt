@@ -6,7 +6,7 @@ ghost use Rattle.lane_jobs.specs.Lanes.{IsCarriedBy, IsSameCarrier, IsSameJob, r
 
 use crate::carrier::Carrier;
 use jobs::{Carried, Job};
-use s3_model::{Endpoint, Keys};
+use s3_model::{Endpoint, Keys, OutOfMemory, Text};
 use s3_outside::Wire;
 use std::alloc::Global;
 use std::marker::Model;
@@ -27,9 +27,53 @@ impl<W> Model for Lane<W> {
     ghost view = { λ l. record { wire = l.wire; carrier = l.carrier } };
 }
 
+fn copy_of(text: &Option<Text>) -> Result<Option<Text>, OutOfMemory>
+    ensures { IfOk result (λ copy. copy ≡ text.now) }
+{
+    match text {
+        Some(text) => Ok(Some(text.copy()?)),
+        None => Ok(None),
+    }
+}
+
+fn copy_endpoint(endpoint: &Endpoint) -> Result<Endpoint, OutOfMemory>
+    ensures { IfOk result (λ copy. copy ≡ endpoint.now) }
+{
+    Ok(Endpoint {
+        host: endpoint.host.copy()?,
+        port: endpoint.port,
+        written: endpoint.written.copy()?,
+    })
+}
+
+fn copy_keys(keys: &Keys) -> Result<Keys, OutOfMemory>
+    ensures { IfOk result (λ copy. copy ≡ keys.now) }
+{
+    Ok(Keys {
+        id: keys.id.copy()?,
+        secret: keys.secret.copy()?,
+        token: copy_of(&keys.token)?,
+        region: keys.region.copy()?,
+    })
+}
+
+/// A carrier with copies of an endpoint and of keys.
+fn carrier_of(
+    alloc: Global,
+    endpoint: &Endpoint,
+    keys: &Keys,
+    attempts: u32,
+) -> Result<Carrier, OutOfMemory>
+    requires { IsWithin 1 attempts 10 }
+    ensures { IfOk result (λ carrier.
+        carrier ≡ record { endpoint = endpoint.now; keys = keys.now; attempts = attempts }) }
+{
+    Carrier::make(alloc, copy_endpoint(endpoint)?, copy_keys(keys)?, attempts)
+}
+
 impl<W: Wire + Drop> Lane<W> {
-    /// A lane over this wire, for jobs of at most `attempts` attempts each, from 1 to 10. It takes some 800 KiB of
-    /// memory; where there is not enough, the wire is handed back.
+    /// A lane over this wire with copies of the endpoint and the keys, for jobs of at most `attempts` attempts each,
+    /// from 1 to 10. It takes some 800 KiB of memory; where there is not enough, the wire is handed back.
     pub fn make(
         alloc: Global,
         wire: W,
@@ -48,7 +92,7 @@ impl<W: Wire + Drop> Lane<W> {
         }) }
         ensures back { IfErr result (λ back. back ≡ wire) }
     {
-        match Carrier::make(alloc, endpoint, keys, attempts) {
+        match carrier_of(alloc, endpoint, keys, attempts) {
             Ok(carrier) => Ok(Lane { wire, carrier }),
             Err(_) => Err(wire),
         }

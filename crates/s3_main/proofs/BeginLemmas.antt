@@ -6,7 +6,7 @@ use Rattle.env_settings.specs.Calls.{AnswersAs}
 use Rattle.env_settings.specs.declared.fault.SettingsFault.{SettingsFault}
 use Rattle.env_settings.specs.declared.fault.SettingsFault.TheVariants as unread
 use Rattle.s3_model.specs.Counts.{Rose}
-use Rattle.s3_main.specs.Settings.{settings_fatal, settings_for}
+use Rattle.run_start.specs.Settings.{settings_fatal, settings_for}
 use Rattle.s3_model.specs.Talks.{Talk, Note, WireLog}
 use Rattle.s3_outside.specs.Env.{SeenEnv}
 use Rattle.s3_outside.specs.Files.{SeenFiles}
@@ -16,15 +16,16 @@ use Rattle.upload_plans.specs.Commands.{is_listing, is_presign, path_at, source_
 use Rattle.run_promise.specs.Gains.{Gains}
 use Rattle.upload_promise.specs.Sources.{LooksAt}
 use Rattle.run_promise.proofs.GainLemmas.{gains_as, gains_nothing}
-use Rattle.s3_main.specs.declared.run.Fatal.{Fatal}
-use Rattle.s3_main.specs.declared.run.Fatal.TheVariants as fatal
-use Rattle.s3_main.specs.declared.run.Run.{Run}
-use Rattle.s3_main.specs.Begun.{IsBegun, RefusedFor, StopsInSettings, StopsInWords, path_in}
+use Rattle.run_report.specs.declared.run.Fatal.{Fatal}
+use Rattle.run_report.specs.declared.run.Fatal.TheVariants as fatal
+use Rattle.run_report.specs.declared.run.Run.{Run}
+use Rattle.run_start.specs.Begun.{IsBegun, RefusedFor, StopsInSettings, StopsInWords}
+use Rattle.s3_main.specs.Asked.{path_in}
 use Rattle.s3_main.specs.Executed.{DoesOn, GoesOn}
-use Rattle.s3_main.specs.Plans.{HasNoTask}
 use Rattle.s3_main.specs.Runs.{GoesAs, IsUnasked, StopsFor, StopsPlanning, Undertakes}
-use Rattle.s3_main.specs.Texts.{HasLine}
+use Rattle.run_report.specs.Texts.{HasLine}
 use Rattle.s3_main.proofs.ExecutionLemmas.{nothing, stops_for, unplanned}
+use Rattle.run_report.specs.Taskless.{HasNoTask}
 
 -- the path of the command is that of the words
 pub source_is : (words : List (List ℕ)) (command : Command) → IsCommand words command → source_path command ≡ path_in words
@@ -34,39 +35,6 @@ pub looks_words : (words : List (List ℕ)) (command : Command) → IsCommand wo
 looks_words words command is before after looks = subst (λ (path : List ℕ). LooksAt path before after) (source_is words command is) looks
 
 -- ---- a run that ended in its words or in its settings
-
--- settings that were not read are refused for what reading them answers
-pub refused_for : (command : Command) (env : Option SeenEnv) (before after : ℕ) (fault : SettingsFault) → IfSome env (λ seen. AnswersAs (settings_for command seen) (Err fault))
-    → (◌≡◌ {A = Result Settings SettingsFault} (Err fault) (Err unread.EnvRead) → Rose before after) → RefusedFor command env before after (settings_fatal fault)
-refused_for command env before after (unread.Profile fault) answers rose = answers
-refused_for command env before after unread.EnvRead answers rose = rose refl
-refused_for command env before after unread.Memory answers rose = tt
-
-words_line : (words : List (List ℕ)) (why : Fatal) → StopsInWords words why → HasLine why
-words_line words fatal.Memory h = tt
-words_line words (fatal.Words fault) h = tt
-words_line words fatal.NotYet h = tt
-words_line words (fatal.Profile fault) h = absurd h
-words_line words fatal.EnvRead h = absurd h
-words_line words (fatal.Plan fault) h = absurd h
-words_line words (fatal.Walk fault) h = absurd h
-words_line words (fatal.Listing fault) h = absurd h
-words_line words (fatal.Answer why) h = absurd h
-
-refused_line : (command : Command) (env : Option SeenEnv) (before after : ℕ) (why : Fatal) → RefusedFor command env before after why → HasLine why
-refused_line command env before after fatal.Memory h = tt
-refused_line command env before after (fatal.Profile fault) h = tt
-refused_line command env before after fatal.EnvRead h = tt
-refused_line command env before after (fatal.Words fault) h = absurd h
-refused_line command env before after fatal.NotYet h = absurd h
-refused_line command env before after (fatal.Plan fault) h = absurd h
-refused_line command env before after (fatal.Walk fault) h = absurd h
-refused_line command env before after (fatal.Listing fault) h = absurd h
-refused_line command env before after (fatal.Answer why) h = absurd h
-
-pub early_line : (words : List (List ℕ)) (env : Option SeenEnv) (before after : ℕ) (why : Fatal) → StopsInWords words why ⊎ StopsInSettings words env before after why → HasLine why
-early_line words env before after why (inl h) = words_line words why h
-early_line words env before after why (inr h) = refused_line h.0 env before after why h.2
 
 words_unasked : (words : List (List ℕ)) (why : Fatal) → StopsInWords words why → IsUnasked (Some why)
 words_unasked words fatal.Memory h = tt

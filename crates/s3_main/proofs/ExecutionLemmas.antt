@@ -25,13 +25,16 @@ use Rattle.run_promise.specs.Gains.{Gains}
 use Rattle.upload_promise.specs.Uploads.{IsReadCause, WantsJournal}
 use Rattle.run_promise.proofs.GainLemmas.{gains_as, gains_nothing}
 use Rattle.small_uploads.specs.Uploading.{Uploads, put_ask}
-use Rattle.s3_main.specs.declared.run.Fatal.{Fatal}
-use Rattle.s3_main.specs.declared.run.Fatal.TheVariants as fatal
-use Rattle.s3_main.specs.declared.run.Run.{Run}
-use Rattle.s3_main.specs.Executed.{DoesOn, EndsAs, EndsForMemory, GoesOn, HasNoUpload, IsUnseen, MayUpload, MayWant}
-use Rattle.s3_main.specs.Plans.{HasNoTask, IsFate, IsUpload, MayEnd, path_of}
+use Rattle.run_report.specs.declared.run.Fatal.{Fatal}
+use Rattle.run_report.specs.declared.run.Fatal.TheVariants as fatal
+use Rattle.run_report.specs.declared.run.Run.{Run}
+use Rattle.run_report.specs.Taskless.{EndsForMemory, HasNoTask, MayEnd}
+use Rattle.run_task.specs.Uploaded.{MayUpload, MayWant}
+use Rattle.s3_main.specs.Executed.{DoesOn, EndsAs, GoesOn, HasNoUpload, IsUnseen}
+use Rattle.run_task.specs.Uploaded.{IsUpload, path_of}
+use Rattle.s3_main.specs.Plans.{IsFate}
 use Rattle.s3_main.specs.Runs.{IsNothingPlanned, IsUnasked, IsUnplanned, StopsPlanning}
-use Rattle.s3_main.specs.Texts.{HasLine}
+use Rattle.run_report.specs.Texts.{HasLine}
 
 none_some : {X : Type 0} (x : X) → None ≡ Some x → ⊥
 none_some x e = cc
@@ -246,9 +249,3 @@ unseen_line before after (fatal.Plan fault) h = absurd h
 unseen_line before after (fatal.Listing fault) h = absurd h
 unseen_line before after (fatal.Answer why) h = absurd h
 unseen_line before after fatal.NotYet h = absurd h
-
--- memory ran out before the task
-pub stopped_goes : (endpoint : Endpoint) (keys : Keys) (attempts : ℕ) (task : Task) (now : Option SeenFiles) (before after : ℕ) (run : Run) (seen : Option WireLog) → EndsForMemory run
-    → Gains seen seen (MayUpload endpoint keys attempts task now before after run)
-stopped_goes endpoint keys attempts task now before after run seen memory =
-    gains_nothing (MayUpload endpoint keys attempts task now before after run) seen (inl (record { stopped = memory; no_talk = refl; no_note = refl }))

@@ -1,7 +1,6 @@
 pub mod BeginLemmas
 pub mod ExecutionLemmas
 pub mod ListingLemmas
-pub mod OutputLemmas
 pub mod PromiseLemmas
 pub mod TopLemmas
 pub mod UrlLemmas

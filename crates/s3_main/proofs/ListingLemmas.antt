@@ -10,14 +10,12 @@ use Rattle.listings.specs.Pages as pages
 use Rattle.listings.proofs.BucketLemmas.{buckets_end, pages_end}
 use Rattle.listings.proofs.SomeLemmas.{some_as}
 use Rattle.listing_commands.specs.declared.show.Shown.{Shown}
-use Rattle.listings.specs.Faults.{IsCauseOf, IsNoCancel}
+use Rattle.listings.specs.Faults.{IsCauseOf}
 use Rattle.listings.specs.declared.fault.ListingFault.{ListingFault}
 use Rattle.listings.specs.declared.fault.ListingFault.TheVariants as unlisted
-use Rattle.result_lines.specs.Causes.{IsShown}
 use Rattle.result_lines.specs.declared.tasks.Line.{Line}
 use Rattle.s3_model.specs.declared.list.OutOfMemory.{OutOfMemory}
 use Rattle.s3_model.specs.declared.outcomes.Cause.{Cause}
-use Rattle.s3_model.specs.declared.outcomes.Cause.TheVariants as cause
 use Rattle.s3_model.specs.declared.faults.BadListing.{BadListing}
 use Rattle.s3_model.specs.declared.faults.BadListing.TheVariants as bad
 use Rattle.s3_model.specs.declared.outcomes.Event.{Event}
@@ -36,40 +34,21 @@ use Rattle.s3_words.specs.declared.commands.Command.{Command}
 use Rattle.upload_plans.specs.Commands.{is_listing}
 use Rattle.run_promise.specs.Gains.{Gains}
 use Rattle.run_promise.proofs.GainLemmas.{gains_as}
-use Rattle.s3_main.specs.declared.run.Fatal.{Fatal}
-use Rattle.s3_main.specs.declared.run.Fatal.TheVariants as fatal
-use Rattle.s3_main.specs.declared.run.Run.{Run}
-use Rattle.s3_main.specs.Begun.{IsBegun, lists_in, mode_in}
+use Rattle.run_report.specs.declared.run.Fatal.{Fatal}
+use Rattle.run_report.specs.declared.run.Fatal.TheVariants as fatal
+use Rattle.run_report.specs.declared.run.Run.{Run}
+use Rattle.run_start.specs.Begun.{IsBegun}
+use Rattle.s3_main.specs.Asked.{lists_in}
 use Rattle.s3_main.specs.Executed.{HasLineOf, HasStatusOf}
-use Rattle.s3_main.specs.Listings.{EndsListing, HasNoOutcome, IsListing, IsMade, Lists, fatal_for}
+use Rattle.run_show.specs.Listings.{HasNoOutcome, IsMade, Lists, MayEndListing, fatal_for}
+use Rattle.s3_main.specs.Listings.{EndsListing, IsListing}
 use Rattle.s3_main.specs.Own.{IsRows, Own}
-use Rattle.s3_main.specs.Plans.{MayEnd}
-use Rattle.s3_main.specs.Runs.{IsListingEnd, IsUnasked, MakesListing, MayEndListing, StopsFor, listed_op}
-use Rattle.s3_main.specs.Texts.{HasLine}
+use Rattle.run_report.specs.Taskless.{MayEnd}
+use Rattle.s3_main.specs.Runs.{IsListingEnd, IsUnasked, MakesListing, StopsFor, listed_op}
+use Rattle.run_report.specs.Texts.{mode_in}
 use Rattle.s3_main.proofs.UrlLemmas.{lists, no_memory, url_texts}
 
 -- ---- ends
-
-pub shown_cause : (why : Cause) → IsNoCancel (unlisted.Answer why) → IsShown why
-shown_cause (cause.Cancelled reason) h = absurd h
-shown_cause (cause.Service called code message) h = tt
-shown_cause (cause.Lost called reason) h = tt
-shown_cause cause.Changed h = tt
-shown_cause (cause.BadReply called) h = tt
-shown_cause (cause.Files call) h = tt
-shown_cause (cause.Blocked length) h = tt
-shown_cause cause.Memory h = tt
-
-pub listing_line : (why : Fatal) → MayEndListing why → HasLine why
-listing_line (fatal.Listing refused) h = h
-listing_line (fatal.Answer why) h = h
-listing_line fatal.Memory h = tt
-listing_line (fatal.Words fault) h = absurd h
-listing_line (fatal.Profile fault) h = absurd h
-listing_line fatal.EnvRead h = absurd h
-listing_line (fatal.Plan fault) h = absurd h
-listing_line (fatal.Walk fault) h = absurd h
-listing_line fatal.NotYet h = absurd h
 
 -- what is shown of a listing that an answer ended is that it did
 unlisted_is : {T : Type 0} (Shows : T → Shown → Type 0) (listed : Result T ListingFault) (why : Cause) → IsShownBy Shows listed (Err (unlisted.Answer why)) → listed ≡ Err (unlisted.Answer why)

@@ -34,9 +34,10 @@ use Rattle.s3_words.specs.Given.{is_given}
 use Rattle.s3_words.specs.Places.{places_in}
 use Rattle.s3_words.specs.declared.options.OptionName.TheVariants.{Recursive}
 use Rattle.upload_plans.specs.Commands.{is_listing}
-use Rattle.s3_main.specs.declared.run.Fatal.{Fatal}
-use Rattle.s3_main.specs.declared.run.Fatal.TheVariants as fatal
-use Rattle.s3_main.specs.Listings.{EndsListing, HasNoOutcome}
+use Rattle.run_report.specs.declared.run.Fatal.{Fatal}
+use Rattle.run_report.specs.declared.run.Fatal.TheVariants as fatal
+use Rattle.run_show.specs.Listings.{HasNoOutcome}
+use Rattle.s3_main.specs.Listings.{EndsListing}
 use Rattle.s3_main.specs.Urls.{IsPresigned}
 use Rattle.s3_model.specs.Validity.{IsValidConfig, IsValidLimits, IsWithin}
 use Rattle.s3_outside.specs.Env.{SeenEnv}
@@ -55,9 +56,11 @@ use Rattle.upload_promise.specs.Sources.{LooksAt}
 use Rattle.upload_promise.proofs.PromiseLemmas as promise
 use Rattle.upload_promise.proofs.PromiseLemmas.{one_valid}
 use Rattle.put_promise.proofs.PromiseLemmas.{uploaded}
-use Rattle.s3_main.specs.declared.run.Run.{Run}
-use Rattle.s3_main.specs.Begun.{IsBegun, lists_in, needs_in, path_in}
-use Rattle.s3_main.specs.Plans.{HasPlan, HasUploaded, IsFate, IsIdle, Works, path_of, warnings_of}
+use Rattle.run_report.specs.declared.run.Run.{Run}
+use Rattle.run_start.specs.Begun.{IsBegun}
+use Rattle.s3_main.specs.Asked.{lists_in, needs_in, path_in}
+use Rattle.run_task.specs.Uploaded.{HasUploaded, path_of}
+use Rattle.s3_main.specs.Plans.{HasPlan, IsFate, IsIdle, Works, warnings_of}
 use Rattle.s3_main.specs.Runs.{GoesAs, IfSeen, IsTrue, IsUnasked, IsUnplanned, PlansBy, config_for}
 use Rattle.s3_main.proofs.BeginLemmas.{source_is}
 use Rattle.s3_main.proofs.UrlLemmas.{lists, presign_is_no_listing}

@@ -13,9 +13,9 @@ use Rattle.upload_plans.specs.declared.plan.Fate.{Fate}
 use Rattle.upload_plans.specs.declared.plan.Fate.TheVariants as fate
 use Rattle.upload_promise.specs.Uploads.{WantsJournal}
 use Rattle.small_uploads.specs.Uploading.{Uploads, put_ask}
-use Rattle.s3_main.specs.declared.run.Fatal.{Fatal}
-use Rattle.s3_main.specs.declared.run.Fatal.TheVariants as fatal
-use Rattle.s3_main.specs.declared.run.Run.{Run}
+use Rattle.run_report.specs.declared.run.Fatal.{Fatal}
+use Rattle.run_report.specs.declared.run.Fatal.TheVariants as fatal
+use Rattle.run_report.specs.declared.run.Run.{Run}
 use Rattle.listing_commands.specs.Commands.{ShowsListing}
 use Rattle.listing_commands.specs.declared.show.Shown.{Shown}
 use Rattle.listings.specs.declared.fault.ListingFault.{ListingFault}
@@ -23,14 +23,19 @@ use Rattle.listings.proofs.SomeLemmas.{some_as}
 use Rattle.run_promise.proofs.GainLemmas.{gains_as}
 use Rattle.s3_model.specs.declared.outcomes.Outcome.{Outcome}
 use Rattle.s3_model.specs.declared.tasks.Warning.{Warning}
-use Rattle.s3_main.specs.Begun.{lists_in, mode_in}
+use Rattle.s3_main.specs.Asked.{lists_in}
 use Rattle.s3_main.specs.Executed.{HasLineOf, HasStatusOf}
-use Rattle.s3_main.specs.Listings.{EndsListing, HasNoOutcome, IsListing}
+use Rattle.run_show.specs.Listings.{HasNoOutcome}
+use Rattle.s3_main.specs.Listings.{EndsListing, IsListing}
 use Rattle.s3_main.specs.Own.{IsOwn, IsRows, Own, nothing_own}
 use Rattle.s3_main.specs.Urls.{IsTaskless}
-use Rattle.s3_main.specs.Plans.{HasPlan, IsIdle, MayEnd, Wants, Works, path_of}
-use Rattle.s3_main.specs.Runs.{EndsAsShown, EndsWith, GoesAs, IsNothingPlanned, IsPrinted, IsPrintedAs, IsUnasked, OnFirst, StopsFor, Undertakes, run_status, status_by}
-use Rattle.s3_main.specs.Texts.{err_by, err_of, err_text, fatal_after, out_by, out_of, out_text}
+use Rattle.run_report.specs.Taskless.{MayEnd}
+use Rattle.run_task.specs.Uploaded.{path_of}
+use Rattle.s3_main.specs.Plans.{HasPlan, IsIdle, Wants, Works}
+use Rattle.s3_main.specs.Runs.{EndsAsShown, GoesAs, IsNothingPlanned, IsPrinted, IsUnasked, OnFirst, StopsFor, Undertakes}
+use Rattle.run_report.specs.Texts.{err_by, err_of, err_text, fatal_after, mode_in, out_by, out_of, out_text}
+use Rattle.run_report.specs.Statuses.{EndsWith, run_status, status_by}
+use Rattle.run_report.specs.Printed.{IsPrintedAs}
 
 -- what holds of the first of a list before and after it was written
 pub on_first : {W : Type 0} (xs : List W) (before after : W) (P : W → W → Type 0) → 1 ≤ length xs → before ≡ get_or xs 0 before → P before after → OnFirst xs (slice_set xs 0 after) P

@@ -1,64 +1,36 @@
--- How long a URL lasts, the moment that it begins at, and the run that makes it.
+-- A run that makes a URL.
 use Rattle.std.proofs.Common.{◌≡◌, ◌≤◌, ◌∙◌, ◌&&◌, ◌++◌, flat_map, ℕ, Bool, true, false, List, [], ◌∷◌, Option, Some, None, Result, Ok, Err, refl, sym, ap, subst, inl, inr, arith, append-nil, is_some, if◌then◌else◌}
-use Rattle.std.specs.Prelude.{nat_lt, IfSome}
-use Rattle.std.specs.Option.{unwrap_or}
-use Rattle.std.specs.Str.{all_ascii_digits}
-use Rattle.std.specs.Str.Parse.{digits_value}
+use Rattle.std.specs.Prelude.{IfSome}
 use Rattle.result_lines.specs.declared.tasks.Line.{Line}
 use Rattle.s3_model.specs.declared.list.OutOfMemory.{OutOfMemory}
 use Rattle.s3_model.specs.declared.settings.Settings.{Settings}
-use Rattle.s3_model.specs.Talks.{Moment, WireLog}
+use Rattle.s3_model.specs.Talks.{WireLog}
 use Rattle.s3_outside.specs.Env.{SeenEnv}
-use Rattle.s3_outside.specs.Seen.{IsSeenAfter}
-use Rattle.s3_outside.specs.Wire.{noted}
 use Rattle.s3_words.specs.declared.commands.Command.{Command}
 use Rattle.s3_words.specs.declared.commands.Verb.{Verb}
-use Rattle.s3_words.specs.Commands.{IsCommand, arguments_of, expires_of}
-use Rattle.s3_words.specs.declared.options.OptionName.TheVariants.{ExpiresIn}
-use Rattle.s3_words.specs.Given.{value_of}
+use Rattle.s3_words.specs.Commands.{IsCommand}
 use Rattle.upload_plans.specs.Commands.{is_listing, is_presign}
 use Rattle.run_promise.specs.Gains.{Gains}
-use Rattle.run_promise.proofs.GainLemmas.{gains_as, gains_step}
+use Rattle.run_promise.proofs.GainLemmas.{gains_as}
 use Rattle.s3_model.specs.declared.outcomes.Outcome.{Outcome}
 use Rattle.s3_model.specs.declared.tasks.Mode.{Mode}
 use Rattle.s3_model.specs.declared.tasks.Task.{Task}
 use Rattle.s3_model.specs.declared.tasks.Warning.{Warning}
 use Rattle.result_lines.specs.Warnings.{warning_line}
-use Rattle.s3_main.specs.declared.run.Fatal.{Fatal}
-use Rattle.s3_main.specs.declared.run.Fatal.TheVariants as fatal
-use Rattle.s3_main.specs.declared.run.Run.{Run}
+use Rattle.run_report.specs.declared.run.Fatal.{Fatal}
+use Rattle.run_report.specs.declared.run.Fatal.TheVariants as fatal
+use Rattle.run_report.specs.declared.run.Run.{Run}
 use Rattle.shared_lemmas.proofs.Clashes.{false_true}
 use Rattle.s3_words.specs.declared.commands.Verb.TheVariants as verb
-use Rattle.s3_main.specs.Begun.{IsBegun, lists_by, lists_in, mode_in, presigns, shows_url}
+use Rattle.run_start.specs.Begun.{IsBegun}
+use Rattle.s3_main.specs.Asked.{lists_by, lists_in, presigns, shows_url}
 use Rattle.s3_main.specs.Own.{IsOwn, Own, nothing_own, only_text}
-use Rattle.s3_main.specs.Executed.{HasLineOf, IsMoment, MakesLine}
+use Rattle.s3_main.specs.Executed.{HasLineOf}
 use Rattle.s3_main.specs.Runs.{MakesUrl}
-use Rattle.s3_main.specs.Plans.{HasNoTask, MayEnd}
-use Rattle.s3_main.specs.Texts.{HasTexts, IsLineOf, MatchesFatal, err_by, err_lines, out_by, out_lines, warning_lines}
-use Rattle.s3_main.specs.Urls.{IsPresigned, IsTaskless, IsUrl, url_line}
-
--- ---- how long it lasts
-
-within_if : (digits low high : Bool) (value : ℕ) → nat_lt 0 value ≡ low → nat_lt value 604801 ≡ high
-    → (1 ≤ unwrap_or (if digits && low && high then Some value else None) 3600) × (unwrap_or (if digits && low && high then Some value else None) 3600 ≤ 604800)
-within_if true true true value is_low is_high = (grind (arith, is_low), grind (arith, is_high))
-within_if true true false value is_low is_high = (omega arith, omega arith)
-within_if true false high value is_low is_high = (omega arith, omega arith)
-within_if false low high value is_low is_high = (omega arith, omega arith)
-
-expires_are : (text : Option (List ℕ)) → (1 ≤ expires_of text) × (expires_of text ≤ 604800)
-expires_are None = (omega arith, omega arith)
-expires_are (Some text) = within_if (all_ascii_digits text) (nat_lt 0 (digits_value 10 text)) (nat_lt (digits_value 10 text) 604801) (digits_value 10 text) refl refl
-
-pub expires_within : (words : List (List ℕ)) (command : Command) → IsCommand words command → (1 ≤ command.expires) × (command.expires ≤ 604800)
-expires_within words command is =
-    subst (λ (n : ℕ). (1 ≤ n) × (n ≤ 604800)) (sym is.asks.expires) (expires_are (value_of ExpiresIn (arguments_of words)))
-
--- ---- the moment
-
-pub is_moment : (moment : ℕ) (before after : Option WireLog) (b a : ℕ) → IsSeenAfter (noted (Moment moment)) before after b a → Gains before after (IsMoment moment)
-is_moment moment before after b a seen =
-    gains_step (IsMoment moment) (noted (Moment moment)) [] (Moment moment ∷ []) (λ log. (sym (append-nil log.talks), refl)) before after b a seen (refl, refl)
+use Rattle.run_report.specs.Taskless.{HasNoTask, MayEnd}
+use Rattle.run_report.specs.Texts.{HasTexts, IsLineOf, MatchesFatal, err_by, err_lines, mode_in, out_by, out_lines, warning_lines}
+use Rattle.run_show.specs.Urls.{IsMoment, MakesLine, url_line}
+use Rattle.s3_main.specs.Urls.{IsPresigned, IsTaskless, IsUrl}
 
 -- ---- the run
 

@@ -2,30 +2,26 @@
 use Rattle.std.specs.Prelude.{◌≡◌, ◌⊎◌, ℕ, Bool, List, [], ◌∷◌, Option, Some, None, Result, Ok, Err}
 use Rattle.s3_model.specs.declared.faults.WalkFault.TheVariants as walk
 use Rattle.s3_model.specs.declared.list.OutOfMemory.{OutOfMemory}
-use Rattle.s3_model.specs.declared.places.Endpoint.{Endpoint}
-use Rattle.s3_model.specs.declared.settings.Keys.{Keys}
 use Rattle.s3_model.specs.declared.settings.Limits.{Limits}
 use Rattle.s3_model.specs.declared.settings.Settings.{Settings}
-use Rattle.s3_model.specs.declared.tasks.Task.{Task}
 use Rattle.s3_model.specs.Counts.{Rose}
 use Rattle.result_lines.specs.declared.tasks.Line.{Line}
-use Rattle.s3_model.specs.Talks.{Talk, Note, Moment, WireLog}
+use Rattle.s3_model.specs.Talks.{Talk, Note, WireLog}
 use Rattle.s3_outside.specs.Env.{SeenEnv}
 use Rattle.s3_outside.specs.Files.{SeenFiles}
 use Rattle.s3_words.specs.declared.commands.Command.{Command}
-use Rattle.run_promise.specs.Gains.{Gains}
 use Rattle.upload_plans.specs.declared.plan.Fate.{Fate}
 use Rattle.upload_plans.specs.declared.plan.Fate.TheVariants as fate
-use Rattle.s3_main.specs.declared.execution.Executed.{Executed}
-use Rattle.s3_main.specs.declared.run.Fatal.{Fatal}
-use Rattle.s3_main.specs.declared.run.Fatal.TheVariants as fatal
-use Rattle.s3_main.specs.declared.run.Run.{Run}
-use Rattle.s3_main.specs.Plans.{HasNoTask, HasOneOutcome, HasPlan, HasUploaded, IsFate, Wants, Works, skips_of}
-use Rattle.s3_main.specs.Plans.{warnings_of}
+use Rattle.run_report.specs.declared.worked.Executed.{Executed}
+use Rattle.run_report.specs.declared.run.Fatal.{Fatal}
+use Rattle.run_report.specs.declared.run.Fatal.TheVariants as fatal
+use Rattle.run_report.specs.declared.run.Run.{Run}
+use Rattle.s3_main.specs.Plans.{HasPlan, IsFate, Wants, Works, skips_of, warnings_of}
 use Rattle.s3_main.specs.Own.{IsOwn, Own}
-use Rattle.s3_main.specs.Runs.{IsNothingPlanned, IsUnplanned, fatal_status}
-use Rattle.s3_main.specs.Texts.{HasTexts, IsLineOf}
-use Rattle.s3_main.specs.Urls.{url_line}
+use Rattle.s3_main.specs.Runs.{IsNothingPlanned, IsUnplanned}
+use Rattle.run_report.specs.Texts.{IsLineOf}
+use Rattle.run_report.specs.Taskless.{EndsForMemory, HasNoTask}
+use Rattle.run_report.specs.Statuses.{fatal_status}
 
 abbrev pub HasNoUpload : Fate → Type 0
 HasNoUpload (fate.Upload task) = ⊥
@@ -36,9 +32,6 @@ abbrev pub IsUnseen : (faults_before faults_after : ℕ) → Fatal → Type 0
 IsUnseen before after fatal.Memory = Unit {0}
 IsUnseen before after (fatal.Walk walk.Files) = Rose before after
 IsUnseen before after why = ⊥
-
-abbrev pub EndsForMemory : Run → Type 0
-EndsForMemory run = HasNoTask (Some fatal.Memory) [] [] run
 
 abbrev pub OrMemory : Result Executed OutOfMemory → Executed → Type 0
 OrMemory (Ok done) result = result ≡ done
@@ -54,30 +47,6 @@ fatal_of comes = None
 abbrev pub EndsAs : Fate → Run → Type 0
 EndsAs comes run = EndsForMemory run ⊎ HasNoTask (fatal_of comes) (skips_of comes) (warnings_of comes) run
 
--- ---- a task
-
--- memory ran out before the task, and nothing was sent
-pub record IsStopped (run : Run) (talks : List Talk) (notes : List Note) : Type 0 where
-  pub stopped : EndsForMemory run
-  pub no_talk : talks ≡ []
-  pub no_note : notes ≡ []
-
--- the one task was done
-pub record HasTask (task : Task) (run : Run) : Type 0 where
-  pub fatal : run.fatal ≡ None
-  pub one_task : run.plan.tasks.items ≡ task ∷ []
-  pub no_skip : run.plan.warnings.items ≡ []
-  pub no_warning : run.warnings.items ≡ []
-
-abbrev pub MayUpload : Endpoint → Keys → (attempts : ℕ) → Task → Option SeenFiles
-    → (faults_before faults_after : ℕ) → Run → List Talk → List Note → Type 0
-MayUpload endpoint keys attempts task now before after run talks notes =
-    IsStopped run talks notes
-    ⊎ (HasTask task run × HasUploaded endpoint keys attempts task now before after run talks notes)
-
-abbrev pub MayWant : Task → (faults_before faults_after : ℕ) → Run → Type 0
-MayWant task before after run = EndsForMemory run ⊎ (HasTask task run × HasOneOutcome before after run)
-
 -- ---- a command
 
 abbrev pub GoesOn : Command → Settings → Limits → (was now : Option SeenFiles) → (faults_before faults_after : ℕ)
@@ -92,18 +61,7 @@ DoesOn command settings limits before after run =
     IsNothingPlanned run
     ⊎ ((comes : Fate) × IsFate command settings limits None comes × HasPlan comes run × Wants comes before after run)
 
--- ---- a URL
-
-abbrev pub IsMoment : (moment : ℕ) → List Talk → List Note → Type 0
-IsMoment moment talks notes = (talks ≡ []) × (notes ≡ Moment moment ∷ [])
-
--- the wire was asked for its moment, and the line is that of the URL, unless memory ran out
-pub record MakesLine (words : List (List ℕ)) (command : Command) (settings : Settings) (before after : Option WireLog)
-    (run : Run) (line : Result (Option Line) OutOfMemory) : Type 0 where
-  pub moment : ℕ
-  pub noted : Gains before after (IsMoment moment)
-  pub made : (EndsForMemory run × IsLineOf words [] run line)
-      ⊎ (HasNoTask None [] [] run × HasTexts (url_line command settings moment) [] line)
+-- ---- the line
 
 -- the line that is due, with what the command is there to show
 abbrev pub HasLineOf : (words : List (List ℕ)) → Option SeenEnv → (before after : Option WireLog) → Run → Result

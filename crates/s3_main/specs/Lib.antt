@@ -1,11 +1,7 @@
-pub mod Begun
+pub mod Asked
 pub mod Executed
 pub mod Listings
 pub mod Own
 pub mod Plans
-pub mod Printed
-pub mod Rooms
 pub mod Runs
-pub mod Settings
-pub mod Texts
 pub mod Urls

@@ -1,44 +1,24 @@
--- A run of `ls`: what it asked, and how it ended.
-use Rattle.std.specs.Prelude.{◌≡◌, ◌⊎◌, ℕ, Bool, true, List, [], Option, Some, None, Result, Ok, Err}
+-- A run that lists: what it asked, and how it ended.
+use Rattle.std.specs.Prelude.{◌≡◌, ◌⊎◌, ℕ, true, List, [], Option, Some, Result, Ok, Err}
 use Rattle.listing_commands.specs.Commands.{ShowsListing}
 use Rattle.listing_commands.specs.declared.show.Shown.{Shown}
-use Rattle.listings.specs.Asked.{OfSomeTalks}
 use Rattle.listings.specs.declared.fault.ListingFault.{ListingFault}
-use Rattle.listings.specs.declared.fault.ListingFault.TheVariants as fault
-use Rattle.result_lines.specs.declared.tasks.Line.{Line}
-use Rattle.s3_model.specs.declared.faults.BadListing.TheVariants as bad
-use Rattle.s3_model.specs.declared.list.OutOfMemory.{OutOfMemory}
 use Rattle.s3_model.specs.declared.settings.Settings.{Settings}
-use Rattle.s3_model.specs.Talks.{Talk, Note, WireLog}
+use Rattle.s3_model.specs.Talks.{Talk, Note}
 use Rattle.s3_outside.specs.Env.{SeenEnv}
 use Rattle.s3_words.specs.declared.commands.Command.{Command}
 use Rattle.upload_plans.specs.Commands.{is_listing}
-use Rattle.run_promise.specs.Gains.{Gains}
-use Rattle.s3_main.specs.declared.run.Fatal.{Fatal}
-use Rattle.s3_main.specs.declared.run.Fatal.TheVariants as fatal
-use Rattle.s3_main.specs.declared.run.Run.{Run}
-use Rattle.s3_main.specs.Begun.{IsBegun}
-use Rattle.s3_main.specs.Plans.{MayEnd}
-use Rattle.s3_main.specs.Texts.{HasTexts, IsLineOf}
-
--- how a listing that has no end ends the run; where memory ran out nothing else is said
-abbrev pub fatal_for : ListingFault → Fatal
-fatal_for (fault.Listing bad.Memory) = fatal.Memory
-fatal_for (fault.Listing refused) = fatal.Listing refused
-fatal_for (fault.Answer why) = fatal.Answer why
-fatal_for fault.Memory = fatal.Memory
+use Rattle.run_report.specs.declared.run.Fatal.{Fatal}
+use Rattle.run_report.specs.declared.run.Fatal.TheVariants as fatal
+use Rattle.run_report.specs.declared.run.Run.{Run}
+use Rattle.run_show.specs.Listings.{HasNoOutcome, fatal_for}
+use Rattle.run_start.specs.Begun.{IsBegun}
+use Rattle.run_report.specs.Taskless.{MayEnd}
 
 -- nothing but want of memory ends a run whose listing has an end
 abbrev pub EndsListing : Result Shown ListingFault → Option Fatal → Type 0
 EndsListing (Ok shown) why = MayEnd why
 EndsListing (Err ends) why = (why ≡ Some (fatal_for ends)) ⊎ (why ≡ Some fatal.Memory)
-
--- no task, no outcome and no warning
-pub record HasNoOutcome (run : Run) : Type 0 where
-  pub no_task : run.plan.tasks.items ≡ []
-  pub no_skip : run.plan.warnings.items ≡ []
-  pub no_warning : run.warnings.items ≡ []
-  pub no_outcome : run.outcomes.items ≡ []
 
 -- The run began with a listing, its jobs are the requests of that, and the wire gained their talks and no others.
 pub record IsListing (words : List (List ℕ)) (env : Option SeenEnv) (run : Run) (talks : List Talk) (notes : List Note)
@@ -52,26 +32,3 @@ pub record IsListing (words : List (List ℕ)) (env : Option SeenEnv) (run : Run
   pub shows : ShowsListing command.endpoint settings.keys command.from command.recursive [] run.journal.items result
       talks notes
   pub ends : EndsListing result run.fatal
-
--- a run with these jobs and without a task
-pub record HasListed (why : Option Fatal) (run : Run) : Type 0 where
-  pub fatal : run.fatal ≡ why
-  pub nothing : HasNoOutcome run
-
--- what was listed is to be printed, or the line of its end
-abbrev pub IsMade : (words : List (List ℕ)) → Result Shown ListingFault → Run → Result (Option Line) OutOfMemory
-    → (missed : Bool) → Type 0
-IsMade words (Ok shown) run line missed =
-    HasListed None run × HasTexts shown.text [] line × (missed ≡ shown.missed)
-IsMade words (Err ends) run line missed =
-    HasListed (Some (fatal_for ends)) run × IsLineOf words [] run line
-
--- the listing of a command, before it is printed
-pub record Lists (words : List (List ℕ)) (command : Command) (settings : Settings) (before after : Option WireLog)
-    (run : Run) (line : Result (Option Line) OutOfMemory) (missed : Bool) : Type 0 where
-  pub result : Result Shown ListingFault
-  pub gained : Gains before after
-      (ShowsListing command.endpoint settings.keys command.from command.recursive [] run.journal.items result)
-  pub some : OfSomeTalks
-      (ShowsListing command.endpoint settings.keys command.from command.recursive [] run.journal.items result)
-  pub made : IsMade words result run line missed

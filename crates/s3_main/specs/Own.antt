@@ -9,9 +9,10 @@ use Rattle.s3_outside.specs.Env.{SeenEnv}
 use Rattle.s3_words.specs.declared.commands.Command.{Command}
 use Rattle.upload_plans.specs.Commands.{is_listing}
 use Rattle.run_promise.specs.Gains.{Gains}
-use Rattle.s3_main.specs.Begun.{IsBegun, lists_in, shows_url}
+use Rattle.run_start.specs.Begun.{IsBegun}
+use Rattle.s3_main.specs.Asked.{lists_in, shows_url}
 use Rattle.s3_main.specs.Urls.{IsUrl}
-use Rattle.s3_main.specs.declared.run.Run.{Run}
+use Rattle.run_report.specs.declared.run.Run.{Run}
 
 -- its text, and whether a key was given and nothing found
 pub record Own : Type 0 where

@@ -1,13 +1,8 @@
 -- What a run comes to: its status, what it prints, and what it promises.
 use Rattle.std.specs.Prelude.{◌≡◌, ◌≢◌, ◌⊎◌, ℕ, Bool, true, false, List, [], ◌∷◌, Option, Some, None, IfSome, length}
 use Rattle.std.specs.Prelude.{if◌then◌else◌}
-use Rattle.result_lines.specs.Causes.{IsShown}
-use Rattle.result_lines.specs.Faults.{IsListingFault, memory_line}
-use Rattle.result_lines.specs.Tasks.{status_of}
+use Rattle.result_lines.specs.Faults.{IsListingFault}
 use Rattle.s3_model.specs.declared.faults.WalkFault.TheVariants as walk
-use Rattle.s3_model.specs.declared.outcomes.Cause.{Cause}
-use Rattle.s3_model.specs.declared.outcomes.Cause.TheVariants as cause
-use Rattle.s3_model.specs.declared.outcomes.Outcome.{Outcome}
 use Rattle.s3_model.specs.declared.places.Endpoint.{Endpoint}
 use Rattle.s3_model.specs.declared.places.Place.{Place}
 use Rattle.s3_model.specs.declared.requests.Op.{Op}
@@ -15,7 +10,6 @@ use Rattle.s3_model.specs.declared.requests.Op.TheVariants as op
 use Rattle.s3_model.specs.declared.settings.Config.{Config}
 use Rattle.s3_model.specs.declared.settings.Limits.{Limits}
 use Rattle.s3_model.specs.declared.settings.Settings.{Settings}
-use Rattle.s3_model.specs.declared.tasks.Warning.{Warning}
 use Rattle.s3_model.specs.Counts.{Rose}
 use Rattle.s3_model.specs.Talks.{Talk, Note, WireLog}
 use Rattle.s3_outside.specs.Env.{SeenEnv}
@@ -34,49 +28,20 @@ use Rattle.upload_plans.specs.Plans.{is_large}
 use Rattle.upload_plans.specs.declared.plan.Fate.{Fate}
 use Rattle.upload_plans.specs.declared.plan.Fate.TheVariants as fate
 use Rattle.upload_promise.specs.Shown.{KeepsPromise, one_attempt, shown_by}
-use Rattle.s3_main.specs.declared.run.Fatal.{Fatal}
-use Rattle.s3_main.specs.declared.run.Fatal.TheVariants as fatal
-use Rattle.s3_main.specs.declared.run.Run.{Run}
-use Rattle.s3_main.specs.Begun.{IsBegun, IsRead, StopsInSettings, StopsInWords, lists_in, needs_in, path_in}
+use Rattle.run_report.specs.declared.run.Fatal.{Fatal}
+use Rattle.run_report.specs.declared.run.Fatal.TheVariants as fatal
+use Rattle.run_report.specs.declared.run.Run.{Run}
+use Rattle.run_start.specs.Begun.{IsBegun, IsRead, StopsInSettings, StopsInWords}
+use Rattle.s3_main.specs.Asked.{lists_in, needs_in, path_in}
 use Rattle.s3_main.specs.Plans.{HasPlan, IsFate, Wants, Works}
-use Rattle.s3_main.specs.Printed.{Prints, PrintsFront}
-use Rattle.s3_main.specs.Texts.{err_text, out_text}
+use Rattle.run_report.specs.Printed.{IsPrintedAs}
+use Rattle.run_report.specs.Statuses.{EndsWith}
+use Rattle.run_report.specs.Texts.{err_text, out_text}
 use Rattle.s3_main.specs.Listings.{IsListing}
 use Rattle.s3_main.specs.Own.{IsOwn, Own}
 use Rattle.s3_main.specs.Urls.{IsPresigned, IsTaskless}
 
 -- ---- the status
-
--- a listing was refused, or nobody can know what it is
-abbrev pub answer_status : Cause → ℕ
-answer_status (cause.Service called code message) = 254
-answer_status why = 255
-
--- `lists`: the command is a listing
-abbrev pub fatal_status : (lists : Bool) → Fatal → ℕ
-fatal_status lists (fatal.Words fault) = 252
-fatal_status lists fatal.NotYet = 252
-fatal_status lists (fatal.Profile fault) = 253
-fatal_status lists fatal.EnvRead = 253
-fatal_status lists fatal.Memory = 70
-fatal_status lists (fatal.Listing fault) = if lists then 255 else 1
-fatal_status lists (fatal.Answer why) = if lists then answer_status why else 1
-fatal_status lists other = 1
-
--- Without a fatal it is 1 where a key was given and nothing was found (`missed`), else that of the outcomes and the
--- warnings.
-abbrev pub status_by : (lists missed : Bool) → Option Fatal → List Outcome → List Warning → ℕ
-status_by lists missed (Some why) outcomes warnings = fatal_status lists why
-status_by lists missed None outcomes warnings = if missed then 1 else status_of outcomes (length warnings)
-
--- the status of a run whose lines could be written
-abbrev pub run_status : (lists missed : Bool) → Run → ℕ
-run_status lists missed run = status_by lists missed run.fatal run.outcomes.items run.warnings.items
-
--- The status is that, or 74 where an output failed; where memory ran out it is 70, whatever the outputs did.
-abbrev pub EndsWith : (lists missed : Bool) → Run → (OutputFailed : Type 0) → Type 0
-EndsWith lists missed run OutputFailed = (run.status ≡ run_status lists missed run)
-    ⊎ ((run.status ≡ 74) × OutputFailed × (run.fatal ≢ Some fatal.Memory))
 
 -- by the words, and by what the command is there to show
 abbrev pub EndsAsShown : (words : List (List ℕ)) → Option SeenEnv → (before after : Option WireLog) → Run
@@ -85,14 +50,6 @@ EndsAsShown words env before after run OutputFailed =
     (own : Own) × IsOwn words env before after run own × EndsWith (lists_in words) own.missed run OutputFailed
 
 -- ---- the lines
-
--- Both texts were written whole; after a fault of an output, status 74, a beginning of them; and where memory ran out,
--- status 70, a beginning of the line that says so.
-pub record IsPrintedAs (status : ℕ) (out err : List ℕ)
-    (out_before out_after err_before err_after : Option (List ℕ)) : Type 0 where
-  pub whole : status ≢ 70 → status ≢ 74 → Prints out_before out_after out × Prints err_before err_after err
-  pub front : status ≢ 70 → PrintsFront out_before out_after out × PrintsFront err_before err_after err
-  pub memory : status ≡ 70 → Prints out_before out_after [] × PrintsFront err_before err_after memory_line
 
 -- with what the command is there to show
 abbrev pub IsPrinted : (words : List (List ℕ)) → Option SeenEnv → (before after : Option WireLog) → Run
@@ -122,13 +79,6 @@ StopsInPlan words env limits files before after why =
     (command : Command) × (settings : Settings) × IsBegun words env command settings
     × (is_presign command.verb ≡ false) × (is_listing command.verb ≡ false)
     × StopsPlanning command settings limits files before after why
-
--- what may end a listing has a line
-abbrev pub MayEndListing : Fatal → Type 0
-MayEndListing (fatal.Listing fault) = IsListingFault fault
-MayEndListing (fatal.Answer why) = IsShown why
-MayEndListing fatal.Memory = Unit {0}
-MayEndListing why = ⊥
 
 -- what a listing of this path asks, or one without a path
 abbrev pub listed_op : Option Place → Op

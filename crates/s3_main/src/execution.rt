@@ -1,13 +1,12 @@
 //! What the words say is planned and done; nothing is printed here.
 
 ghost use Rattle.std.specs.Prelude.{◌≡◌, ◌≤◌, [], true, false, IfErr, IfOk, IfSome, map, string_bytes};
-ghost use Rattle.result_lines.specs.Tasks.{HasSource};
 ghost use Rattle.s3_model.specs.Validity.{IsValidLimits, IsWithin};
 ghost use Rattle.upload_plans.specs.Commands.{CopiesUp, source_path};
 ghost use Rattle.upload_plans.specs.Plans.{HasNoMemory};
 ghost use Rattle.run_promise.specs.Gains.{Gains};
 ghost use Rattle.upload_promise.specs.Sources.{LooksAt};
-ghost use Rattle.s3_main.specs.Begun.{lists_in, mode_in, path_in};
+ghost use Rattle.s3_main.specs.Asked.{lists_in, path_in};
 ghost use Rattle.s3_main.specs.Executed.{
   DoesOn,
   EndsAs,
@@ -16,42 +15,22 @@ ghost use Rattle.s3_main.specs.Executed.{
   HasNoUpload,
   HasStatusOf,
   IsUnseen,
-  MayUpload,
-  MayWant,
   OrMemory,
 };
-ghost use Rattle.s3_main.specs.Plans.{IsFate, IsUpload, path_of};
+ghost use Rattle.s3_main.specs.Plans.{IsFate};
 ghost use Rattle.s3_main.specs.Runs.{GoesAs, StopsFor, StopsPlanning, Undertakes};
-ghost use Rattle.s3_main.specs.Settings.{AsksOnly};
-ghost use Rattle.s3_main.specs.Texts.{IsLineOf};
+ghost use Rattle.run_start.specs.Settings.{AsksOnly};
+ghost use Rattle.run_report.specs.Texts.{IsLineOf, mode_in};
 
-use crate::endings::{end_early, end_idle, end_not_a_file, end_skipped};
-use crate::listing::execute_listing;
-use crate::run::{Fatal, Run};
-use crate::start::{Service, Start, read_start, service_of};
-use crate::task::{do_task, prepare};
-use crate::url::execute_presign;
-use result_lines::Line;
-use s3_model::{Limits, Mode, OutOfMemory, Settings, Task, WalkFault};
+use run_report::{Executed, Fatal, Worked, end_early, end_idle, end_not_a_file, end_skipped};
+use run_show::{execute_listing, execute_presign};
+use run_start::{Start, read_start, service_of};
+use run_task::execute_upload;
+use s3_model::{Limits, Mode, OutOfMemory, Settings, WalkFault};
 use s3_outside::{Env, Files, Wire};
 use s3_words::Command;
 use std::alloc::Global;
 use upload_plans::{Fate, is_listing, is_presign, places_of, plan_upload};
-
-/// A run before anything is printed, and the line that is to be, if there is one.
-#[derive(Drop)]
-pub(crate) struct Executed {
-    pub run: Run,
-    pub line: Result<Option<Line>, OutOfMemory>,
-}
-
-/// What a command came to, and whether it is a listing, of a key below which nothing was found.
-#[derive(Drop)]
-pub(crate) struct Worked {
-    pub executed: Executed,
-    pub lists: bool,
-    pub missed: bool,
-}
 
 /// Looks at the file of a command, and says what copying it comes to, which takes over the command's texts.
 fn find_fate<F: Files>(
@@ -107,34 +86,6 @@ fn end_with(alloc: Global, words: &[String], mode: Mode, fate: Fate) -> Executed
             or_memory(alloc, words, end_skipped(alloc, place, why, mode))
         }
         Fate::Upload(_) => unreachable!(),
-    }
-}
-
-/// Uploads the file of a command.
-fn execute_upload<W: Wire, F: Files>(
-    alloc: Global,
-    words: &[String],
-    mode: Mode,
-    service: Service,
-    task: Task,
-    files: &mut F,
-    wire: &mut W,
-) -> Executed
-    requires upload { IsUpload task }
-    requires source { HasSource task }
-    requires mode { mode ≡ mode_in (map string_bytes words.now) }
-    requires attempts { IsWithin 1 service.attempts 10 }
-    ensures went { Gains (W.seen wire.old) (W.seen wire.new) (MayUpload service.endpoint service.keys service.attempts
-        task (F.seen files.new) (F.faults files.old) (F.faults files.new) result.run) }
-    ensures line { IsLineOf (map string_bytes words.now) [] result.run result.line }
-    ensures does { MayWant task (F.faults files.old) (F.faults files.new) result.run }
-    ensures files { LooksAt (path_of task) (F.seen files.old) (F.seen files.new) }
-    ensures files_later { F.faults files.old ≤ F.faults files.new }
-    ensures wire_later { W.faults wire.old ≤ W.faults wire.new }
-{
-    match prepare(alloc, service, &task) {
-        Ok(prepared) => do_task(alloc, mode, prepared, task, files, wire),
-        Err(_) => end_early(alloc, words, Fatal::Memory),
     }
 }
 
@@ -200,7 +151,7 @@ pub(crate) fn execute<W: Wire, F: Files, E: Env>(
     let limits = env.limits();
     match read_start(alloc, words, env) {
         Ok(start) if is_presign(start.command.verb) => Worked {
-            executed: execute_presign(alloc, words, &start, wire),
+            executed: execute_presign(alloc, words, start, wire),
             lists: false,
             missed: false,
         },

@@ -4,13 +4,12 @@ ghost use Rattle.std.specs.Prelude.{◌≤◌, ◌⊎◌, map, string_bytes, vec
 ghost use Rattle.s3_model.specs.Counts.{Rose};
 ghost use Rattle.run_promise.specs.Gains.{Gains};
 ghost use Rattle.upload_promise.specs.Sources.{LooksAt};
-ghost use Rattle.s3_main.specs.Begun.{path_in};
-ghost use Rattle.s3_main.specs.Settings.{AsksOnly};
+ghost use Rattle.s3_main.specs.Asked.{path_in};
+ghost use Rattle.run_start.specs.Settings.{AsksOnly};
 ghost use Rattle.s3_main.specs.Runs.{EndsAsShown, GoesAs, IfSeen, IsPrinted, IsTrue, OnFirst, StopsFor, Undertakes};
 
 use crate::execution::execute;
-use crate::report::report;
-use crate::run::Run;
+use run_report::{Run, report};
 use s3_outside::{Env, Files, Sink, Wire};
 use std::alloc::Global;
 use std::sync::Wait;

@@ -1,0 +1,4 @@
+pub mod Printed
+pub mod Statuses
+pub mod Taskless
+pub mod Texts

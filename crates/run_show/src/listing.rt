@@ -1,0 +1,154 @@
+//! What a service lists.
+
+ghost use Rattle.std.specs.Prelude.{◌≡◌, ◌≤◌, [], true, None, Some, IfErr, IfSome, map, string_bytes};
+ghost use Rattle.listing_commands.specs.Commands.{ShowsListing};
+ghost use Rattle.listings.specs.Asked.{OfSomeTalks};
+ghost use Rattle.listings.specs.Faults.{IsNoCancel};
+ghost use Rattle.upload_plans.specs.Commands.{IsListed};
+ghost use Rattle.run_promise.specs.Gains.{Gains};
+ghost use Rattle.run_report.specs.Texts.{HasLine, IsLineOf};
+ghost use Rattle.run_show.specs.Listings.{HasListed, IsMade, Lists, MayEndListing, fatal_for};
+
+use attempts::Client;
+use listing_commands::{Shown, show_listing};
+use listings::ListingFault;
+use result_lines::Line;
+use run_report::{Executed, Fatal, Run, Worked, ending_line};
+use run_start::Start;
+use s3_model::{
+    BadListing, Endpoint, Journal, Keys, Outcomes, Place, Plan, Settings, Tasks, Warnings,
+};
+use s3_outside::Wire;
+use s3_words::Command;
+use std::alloc::Global;
+
+/// How a listing that has no end ends a run.
+fn fatal_for(fault: ListingFault) -> Fatal
+    requires { IsNoCancel fault }
+    ensures is { result ≡ fatal_for fault }
+    ensures end { MayEndListing result }
+{
+    match fault {
+        ListingFault::Listing(BadListing::Memory) => Fatal::Memory,
+        ListingFault::Listing(refused) => Fatal::Listing(refused),
+        ListingFault::Answer(cause) => Fatal::Answer(cause),
+        ListingFault::Memory => Fatal::Memory,
+    }
+}
+
+/// A run without a task, whose jobs are the requests of a listing.
+fn listing_run(alloc: Global, fatal: Option<Fatal>, journal: Journal) -> Run
+    ensures listed { HasListed fatal result }
+    ensures journal { result.journal ≡ journal }
+{
+    Run {
+        status: 0,
+        plan: Plan {
+            tasks: Tasks::make(alloc),
+            warnings: Warnings::make(alloc),
+        },
+        outcomes: Outcomes::make(alloc),
+        journal,
+        warnings: Warnings::make(alloc),
+        fatal,
+    }
+}
+
+/// Ends a run whose listing has no end.
+fn end_unlisted(alloc: Global, words: &[String], fatal: Fatal, journal: Journal) -> Executed
+    requires { HasLine fatal }
+    ensures line { IsLineOf (map string_bytes words.now) [] result.run result.line }
+    ensures listed { HasListed (Some fatal) result.run }
+    ensures journal { result.run.journal ≡ journal }
+{
+    let line = match ending_line(alloc, words, &fatal) {
+        Ok(text) => Ok(Some(Line { to_err: true, text })),
+        Err(memory) => Err(memory),
+    };
+    Executed {
+        run: listing_run(alloc, Some(fatal), journal),
+        line,
+    }
+}
+
+/// Ends a run that listed.
+fn end_listing(
+    alloc: Global,
+    words: &[String],
+    listed: Result<Shown, ListingFault>,
+    journal: Journal,
+) -> Worked
+    requires { IfErr listed IsNoCancel }
+    ensures made { IsMade (map string_bytes words.now) listed result.executed.run result.executed.line result.missed }
+    ensures stops { IfSome result.executed.run.fatal MayEndListing }
+    ensures lists { result.lists ≡ true }
+    ensures journal { result.executed.run.journal ≡ journal }
+{
+    match listed {
+        Ok(Shown { text, missed }) => Worked {
+            executed: Executed {
+                run: listing_run(alloc, None, journal),
+                line: Ok(Some(Line {
+                    to_err: false,
+                    text,
+                })),
+            },
+            lists: true,
+            missed,
+        },
+        Err(fault) => Worked {
+            executed: end_unlisted(alloc, words, fatal_for(fault), journal),
+            lists: true,
+            missed: false,
+        },
+    }
+}
+
+/// Asks a service for what is listed.
+fn ask<W: Wire>(
+    alloc: Global,
+    endpoint: Endpoint,
+    keys: Keys,
+    at: &Option<Place>,
+    recursive: bool,
+    journal: &mut Journal,
+    wire: &mut W,
+) -> Result<Shown, ListingFault>
+    requires { IsListed at.now }
+    ensures shown { Gains (W.seen wire.old) (W.seen wire.new) (ShowsListing endpoint keys at.now
+        recursive journal.old.items journal.new.items result) }
+    ensures some { OfSomeTalks (ShowsListing endpoint keys at.now recursive journal.old.items
+        journal.new.items result) }
+    ensures no_cancel { IfErr result IsNoCancel }
+    ensures later { W.faults wire.old ≤ W.faults wire.new }
+{
+    let mut client = Client::make(alloc, endpoint, keys)?;
+    show_listing(alloc, wire, &mut client, at, recursive, journal)
+}
+
+/// Lists what a command asks for.
+pub fn execute_listing<W: Wire>(
+    alloc: Global,
+    words: &[String],
+    start: Start,
+    wire: &mut W,
+) -> Worked
+    requires { IsListed start.command.from }
+    ensures listed { Lists (map string_bytes words.now) start.command start.settings (W.seen wire.old) (W.seen wire.new)
+        result.executed.run result.executed.line result.missed }
+    ensures stops { IfSome result.executed.run.fatal MayEndListing }
+    ensures lists { result.lists ≡ true }
+    ensures later { W.faults wire.old ≤ W.faults wire.new }
+{
+    let Start { command, settings } = start;
+    let Command {
+        from,
+        endpoint,
+        recursive,
+        ..
+    } = command;
+    let Settings { keys, .. } = settings;
+    let mut journal = Journal::make(alloc);
+    let listed = ask(alloc, endpoint, keys, &from, recursive, &mut journal, wire);
+    end_listing(alloc, words, listed, journal)
+}

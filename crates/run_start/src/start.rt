@@ -1,0 +1,109 @@
+//! What comes before the files are looked at: the words, and then the settings.
+
+ghost use Rattle.std.specs.Prelude.{◌≡◌, ◌≤◌, ◌⊎◌, true, false, IfOk, IfErr, IfSome, map, string_bytes};
+ghost use Rattle.upload_plans.specs.Commands.{CopiesUp, IsListed, NamesObject, is_listing, is_presign};
+ghost use Rattle.run_start.specs.Begun.{IsBegun, IsRead, RefusedFor, StopsInSettings, StopsInWords};
+ghost use Rattle.run_start.specs.Settings.{AreSettings, AsksOnly, settings_fatal};
+ghost use Rattle.s3_model.specs.Validity.{IsValidConfig, IsWithin};
+
+use env_settings::{SettingsFault, read_settings};
+use run_report::Fatal;
+use s3_model::{Endpoint, Keys, Settings, WordFault};
+use s3_outside::Env;
+use s3_words::{Command, read_words};
+use std::alloc::Global;
+use upload_plans::is_unbuilt;
+
+/// A command that the program does, and its settings.
+#[derive(Drop)]
+pub struct Start {
+    pub command: Command,
+    pub settings: Settings,
+}
+
+/// Where the requests of a command go, what signs them, and how often each is tried.
+#[derive(Drop)]
+pub struct Service {
+    pub endpoint: Endpoint,
+    pub keys: Keys,
+    /// The most attempts of a request.
+    pub attempts: u32,
+}
+
+/// The service of a command, whose other parts are let go.
+pub fn service_of(start: Start) -> Service
+    ensures endpoint { result.endpoint ≡ start.command.endpoint }
+    ensures keys { result.keys ≡ start.settings.keys }
+    ensures attempts { result.attempts ≡ start.settings.config.attempts }
+{
+    let Start { command, settings } = start;
+    let Command { endpoint, .. } = command;
+    let Settings { keys, config } = settings;
+    Service {
+        endpoint,
+        keys,
+        attempts: config.attempts,
+    }
+}
+
+/// The command of the words; a fault of them ends the run, and so does a command that is not built yet.
+fn read_command(alloc: Global, words: &[String]) -> Result<Command, Fatal>
+    ensures read { IfOk result (IsRead (map string_bytes words.now)) }
+    ensures stops { IfErr result (StopsInWords (map string_bytes words.now)) }
+{
+    match read_words(alloc, words) {
+        Ok(command) if is_unbuilt(&command) => Err(Fatal::NotYet),
+        Ok(command) => Ok(command),
+        Err(WordFault::Memory) => Err(Fatal::Memory),
+        Err(fault) => Err(Fatal::Words(fault)),
+    }
+}
+
+fn settings_fatal(fault: SettingsFault) -> Fatal
+    ensures { result ≡ settings_fatal fault }
+{
+    match fault {
+        SettingsFault::Profile(fault) => Fatal::Profile(fault),
+        SettingsFault::EnvRead => Fatal::EnvRead,
+        SettingsFault::Memory => Fatal::Memory,
+    }
+}
+
+/// The settings of a command.
+fn settings_for<E: Env>(alloc: Global, env: &mut E, command: &Command) -> Result<Settings, Fatal>
+    ensures settled { IfSome (E.seen env.new) (λ seen. IfOk result (AreSettings command.now seen)) }
+    ensures valid { IfOk result (λ settings. IsValidConfig settings.config) }
+    ensures stops { IfErr result (RefusedFor command.now (E.seen env.new) (E.faults env.old) (E.faults env.new)) }
+    ensures asked { AsksOnly (E.seen env.old) (E.seen env.new) (E.faults env.old) (E.faults env.new) }
+    ensures limits { E.allows env.new ≡ E.allows env.old }
+    ensures later { E.faults env.old ≤ E.faults env.new }
+{
+    let region = command.region.as_ref();
+    let profile = command.profile.as_ref();
+    match read_settings(alloc, env, region, profile) {
+        Ok(settings) => Ok(settings),
+        Err(fault) => Err(settings_fatal(fault)),
+    }
+}
+
+/// Reads the words, then the settings; the first fault ends the run.
+pub fn read_start<E: Env>(alloc: Global, words: &[String], env: &mut E) -> Result<Start, Fatal>
+    ensures begun { IfOk result (λ start. IsBegun (map string_bytes words.now) (E.seen env.new) start.command
+        start.settings) }
+    ensures copies { IfOk result (λ start. is_presign start.command.verb ≡ false
+        → is_listing start.command.verb ≡ false → CopiesUp start.command) }
+    ensures listed { IfOk result (λ start. is_listing start.command.verb ≡ true → IsListed start.command.from) }
+    ensures object { IfOk result (λ start. is_presign start.command.verb ≡ true → NamesObject start.command) }
+    ensures least { IfOk result (λ start. 1 ≤ start.command.expires) }
+    ensures most { IfOk result (λ start. start.command.expires ≤ 604800) }
+    ensures attempts { IfOk result (λ start. IsWithin 1 start.settings.config.attempts 10) }
+    ensures stops { IfErr result (λ why. StopsInWords (map string_bytes words.now) why ⊎
+        StopsInSettings (map string_bytes words.now) (E.seen env.new) (E.faults env.old) (E.faults env.new) why) }
+    ensures asked { AsksOnly (E.seen env.old) (E.seen env.new) (E.faults env.old) (E.faults env.new) }
+    ensures limits { E.allows env.new ≡ E.allows env.old }
+    ensures later { E.faults env.old ≤ E.faults env.new }
+{
+    let command = read_command(alloc, words)?;
+    let settings = settings_for(alloc, env, &command)?;
+    Ok(Start { command, settings })
+}

@@ -1,0 +1,64 @@
+//! The copy of a task that its jobs share.
+
+ghost use Rattle.std.specs.Prelude.{◌≡◌, IfOk};
+ghost use Rattle.std.specs.Arc.{arc_value};
+
+use s3_model::{OutOfMemory, Place, Task, Text};
+use std::alloc::Global;
+use std::sync::Arc;
+
+fn copy_of(text: &Option<Text>) -> Result<Option<Text>, OutOfMemory>
+    ensures { IfOk result (λ copy. copy ≡ text.now) }
+{
+    match text {
+        Some(text) => Ok(Some(text.copy()?)),
+        None => Ok(None),
+    }
+}
+
+fn copy_place(place: &Place) -> Result<Place, OutOfMemory>
+    ensures { IfOk result (λ copy. copy ≡ place.now) }
+{
+    match place {
+        Place::Object { bucket, key } => Ok(Place::Object {
+            bucket: bucket.copy()?,
+            key: key.copy()?,
+        }),
+        Place::File { path } => Ok(Place::File { path: path.copy()? }),
+    }
+}
+
+fn copy_source(source: &Option<Place>) -> Result<Option<Place>, OutOfMemory>
+    ensures { IfOk result (λ copy. copy ≡ source.now) }
+{
+    match source {
+        Some(place) => Ok(Some(copy_place(place)?)),
+        None => Ok(None),
+    }
+}
+
+fn copy_task(task: &Task) -> Result<Task, OutOfMemory>
+    ensures { IfOk result (λ copy. copy ≡ task.now) }
+{
+    Ok(Task {
+        kind: task.kind,
+        moves: task.moves,
+        source: copy_source(&task.source)?,
+        dest: copy_place(&task.dest)?,
+        size: task.size,
+        etag: task.etag.copy()?,
+        micros: task.micros,
+        content: copy_of(&task.content)?,
+        fresh: task.fresh,
+    })
+}
+
+/// A copy of a task that its jobs share.
+pub(crate) fn share(alloc: Global, task: &Task) -> Result<Arc<Task, Global>, OutOfMemory>
+    ensures { IfOk result (λ shared. arc_value shared ≡ task.now) }
+{
+    match Arc::new(alloc, copy_task(task)?) {
+        Ok(shared) => Ok(shared),
+        Err(_) => Err(OutOfMemory),
+    }
+}

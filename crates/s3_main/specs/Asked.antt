@@ -1,0 +1,36 @@
+-- What the words ask for.
+use Rattle.std.specs.Prelude.{ℕ, Bool, false, List, [], Option, Some, None, if◌then◌else◌}
+use Rattle.s3_words.specs.declared.commands.Verb.{Verb}
+use Rattle.s3_words.specs.Commands.{arguments_of, first_of, verb_of}
+use Rattle.s3_words.specs.Places.{places_in}
+use Rattle.listing_commands.specs.Commands.{needs_of}
+use Rattle.run_promise.specs.Planning.{Need}
+use Rattle.s3_words.specs.declared.options.OptionName.TheVariants.{Recursive}
+use Rattle.s3_words.specs.Given.{is_given}
+use Rattle.upload_plans.specs.Commands.{is_listing, is_presign, path_at}
+
+-- the first path of the words, where it is a local one
+abbrev pub path_in : (words : List (List ℕ)) → List ℕ
+path_in words = path_at (first_of (places_in (arguments_of words)))
+
+abbrev pub presigns : Option Verb → Bool
+presigns None = false
+presigns (Some of_verb) = is_presign of_verb
+
+-- the words ask for a URL
+abbrev pub shows_url : (words : List (List ℕ)) → Bool
+shows_url words = presigns (verb_of words)
+
+abbrev pub lists_by : Option Verb → Bool
+lists_by None = false
+lists_by (Some of_verb) = is_listing of_verb
+
+-- the words ask for a listing
+abbrev pub lists_in : (words : List (List ℕ)) → Bool
+lists_in words = lists_by (verb_of words)
+
+-- what the planning of the words has to ask
+abbrev pub needs_in : (words : List (List ℕ)) → List Need
+needs_in words =
+    if lists_in words
+    then needs_of (first_of (places_in (arguments_of words))) (is_given Recursive (arguments_of words)) else []
