@@ -211,6 +211,23 @@ def words_of_main(checks, runs):
     checks.check("a word that is not UTF-8: status and line", shown == (252, "", said), line_of(shown))
 
 
+# Each word of this length is copied, so that some limits of memory let the program start and not read its words.
+LONG_WORD = "a" * 120_000
+
+
+def without_memory(checks, runs, keys):
+    """The more memory the program may take, the further it gets: before its call it ends silently, behind it with a line."""
+    limited = type(runs)("prlimit", runs.folder)
+    endings = []
+    for kilobytes in range(2_000, 8_000, 50):
+        shown = limited.run((f"--as={kilobytes * 1024}", runs.program, "ls", *[LONG_WORD] * 8), keys)
+        was_started = shown[0] != 127  # the system could load the program
+        if was_started and shown not in endings:
+            endings.append(shown)
+    due = [(70, "", ""), (70, "", "s3: out of memory\n"), (252, "", "s3: 8 paths given, 1 wanted\n")]
+    checks.check("no memory: statuses and lines", endings == due, "; ".join(line_of(shown) for shown in endings))
+
+
 # Standard descriptors that are closed, what is copied, and the status: an output that is closed cannot be written.
 CLOSED = [
     ("standard input", "<&-", "notes.txt", 0),
@@ -240,6 +257,7 @@ def try_commands(checks, runs, service, client):
     """On a service whose bucket is there."""
     faults(checks, runs, service.keys)
     words_of_main(checks, runs)
+    without_memory(checks, runs, service.keys)
     copies = Copies(checks, runs, service, client)
     options(copies)
     closed_descriptors(checks, runs, service, client)
