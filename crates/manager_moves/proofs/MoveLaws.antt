@@ -20,11 +20,11 @@ use Rattle.manager_moves.specs.Runs.{Events, Shared, Made, Sent, Back, Called, L
 none_some : {X : Type 0} {x : X} → None ≡ Some x → ⊥
 none_some e = cc
 
-both : (P : Move → Type 0) → (a b : Option Move) → IfSome a P → IfSome b P → IfSome (option_or a b) P
+pub both : (P : Move → Type 0) → (a b : Option Move) → IfSome a P → IfSome b P → IfSome (option_or a b) P
 both P None b x y = y
 both P (Some m) b x y = x
 
-from_default : (P : Move → Type 0) → (a : Option Move) → (d : Move) → IfSome a P → P d → P (unwrap_or a d)
+pub from_default : (P : Move → Type 0) → (a : Option Move) → (d : Move) → IfSome a P → P d → P (unwrap_or a d)
 from_default P None d x y = y
 from_default P (Some m) d x y = x
 
@@ -66,7 +66,7 @@ module _ (events : Events) where
       let lower = best j in
       best_of (nat_lt (out (suc j)) (out (freest (suc j) events))) (suc j) (freest (suc j) events) refl lower.0 (omega arith)
 
-is_freest : (s : Shared) (events : Events) → IsFreest s events (freest s.lanes events)
+pub is_freest : (s : Shared) (events : Events) → IsFreest s events (freest s.lanes events)
 is_freest s events = by s.lanes
   where
     by : (count : ℕ) → IsFreest (record s { lanes = count }) events (freest count events)
@@ -80,7 +80,7 @@ is_freest s events = by s.lanes
         record { within = λ l. b.1; least = b.0.0; first = b.0.1 }
 
 -- a front of a list has its elements at their places
-in_front : {X : Type 0} (n : ℕ) (xs : List X) (i : ℕ) (x : X) → slice_get (take n xs) i ≡ Some x → slice_get xs i ≡ Some x
+pub in_front : {X : Type 0} (n : ℕ) (xs : List X) (i : ℕ) (x : X) → slice_get (take n xs) i ≡ Some x → slice_get xs i ≡ Some x
 in_front zero xs i x e = absurd (none_some e)
 in_front (suc n) [] i x e = e
 in_front (suc n) (y ∷ ys) zero x e = e

@@ -39,10 +39,10 @@ IsNoRead a = Unit {0}
 
 -- ---- a job that is given
 
-nothing : {X : Type 0} {x : X} → None ≡ Some x → ⊥
+pub nothing : {X : Type 0} {x : X} → None ≡ Some x → ⊥
 nothing e = cc
 
-same_value : {X : Type 0} {x y : X} → Some x ≡ Some y → x ≡ y
+pub same_value : {X : Type 0} {x y : X} → Some x ≡ Some y → x ≡ y
 same_value e = cc
 
 first_passes : (p : Act → Bool) (x a : Act) (b : Bool) (rest : Option Act) → p x ≡ b → (rest ≡ Some a → p a ≡ true)
@@ -50,7 +50,7 @@ first_passes : (p : Act → Bool) (x a : Act) (b : Bool) (rest : Option Act) →
 first_passes p x a true rest q h e = subst (λ (y : Act). p y ≡ true) (same_value e) q
 first_passes p x a false rest q h e = h e
 
-find_passes : (p : Act → Bool) (xs : List Act) (a : Act) → find p xs ≡ Some a → p a ≡ true
+pub find_passes : (p : Act → Bool) (xs : List Act) (a : Act) → find p xs ≡ Some a → p a ≡ true
 find_passes p [] a e = absurd (nothing e)
 find_passes p (x ∷ xs) a e = first_passes p x a (p x) (find p xs) refl (find_passes p xs a) e
 
@@ -202,10 +202,10 @@ module _ (w : Work) where
 
 -- ---- all tasks
 
-abbrev one_if : Bool → ℕ
+abbrev pub one_if : Bool → ℕ
 one_if free = if free then 1 else 0
 
-flip : (m n : ℕ) → (m == n) ≡ false → (n == m) ≡ false
+pub flip : (m n : ℕ) → (m == n) ≡ false → (n == m) ≡ false
 flip m n e = grind arith
 
 other_share : (w : Work) (b : Bool) (g h : History) → b ≡ false → parts_of w (if b then g else h) ≤ parts_of w h
@@ -218,7 +218,7 @@ own_share w true g h d e l = l
 own_share w false g h d e l = no e
 
 -- what an act that a made task is ready for says of its own history
-ready_act : (b : Bool) (x : Option Act) (a : Act) → (if b then None else x) ≡ Some a → x ≡ Some a
+pub ready_act : (b : Bool) (x : Option Act) (a : Act) → (if b then None else x) ≡ Some a → x ≡ Some a
 ready_act true x a e = absurd (nothing e)
 ready_act false x a e = e
 

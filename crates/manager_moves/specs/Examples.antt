@@ -1,5 +1,5 @@
 -- Small runs, computed.
-use Rattle.std.specs.Prelude.{◌≡◌, [], ◌∷◌, ℕ, true, false, List, Some, None}
+use Rattle.std.specs.Prelude.{◌≡◌, [], ◌∷◌, ℕ, true, false, List, Some, None, length, if◌then◌else◌}
 use Rattle.jobs.specs.Holders.{Holder}
 use Rattle.jobs.specs.declared.ending.Ending.{Ending}
 use Rattle.jobs.specs.declared.ending.Ending.TheVariants as ending
@@ -20,7 +20,7 @@ use Rattle.task_acts.specs.Examples.{one_piece}
 use Rattle.manager_moves.specs.declared.moves.Move.{Move}
 use Rattle.manager_moves.specs.declared.moves.Move.TheVariants as move
 use Rattle.s3_model.specs.declared.bytes.Part.{Part}
-use Rattle.manager_moves.specs.Laws.{IsRun}
+use Rattle.manager_moves.specs.Laws.{IsRun, takes_part}
 use Rattle.manager_moves.specs.Moves.{next_move}
 use Rattle.manager_moves.specs.Runs.{Event, Events, Shared, Made, Sent, Back, Called, Lined, Stopped, outcome_in}
 
@@ -42,14 +42,14 @@ upload = one_piece kind.Upload false
 abbrev pub download : Work
 download = one_piece kind.Download false
 
-module _ (for : What) (cell : Holder) where
-  -- a job of that task at its first giving comes back
+module _ (for : What) (cell : Holder) (part : Part) where
+  -- a job of that task at its first giving comes back, with its part if it takes one
   abbrev pub back : (task lane : ℕ) → Op → ℕ → List Mark → Ending → Event
   back task lane of_op number tries ended = Back lane (record {
     job = record {
       id = record { task = Some task; op = of_op; number = number };
       what = for;
-      part = None;
+      part = if takes_part of_op then Some part else None;
       cell = Some cell;
       had = 0;
     };
@@ -159,19 +159,19 @@ module _ (for : What) (cell : Holder) where
       × (outcome_in upload 1 (Made true ∷ Lined ∷ stored 0 0 ∷ cancelled)
       ≡ Some (outcome.Failed (cause.Cancelled reason_of.OutputFailed)))
 
-  -- ---- a whole run
+  -- ---- whole runs
 
-  -- One small upload, with its part, is a run that can come about.
-  abbrev pub IsWhole : Part → Type 0
-  IsWhole part =
-      IsRun (shared (upload ∷ []) 1 1 1) (Lined ∷ Back 0 (record {
-        job = record {
-          id = record { task = Some 0; op = op.Put; number = 0 };
-          what = for;
-          part = Some part;
-          cell = Some cell;
-          had = 0;
-        };
-        tries = mark.Success ∷ [];
-        ending = ending.Gained reply.Stored;
-      }) ∷ put_out 0 0 (Made true ∷ []))
+  -- These are runs that can come about: one small upload, two whose second came first, and a cancel.
+  abbrev pub UploadsAreRuns : Type 0
+  UploadsAreRuns =
+      IsRun (shared (upload ∷ []) 1 1 1) (Lined ∷ stored 0 0 ∷ put_out 0 0 (Made true ∷ []))
+      × IsRun (shared (upload ∷ upload ∷ []) 2 2 2) (Lined ∷ Lined ∷ stored 0 0 ∷ stored 1 1 ∷ both_out)
+      × IsRun (shared (upload ∷ upload ∷ []) 2 1 2)
+      (Lined ∷ Made true ∷ Lined ∷ stored 0 0 ∷ Stopped reason_of.OutputFailed ∷ put_out 0 0 (Made true ∷ []))
+
+  -- So is a download whose Get brings the five bytes that it asked for, beside one that waits for its part.
+  abbrev pub DownloadsAreARun : Type 0
+  DownloadsAreARun = length part.bytes.bytes ≡ 5
+      → IsRun (shared (download ∷ download ∷ []) 2 2 1)
+      (Lined ∷ Called 0 act.Stamp file.Fine ∷ Called 0 act.Rename file.Fine ∷ Called 0 (act.Place 0) file.Fine
+      ∷ got 0 0 0 ∷ get_out)

@@ -1,11 +1,12 @@
 -- What the rule of moves keeps, in every run.
-use Rattle.std.specs.Prelude.{◌≡◌, ◌≢◌, ◌≤◌, ◌<◌, [], ◌∷◌, ℕ, Bool, true, false, Option, Some, None, is_some, slice_get}
+use Rattle.std.specs.Prelude.{◌≡◌, ◌≢◌, ◌≤◌, ◌<◌, ◌+◌, [], ◌∷◌, ℕ, zero, suc, Bool, filter, length, true, false, Option, Some, None, is_some, slice_get}
 use Rattle.jobs.specs.Endings.{SeenCarried}
+use Rattle.s3_model.specs.declared.outcomes.JobId.{JobId}
 use Rattle.s3_model.specs.declared.outcomes.Reason.TheVariants as reason_of
 use Rattle.s3_model.specs.declared.requests.Op.{Op}
 use Rattle.s3_model.specs.declared.requests.Op.TheVariants as op
 use Rattle.task_acts.specs.declared.work.Work.{Work}
-use Rattle.task_acts.specs.Kept.{MayCome, MayHappen}
+use Rattle.task_acts.specs.Kept.{IsHistory, MayCome, MayHappen}
 use Rattle.task_acts.specs.Histories.{Came}
 use Rattle.manager_moves.specs.declared.moves.Move.{Move}
 use Rattle.manager_moves.specs.declared.moves.Move.TheVariants as move
@@ -26,6 +27,14 @@ takes_part op.Put = true
 takes_part op.Part = true
 takes_part op.Get = true
 takes_part of_op = false
+
+-- how many jobs that take a part are out in a lane, and in the first so many lanes
+abbrev pub part_jobs_in : ℕ → Events → ℕ
+part_jobs_in lane events = length (filter (λ (job : JobId). takes_part job.op) (jobs_in lane events))
+
+abbrev pub part_jobs_before : ℕ → Events → ℕ
+part_jobs_before zero events = 0
+part_jobs_before (suc lane) events = part_jobs_before lane events + part_jobs_in lane events
 
 -- A move is made where the rule names it; what is out comes back at any time, in the order of its lane.
 abbrev pub MayFollow : Shared → Events → Event → Type 0
@@ -66,7 +75,16 @@ LanesKeepTheirDepth = (s : Shared) (events : Events) (lane : ℕ) → IsRun s ev
 abbrev pub PartsAreEnough : Type 0
 PartsAreEnough = (s : Shared) (events : Events) → IsRun s events → lent s.works events ≤ s.buffers
 
+-- At most so many jobs that take a part are out in all lanes as there are parts.
+abbrev pub BuffersAreKept : Type 0
+BuffersAreKept = (s : Shared) (events : Events) → IsRun s events → part_jobs_before s.lanes events ≤ s.buffers
+
 -- At most so many tasks are made and unfinished as the queue holds.
 abbrev pub QueueIsKept : Type 0
 QueueIsKept = (s : Shared) (events : Events) → IsRun s events
     → unfinished_from s events 0 (made s events) ≤ s.queue
+
+-- What a run gives a task is a history that can come about.
+abbrev pub SharesAreHistories : Type 0
+SharesAreHistories = (s : Shared) (events : Events) (n : ℕ) (w : Work) → slice_get s.works n ≡ Some w → IsRun s events
+    → IsHistory w (share w n events)

@@ -6,5 +6,5 @@ mod laws;
 mod moves;
 
 pub use examples::{buffers, cancels, lanes, queues, uploads};
-pub use laws::rule_keeps_limits;
+pub use laws::{rule_keeps_limits, shares_are_histories};
 pub use moves::Move;

@@ -1,3 +1,4 @@
+use Rattle.manager_moves.proofs.BufferLaws as buffers
 use Rattle.manager_moves.proofs.MoveLaws as moves
 use Rattle.manager_moves.proofs.PartLaws as parts
 use Rattle.manager_moves.proofs.QueueLaws as queue
@@ -8,5 +9,6 @@ returns c = record {
   freest = moves.jobs_go_to_the_freest;
   depth = moves.lanes_keep_their_depth;
   parts = parts.parts_are_enough;
+  buffers = buffers.buffers_are_kept;
   queue = queue.queue_is_kept;
 }
