@@ -24,13 +24,15 @@ use Rattle.manager_moves.proofs.MoveLaws.{both, from_default, given, in_front}
 use Rattle.manager_moves.proofs.PartLaws.{find_passes, nothing, ready_act, same_value}
 use Rattle.manager_moves.specs.declared.moves.Move.{Move}
 use Rattle.manager_moves.specs.declared.moves.Move.TheVariants as move
+use Rattle.manager_moves.specs.Lanes.{freest}
 use Rattle.manager_moves.specs.Laws.{IsOfTask, IsRun, SharesAreHistories}
 use Rattle.manager_moves.specs.Moves.{call_of, first_call, first_giving, giving_of, has_free_part, has_room, if_ready, is_any_out, lacks_part, line_for, made, next_make, next_move, ready}
 use Rattle.manager_moves.specs.Runs.{Back, Called, Events, Lined, Made, Sent, Shared, Stopped, is_task, lacks_memory, lined_count, made_count, outcome_in, share, with_taken}
 
--- ---- which call a move is
+-- ---- which act of a task a move is
 
-abbrev act_of : Move → Option (ℕ × Act)
+abbrev pub act_of : Move → Option (ℕ × Act)
+act_of (move.Give t o k lane) = Some (t, act.Send o k)
 act_of (move.Read t k) = Some (t, act.Read k)
 act_of (move.Place t k) = Some (t, act.Place k)
 act_of (move.Assemble t k) = Some (t, act.Assemble)
@@ -58,10 +60,10 @@ module _ (s : Shared) (events : Events) where
   is_call t act.Remove m e = subst (IsActOf t act.Remove) (same_value e) refl
   is_call t act.Stamp m e = subst (IsActOf t act.Stamp) (same_value e) refl
 
-  -- ---- a call is made for what a task is ready for
+  -- ---- an act is made for what a made task is ready for
 
-  abbrev IsReady : ℕ → Act → Type 0
-  IsReady t a = (w : Work) × (slice_get s.works t ≡ Some w) × (ready s events t w ≡ Some a)
+  abbrev pub IsReady : ℕ → Act → Type 0
+  IsReady t a = (w : Work) × (slice_get (made s events) t ≡ Some w) × (ready s events t w ≡ Some a)
 
   abbrev Fits : Move → Type 0
   Fits m = (t : ℕ) (a : Act) → act_of m ≡ Some (t, a) → IsReady t a
@@ -70,38 +72,48 @@ module _ (s : Shared) (events : Events) where
   guarded true m x = x
   guarded false m x = tt
 
-  module _ (n : ℕ) (w : Work) (of_plan : slice_get s.works n ≡ Some w) where
+  module _ (n : ℕ) (w : Work) (is_made : slice_get (made s events) n ≡ Some w) where
     call : (a : Act) → ready s events n w ≡ Some a → (x : Option Move) → call_of s events n a ≡ x → IfSome x Fits
     call a e None is = tt
     call a e (Some m) is = λ t b same.
         let pair : (n, a) ≡ (t, b) = same_value (sym (is_call n a m is) ∙ same) in
-        subst (λ (p : ℕ × Act). IsReady p.0 p.1) pair (w, of_plan, e)
+        subst (λ (p : ℕ × Act). IsReady p.0 p.1) pair (w, is_made, e)
 
     calls_of : (a : Option Act) → ready s events n w ≡ a → IfSome (if_ready s events a (call_of s events n)) Fits
     calls_of None e = tt
     calls_of (Some a) e = call a e (call_of s events n a) refl
 
-  calls : (n : ℕ) (works : List Work)
-      → ((i m : ℕ) (w : Work) → m ≡ n + i → slice_get works i ≡ Some w → slice_get s.works m ≡ Some w)
-      → IfSome (first_call s events n works) Fits
+    roomy : (b : Bool) (o : Op) (k lane : ℕ) → ready s events n w ≡ Some (act.Send o k) → IfSome (if b then Some (move.Give n o k lane) else None) Fits
+    roomy true o k lane e = λ t b same. subst (λ (p : ℕ × Act). IsReady p.0 p.1) (same_value same) (w, is_made, e)
+    roomy false o k lane e = tt
+
+    giving : (a : Act) → ready s events n w ≡ Some a → IfSome (giving_of s events n w a) Fits
+    giving (act.Send o k) e = roomy (has_room s events && not (lacks_part s events n w o k)) o k (freest s.lanes events) e
+    giving (act.Read k) e = tt
+    giving act.Assemble e = tt
+    giving (act.Place k) e = tt
+    giving act.Rename e = tt
+    giving act.DropTemp e = tt
+    giving act.Remove e = tt
+    giving act.Stamp e = tt
+
+    givings_of : (a : Option Act) → ready s events n w ≡ a → IfSome (if_ready s events a (giving_of s events n w)) Fits
+    givings_of None e = tt
+    givings_of (Some a) e = giving a e
+
+  -- the made tasks from that number on
+  abbrev AreMade : ℕ → List Work → Type 0
+  AreMade n works = (i m : ℕ) (w : Work) → m ≡ n + i → slice_get works i ≡ Some w → slice_get (made s events) m ≡ Some w
+
+  calls : (n : ℕ) (works : List Work) → AreMade n works → IfSome (first_call s events n works) Fits
   calls n [] h = tt
   calls n (w ∷ works) h = both Fits _ _ (calls_of n w (h 0 n w (omega arith) refl) (ready s events n w) refl)
       (calls (n + 1) works (λ i m v e is. h (suc i) m v (omega arith) is))
 
-  giving : (n : ℕ) (w : Work) (a : Option Act) → IfSome (if_ready s events a (giving_of s events n w)) Fits
-  giving n w None = tt
-  giving n w (Some (act.Send o k)) = guarded (has_room s events && not (lacks_part s events n w o k)) _ (λ t a e. absurd (nothing e))
-  giving n w (Some (act.Read k)) = tt
-  giving n w (Some act.Assemble) = tt
-  giving n w (Some (act.Place k)) = tt
-  giving n w (Some act.Rename) = tt
-  giving n w (Some act.DropTemp) = tt
-  giving n w (Some act.Remove) = tt
-  giving n w (Some act.Stamp) = tt
-
-  givings : (n : ℕ) (works : List Work) → IfSome (first_giving s events n works) Fits
-  givings n [] = tt
-  givings n (w ∷ works) = both Fits _ _ (giving n w (ready s events n w)) (givings (n + 1) works)
+  givings : (n : ℕ) (works : List Work) → AreMade n works → IfSome (first_giving s events n works) Fits
+  givings n [] h = tt
+  givings n (w ∷ works) h = both Fits _ _ (givings_of n w (h 0 n w (omega arith) refl) (ready s events n w) refl)
+      (givings (n + 1) works (λ i m v e is. h (suc i) m v (omega arith) is))
 
   line : (w : Option Work) → IfSome (line_for s events w) Fits
   line None = tt
@@ -116,15 +128,18 @@ module _ (s : Shared) (events : Events) where
 
   moving : Fits (next_move s events)
   moving = from_default Fits _ _ (both Fits _ _ (line (slice_get (made s events) (lined_count events)))
-      (both Fits _ _ (calls 0 (made s events) in_plan) (both Fits _ _ (givings 0 (made s events)) making)))
+      (both Fits _ _ (calls 0 (made s events) all_made) (both Fits _ _ (givings 0 (made s events) all_made) making)))
       (waiting (is_any_out s events))
     where
-      in_plan : (i m : ℕ) (w : Work) → m ≡ 0 + i → slice_get (made s events) i ≡ Some w → slice_get s.works m ≡ Some w
-      in_plan i m w e is = subst (λ (j : ℕ). slice_get s.works j ≡ Some w) (omega arith)
-          (in_front (made_count events) s.works i w is)
+      all_made : AreMade 0 (made s events)
+      all_made i m w e is = subst (λ (j : ℕ). slice_get (made s events) j ≡ Some w) (omega arith) is
 
-  is_called : (t : ℕ) (a : Act) → call_of s events t a ≡ Some (next_move s events) → IsReady t a
-  is_called t a e = moving t a (is_call t a (next_move s events) e)
+  -- what the next move does was ready
+  pub is_next : (t : ℕ) (a : Act) → act_of (next_move s events) ≡ Some (t, a) → IsReady t a
+  is_next t a e = moving t a e
+
+  pub is_called : (t : ℕ) (a : Act) → call_of s events t a ≡ Some (next_move s events) → IsReady t a
+  is_called t a e = is_next t a (is_call t a (next_move s events) e)
 
 -- ---- one more thing
 
@@ -175,6 +190,9 @@ module _ (w : Work) (h : History) where
 -- ---- all that happens
 
 module _ (s : Shared) (n : ℕ) (w : Work) (of_plan : slice_get s.works n ≡ Some w) where
+  in_plan : (before : Events) (t : ℕ) (v : Work) → slice_get (made s before) t ≡ Some v → slice_get s.works t ≡ Some v
+  in_plan before t v is = in_front (made_count before) s.works t v is
+
   -- what the task of that number is ready for
   is_ready_for : (before : Events) (t : ℕ) (a : Act) (v : Work) → t ≡ n → slice_get s.works t ≡ Some v → ready s before t v ≡ Some a
       → is_ready_in w (share w n before) a ≡ true
@@ -209,14 +227,14 @@ module _ (s : Shared) (n : ℕ) (w : Work) (of_plan : slice_get s.works n ≡ So
   called before t a r e may true same holds =
       let ready_for = is_called s before t a e in
       let back = returns w (share w n before) a (next_move s before) s before t e in
-      ((back.0, back.1, may), (is_ready_for before t a ready_for.0 (eqb-true t n same) ready_for.1 ready_for.2, holds))
+      ((back.0, back.1, may), (is_ready_for before t a ready_for.0 (eqb-true t n same) (in_plan before t ready_for.0 ready_for.1) ready_for.2, holds))
 
   is_history : (events : Events) → IsRun s events → IsHistory w (share w n events)
   is_history [] h = tt
   is_history (Made fits ∷ before) h = is_history before h.1
   is_history (Sent t o k lane ∷ before) h =
-      let g = given s before t o k lane h.0 in
-      sent before t o k (t == n) refl (λ same. is_ready_for before t (act.Send o k) g.work (eqb-true t n same) g.of_plan g.is_ready) (is_history before h.1)
+      let g = is_next s before t (act.Send o k) (ap act_of h.0) in
+      sent before t o k (t == n) refl (λ same. is_ready_for before t (act.Send o k) g.0 (eqb-true t n same) (in_plan before t g.0 g.1) g.2) (is_history before h.1)
   is_history (Back lane carried ∷ before) h =
       came before carried carried.job.id.task h.0.1 (is_task n carried.job.id.task) refl (is_history before h.1)
   is_history (Called t a r ∷ before) h = called before t a r h.0.0 h.0.1 (t == n) refl (is_history before h.1)
