@@ -453,7 +453,7 @@ same_jobs events before same (suc lane) =
 -- ---- every run
 
 module _ (s : Shared) (some : 1 ≤ s.lanes) where
-  none_beyond : (events : Events) → IsRun s events → (lane : ℕ) → s.lanes ≤ lane → jobs_in lane events ≡ []
+  pub none_beyond : (events : Events) → IsRun s events → (lane : ℕ) → s.lanes ≤ lane → jobs_in lane events ≡ []
   none_beyond [] h lane beyond = refl
   none_beyond (Made fits ∷ before) h lane beyond = none_beyond before h.1 lane beyond
   none_beyond (Sent t o k to ∷ before) h lane beyond =

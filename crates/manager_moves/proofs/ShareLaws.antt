@@ -20,7 +20,7 @@ use Rattle.task_acts.specs.Rule.{acts_of, first_ready_in, is_ready, is_ready_in}
 use Rattle.task_acts.specs.Stages.{given_stage, is_out, stage}
 use Rattle.manager_moves.proofs.CountLemmas.{no}
 use Rattle.manager_moves.proofs.HoldLemmas.{same_number}
-use Rattle.manager_moves.proofs.MoveLaws.{both, from_default, given, in_front}
+use Rattle.manager_moves.proofs.MoveLaws.{both, from_default, in_front}
 use Rattle.manager_moves.proofs.PartLaws.{find_passes, nothing, ready_act, same_value}
 use Rattle.manager_moves.specs.declared.moves.Move.{Move}
 use Rattle.manager_moves.specs.declared.moves.Move.TheVariants as move

@@ -1,5 +1,5 @@
 -- What the deciding request of a task left open, its last attempts tell.
-use Rattle.std.proofs.Common.{◌≡◌, ◌∙◌, ◌==◌, ◌&&◌, ◌||◌, ◌⊎◌, ℕ, Bool, true, false, List, [], ◌∷◌, Option, Some, None, refl, sym, subst, ap, arith, inl, inr, length, nat_lt, not}
+use Rattle.std.proofs.Common.{◌≡◌, ◌∙◌, ◌==◌, ◌&&◌, ◌||◌, ◌⊎◌, ℕ, Bool, true, false, List, [], ◌∷◌, Option, refl, sym, subst, ap, arith, inl, inr, length, nat_lt}
 use Rattle.std.proofs.lemmas.Bool.{and_parts, eqb-true}
 use Rattle.std.specs.List.{list_any}
 use Rattle.std.specs.Prelude.{is_some, if◌then◌else◌}
@@ -9,7 +9,6 @@ use Rattle.jobs.specs.declared.ending.Ending.TheVariants as ending
 use Rattle.run_promise.specs.Dispatches.{is_op, op_number}
 use Rattle.s3_model.specs.declared.outcomes.Cause.{Cause}
 use Rattle.s3_model.specs.declared.requests.Op.{Op}
-use Rattle.s3_model.specs.declared.requests.Op.TheVariants as op
 use Rattle.s3_model.specs.declared.tries.Mark.{Mark}
 use Rattle.task_acts.specs.declared.acts.Act.{Act}
 use Rattle.task_acts.specs.declared.acts.Act.TheVariants as act
@@ -17,10 +16,10 @@ use Rattle.task_acts.specs.declared.acts.Stage.{Stage}
 use Rattle.task_acts.specs.declared.acts.Stage.TheVariants as at
 use Rattle.task_acts.specs.declared.work.Work.{Work}
 use Rattle.task_acts.specs.Ends.{decides, has_tries, has_uncertain, is_by_request, is_uncertain, last_cause}
-use Rattle.task_acts.specs.Failures.{carried_cause, is_cut_short, is_stopped, is_unfinished}
+use Rattle.task_acts.specs.Failures.{carried_cause, is_cut_short, is_stopped}
 use Rattle.task_acts.specs.Histories.{Came, Cancelled, Gave, History, Returned, Taken, is_act, sent}
 use Rattle.task_acts.specs.Kept.{IsHistory, MayHappen}
-use Rattle.task_acts.specs.Rule.{is_named, is_ready_in}
+use Rattle.task_acts.specs.Rule.{is_named}
 use Rattle.task_acts.specs.Stages.{carried_stage, given_stage, has_done, is_out, may_be_given, stage}
 use Rattle.task_acts.specs.Work.{deciding_op}
 use Rattle.world_laws.proofs.Jobs.{op_same}
@@ -142,34 +141,45 @@ module _ (w : Work) where
     -- the deciding request came back with attempts
     tried : decides w c ≡ true → has_tries c ≡ true → (b : Bool) → is_some (carried_cause w c) ≡ b → IsTold (Came c ∷ h)
     tried d t true has = (by_request c d, inl (subst (λ (x : Option Cause). is_some x ≡ true) (sym (chosen (decides w c && has_tries c) (carried_cause w c) (last_cause w h) (rw (d, t) refl))) has))
-    tried d t false none = (by_request c d,
-        inr (subst (λ (x : Stage). has_done x ≡ true) (sym (chosen (is_act deciding_act (sent c)) (carried_stage w (is_stopped w h) c) (stage w h deciding_act) (is_its_act c d)))
-        (fine_by (is_cut_short w c) (is_some (carried_cause w c)) (is_stopped w h) (not_cut c c.ending none) none)))
+    tried d t false none = (
+      by_request c d,
+      inr (subst (λ (x : Stage). has_done x ≡ true) (sym (chosen (is_act deciding_act (sent c)) (carried_stage w (is_stopped w h) c) (stage w h deciding_act) (is_its_act c d)))
+          (fine_by (is_cut_short w c) (is_some (carried_cause w c)) (is_stopped w h) (not_cut c c.ending none) none)),
+    )
 
     -- it came back without any
     untried : decides w c ≡ true → has_tries c ≡ false → MayHappen w h (Came c) → IsTold h → IsTold (Came c ∷ h)
-    untried d t may told = (told.0, elim told.1 [
-      | inl has ↦ inl (subst (λ (x : Option Cause). is_some x ≡ true) (sym (skipped (decides w c && has_tries c) (carried_cause w c) (last_cause w h) (rw (d, t) refl))) has)
-      | inr done ↦ no (done_is_not_out (stage w h deciding_act) done
-        (subst (λ (a : Act). is_out (stage w h a) ≡ true) (act_is (sent c) (is_its_act c d)) may.0))
-    ])
+    untried d t may told = (
+      told.0,
+      elim told.1 [
+        | inl has ↦ inl (subst (λ (x : Option Cause). is_some x ≡ true) (sym (skipped (decides w c && has_tries c) (carried_cause w c) (last_cause w h) (rw (d, t) refl))) has)
+        | inr done ↦ no (done_is_not_out (stage w h deciding_act) done
+            (subst (λ (a : Act). is_out (stage w h a) ≡ true) (act_is (sent c) (is_its_act c d)) may.0))
+      ],
+    )
 
     -- another job came back
     other_job : decides w c ≡ false → IsTold h → IsTold (Came c ∷ h)
-    other_job d told = (told.0, elim told.1 [
-      | inl has ↦ inl (subst (λ (x : Option Cause). is_some x ≡ true) (sym (skipped (decides w c && has_tries c) (carried_cause w c) (last_cause w h) (rw d refl))) has)
-      | inr done ↦ inr (subst (λ (x : Stage). has_done x ≡ true) (sym (skipped (is_act deciding_act (sent c)) (carried_stage w (is_stopped w h) c) (stage w h deciding_act) (is_other_act c told.0 d))) done)
-    ])
+    other_job d told = (
+      told.0,
+      elim told.1 [
+        | inl has ↦ inl (subst (λ (x : Option Cause). is_some x ≡ true) (sym (skipped (decides w c && has_tries c) (carried_cause w c) (last_cause w h) (rw d refl))) has)
+        | inr done ↦ inr (subst (λ (x : Stage). has_done x ≡ true) (sym (skipped (is_act deciding_act (sent c)) (carried_stage w (is_stopped w h) c) (stage w h deciding_act) (is_other_act c told.0 d))) done)
+      ],
+    )
 
   gave : (a : Act) (h : History) → MayHappen w h (Gave a) → IsTold h → IsTold (Gave a ∷ h)
-  gave a h may told = (told.0, elim told.1 [
-    | inl has ↦ inl has
-    | inr done ↦ elim (decided_or (is_act deciding_act a)) [
-      | inl same ↦ no (done_is_not_given (stage w h deciding_act) done
-        (subst (λ (x : Act). may_be_given (stage w h x) ≡ true) (act_is a same) (and_parts (may_be_given (stage w h a)) (is_named w (stage w h) (is_stopped w h) a) may).0))
-      | inr other ↦ inr (subst (λ (x : Stage). has_done x ≡ true) (sym (skipped (is_act deciding_act a) (given_stage (stage w h a)) (stage w h deciding_act) other)) done)
-    ]
-  ])
+  gave a h may told = (
+    told.0,
+    elim told.1 [
+      | inl has ↦ inl has
+      | inr done ↦ elim (decided_or (is_act deciding_act a)) [
+        | inl same ↦ no (done_is_not_given (stage w h deciding_act) done
+            (subst (λ (x : Act). may_be_given (stage w h x) ≡ true) (act_is a same) (and_parts (may_be_given (stage w h a)) (is_named w (stage w h) (is_stopped w h) a) may).0))
+        | inr other ↦ inr (subst (λ (x : Stage). has_done x ≡ true) (sym (skipped (is_act deciding_act a) (given_stage (stage w h a)) (stage w h deciding_act) other)) done)
+      ]
+    ],
+  )
 
   returned : (a : Act) (h : History) → (r : _) → MayHappen w h (Returned a r) → IsTold h → IsTold (Returned a r ∷ h)
   returned (act.Send o n) h r may told = no may.0

@@ -1,5 +1,5 @@
 -- The work of a task has pieces.
-use Rattle.std.proofs.Common.{◌≡◌, ◌∙◌, ◌<◌, ◌≤◌, ℕ, Bool, true, false, refl, sym, subst, ap, arith, inl, inr, nat_lt}
+use Rattle.std.proofs.Common.{◌≡◌, ◌≤◌, ℕ, Bool, true, false, sym, subst, arith, inl, inr, nat_lt}
 use Rattle.std.proofs.lemmas.Bool.{ltb-true}
 use Rattle.s3_model.specs.declared.settings.Config.{Config}
 use Rattle.s3_model.specs.declared.settings.Limits.{Limits}
@@ -7,8 +7,7 @@ use Rattle.s3_model.specs.declared.tasks.Kind.{Kind}
 use Rattle.s3_model.specs.declared.tasks.Kind.TheVariants as kind
 use Rattle.s3_model.specs.Parts.{HasPieces, IsTransfer}
 use Rattle.s3_model.specs.Validity.{IsValidConfig, IsValidLimits}
-use Rattle.task_acts.specs.declared.work.Work.{Work}
-use Rattle.task_progress.specs.Progress.{HasPiece, WorkHasPieces}
+use Rattle.task_progress.specs.Progress.{WorkHasPieces}
 use Rattle.world_laws.proofs.PieceCounts.{in_parts}
 use Rattle.world_laws.proofs.Pieces.{some_pieces}
 

@@ -1,10 +1,9 @@
 -- Where nothing is ready and nothing is out, a task has an outcome.
-use Rattle.std.proofs.Common.{◌≡◌, ◌∙◌, ◌==◌, ◌&&◌, ◌||◌, ◌⊎◌, ◌+◌, ◌++◌, ◌<◌, ◌≤◌, ℕ, zero, suc, Bool, true, false, List, [], ◌∷◌, Option, Some, None, refl, sym, subst, ap, arith, inl, inr, map, nat_lt, not}
-use Rattle.std.proofs.lemmas.Bool.{and_parts, eqb-true}
+use Rattle.std.proofs.Common.{◌≡◌, ◌∙◌, ◌&&◌, ◌||◌, ◌⊎◌, ◌+◌, ◌++◌, ◌<◌, ◌≤◌, ℕ, zero, suc, Bool, true, false, List, [], ◌∷◌, Option, Some, None, refl, sym, subst, ap, arith, inl, inr, nat_lt, not}
+use Rattle.std.proofs.lemmas.Bool.{and_parts}
 use Rattle.std.specs.List.{find, list_all, range_with_len}
 use Rattle.std.specs.Option.{option_or}
-use Rattle.std.specs.Prelude.{IsSome, is_some, if◌then◌else◌}
-use Rattle.jobs.specs.Endings.{SeenCarried}
+use Rattle.std.specs.Prelude.{is_some, if◌then◌else◌}
 use Rattle.s3_model.specs.declared.outcomes.Cause.{Cause}
 use Rattle.s3_model.specs.declared.outcomes.Outcome.{Outcome}
 use Rattle.s3_model.specs.declared.outcomes.Outcome.TheVariants as outcome
@@ -26,7 +25,7 @@ use Rattle.task_acts.specs.Ends.{cancel_cause, copied_for, failed_for, has_uncer
 use Rattle.task_acts.specs.Failures.{carried_cause, failure_by, file_cause, first_failure, first_reason, is_cut_short, is_fine, is_stopped, reason_by, result_cause, wanted_memory}
 use Rattle.task_acts.specs.Histories.{Came, Cancelled, Gave, Happening, History, Returned, Taken, is_act, sent}
 use Rattle.task_acts.specs.Kept.{IsHistory}
-use Rattle.task_acts.specs.Rule.{acts_of, file_acts, first_ready_in, is_created, is_decided_by, is_decided_in, is_done_in, is_due, is_each_done, is_idle_in, is_named, is_ready, is_ready_in, piece_sends, reads, single_sends}
+use Rattle.task_acts.specs.Rule.{acts_of, file_acts, first_ready_in, is_decided_by, is_decided_in, is_due, is_each_done, is_idle_in, is_named, is_ready, is_ready_in, piece_sends, reads, single_sends}
 use Rattle.task_acts.specs.Stages.{carried_stage, file_stage, given_stage, has_done, has_ended, is_out, may_be_given, stage}
 use Rattle.task_acts.specs.Work.{deciding_op, first_number, is_piece, numbers, piece_op}
 use Rattle.shared_lemmas.proofs.Members.{Has, has-append_left, has-append_right, has-map}
@@ -40,14 +39,14 @@ all_has p [] e x h = absurd h
 all_has p (y ∷ ys) e x (inl same) = subst (λ z. p z ≡ true) same (and_parts (p y) (list_all p ys) e).0
 all_has p (y ∷ ys) e x (inr h) = all_has p ys (and_parts (p y) (list_all p ys) e).1 x h
 
-all_from : {X : Type 0} (p : X → Bool) (xs : List X) → ((x : X) → Has xs x → p x ≡ true) → list_all p xs ≡ true
+pub all_from : {X : Type 0} (p : X → Bool) (xs : List X) → ((x : X) → Has xs x → p x ≡ true) → list_all p xs ≡ true
 all_from p [] each = refl
 all_from p (y ∷ ys) each = rw (each y (inl refl), all_from p ys (λ x h. each x (inr h))) refl
 
 some_none : {X : Type 0} {P : Type 0} (x : X) → Some x ≡ None → P
 some_none x e = cc
 
-none_found : {X : Type 0} (p : X → Bool) (xs : List X) → find p xs ≡ None → (x : X) → Has xs x → p x ≡ false
+pub none_found : {X : Type 0} (p : X → Bool) (xs : List X) → find p xs ≡ None → (x : X) → Has xs x → p x ≡ false
 none_found p [] e x h = absurd h
 none_found p (y ∷ ys) e x h = by (p y) refl e h (λ f g. none_found p ys f x g)
   where
@@ -56,27 +55,27 @@ none_found p (y ∷ ys) e x h = by (p y) refl e h (λ f g. none_found p ys f x g
     by false q f (inl same) rest = subst (λ z. p z ≡ false) same q
     by false q f (inr g) rest = rest f g
 
-in_range : (start count n : ℕ) → Has (range_with_len start count) n → (start ≤ n) × (n < start + count)
+pub in_range : (start count n : ℕ) → Has (range_with_len start count) n → (start ≤ n) × (n < start + count)
 in_range start zero n h = absurd h
 in_range start (suc count) n (inl same) = (omega arith, omega arith)
 in_range start (suc count) n (inr h) = let rest = in_range (start + 1) count n h in (omega arith, omega arith)
 
-first_in_range : (start count : ℕ) → 1 ≤ count → Has (range_with_len start count) start
+pub first_in_range : (start count : ℕ) → 1 ≤ count → Has (range_with_len start count) start
 first_in_range start zero some = absurd (omega arith)
 first_in_range start (suc count) some = inl refl
 
-less_is : (a b : ℕ) → a < b → nat_lt a b ≡ true
+pub less_is : (a b : ℕ) → a < b → nat_lt a b ≡ true
 less_is a b l = grind arith
 
-both : (a b : Bool) → a ≡ true → b ≡ true → (a && b) ≡ true
+pub both : (a b : Bool) → a ≡ true → b ≡ true → (a && b) ≡ true
 both true true e f = refl
 both true false e f = f
 both false b e f = no e
 
-all_three : (a b c : Bool) → a ≡ true → b ≡ true → c ≡ true → (a && b && c) ≡ true
+pub all_three : (a b c : Bool) → a ≡ true → b ≡ true → c ≡ true → (a && b && c) ≡ true
 all_three a b c e f g = both (a && b) c (both a b e f) g
 
-opposite : (b : Bool) → b ≡ false → not b ≡ true
+pub opposite : (b : Bool) → b ≡ false → not b ≡ true
 opposite true e = no (sym e)
 opposite false e = refl
 
@@ -108,7 +107,7 @@ either false true c d f g e = second c d (g refl)
 either false false c d f g e = no e
 
 -- an act whose failure counts: that a time could not be set, or that a temporary file stayed, is a warning
-abbrev IsCounted : Act → Type 0
+abbrev pub IsCounted : Act → Type 0
 IsCounted act.Stamp = ⊥
 IsCounted act.DropTemp = ⊥
 IsCounted a = Unit {0}
@@ -131,7 +130,7 @@ call_counts act.Remove act.Remove r counted same e = result_counts act.Remove r 
 call_counts act.Stamp act.Stamp r counted same e = absurd counted
 call_counts a called r counted same e = no same
 
-abbrev has_failed : Stage → Bool
+abbrev pub has_failed : Stage → Bool
 has_failed at.Failed = true
 has_failed how = false
 
@@ -166,7 +165,7 @@ module _ (w : Work) where
   job_fails false stopped None e = no e
   job_fails false stopped (Some why) e = inr refl
 
-  failed_stops : (h : History) (a : Act) → IsCounted a → has_failed (stage w h a) ≡ true → is_stopped w h ≡ true
+  pub failed_stops : (h : History) (a : Act) → IsCounted a → has_failed (stage w h a) ≡ true → is_stopped w h ≡ true
   failed_stops [] a counted e = no e
   failed_stops (Gave g ∷ h) a counted e = still_stopped (Gave g) h (by (is_act a g) e (λ f. failed_stops h a counted f))
     where
@@ -226,7 +225,7 @@ module _ (w : Work) (h : History) (piece : HasPiece w) (none : first_ready_in w 
   single a known = has-append_left ((file_acts w ++ single_sends) ++ piece_sends w) (reads w) a
       (has-append_left (file_acts w ++ single_sends) (piece_sends w) a (has-append_right (file_acts w) single_sends a known))
 
-  piece_send : (n : ℕ) → Has (numbers w) n → Has (acts_of w) (act.Send (piece_op w.of_kind w.small) n)
+  pub piece_send : (n : ℕ) → Has (numbers w) n → Has (acts_of w) (act.Send (piece_op w.of_kind w.small) n)
   piece_send n known = has-append_left ((file_acts w ++ single_sends) ++ piece_sends w) (reads w) (act.Send (piece_op w.of_kind w.small) n)
       (has-append_right (file_acts w ++ single_sends) (piece_sends w) (act.Send (piece_op w.of_kind w.small) n) (has-map (λ (k : ℕ). act.Send (piece_op w.of_kind w.small) k) (numbers w) n known))
 
@@ -236,7 +235,7 @@ module _ (w : Work) (h : History) (piece : HasPiece w) (none : first_ready_in w 
   place_act : (n : ℕ) → Has (numbers w) n → Has (acts_of w) (act.Place n)
   place_act n known = file_act (act.Place n) (inr (inr (inr (inr (inr (has-map (λ (k : ℕ). act.Place k) (numbers w) n known))))))
 
-  piece_of : (n : ℕ) → Has (numbers w) n → is_piece w n ≡ true
+  pub piece_of : (n : ℕ) → Has (numbers w) n → is_piece w n ≡ true
   piece_of n known =
       let range = in_range (first_number w) w.count n known in
       both (nat_lt n (first_number w + w.count)) (nat_lt (first_number w) (n + 1)) (less_is n (first_number w + w.count) range.1) (less_is (first_number w) (n + 1) (omega arith))

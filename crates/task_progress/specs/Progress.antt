@@ -1,5 +1,5 @@
 -- Each task ends: where no act of it is ready and none is out, it has an outcome.
-use Rattle.std.specs.Prelude.{◌≡◌, ◌≤◌, ℕ, true, None, IsSome}
+use Rattle.std.specs.Prelude.{◌≡◌, ◌≤◌, true, None, IsSome}
 use Rattle.s3_model.specs.declared.settings.Config.{Config}
 use Rattle.s3_model.specs.declared.settings.Limits.{Limits}
 use Rattle.s3_model.specs.declared.tasks.Task.{Task}

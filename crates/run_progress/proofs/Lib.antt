@@ -1,0 +1,5 @@
+pub mod Limits
+pub mod OutJobs
+pub mod Progress
+pub mod Ranks
+pub mod Waiting
