@@ -14,6 +14,7 @@ ghost use Rattle.std.specs.Prelude.{
   IsTrue,
   Some,
   None,
+  Err,
   length,
 };
 ghost use Rattle.std.specs.Option.{is_some, option_copied, unwrap_or};
@@ -217,6 +218,8 @@ impl ObjectTable {
         ensures same { OnErr result (self.new ≡ self.old) }
         ensures willing { HasBucket self.old bucket.now × IsVacant fresh self.old bucket.now key.now →
             IsNotRefused result }
+        ensures taken { result ≡ Err (TableFault.Refused Refusal.PreconditionFailed) →
+            IsSome (object_at self.old bucket.now key.now) }
     {
         if !self.has_bucket(bucket) {
             return Err(TableFault::Refused(Refusal::NoSuchBucket));

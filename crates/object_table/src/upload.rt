@@ -1,6 +1,6 @@
 //! Uploads in parts in memory, and how they ended.
 
-ghost use Rattle.std.specs.Prelude.{◌≡◌, ◌+◌, OnOk, OnErr, IfOk, IfSome, Some, None, true};
+ghost use Rattle.std.specs.Prelude.{◌≡◌, ◌+◌, OnOk, OnErr, IfOk, IfSome, Err, Some, None, true};
 ghost use Rattle.std.specs.Option.{option_copied};
 ghost use Rattle.std.specs.FinMap.{get, insert, empty};
 
@@ -94,8 +94,9 @@ impl MemUpload {
 
     // The bytes of the part at a place, counted from 0, where it has that entity tag.
     pub(crate) fn piece(&self, place: usize, etag: &str) -> Result<&[u8], Refusal>
-        ensures { IfOk result (λ piece.
+        ensures found { IfOk result (λ piece.
             get self.now.parts (place + 1) ≡ Some (record { bytes = piece.now; etag = etag.now })) }
+        ensures refused { result ≡ Err Refusal.PreconditionFailed → ⊥ }
     {
         let Some(number) = number_at(place) else {
             return Err(Refusal::InvalidPart);

@@ -22,7 +22,16 @@ ghost use Rattle.std.specs.Prelude.{
 ghost use Rattle.std.specs.FinMap.{get, insert};
 ghost use Rattle.object_table.specs.Assembly.{Joined};
 ghost use Rattle.object_table.specs.Refused.{IsNotRefused};
-ghost use Rattle.s3_service.specs.ServiceState.{CompletedBy, HasBucket, Object, State, StoredPart, Upload, with_ended};
+ghost use Rattle.s3_service.specs.ServiceState.{
+  CompletedBy,
+  HasBucket,
+  Object,
+  State,
+  StoredPart,
+  Upload,
+  object_at,
+  with_ended,
+};
 ghost use Rattle.s3_service.specs.Serves.{
   Aborts,
   AllButLastHave,
@@ -94,7 +103,8 @@ fn assembled(
     upload: &MemUpload,
     etags: &[Text],
 ) -> Result<Vec<u8>, TableFault>
-    ensures { IfOk result (λ bytes. (last : ℕ) × Joined upload.now least etags.now bytes.items last) }
+    ensures joined { IfOk result (λ bytes. (last : ℕ) × Joined upload.now least etags.now bytes.items last) }
+    ensures refused { result ≡ Err (TableFault.Refused Refusal.PreconditionFailed) → ⊥ }
 {
     let mut bytes = Vec::new(alloc);
     let mut last = least;
@@ -123,6 +133,7 @@ impl ObjectTable {
     fn open(&self, bucket: &str, key: &str, id: &str) -> Result<&MemUpload, Refusal>
         ensures open { IfOk result (λ upload. IsOpen self.now id.now bucket.now key.now upload.now) }
         ensures willing { (upload : Upload) → IsOpen self.now id.now bucket.now key.now upload → IsOk result }
+        ensures refused { result ≡ Err Refusal.PreconditionFailed → ⊥ }
     {
         let Some(upload) = self.uploads.get(id) else {
             return Err(Refusal::NoSuchUpload);
@@ -215,6 +226,8 @@ impl ObjectTable {
         ensures joined { OnOk result (Joins limits.now self.old bucket.now key.now id.now etags.now fresh self.new
             ⊎ JoinsAgain self.old id.now etags.now self.new) }
         ensures same { OnErr result (self.new ≡ self.old) }
+        ensures taken { result ≡ Err (TableFault.Refused Refusal.PreconditionFailed) →
+            IsSome (object_at self.old bucket.now key.now) }
     {
         if self.is_completed_by(id, etags) {
             return Ok(());
@@ -240,6 +253,8 @@ impl ObjectTable {
         ensures vacant { OnOk result (IsVacant fresh self.now bucket.now key.now) }
         ensures bytes { IfOk result (λ bytes. (upload : Upload) × IsOpen self.now id.now bucket.now key.now upload
             × Completes limits.now upload etags.now bytes.items) }
+        ensures taken { result ≡ Err (TableFault.Refused Refusal.PreconditionFailed) →
+            IsSome (object_at self.now bucket.now key.now) }
     {
         if etags.is_empty() || self.ended.has(id) {
             return Err(TableFault::Refused(Refusal::InvalidPart));

@@ -6,4 +6,4 @@ use Rattle.object_table.proofs.table.ObjectTable.joined.Goals as goal
 pub returns-clause-bytes : goal.returns-clause-bytes
 returns-clause-bytes c =
     completes (λ bytes. bytes.items) c.assembled.result c.args.limits.now c.args.self.now c.args.id.now c.args.bucket.now c.args.key.now c.in_ok-upload.upload.now c.args.etags.now c.in_ok-upload.ensures.open
-    (first_of (omega arith, first_of (search rules, grind (arith, common_steps)))) c.assembled.ensures
+    (first_of (omega arith, first_of (search rules, grind (arith, common_steps)))) c.assembled.ensures.joined
