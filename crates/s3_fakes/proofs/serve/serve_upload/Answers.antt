@@ -1,0 +1,32 @@
+use Rattle.std.proofs.Common.{◌⊎◌, ℕ, List, rules, subst}
+use Rattle.s3_model.specs.declared.requests.Ask.TheVariants as ask
+use Rattle.s3_service.specs.Serves.{Joins, JoinsAgain, StoresPart}
+use Rattle.s3_fakes.proofs.Rows.{served_as}
+use Rattle.s3_fakes.proofs.serve.serve_upload.Goals as goal
+
+pub returns-in_ok-id-in-Create-clause-served : goal.returns-in_ok-id-in-Create-clause-served
+returns-in_ok-id-in-Create-clause-served c =
+    served_as c.args.manner.now.limits c.args.table.now c.args.ask.now (ask.Create c.as_str.result.now c.as_str-in-Create.result.now c.in-Create.content) _ _ _ (search rules) c.in_ok-id-in-Create.ensures.created
+
+pub returns-in_ok-etag-in-Part-clause-served : goal.returns-in_ok-etag-in-Part-clause-served
+returns-in_ok-etag-in-Part-clause-served c =
+    served_as c.args.manner.now.limits c.args.table.now c.args.ask.now (ask.Part c.as_str-bucket.result.now c.as_str-key.result.now c.as_str-id.result.now c.in-Part.number) _ _ _ (search rules)
+    (subst (λ (bytes : List ℕ). StoresPart c.args.table.now c.as_str-bucket.result.now c.as_str-key.result.now c.as_str-id.result.now c.in-Part.number bytes c.in_ok-etag-in-Part.etag c.put_part.new.self)
+    (search rules) c.in_ok-etag-in-Part.ensures.stored)
+
+pub returns-in_ok-etag-in-PartCopy-clause-served :
+    goal.returns-in_ok-etag-in-PartCopy-clause-served
+returns-in_ok-etag-in-PartCopy-clause-served c =
+    served_as c.args.manner.now.limits c.args.table.now c.args.ask.now (ask.PartCopy c.as_str-bucket-in-PartCopy.result.now c.as_str-key-in-PartCopy.result.now c.as_str-id-in-PartCopy.result.now c.in-PartCopy.number c.as_str-in-PartCopy.result.now c.as_str-in-PartCopy-2.result.now c.as_str-in-PartCopy-3.result.now c.in-PartCopy.range) _ _ _ (search rules) c.in_ok-etag-in-PartCopy.ensures.stored
+
+pub returns-in_ok-complete-in-Complete-clause-served :
+    goal.returns-in_ok-complete-in-Complete-clause-served
+returns-in_ok-complete-in-Complete-clause-served c =
+    served_as c.args.manner.now.limits c.args.table.now c.args.ask.now (ask.Complete c.as_str-in-Complete.result.now c.as_str-in-Complete-2.result.now c.as_str-in-Complete-3.result.now c.in-Complete.etags c.in-Complete.fresh) _ _ _ (search rules)
+    (subst (λ (etags : List (List ℕ)). Joins c.args.manner.now.limits c.args.table.now c.as_str-in-Complete.result.now c.as_str-in-Complete-2.result.now c.as_str-in-Complete-3.result.now etags c.in-Complete.fresh c.complete.new.self
+    ⊎ JoinsAgain c.args.table.now c.as_str-in-Complete-3.result.now etags c.complete.new.self)
+    c.as_slice.ensures c.in_ok-complete-in-Complete.ensures.joined)
+
+pub returns-in_ok-abort-in-Abort-clause-served : goal.returns-in_ok-abort-in-Abort-clause-served
+returns-in_ok-abort-in-Abort-clause-served c =
+    served_as c.args.manner.now.limits c.args.table.now c.args.ask.now (ask.Abort c.as_str-in-Abort.result.now c.as_str-in-Abort-2.result.now c.as_str-in-Abort-3.result.now) _ _ _ (search rules) c.in_ok-abort-in-Abort.ensures.aborted

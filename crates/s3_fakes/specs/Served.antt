@@ -1,0 +1,38 @@
+-- What a request does to a service in memory and what it gains, as the definition of the request has it.
+use Rattle.std.specs.Prelude.{◌≡◌, ℕ, List, [], length}
+use Rattle.s3_model.specs.declared.requests.Ask.{Ask}
+use Rattle.s3_model.specs.declared.requests.Ask.TheVariants as ask
+use Rattle.s3_model.specs.declared.answers.Reply.{Reply}
+use Rattle.s3_model.specs.declared.answers.Reply.TheVariants as reply
+use Rattle.s3_model.specs.declared.settings.Limits.{Limits}
+use Rattle.s3_service.specs.ServiceState.{State, HasBucket}
+use Rattle.s3_service.specs.Serves.{Succeeds}
+use Rattle.service_answers.specs.declared.gained.Gained.{Gained}
+use Rattle.service_answers.specs.declared.gained.Gained.TheVariants as gained
+use Rattle.service_answers.specs.Statuses.{got_status}
+
+-- the reply that says what was gained
+abbrev pub reply_of : Gained → Reply
+reply_of (gained.Found object) = reply.Found object.size object.etag object.micros
+reply_of (gained.Got object) = reply.Got (got_status object.range) object.range (length object.bytes.items)
+reply_of gained.Stored = reply.Stored
+reply_of gained.Copied = reply.Copied
+reply_of gained.Gone = reply.Gone
+reply_of (gained.Created id) = reply.Created id
+reply_of (gained.PartStored etag) = reply.PartStored etag
+reply_of (gained.PartCopied etag) = reply.PartStored etag
+reply_of gained.Completed = reply.Completed
+reply_of (gained.Listed page) = reply.Listed page
+reply_of (gained.Buckets entries) = reply.BucketList entries
+
+-- the bytes of a Get
+abbrev pub bytes_of : Gained → List ℕ
+bytes_of (gained.Got object) = object.bytes.items
+bytes_of got = []
+
+-- The request did what its definition says. Of a page only this is said: its bucket is there, and at most a token is
+-- new.
+abbrev pub IsServed : Limits → State → Ask → List ℕ → Gained → State → Type 0
+IsServed limits old (ask.List bucket prefix delimited token) body got new =
+    HasBucket old bucket × (new.objects ≡ old.objects) × (new.uploads ≡ old.uploads) × (new.ended ≡ old.ended)
+IsServed limits old asked body got new = Succeeds limits old asked body (reply_of got) (bytes_of got) new

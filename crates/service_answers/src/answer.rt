@@ -1,0 +1,180 @@
+//! Answers, and the bytes in which they come.
+
+ghost use Rattle.std.specs.Prelude.{◌≡◌, [], Some, None, length, string_bytes};
+ghost use Rattle.std.specs.Option.{unwrap_or};
+
+use s3_model::OutOfMemory;
+use std::alloc::{AllocError, Global};
+
+/// In which form an answer comes.
+#[derive(Clone, Copy, Debug, PartialEq, Eq)]
+pub enum Form {
+    /// With its length, and the connection stays open.
+    Sized,
+    /// With its length, and `connection: close`.
+    Closing,
+    /// In chunks of so many bytes.
+    Chunked(usize),
+    /// With its length, in pieces of so many bytes.
+    Split(usize),
+    /// With its length, and one byte behind it.
+    Followed,
+}
+
+/// An answer before it is bytes: its status, header lines of its own, and its body. That of a HEAD has no body, but
+/// states the length of one.
+#[derive(Debug, Drop)]
+pub struct Answer {
+    pub status: u16,
+    pub lines: String,
+    pub body: Vec<u8>,
+    pub length: Option<u64>,
+}
+
+/// The words of a status.
+fn phrase(status: u16) -> &'static str {
+    match status {
+        200 => "OK",
+        204 => "No Content",
+        206 => "Partial Content",
+        400 => "Bad Request",
+        403 => "Forbidden",
+        404 => "Not Found",
+        412 => "Precondition Failed",
+        416 => "Range Not Satisfiable",
+        500 => "Internal Server Error",
+        501 => "Not Implemented",
+        503 => "Service Unavailable",
+        _ => "Other",
+    }
+}
+
+/// Adds a body in chunks of at least one byte and at most `most`, and the last chunk.
+fn push_chunks(
+    alloc: Global,
+    out: &mut Vec<u8>,
+    body: &[u8],
+    most: usize,
+) -> Result<(), AllocError> {
+    for chunk in body.chunks(most.max(1)) {
+        let count = chunk.len();
+        out.extend_from_slice(format!(in alloc; "{count:x}\r\n")?.as_bytes())?;
+        out.extend_from_slice(chunk)?;
+        out.extend_from_slice(b"\r\n")?;
+    }
+    out.extend_from_slice(b"0\r\n\r\n")
+}
+
+impl Answer {
+    /// An answer without lines of its own, whose body is a document.
+    pub fn document(alloc: Global, status: u16, document: String) -> Answer
+        ensures status { result.status ≡ status }
+        ensures body { result.body.items ≡ string_bytes document }
+        ensures length { result.length ≡ None }
+    {
+        Answer {
+            status,
+            lines: String::new(alloc),
+            body: document.into_bytes(),
+            length: None,
+        }
+    }
+
+    /// An answer without lines of its own and without a body.
+    pub fn empty(alloc: Global, status: u16) -> Answer
+        ensures status { result.status ≡ status }
+        ensures body { result.body.items ≡ [] }
+        ensures length { result.length ≡ None }
+    {
+        Answer {
+            status,
+            lines: String::new(alloc),
+            body: Vec::new(alloc),
+            length: None,
+        }
+    }
+
+    /// Adds a header line.
+    pub(crate) fn add_line(&mut self, name: &str, value: &str) -> Result<(), AllocError>
+        ensures status { self.new.status ≡ self.old.status }
+        ensures body { self.new.body ≡ self.old.body }
+        ensures length { self.new.length ≡ self.old.length }
+    {
+        self.lines.push_str(name)?;
+        self.lines.push_str(": ")?;
+        self.lines.push_str(value)?;
+        self.lines.push_str("\r\n")
+    }
+
+    /// The answer to a HEAD: the same without its body, whose length it states.
+    pub fn without_body(self, alloc: Global) -> Answer
+        ensures status { result.status ≡ self.status }
+        ensures lines { result.lines ≡ self.lines }
+        ensures body { result.body.items ≡ [] }
+        ensures length { result.length ≡ Some (unwrap_or self.length (length self.body.items)) }
+    {
+        let Answer {
+            status,
+            lines,
+            body,
+            length,
+        } = self;
+        Answer {
+            status,
+            lines,
+            length: Some(length.unwrap_or(body.len() as u64)),
+            body: Vec::new(alloc),
+        }
+    }
+
+    /// Whether an answer of this status has no body and states no length.
+    fn is_bare(&self) -> bool {
+        matches!(self.status, 204 | 304)
+    }
+
+    /// The status line and the header lines, but for the length.
+    fn start(&self, alloc: Global) -> Result<String, AllocError> {
+        let (status, words, lines) = (self.status, phrase(self.status), self.lines.as_str());
+        format!(in alloc; "HTTP/1.1 {status} {words}\r\n{lines}")
+    }
+
+    /// The bytes with a stated length; `more` are further header lines.
+    fn sized(&self, alloc: Global, more: &str) -> Result<Vec<u8>, AllocError> {
+        let mut head = self.start(alloc)?;
+        if !self.is_bare() {
+            let length = self.length.unwrap_or(self.body.len() as u64);
+            head.push_str(format!(in alloc; "content-length: {length}\r\n")?.as_str())?;
+        }
+        head.push_str(more)?;
+        head.push_str("\r\n")?;
+        let mut bytes = head.into_bytes();
+        bytes.extend_from_slice(&self.body)?;
+        Ok(bytes)
+    }
+
+    fn chunked(&self, alloc: Global, most: usize) -> Result<Vec<u8>, AllocError> {
+        if self.is_bare() || self.length.is_some() {
+            return self.sized(alloc, "");
+        }
+        let mut head = self.start(alloc)?;
+        head.push_str("transfer-encoding: chunked\r\n\r\n")?;
+        let mut bytes = head.into_bytes();
+        push_chunks(alloc, &mut bytes, &self.body, most)?;
+        Ok(bytes)
+    }
+
+    /// The bytes of the answer in a form.
+    pub fn to_bytes(&self, alloc: Global, form: Form) -> Result<Vec<u8>, OutOfMemory> {
+        let bytes = match form {
+            Form::Sized | Form::Split(_) => self.sized(alloc, "")?,
+            Form::Closing => self.sized(alloc, "connection: close\r\n")?,
+            Form::Chunked(most) => self.chunked(alloc, most)?,
+            Form::Followed => {
+                let mut bytes = self.sized(alloc, "")?;
+                bytes.push(b'x')?;
+                bytes
+            }
+        };
+        Ok(bytes)
+    }
+}

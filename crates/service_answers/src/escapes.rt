@@ -1,0 +1,84 @@
+//! Texts with escapes: of URLs, and of XML.
+
+ghost use Rattle.std.specs.Prelude.{◌<◌, IfSome};
+
+use s3_model::{OutOfMemory, Text};
+use std::alloc::{AllocError, Global};
+
+/// The value of a hexadecimal digit.
+fn digit(byte: u8) -> Option<u8>
+    ensures { IfSome result (λ value. value < 16) }
+{
+    match byte {
+        b'0'..=b'9' => Some(byte - b'0'),
+        b'a'..=b'f' => Some(byte - b'a' + 10),
+        b'A'..=b'F' => Some(byte - b'A' + 10),
+        _ => None,
+    }
+}
+
+/// The byte at the front, which may be escaped, and what is behind it.
+fn first_byte(text: &[u8]) -> Option<(u8, &[u8])> {
+    match text {
+        [b'%', high, low, rest @ ..] => {
+            let (high, low) = (digit(*high)?, digit(*low)?);
+            Some((high * 16 + low, rest))
+        }
+        [b'%', ..] => None,
+        [byte, rest @ ..] => Some((*byte, rest)),
+        [] => None,
+    }
+}
+
+/// The text that is written so, with `%` and two hexadecimal digits for a byte; None where it is not written so.
+pub(crate) fn unescape(alloc: Global, text: &str) -> Result<Option<Text>, OutOfMemory> {
+    let mut bytes = Vec::new(alloc);
+    let mut rest = text.as_bytes();
+    for _ in 0..text.len() {
+        if rest.is_empty() {
+            break;
+        }
+        let Some((byte, behind)) = first_byte(rest) else {
+            return Ok(None);
+        };
+        bytes.push(byte)?;
+        rest = behind;
+    }
+    match String::from_utf8(bytes) {
+        Ok(plain) => Ok(Some(Text::from(plain))),
+        Err(_) => Ok(None),
+    }
+}
+
+/// Whether a byte stands for itself in a listing that is asked for with `encoding-type=url`.
+fn is_plain(byte: u8) -> bool {
+    byte.is_ascii_alphanumeric() || matches!(byte, b'-' | b'.' | b'_' | b'~' | b'/' | b'*')
+}
+
+/// Adds a name as a listing has it under `encoding-type=url`: a space as `+`, and other bytes escaped.
+pub(crate) fn push_url(alloc: Global, out: &mut String, name: &str) -> Result<(), AllocError> {
+    for byte in name.bytes() {
+        if is_plain(byte) {
+            out.push(char::from(byte))?;
+        } else if byte == b' ' {
+            out.push('+')?;
+        } else {
+            out.push_str(format!(in alloc; "%{byte:02X}")?.as_str())?;
+        }
+    }
+    Ok(())
+}
+
+/// Adds a text as XML has it.
+pub(crate) fn push_xml(out: &mut String, text: &str) -> Result<(), AllocError> {
+    for letter in text.chars() {
+        match letter {
+            '&' => out.push_str("&amp;")?,
+            '<' => out.push_str("&lt;")?,
+            '>' => out.push_str("&gt;")?,
+            '"' => out.push_str("&quot;")?,
+            _ => out.push(letter)?,
+        }
+    }
+    Ok(())
+}

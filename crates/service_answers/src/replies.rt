@@ -1,0 +1,178 @@
+//! Answers to requests that were served or refused.
+
+ghost use Rattle.std.specs.Prelude.{◌≡◌, [], IfOk, IfSome, Some, None};
+ghost use Rattle.service_answers.specs.Statuses.{body_of, got_status, length_of, refusal_status, success_status};
+
+use crate::answer::Answer;
+use crate::documents::{about_object, code_of, copied, error, status_of};
+use crate::gained::{FoundObject, Gained, GotObject};
+use crate::listing_answers::{buckets, page};
+use crate::times::{document_time, header_time};
+use object_table::{ObjectTable, Refusal};
+use s3_model::{Ask, OutOfMemory, Text};
+use std::alloc::Global;
+
+// Header lines with an entity tag and a time.
+fn add_object_lines(
+    alloc: Global,
+    answer: &mut Answer,
+    etag: &str,
+    micros: u64,
+) -> Result<(), OutOfMemory>
+    ensures status { answer.new.status ≡ answer.old.status }
+    ensures body { answer.new.body ≡ answer.old.body }
+    ensures length { answer.new.length ≡ answer.old.length }
+{
+    answer.add_line("etag", etag)?;
+    let time = header_time(alloc, micros)?;
+    answer.add_line("last-modified", time.as_str())?;
+    Ok(())
+}
+
+fn found(alloc: Global, object: &FoundObject) -> Result<Answer, OutOfMemory>
+    ensures status { IfOk result (λ answer. answer.status ≡ 200) }
+    ensures body { IfOk result (λ answer. answer.body.items ≡ []) }
+    ensures length { IfOk result (λ answer. answer.length ≡ Some object.now.size) }
+{
+    let mut answer = Answer::empty(alloc, 200);
+    add_object_lines(alloc, &mut answer, object.etag.as_str(), object.micros)?;
+    answer.length = Some(object.size);
+    Ok(answer)
+}
+
+// The answer to a Get, whose body is a copy of the bytes.
+fn got(alloc: Global, object: &GotObject) -> Result<Answer, OutOfMemory>
+    ensures status { IfOk result (λ answer. answer.status ≡ got_status object.now.range) }
+    ensures body { IfOk result (λ answer. answer.body.items ≡ object.now.bytes.items) }
+    ensures length { IfOk result (λ answer. answer.length ≡ None) }
+{
+    let status = if object.range.is_some() { 206 } else { 200 };
+    let mut answer = Answer::empty(alloc, status);
+    add_object_lines(alloc, &mut answer, object.etag.as_str(), object.micros)?;
+    if let Some((first, last, size)) = object.range {
+        let value = format!(in alloc; "bytes {first}-{last}/{size}")?;
+        answer.add_line("content-range", value.as_str())?;
+    }
+    answer.body = object.bytes.as_slice().to_vec(alloc)?;
+    Ok(answer)
+}
+
+// An answer without a body that states an entity tag.
+fn tagged(alloc: Global, etag: &str) -> Result<Answer, OutOfMemory>
+    ensures status { IfOk result (λ answer. answer.status ≡ 200) }
+    ensures body { IfOk result (λ answer. answer.body.items ≡ []) }
+    ensures length { IfOk result (λ answer. answer.length ≡ None) }
+{
+    let mut answer = Answer::empty(alloc, 200);
+    answer.add_line("etag", etag)?;
+    Ok(answer)
+}
+
+// An answer with a document.
+fn documented(alloc: Global, document: String) -> Answer
+    ensures status { result.status ≡ 200 }
+    ensures length { result.length ≡ None }
+{
+    Answer::document(alloc, 200, document)
+}
+
+// The names of the object that a request is about.
+fn names_of(ask: &Ask) -> (&str, &str) {
+    match ask {
+        Ask::Put { bucket, key, .. }
+        | Ask::Copy { bucket, key, .. }
+        | Ask::Create { bucket, key, .. }
+        | Ask::Complete { bucket, key, .. } => (bucket.as_str(), key.as_str()),
+        Ask::List { bucket, .. } => (bucket.as_str(), ""),
+        _ => ("", ""),
+    }
+}
+
+// The entity tag of the object there.
+fn etag_at<'a>(table: &'a ObjectTable, bucket: &str, key: &str) -> &'a str {
+    match table.object(bucket, key) {
+        Some(object) => object.etag(),
+        None => "",
+    }
+}
+
+// The document of a copy that was made now.
+fn copy_document(
+    alloc: Global,
+    root: &str,
+    micros: u64,
+    etag: &str,
+) -> Result<String, OutOfMemory> {
+    let time = document_time(alloc, micros)?;
+    Ok(copied(alloc, root, time.as_str(), etag)?)
+}
+
+// The document of an answer that has one.
+fn document_of(
+    alloc: Global,
+    table: &ObjectTable,
+    micros: u64,
+    ask: &Ask,
+    gained: &Gained,
+) -> Result<String, OutOfMemory> {
+    let (bucket, key) = names_of(ask);
+    match gained {
+        Gained::Copied => {
+            let etag = etag_at(table, bucket, key);
+            copy_document(alloc, "CopyObjectResult", micros, etag)
+        }
+        Gained::PartCopied(etag) => copy_document(alloc, "CopyPartResult", micros, etag.as_str()),
+        Gained::Created(id) => {
+            let root = "InitiateMultipartUploadResult";
+            Ok(about_object(alloc, root, bucket, key, "UploadId", id.as_str())?)
+        }
+        Gained::Completed => {
+            let (root, etag) = ("CompleteMultipartUploadResult", etag_at(table, bucket, key));
+            Ok(about_object(alloc, root, bucket, key, "ETag", etag)?)
+        }
+        Gained::Listed(listed) => page(alloc, bucket, listed),
+        Gained::Buckets(entries) => buckets(alloc, entries.as_slice()),
+        _ => Ok(String::new(alloc)),
+    }
+}
+
+/// The answer to a request that was served and gained this. `table` is what stands since, and `micros` the time.
+pub fn answer_of(
+    alloc: Global,
+    table: &ObjectTable,
+    micros: u64,
+    ask: &Ask,
+    gained: &Gained,
+) -> Result<Answer, OutOfMemory>
+    ensures status { IfOk result (λ answer. answer.status ≡ success_status gained.now) }
+    ensures body { IfOk result (λ answer. IfSome (body_of gained.now) (λ body. answer.body.items ≡ body)) }
+    ensures length { IfOk result (λ answer. answer.length ≡ length_of gained.now) }
+{
+    match gained {
+        Gained::Found(object) => found(alloc, object),
+        Gained::Got(object) => got(alloc, object),
+        Gained::Gone => Ok(Answer::empty(alloc, 204)),
+        Gained::PartStored(etag) => tagged(alloc, etag.as_str()),
+        Gained::Stored => {
+            let (bucket, key) = names_of(ask);
+            tagged(alloc, etag_at(table, bucket, key))
+        }
+        _ => Ok(documented(alloc, document_of(alloc, table, micros, ask, gained)?)),
+    }
+}
+
+/// The answer that refuses, with an Error document.
+pub fn refusal(alloc: Global, why: Refusal) -> Result<Answer, OutOfMemory>
+    ensures { IfOk result (λ answer. answer.status ≡ refusal_status why) }
+{
+    let document = error(alloc, code_of(why), "The request was refused")?;
+    Ok(Answer::document(alloc, status_of(why), document))
+}
+
+/// The answer to what is no request of the service.
+pub fn not_understood(alloc: Global) -> Result<Answer, OutOfMemory>
+    ensures { IfOk result (λ answer. answer.status ≡ 501) }
+{
+    let document = error(alloc, "NotImplemented", "The request is not understood")?;
+    Ok(Answer::document(alloc, 501, document))
+}

@@ -1,0 +1,45 @@
+//! Times as answers have them.
+
+ghost use Rattle.std.specs.Prelude.{◌<◌};
+
+use httpdate::HttpDate;
+use jiff_core::civil::Date;
+use std::alloc::{AllocError, Global};
+
+/// 1970-01-01, in days since the first day that the calendar library has.
+const EPOCH: u32 = 4_371_587;
+
+const SECONDS_PER_DAY: u64 = 86_400;
+
+const MICROS_PER_SECOND: u64 = 1_000_000;
+
+/// The last second before the year 10,000.
+const LAST_MOMENT: u64 = 253_402_300_799;
+
+/// The whole seconds of a time in microseconds, before the year 10,000.
+fn seconds_of(micros: u64) -> u64
+    ensures { result < 253402300800 }
+{
+    (micros / MICROS_PER_SECOND).min(LAST_MOMENT)
+}
+
+/// A time as documents have it, as `2026-01-02T03:04:05.000Z`.
+pub(crate) fn document_time(alloc: Global, micros: u64) -> Result<String, AllocError> {
+    let seconds = seconds_of(micros);
+    let date = Date::from_days_since_min(EPOCH + (seconds / SECONDS_PER_DAY) as u32);
+    let (year, month, day) = (date.year, date.month, date.day);
+    let second = seconds % SECONDS_PER_DAY;
+    let (hours, minutes, rest) = (second / 3600, second / 60 % 60, second % 60);
+    let thousandths = micros / 1000 % 1000;
+    format!(in alloc;
+        "{year:04}-{month:02}-{day:02}T{hours:02}:{minutes:02}:{rest:02}.{thousandths:03}Z"
+    )
+}
+
+/// A time as header lines have it, in whole seconds, as `Fri, 02 Jan 2026 03:04:05 GMT`.
+pub(crate) fn header_time(alloc: Global, micros: u64) -> Result<String, AllocError> {
+    match HttpDate::from_unix_secs(seconds_of(micros)) {
+        Ok(date) => httpdate::fmt_http_date(alloc, date),
+        Err(_) => Ok(String::new(alloc)),
+    }
+}
