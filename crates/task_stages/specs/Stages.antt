@@ -44,9 +44,18 @@ abbrev pub reads_first : Kind → Bool
 reads_first kind.Upload = true
 reads_first of_kind = false
 
+abbrev pub removes : Kind → Bool
+removes kind.RemoveObject = true
+removes kind.RemoveFile = true
+removes of_kind = false
+
+-- how many pieces are moved: none where the destination is removed
+abbrev pub piece_count : Work → ℕ
+piece_count work = if removes work.of_kind then 0 else work.count
+
 -- there are as many pieces as the work says
 pub record IsWhole (work : Work) (pieces : SeenPieces) : Type 0 where
-  pub many : length pieces.stages ≡ work.count
+  pub many : length pieces.stages ≡ piece_count work
   pub few : work.count + 1 < 2 ^ 32
   pub order : pieces.reads_first ≡ reads_first work.of_kind
 

@@ -39,7 +39,7 @@ impl Singles {
     }
 
     /// Whether none of them is out.
-    pub(crate) fn is_idle(&self) -> bool
+    pub fn is_idle(&self) -> bool
         ensures { result ≡ is_idle_single self.now }
     {
         !(is_out(self.assemble)

@@ -1,12 +1,25 @@
 //! The acts of a task.
 
-ghost use Rattle.std.specs.Prelude.{◌≡◌, ◌<◌, ◌+◌, ◌^◌, if◌then◌else◌, length, IfOk};
+ghost use Rattle.std.specs.Prelude.{◌≡◌, ◌<◌, ◌≤◌, ◌+◌, ◌^◌, if◌then◌else◌, length, not, IfOk};
+ghost use Rattle.std.specs.List.{list_all, position};
+ghost use Rattle.piece_stages.specs.Pieces.{can_place, can_read, can_send, is_busy, is_placed, is_sent};
 ghost use Rattle.run_promise.specs.Dispatches.{is_op};
 ghost use Rattle.task_acts.specs.declared.acts.Act.{Act};
 ghost use Rattle.task_acts.specs.declared.acts.Stage.TheVariants as at;
 ghost use Rattle.task_acts.specs.Histories.{is_act};
 ghost use Rattle.task_acts.specs.Work.{first_number, piece_op};
-ghost use Rattle.task_stages.specs.Stages.{HasAct, HasPiece, piece_at, sent_at, stage_by, with_piece, with_stage};
+ghost use Rattle.task_stages.specs.Stages.{
+  HasAct,
+  HasPiece,
+  piece_at,
+  piece_count,
+  reads_first,
+  removes,
+  sent_at,
+  stage_by,
+  with_piece,
+  with_stage,
+};
 
 use crate::singles::Singles;
 use piece_stages::{PieceStages, Pieces};
@@ -36,15 +49,29 @@ impl Model for TaskStages {
     ghost invariant = { λ t. IsWhole t.work t.pieces };
 }
 
+fn removes(kind: Kind) -> bool
+    ensures { result ≡ removes kind }
+{
+    matches!(kind, Kind::RemoveObject | Kind::RemoveFile)
+}
+
+/// How many pieces are moved.
+fn piece_count(work: &Work) -> u32
+    ensures { result ≡ piece_count work.now }
+{
+    if removes(work.of_kind) { 0 } else { work.count }
+}
+
 impl TaskStages {
     /// A task of which nothing was given. It takes all the memory that its acts need.
     pub fn make(alloc: Global, work: Work) -> Result<TaskStages, AllocError>
         requires { work.count + 1 < 2 ^ 32 }
         ensures work { IfOk result (λ stages. stages.work ≡ work) }
-        ensures pieces { IfOk result (λ stages. length stages.pieces ≡ work.count) }
+        ensures pieces { IfOk result (λ stages. length stages.pieces ≡ piece_count work) }
         ensures waiting { IfOk result (λ stages. (of_act : Act) → stage_by stages of_act ≡ at.Waiting) }
     {
-        let pieces = Pieces::make(alloc, work.count, matches!(work.of_kind, Kind::Upload))?;
+        let count = piece_count(&work);
+        let pieces = Pieces::make(alloc, count, matches!(work.of_kind, Kind::Upload))?;
         Ok(TaskStages {
             work,
             singles: Singles::none(),
@@ -52,8 +79,66 @@ impl TaskStages {
         })
     }
 
+    /// What the task is to do.
+    pub fn work(&self) -> Work
+        ensures work { result ≡ self.now.work }
+        ensures pieces { length self.now.pieces ≡ piece_count self.now.work }
+        ensures few { self.now.work.count + 1 < 2 ^ 32 }
+    {
+        self.work
+    }
+
+    /// How far the acts are that the task has once.
+    pub fn singles(&self) -> Singles
+        ensures { result ≡ self.now.singles }
+    {
+        self.singles
+    }
+
+    /// The first piece that may be read, counted from 0.
+    pub fn first_read(&self) -> Option<u32>
+        ensures { result ≡ position can_read self.now.pieces }
+    {
+        self.pieces.first_read()
+    }
+
+    /// The first piece that may be sent, as far as the piece itself tells, counted from 0.
+    pub fn first_send(&self) -> Option<u32>
+        ensures { result ≡ position (can_send (reads_first self.now.work.of_kind)) self.now.pieces }
+    {
+        self.pieces.first_send()
+    }
+
+    /// The first piece that came and may be written, counted from 0.
+    pub fn first_place(&self) -> Option<u32>
+        ensures { result ≡ position can_place self.now.pieces }
+    {
+        self.pieces.first_place()
+    }
+
+    /// Whether the request of each piece came with success.
+    pub fn is_each_sent(&self) -> bool
+        ensures { result ≡ list_all is_sent self.now.pieces }
+    {
+        self.pieces.is_each_sent()
+    }
+
+    /// Whether each piece was written.
+    pub fn is_each_placed(&self) -> bool
+        ensures { result ≡ list_all is_placed self.now.pieces }
+    {
+        self.pieces.is_each_placed()
+    }
+
+    /// Whether no act of a piece is out.
+    pub fn are_pieces_idle(&self) -> bool
+        ensures { result ≡ list_all (λ piece. not (is_busy piece)) self.now.pieces }
+    {
+        self.pieces.is_idle()
+    }
+
     /// The number of the first piece.
-    fn first_number(&self) -> u32
+    pub fn first_number(&self) -> u32
         ensures { result ≡ first_number self.now.work }
     {
         if self.work.small { 0 } else { 1 }
@@ -81,7 +166,7 @@ impl TaskStages {
         if number < first {
             return PieceStages::none();
         }
-        if number - first >= self.work.count {
+        if number - first >= piece_count(&self.work) {
             return PieceStages::none();
         }
         self.pieces.get(number - first)

@@ -12,9 +12,9 @@ returns-clause-waiting c of_act =
     let w = c.args.work in
     let pieces = ap (λ (p : SeenPieces). p.stages) c.in_ok-pieces.ensures in
     ap (λ (ps : List PieceStages). stage_by (record { work = w; singles = c.none.result; pieces = ps }) of_act) pieces
-    ∙ ap (λ (x : Singles). stage_by (record { work = w; singles = x; pieces = replicate w.count no_piece }) of_act) c.none.ensures
-    ∙ waits w w.count of_act
+    ∙ ap (λ (x : Singles). stage_by (record { work = w; singles = x; pieces = replicate c.piece_count-count.result no_piece }) of_act) c.none.ensures
+    ∙ waits w c.piece_count-count.result of_act
 
 pub returns-clause-pieces : goal.returns-clause-pieces
 returns-clause-pieces c =
-    ap (λ (p : SeenPieces). length p.stages) c.in_ok-pieces.ensures ∙ length-replicate c.args.work.count no_piece
+    ap (λ (p : SeenPieces). length p.stages) c.in_ok-pieces.ensures ∙ length-replicate c.piece_count-count.result no_piece ∙ c.piece_count-count.ensures
