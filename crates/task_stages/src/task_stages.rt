@@ -145,7 +145,7 @@ impl TaskStages {
     }
 
     /// Whether an op is that of the pieces' requests.
-    fn is_piece_op(&self, op: Op) -> bool
+    pub fn is_piece_op(&self, op: Op) -> bool
         ensures { result ≡ is_op op (piece_op self.now.work.of_kind self.now.work.small) }
     {
         match (self.work.of_kind, self.work.small) {

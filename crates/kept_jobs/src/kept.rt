@@ -1,0 +1,168 @@
+//! The jobs of a task that are kept to be given again.
+
+ghost use Rattle.std.specs.Prelude.{◌≡◌, ◌<◌, ◌+◌, ◌^◌, ℕ, None, IfOk, if◌then◌else◌, get_or, length, replicate, set};
+ghost use Rattle.run_promise.specs.Dispatches.{is_op};
+ghost use Rattle.s3_model.specs.declared.requests.Op.{Op};
+ghost use Rattle.task_acts.specs.declared.acts.Act.TheVariants as act;
+ghost use Rattle.task_acts.specs.Histories.{is_act};
+ghost use Rattle.task_acts.specs.Work.{first_number, piece_op};
+ghost use Rattle.kept_jobs.specs.Slots.{HasSlot, job_at, piece_slot, rank, slot, slots};
+
+use jobs::Job;
+use s3_model::{Kind, Op};
+use std::alloc::{AllocError, Global};
+use std::marker::Model;
+use std::mem;
+use task_acts::Work;
+
+/// A place for each job of a task.
+///
+/// Contracts see the work of the task and what stands at each place.
+#[derive(Drop)]
+pub struct KeptJobs {
+    work: Work,
+    jobs: Vec<Option<Job>>,
+}
+
+impl Model for KeptJobs {
+    ghost use Rattle.kept_jobs.specs.Slots.{HasSlots, SeenKept};
+
+    ghost Value = { SeenKept };
+
+    ghost view = { λ k. record { work = k.work; jobs = k.jobs.items } };
+
+    ghost invariant = { λ k. HasSlots k.work k.jobs.items };
+}
+
+/// So many empty places.
+fn empty(alloc: Global, count: usize) -> Result<Vec<Option<Job>>, AllocError>
+    ensures { IfOk result (λ jobs. jobs.items ≡ replicate count None) }
+{
+    let mut jobs = Vec::with_capacity(alloc, count)?;
+    for _ in 0..count {
+        jobs.push(None)?;
+    }
+    Ok(jobs)
+}
+
+/// The place of a job that a task has once; 4 for every other op.
+fn rank(op: Op) -> usize
+    ensures { result ≡ rank op }
+{
+    match op {
+        Op::Create => 0,
+        Op::Complete => 1,
+        Op::Abort => 2,
+        Op::Delete => 3,
+        _ => 4,
+    }
+}
+
+/// Whether an op is that of the pieces' requests.
+fn is_piece_op(kind: Kind, small: bool, op: Op) -> bool
+    ensures { result ≡ is_op op (piece_op kind small) }
+{
+    match (kind, small) {
+        (Kind::Upload, true) => matches!(op, Op::Put),
+        (Kind::Upload, false) => matches!(op, Op::Part),
+        (Kind::Download, _) => matches!(op, Op::Get),
+        (Kind::Copy, true) => matches!(op, Op::Copy),
+        (Kind::Copy, false) => matches!(op, Op::PartCopy),
+        (Kind::RemoveObject | Kind::RemoveFile, _) => matches!(op, Op::Delete),
+    }
+}
+
+fn first_number(small: bool) -> u32
+    ensures { result ≡ (if small then 0 else 1) }
+{
+    if small { 0 } else { 1 }
+}
+
+/// The place of a piece's job.
+fn piece_slot(work: &Work, op: Op, number: u32) -> usize
+    ensures { result ≡ piece_slot work.now op number }
+{
+    let first = first_number(work.small);
+    if !is_piece_op(work.of_kind, work.small, op) || number < first {
+        4 + work.count as usize
+    } else {
+        4 + (number - first) as usize
+    }
+}
+
+/// The place of a job.
+fn slot(work: &Work, op: Op, number: u32) -> usize
+    ensures { result ≡ slot work.now op number }
+{
+    let rank = rank(op);
+    if rank == 4 {
+        piece_slot(work, op, number)
+    } else if number == 0 {
+        rank
+    } else {
+        4 + work.count as usize
+    }
+}
+
+impl KeptJobs {
+    /// No job is kept. It takes all the memory that the places need.
+    pub fn make(alloc: Global, work: Work) -> Result<KeptJobs, AllocError>
+        requires { work.count + 1 < 2 ^ 32 }
+        ensures work { IfOk result (λ kept. kept.work ≡ work) }
+        ensures none { IfOk result (λ kept. (of_op : Op) (number : ℕ) → job_at kept of_op number ≡ None) }
+    {
+        let jobs = empty(alloc, 4 + work.count as usize)?;
+        Ok(KeptJobs { work, jobs })
+    }
+
+    /// What stood at a place, where that stands now.
+    fn replace(&mut self, slot: usize, job: Option<Job>) -> Option<Job>
+        requires { slot < length self.old.jobs }
+        ensures result { result ≡ get_or self.old.jobs slot None }
+        ensures work { self.new.work ≡ self.old.work }
+        ensures jobs { self.new.jobs ≡ set self.old.jobs slot job }
+    {
+        mem::replace(&mut self.jobs[slot], job)
+    }
+
+    fn slot(&self, op: Op, number: u32) -> usize
+        ensures { result ≡ slot self.now.work op number }
+    {
+        slot(&self.work, op, number)
+    }
+
+    /// How many places there are.
+    fn len(&self) -> usize
+        ensures len { result ≡ length self.now.jobs }
+        ensures slots { length self.now.jobs ≡ slots self.now.work }
+    {
+        self.jobs.len()
+    }
+
+    /// Keeps a job, or none, at the place of that op and number. What stood there is dropped.
+    pub fn put(&mut self, op: Op, number: u32, job: Option<Job>)
+        requires { HasSlot self.old.work op number }
+        ensures work { self.new.work ≡ self.old.work }
+        ensures jobs { (other : Op) (at : ℕ) → job_at self.new other at
+            ≡ (if is_act (act.Send other at) (act.Send op number) then job else job_at self.old other at) }
+    {
+        let slot = self.slot(op, number);
+        let _len = self.len();
+        let _before = self.replace(slot, job);
+    }
+
+    /// The job that is kept at the place of that op and number, which is empty then.
+    pub fn take(&mut self, op: Op, number: u32) -> Option<Job>
+        ensures result { result ≡ job_at self.old op number }
+        ensures work { self.new.work ≡ self.old.work }
+        ensures jobs { (other : Op) (at : ℕ) → job_at self.new other at
+            ≡ (if is_act (act.Send other at) (act.Send op number) then None else job_at self.old other at) }
+    {
+        let slot = self.slot(op, number);
+        if slot < self.len() {
+            self.replace(slot, None)
+        } else {
+            None
+        }
+    }
+}
