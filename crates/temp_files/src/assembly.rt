@@ -104,6 +104,13 @@ impl Assembly {
         self.temp.path.as_str()
     }
 
+    /// How many bytes the destination will have.
+    pub fn size(&self) -> u64
+        ensures { result ≡ self.now.size }
+    {
+        self.size
+    }
+
     /// Writes a range at its place. After a fault the assembly can only be dropped.
     #[tactic(auto, using(crate::proofs::AssemblyLemmas::placed_seen, crate::proofs::AssemblyLemmas::placed_spares))]
     pub fn place<F: Files>(&mut self, files: &mut F, at: u64, part: &Part) -> Result<(), Failed>
