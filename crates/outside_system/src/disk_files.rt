@@ -6,12 +6,12 @@ ghost use Rattle.s3_outside.specs.FileCalls.{HasRisen, IsTempPath, NamesFront};
 
 use crate::disk_paths::{make_folders, names_on_disk, obstacle_on_disk, shape_on_disk};
 use crate::disk_sources::{DiskSource, Look};
-use s3_model::Text;
+use crate::disk_temps::DiskTemps;
 use s3_outside::{Failed, FileFault, Files, Names, Shape, Temp, blocked, count_fault, temp_path};
 use std::alloc::Global;
 use std::collections::BTreeMap;
-use std::fs::{self, FileTimes, OpenFile, OpenOptions};
-use std::io::{self, ErrorKind, Seek, SeekFrom, Write};
+use std::fs::{self, FileTimes, OpenFile};
+use std::io::{self, ErrorKind};
 use std::rt;
 use std::time::{Duration, UNIX_EPOCH};
 
@@ -19,22 +19,16 @@ use std::time::{Duration, UNIX_EPOCH};
 ///
 /// Links are followed. Only regular files are opened. A file of which `kind` said what it is, is read only while it
 /// has that size and that time, when it is opened and after its last piece; else the read is a fault. A destination is
-/// never opened for writing. A temporary file never opens what is there, and is written only while the file that was
-/// made is open: until it is renamed or dropped. The last file that was read stays open until its last piece.
+/// never opened for writing. A temporary file never opens what is there, and only the file that was made is written:
+/// until it is renamed or dropped. The last file that was read stays open until its last piece.
 #[derive(Drop)]
 pub struct DiskFiles<R: rt::Files> {
     runtime: R,
     looks: BTreeMap<String, Look>,
     source: Option<DiskSource<R::File>>,
-    temps: Vec<OpenTemp<R::File>>,
+    temps: DiskTemps<R::File>,
     drawn: u32,
     faults: u64,
-}
-
-#[derive(Drop)]
-struct OpenTemp<F> {
-    path: Text,
-    file: F,
 }
 
 impl<R: rt::Files + AllocGlobal + Clone + Drop> DiskFiles<R> {
@@ -42,7 +36,7 @@ impl<R: rt::Files + AllocGlobal + Clone + Drop> DiskFiles<R> {
         ensures { ⟦<DiskFiles<R> as Files>⟧.faults result ≡ 0 }
     {
         let looks = BTreeMap::new(runtime.alloc());
-        let temps = Vec::new(runtime.alloc());
+        let temps = DiskTemps::new(&runtime);
         DiskFiles {
             runtime,
             looks,
@@ -111,57 +105,10 @@ impl<R: rt::Files + AllocGlobal + Clone + Drop> DiskFiles<R> {
             return Err(io::Error::from(ErrorKind::OutOfMemory));
         };
         self.drawn = self.drawn.wrapping_add(1);
-        if path.as_str() != dest && self.create(&path)? {
+        if path.as_str() != dest && self.temps.create(&self.runtime, path.as_str())? {
             Ok(Some(Temp { path }))
         } else {
             Ok(None)
-        }
-    }
-
-    // Makes the file and keeps it open. Whether nothing was there.
-    fn create(&mut self, path: &Text) -> io::Result<bool>
-        ensures faults { self.new.faults ≡ self.old.faults }
-        ensures drawn { self.new.drawn ≡ self.old.drawn }
-    {
-        let Ok(kept) = path.copy() else {
-            return Err(io::Error::from(ErrorKind::OutOfMemory));
-        };
-        self.temps.reserve(1)?;
-        let mut options = OpenOptions::new();
-        options.write(true).create_new(true);
-        match options.open(&self.runtime, path.as_str()) {
-            Ok(file) => {
-                self.temps.push(OpenTemp { path: kept, file })?;
-                Ok(true)
-            }
-            Err(e) if e.kind() == ErrorKind::AlreadyExists => Ok(false),
-            Err(e) => Err(e),
-        }
-    }
-
-    // Only into a file that was made here.
-    fn write(&mut self, temp: &Text, at: u64, bytes: &[u8]) -> io::Result<()>
-        ensures faults { self.new.faults ≡ self.old.faults }
-    {
-        for open in &mut self.temps {
-            if open.path.as_str() == temp.as_str() {
-                open.file.seek(SeekFrom::Start(at))?;
-                return open.file.write_all(bytes);
-            }
-        }
-        Err(io::Error::from(ErrorKind::NotFound))
-    }
-
-    // Closes a temporary file.
-    fn close(&mut self, temp: &str)
-        ensures faults { self.new.faults ≡ self.old.faults }
-    {
-        if let Some(place) = self
-            .temps
-            .iter()
-            .position(|open| open.path.as_str() == temp)
-        {
-            self.temps.swap_remove(place);
         }
     }
 
@@ -177,7 +124,7 @@ impl<R: rt::Files + AllocGlobal + Clone + Drop> DiskFiles<R> {
     fn replace(&mut self, temp: &str, dest: &str) -> io::Result<()>
         ensures faults { self.new.faults ≡ self.old.faults }
     {
-        self.close(temp);
+        self.temps.close(temp);
         self.forget(dest);
         match shape_on_disk(&self.runtime, dest)? {
             Shape::Absent | Shape::File { .. } => fs::rename(&self.runtime, temp, dest),
@@ -255,7 +202,10 @@ impl<R: rt::Files + AllocGlobal + Clone + Drop> Files for DiskFiles<R> {
     }
 
     fn write_at(&mut self, temp: &Temp, at: u64, bytes: &[u8]) -> Result<(), Failed> {
-        match self.write(&temp.path, at, bytes) {
+        match self
+            .temps
+            .write(&self.runtime, temp.path.as_str(), at, bytes)
+        {
             Ok(()) => Ok(()),
             Err(_) => Err(count_fault(&mut self.faults)),
         }
@@ -272,7 +222,7 @@ impl<R: rt::Files + AllocGlobal + Clone + Drop> Files for DiskFiles<R> {
     }
 
     fn drop_temp(&mut self, temp: Temp) -> Result<(), Failed> {
-        self.close(temp.path.as_str());
+        self.temps.close(temp.path.as_str());
         match fs::remove_file(&self.runtime, temp.path.as_str()) {
             Ok(()) => Ok(()),
             Err(_) => Err(count_fault(&mut self.faults)),

@@ -4,6 +4,7 @@
 mod disk_files;
 mod disk_paths;
 mod disk_sources;
+mod disk_temps;
 mod real_env;
 mod socket_wire;
 mod std_sink;
