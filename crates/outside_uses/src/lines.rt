@@ -13,10 +13,6 @@ pub(crate) fn word_and_rest(text: &str) -> (&str, &str) {
     text.split_once(' ').unwrap_or((text, ""))
 }
 
-pub(crate) fn number(text: &str) -> u64 {
-    text.parse::<u64>().unwrap_or(0)
-}
-
 /// The numbers of a list, parted by commas.
 pub(crate) fn numbers(alloc: Global, text: &str) -> Result<Vec<usize>, AllocError> {
     let mut found = Vec::new(alloc);

@@ -1,12 +1,10 @@
-//! Calls of wires, outputs, environments and files, in memory and of the system, each printed with its answer.
+//! Calls of wires, outputs and environments, in memory and of the system, each printed with its answer.
 //!
 //! A line is what is called, how it is made, a colon, and the calls in their order, parted by semicolons. In a text `¶`
 //! stands for the end of a line of HTTP.
 #![tactic(auto)]
 
-mod disk;
 mod environments;
-mod files;
 mod lines;
 mod outputs;
 mod scripts;
@@ -23,9 +21,7 @@ fn answers(rt: &HostRuntime, made: &str, calls: &str) -> io::Result<String> {
         "script" => scripts::answers(alloc, how, calls),
         "socket" => sockets::answers(rt, how, calls),
         "output" => outputs::answers(rt, how, calls),
-        "environment" => environments::answers(rt, how, calls),
-        "disk" => disk::answers(rt, calls),
-        _ => files::answers(alloc, how, calls),
+        _ => environments::answers(rt, how, calls),
     }
 }
 
