@@ -38,10 +38,10 @@ def leftovers(folder):
 class Calls:
     """The program on the files of the disk, which answers call by call."""
 
-    def __init__(self, disk, **how):
+    def __init__(self, disk, under=(), **how):
         self.disk = disk
         pipes = {"stdin": subprocess.PIPE, "stdout": subprocess.PIPE}
-        self.running = subprocess.Popen([disk.program], cwd=disk.top, **pipes, **how)
+        self.running = subprocess.Popen([*under, disk.program], cwd=disk.top, **pipes, **how)
 
     def __enter__(self):
         self.answer("disk")
@@ -74,8 +74,8 @@ class Disk:
     def check(self, what, holds, shown=""):
         self.checks.check("files: " + what, holds, shown)
 
-    def calls(self, **how):
-        return Calls(self, **how)
+    def calls(self, *under, **how):
+        return Calls(self, under, **how)
 
     def whole(self, *calls):
         """The whole output of some calls, in which names may have line ends."""
@@ -245,6 +245,36 @@ def obstacles(disk, folder):
     disk.is_clean("beside what is in the way", folder)
 
 
+def system_calls(disk, folder):
+    """What is asked of the system, as strace sees it, which interrupts every other open, read and write."""
+    if subprocess.run(["strace", "-qq", "-o", "/dev/null", "true"], capture_output=True).returncode != 0:
+        print("skipped: interrupted calls, since strace does not run here")
+        return
+    put(f"{folder}/source", b"abcdef")
+    put(f"{folder}/dest", b"old")
+    paths = [f"{folder}/{name}" for name in ("source", "dest", "dest.00000000.s3part")]
+    trace = ["-o", f"{folder}/trace", "-e", "inject=openat,read,write:error=EINTR:when=1+2"]
+    with disk.calls("strace", "-qq", *trace, *(word for path in paths for word in ("-P", path))) as calls:
+        calls.answer(f"kind {paths[0]}")
+        calls.says("an interrupted read", f"read 0 {paths[0]}", '"abc"')
+        calls.says("the next piece", f"read 3 {paths[0]}", '"def"')
+        calls.answer(f"make 6 {paths[1]}")
+        calls.says("an interrupted write", "place 3 DEF", "Ok(())")
+        calls.says("another one", "place 0 ABC", "Ok(())")
+        calls.says("what was put together", "finish", "Ok(())")
+        calls.says("its time", f"stamp 5 {paths[1]}", "Ok(())")
+    disk.check("it is whole", content(paths[1]) == b"ABCDEF")
+    lines = content(f"{folder}/trace").decode().splitlines()
+    injected = {line.partition("(")[0] for line in lines if line.endswith("(INJECTED)")}
+    disk.check("opens, reads and writes were interrupted", injected == {"openat", "read", "write"}, ", ".join(injected))
+    opened = [line for line in lines if line.startswith("openat") and not line.endswith("(INJECTED)")]
+    source, dest, temp = ([line for line in opened if f'"{path}"' in line] for path in paths)
+    disk.check("the source is opened once, for reading", len(source) == 1 and "O_RDONLY" in source[0])
+    once = len(temp) == 1 and "O_WRONLY|O_CREAT|O_EXCL" in temp[0]
+    disk.check("the temporary file is opened once, where nothing is", once)
+    disk.check("the destination is never opened for writing", all("O_RDONLY" in line for line in dest) and dest)
+
+
 def temporary_files(disk, folder):
     """A temporary file never opens what is there, and only the file that was made is written."""
     put(f"{folder}/precious", b"precious")
@@ -357,6 +387,7 @@ GROUPS = (
     changed_files,
     destinations,
     obstacles,
+    system_calls,
     temporary_files,
     many_at_once,
     full_disk,
