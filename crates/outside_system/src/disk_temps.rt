@@ -22,8 +22,8 @@ struct OpenTemp<F> {
     file: F,
 }
 
-/// The temporary files that were made. The last of them that were made or written stay open; another one is opened
-/// again by its name, where the file that was made still has it.
+/// The temporary files that were made. Those that were opened last stay open; another one is opened again by its name,
+/// where the file that was made still has it.
 #[derive(Drop)]
 pub(crate) struct DiskTemps<F> {
     made: BTreeMap<String, Node>,
