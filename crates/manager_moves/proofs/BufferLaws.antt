@@ -4,6 +4,7 @@ use Rattle.std.proofs.lemmas.Bool.{and_parts, eqb-true, ltb-false, ltb-true}
 use Rattle.std.specs.List.{range_with_len}
 use Rattle.std.specs.Prelude.{filter, is_some, nat_lt, not, if◌then◌else◌}
 use Rattle.jobs.specs.Endings.{SeenCarried}
+use Rattle.run_promise.specs.Buffers.{holds_buffer}
 use Rattle.run_promise.specs.Dispatches.{is_op, op_number}
 use Rattle.run_promise.specs.Schedule.{job_of}
 use Rattle.s3_model.specs.declared.outcomes.JobId.{JobId}
@@ -28,7 +29,8 @@ use Rattle.manager_moves.proofs.HoldLemmas.{same_number, same_op}
 use Rattle.manager_moves.proofs.MoveLaws.{IsGiven, given, is_freest}
 use Rattle.manager_moves.proofs.PartLaws.{find_passes, flip, nothing, one_if, parts_are_enough, ready_act, same_value}
 use Rattle.manager_moves.specs.declared.moves.Move.{Move}
-use Rattle.manager_moves.specs.Laws.{BuffersAreKept, IsOfTask, IsRun, part_jobs_before, part_jobs_in, takes_part}
+use Rattle.manager_moves.specs.declared.moves.Move.TheVariants as move
+use Rattle.manager_moves.specs.Laws.{BuffersAreKept, IsOfTask, IsRun, part_jobs_before, part_jobs_in}
 use Rattle.manager_moves.specs.Lanes.{freest, jobs_in}
 use Rattle.manager_moves.specs.Moves.{call_of, next_move}
 use Rattle.manager_moves.specs.Parts.{holds_part, lent, parts_of, sum_from}
@@ -135,7 +137,7 @@ second_false : (a b : Bool) → b ≡ false → (a && b) ≡ false
 second_false true b e = e
 second_false false b e = refl
 
-piece_takes : (k : Kind) (small : Bool) → moves_bytes k ≡ true → takes_part (piece_op k small) ≡ true
+piece_takes : (k : Kind) (small : Bool) → moves_bytes k ≡ true → holds_buffer (piece_op k small) ≡ true
 piece_takes kind.Upload true e = refl
 piece_takes kind.Upload false e = refl
 piece_takes kind.Download small e = refl
@@ -195,7 +197,7 @@ module _ (w : Work) where
     abbrev f : Act → Stage
     f = stage w h
 
-    due_piece : (x : Kind) (of_op : Op) → takes_part of_op ≡ true → is_due w f (is_stopped w h) x (act.Send of_op k) ≡ true
+    due_piece : (x : Kind) (of_op : Op) → holds_buffer of_op ≡ true → is_due w f (is_stopped w h) x (act.Send of_op k) ≡ true
         → (of_op ≡ piece_op x w.small) × (moves_bytes x ≡ true) × (is_piece w k ≡ true)
     due_piece kind.Upload op.Put takes e =
         let is = and_parts w.small (is_piece w k) (and_parts (w.small && is_piece w k) (has_done (f (act.Read k))) e).0 in
@@ -218,19 +220,19 @@ module _ (w : Work) where
     due_piece kind.RemoveFile op.Get takes e = no e
     due_piece x of_op takes e = no takes
 
-    not_left_over : (of_op : Op) → takes_part of_op ≡ true → is_left_over w f true (act.Send of_op k) ≡ true → false ≡ true
+    not_left_over : (of_op : Op) → holds_buffer of_op ≡ true → is_left_over w f true (act.Send of_op k) ≡ true → false ≡ true
     not_left_over op.Put takes e = e
     not_left_over op.Part takes e = e
     not_left_over op.Get takes e = e
     not_left_over of_op takes e = takes
 
-    named_piece : (stopped : Bool) → is_stopped w h ≡ stopped → takes_part o ≡ true → (if stopped then is_left_over w f stopped (act.Send o k) else is_due w f (is_stopped w h) w.of_kind (act.Send o k)) ≡ true
+    named_piece : (stopped : Bool) → is_stopped w h ≡ stopped → holds_buffer o ≡ true → (if stopped then is_left_over w f stopped (act.Send o k) else is_due w f (is_stopped w h) w.of_kind (act.Send o k)) ≡ true
         → (o ≡ piece_op w.of_kind w.small) × (moves_bytes w.of_kind ≡ true) × (is_piece w k ≡ true)
     named_piece true s takes e = no (not_left_over o takes e)
     named_piece false s takes e = due_piece w.of_kind o takes e
 
     -- one piece more is out
-    one_more_out : is_ready_in w h (act.Send o k) ≡ true → takes_part o ≡ true → pieces_out w h + 1 ≤ pieces_out w given_next
+    one_more_out : is_ready_in w h (act.Send o k) ≡ true → holds_buffer o ≡ true → pieces_out w h + 1 ≤ pieces_out w given_next
     one_more_out ready takes = one_gained (piece_out w h) (piece_out w given_next) k (λ n e. out_still n e) was is (first_number w) w.count low high
       where
         two : (may_be_given (f (act.Send o k)) ≡ true) × (is_named w f (is_stopped w h) (act.Send o k) ≡ true)
@@ -269,16 +271,16 @@ module _ (w : Work) where
         both_true _ _ two.0 (elsewhere (is_op (piece_op w.of_kind w.small) c.job.id.op && (n == c.job.id.number)) _ (stage w h (act.Send (piece_op w.of_kind w.small) n)) other two.1)
 
     -- a job that takes no part is of no piece that is counted
-    other_job : takes_part c.job.id.op ≡ false → (b : Bool) → is_op (piece_op w.of_kind w.small) c.job.id.op ≡ b → moves_bytes w.of_kind ≡ true → is_op (piece_op w.of_kind w.small) c.job.id.op ≡ false
+    other_job : holds_buffer c.job.id.op ≡ false → (b : Bool) → is_op (piece_op w.of_kind w.small) c.job.id.op ≡ b → moves_bytes w.of_kind ≡ true → is_op (piece_op w.of_kind w.small) c.job.id.op ≡ false
     other_job takes false e bytes = e
     other_job takes true e bytes =
-        no (sym takes ∙ subst (λ (x : Op). takes_part x ≡ true) (same_op (piece_op w.of_kind w.small) c.job.id.op e) (piece_takes w.of_kind w.small bytes))
+        no (sym takes ∙ subst (λ (x : Op). holds_buffer x ≡ true) (same_op (piece_op w.of_kind w.small) c.job.id.op e) (piece_takes w.of_kind w.small bytes))
 
     first_false : (a b : Bool) → a ≡ false → (a && b) ≡ false
     first_false true b e = no (sym e)
     first_false false b e = refl
 
-    one_fewer_out : (b : Bool) → takes_part c.job.id.op ≡ b → pieces_out w h ≤ pieces_out w (Came c ∷ h) + one_if b
+    one_fewer_out : (b : Bool) → holds_buffer c.job.id.op ≡ b → pieces_out w h ≤ pieces_out w (Came c ∷ h) + one_if b
     one_fewer_out true takes = one_added (piece_out w h) (piece_out w (Came c ∷ h)) c.job.id.number
         (λ n apart e. out_elsewhere n (second_false (is_op (piece_op w.of_kind w.small) c.job.id.op) (n == c.job.id.number) apart) e) (first_number w) w.count
     one_fewer_out false takes = all_kept (piece_out w h) (piece_out w (Came c ∷ h)) (first_number w) w.count 0
@@ -329,7 +331,7 @@ module _ (s : Shared) where
     abbrev were : ℕ → Work → ℕ
     were n w = pieces_out w (share w n before)
 
-    sent_rises : (t : ℕ) (o : Op) (k lane : ℕ) → IsGiven s before t o k lane → (b : Bool) → takes_part o ≡ b → outs before + one_if b ≤ outs (Sent t o k lane ∷ before)
+    sent_rises : (t : ℕ) (o : Op) (k lane : ℕ) → IsGiven s before t o k lane → (b : Bool) → holds_buffer o ≡ b → outs before + one_if b ≤ outs (Sent t o k lane ∷ before)
     sent_rises t o k lane g b takes = one_rises were (λ n w. pieces_out w (share w n (Sent t o k lane ∷ before))) t (one_if b) 0 s.works
         (λ i m w e is. if_rises w (t == m) (given_next w o k (share w m before)) (share w m before) (never_fewer w o k (share w m before)))
         t g.work (omega arith) g.of_plan (if_own g.work (t == t) (given_next g.work o k (share g.work t before)) (share g.work t before) (one_if b) (same_number t) (own b takes))
@@ -338,11 +340,11 @@ module _ (s : Shared) where
         is_next = find_passes (is_ready_in g.work (share g.work t before)) (acts_of g.work) (act.Send o k)
             (ready_act (lacks_memory t before) (first_ready_in g.work (share g.work t before)) (act.Send o k) g.is_ready)
 
-        own : (b : Bool) → takes_part o ≡ b → were t g.work + one_if b ≤ pieces_out g.work (given_next g.work o k (share g.work t before))
+        own : (b : Bool) → holds_buffer o ≡ b → were t g.work + one_if b ≤ pieces_out g.work (given_next g.work o k (share g.work t before))
         own true e = one_more_out g.work o k (share g.work t before) is_next e
         own false e = let l = never_fewer g.work o k (share g.work t before) in omega arith
 
-    came_falls : (c : SeenCarried) (task : Option ℕ) → IsOfTask s before task c → (b : Bool) → takes_part c.job.id.op ≡ b
+    came_falls : (c : SeenCarried) (task : Option ℕ) → IsOfTask s before task c → (b : Bool) → holds_buffer c.job.id.op ≡ b
         → outs before ≤ sum_from (λ n w. pieces_out w (if is_task n task then Came c ∷ share w n before else share w n before)) 0 s.works + one_if b
     came_falls c None of b takes = absurd of
     came_falls c (Some t) of b takes = sums were (λ n w. pieces_out w (if is_task n (Some t) then Came c ∷ share w n before else share w n before)) t (one_if b) 0 s.works
@@ -358,14 +360,14 @@ module _ (s : Shared) where
 
 -- ---- lanes
 
-added : (jobs : List JobId) (job : JobId) (b : Bool) → takes_part job.op ≡ b → length (filter (λ (j : JobId). takes_part j.op) (jobs ++ job ∷ [])) ≡ length (filter (λ (j : JobId). takes_part j.op) jobs) + one_if b
+added : (jobs : List JobId) (job : JobId) (b : Bool) → holds_buffer job.op ≡ b → length (filter (λ (j : JobId). holds_buffer j.op) (jobs ++ job ∷ [])) ≡ length (filter (λ (j : JobId). holds_buffer j.op) jobs) + one_if b
 added [] job true e = rw e refl
 added [] job false e = rw e refl
-added (first ∷ jobs) job b e = by (takes_part first.op) refl (added jobs job b e)
+added (first ∷ jobs) job b e = by (holds_buffer first.op) refl (added jobs job b e)
   where
-    by : (p : Bool) → takes_part first.op ≡ p
-        → length (filter (λ (j : JobId). takes_part j.op) (jobs ++ job ∷ [])) ≡ length (filter (λ (j : JobId). takes_part j.op) jobs) + one_if b
-        → length (filter (λ (j : JobId). takes_part j.op) ((first ∷ jobs) ++ job ∷ [])) ≡ length (filter (λ (j : JobId). takes_part j.op) (first ∷ jobs)) + one_if b
+    by : (p : Bool) → holds_buffer first.op ≡ p
+        → length (filter (λ (j : JobId). holds_buffer j.op) (jobs ++ job ∷ [])) ≡ length (filter (λ (j : JobId). holds_buffer j.op) jobs) + one_if b
+        → length (filter (λ (j : JobId). holds_buffer j.op) ((first ∷ jobs) ++ job ∷ [])) ≡ length (filter (λ (j : JobId). holds_buffer j.op) (first ∷ jobs)) + one_if b
     by true q rest = rw q (omega arith)
     by false q rest = rw q rest
 
@@ -378,31 +380,35 @@ module _ (t : ℕ) (o : Op) (k to : ℕ) (before : Events) where
   lower_sent zero low = refl
   lower_sent (suc lane) low =
       let other : (to == lane) ≡ false = grind arith in
-      let here : part_jobs_in lane with_sent ≡ part_jobs_in lane before = ap (λ (b : Bool). length (filter (λ (j : JobId). takes_part j.op) (if b then jobs_in lane before ++ job_of t o k ∷ [] else jobs_in lane before))) other in
+      let here : part_jobs_in lane with_sent ≡ part_jobs_in lane before = ap (λ (b : Bool). length (filter (λ (j : JobId). holds_buffer j.op) (if b then jobs_in lane before ++ job_of t o k ∷ [] else jobs_in lane before))) other in
       let rest = lower_sent lane (omega arith) in
       omega arith
 
-  lanes_sent : (b : Bool) → takes_part o ≡ b → (lanes : ℕ) → part_jobs_before lanes with_sent ≤ part_jobs_before lanes before + one_if b
-  lanes_sent b e zero = omega arith
-  lanes_sent b e (suc lane) = by (to == lane) refl (lanes_sent b e lane)
+  pub lanes_sent : (b : Bool) → holds_buffer o ≡ b → (lanes : ℕ) → to < lanes → part_jobs_before lanes with_sent ≡ part_jobs_before lanes before + one_if b
+  lanes_sent b e zero within = absurd (omega arith)
+  lanes_sent b e (suc lane) within = by (to == lane) refl (λ below. lanes_sent b e lane below)
     where
-      by : (same : Bool) → (to == lane) ≡ same → part_jobs_before lane with_sent ≤ part_jobs_before lane before + one_if b → part_jobs_before (suc lane) with_sent ≤ part_jobs_before (suc lane) before + one_if b
+      not_at : (x y : ℕ) → (x == y) ≡ false → x < suc y → x < y
+      not_at x y e l = grind arith
+
+      by : (same : Bool) → (to == lane) ≡ same → (to < lane → part_jobs_before lane with_sent ≡ part_jobs_before lane before + one_if b) → part_jobs_before (suc lane) with_sent ≡ part_jobs_before (suc lane) before + one_if b
       by true is rest =
           let at = eqb-true to lane is in
           let lower = lower_sent lane (omega arith) in
           let here : part_jobs_in lane with_sent ≡ part_jobs_in lane before + one_if b =
-          ap (λ (x : Bool). length (filter (λ (j : JobId). takes_part j.op) (if x then jobs_in lane before ++ job_of t o k ∷ [] else jobs_in lane before))) is ∙ added (jobs_in lane before) (job_of t o k) b e in
+          ap (λ (x : Bool). length (filter (λ (j : JobId). holds_buffer j.op) (if x then jobs_in lane before ++ job_of t o k ∷ [] else jobs_in lane before))) is ∙ added (jobs_in lane before) (job_of t o k) b e in
           omega arith
       by false is rest =
-          let here : part_jobs_in lane with_sent ≡ part_jobs_in lane before = ap (λ (x : Bool). length (filter (λ (j : JobId). takes_part j.op) (if x then jobs_in lane before ++ job_of t o k ∷ [] else jobs_in lane before))) is in
+          let here : part_jobs_in lane with_sent ≡ part_jobs_in lane before = ap (λ (x : Bool). length (filter (λ (j : JobId). holds_buffer j.op) (if x then jobs_in lane before ++ job_of t o k ∷ [] else jobs_in lane before))) is in
+          let lower = rest (not_at to lane is within) in
           omega arith
 
-dropped : (jobs : List JobId) (job : JobId) (b : Bool) → slice_get jobs 0 ≡ Some job → takes_part job.op ≡ b
-    → length (filter (λ (j : JobId). takes_part j.op) (drop 1 jobs)) + one_if b ≡ length (filter (λ (j : JobId). takes_part j.op) jobs)
+dropped : (jobs : List JobId) (job : JobId) (b : Bool) → slice_get jobs 0 ≡ Some job → holds_buffer job.op ≡ b
+    → length (filter (λ (j : JobId). holds_buffer j.op) (drop 1 jobs)) + one_if b ≡ length (filter (λ (j : JobId). holds_buffer j.op) jobs)
 dropped [] job b is e = absurd (nothing is)
-dropped (first ∷ jobs) job b is e = by b (ap (λ (j : JobId). takes_part j.op) (same_value is) ∙ e)
+dropped (first ∷ jobs) job b is e = by b (ap (λ (j : JobId). holds_buffer j.op) (same_value is) ∙ e)
   where
-    by : (p : Bool) → takes_part first.op ≡ p → length (filter (λ (j : JobId). takes_part j.op) (drop 1 (first ∷ jobs))) + one_if p ≡ length (filter (λ (j : JobId). takes_part j.op) (first ∷ jobs))
+    by : (p : Bool) → holds_buffer first.op ≡ p → length (filter (λ (j : JobId). holds_buffer j.op) (drop 1 (first ∷ jobs))) + one_if p ≡ length (filter (λ (j : JobId). holds_buffer j.op) (first ∷ jobs))
     by true q = rw q (omega arith)
     by false q = rw q (omega arith)
 
@@ -411,7 +417,7 @@ module _ (from : ℕ) (c : SeenCarried) (before : Events) (is_first : slice_get 
   with_back = Back from c ∷ before
 
   back_elsewhere : (lane : ℕ) → (from == lane) ≡ false → part_jobs_in lane with_back ≡ part_jobs_in lane before
-  back_elsewhere lane other = ap (λ (x : Bool). length (filter (λ (j : JobId). takes_part j.op) (if x then drop 1 (jobs_in lane before) else jobs_in lane before))) other
+  back_elsewhere lane other = ap (λ (x : Bool). length (filter (λ (j : JobId). holds_buffer j.op) (if x then drop 1 (jobs_in lane before) else jobs_in lane before))) other
 
   lower_back : (lanes : ℕ) → lanes ≤ from → part_jobs_before lanes with_back ≡ part_jobs_before lanes before
   lower_back zero low = refl
@@ -421,20 +427,20 @@ module _ (from : ℕ) (c : SeenCarried) (before : Events) (is_first : slice_get 
       let rest = lower_back lane (omega arith) in
       omega arith
 
-  lanes_back : (b : Bool) → takes_part c.job.id.op ≡ b → (lanes : ℕ) → from < lanes → part_jobs_before lanes with_back + one_if b ≤ part_jobs_before lanes before
+  pub lanes_back : (b : Bool) → holds_buffer c.job.id.op ≡ b → (lanes : ℕ) → from < lanes → part_jobs_before lanes with_back + one_if b ≡ part_jobs_before lanes before
   lanes_back b e zero within = absurd (omega arith)
   lanes_back b e (suc lane) within = by (from == lane) refl (λ below. lanes_back b e lane below)
     where
       not_at : (x y : ℕ) → (x == y) ≡ false → x < suc y → x < y
       not_at x y e l = grind arith
 
-      by : (same : Bool) → (from == lane) ≡ same → (from < lane → part_jobs_before lane with_back + one_if b ≤ part_jobs_before lane before) → part_jobs_before (suc lane) with_back + one_if b ≤ part_jobs_before (suc lane) before
+      by : (same : Bool) → (from == lane) ≡ same → (from < lane → part_jobs_before lane with_back + one_if b ≡ part_jobs_before lane before) → part_jobs_before (suc lane) with_back + one_if b ≡ part_jobs_before (suc lane) before
       by true is rest =
           let at = eqb-true from lane is in
           let lower = lower_back lane (omega arith) in
           let first : slice_get (jobs_in lane before) 0 ≡ Some c.job.id = subst (λ (l : ℕ). slice_get (jobs_in l before) 0 ≡ Some c.job.id) at is_first in
-          let opened : part_jobs_in lane with_back ≡ length (filter (λ (j : JobId). takes_part j.op) (drop 1 (jobs_in lane before))) =
-          ap (λ (x : Bool). length (filter (λ (j : JobId). takes_part j.op) (if x then drop 1 (jobs_in lane before) else jobs_in lane before))) is in
+          let opened : part_jobs_in lane with_back ≡ length (filter (λ (j : JobId). holds_buffer j.op) (drop 1 (jobs_in lane before))) =
+          ap (λ (x : Bool). length (filter (λ (j : JobId). holds_buffer j.op) (if x then drop 1 (jobs_in lane before) else jobs_in lane before))) is in
           let here = dropped (jobs_in lane before) c.job.id b first e in
           omega arith
       by false is rest =
@@ -443,10 +449,10 @@ module _ (from : ℕ) (c : SeenCarried) (before : Events) (is_first : slice_get 
           omega arith
 
 -- lanes with the same jobs have as many of them
-same_jobs : (events before : Events) → ((lane : ℕ) → jobs_in lane events ≡ jobs_in lane before) → (lanes : ℕ) → part_jobs_before lanes events ≡ part_jobs_before lanes before
+pub same_jobs : (events before : Events) → ((lane : ℕ) → jobs_in lane events ≡ jobs_in lane before) → (lanes : ℕ) → part_jobs_before lanes events ≡ part_jobs_before lanes before
 same_jobs events before same zero = refl
 same_jobs events before same (suc lane) =
-    let here : part_jobs_in lane events ≡ part_jobs_in lane before = ap (λ (jobs : List JobId). length (filter (λ (j : JobId). takes_part j.op) jobs)) (same lane) in
+    let here : part_jobs_in lane events ≡ part_jobs_in lane before = ap (λ (jobs : List JobId). length (filter (λ (j : JobId). holds_buffer j.op) jobs)) (same lane) in
     let rest = same_jobs events before same lane in
     omega arith
 
@@ -471,13 +477,18 @@ module _ (s : Shared) (some : 1 ≤ s.lanes) where
   none_beyond (Lined ∷ before) h lane beyond = none_beyond before h.1 lane beyond
   none_beyond (Stopped reason ∷ before) h lane beyond = none_beyond before h.1 lane beyond
 
-  first_within : (events : Events) → IsRun s events → (lane : ℕ) (job : JobId) → slice_get (jobs_in lane events) 0 ≡ Some job → (b : Bool) → nat_lt lane s.lanes ≡ b → lane < s.lanes
+  pub first_within : (events : Events) → IsRun s events → (lane : ℕ) (job : JobId) → slice_get (jobs_in lane events) 0 ≡ Some job → (b : Bool) → nat_lt lane s.lanes ≡ b → lane < s.lanes
   first_within events h lane job is true e = ltb-true lane s.lanes e
   first_within events h lane job is false e =
       let beyond = ltb-false lane s.lanes e in
       absurd (nothing (ap (λ (jobs : List JobId). slice_get jobs 0) (sym (none_beyond events h lane beyond)) ∙ is))
 
-  none_at_first : (lanes : ℕ) → part_jobs_before lanes [] ≡ 0
+  pub sent_within : (before : Events) (t : ℕ) (o : Op) (k to : ℕ) → next_move s before ≡ move.Give t o k to → to < s.lanes
+  sent_within before t o k to e =
+      let g = given s before t o k to e in
+      subst (λ (l : ℕ). l < s.lanes) (sym g.to) ((is_freest s before).within some)
+
+  pub none_at_first : (lanes : ℕ) → part_jobs_before lanes [] ≡ 0
   none_at_first zero = refl
   none_at_first (suc lane) = let rest = none_at_first lane in omega arith
 
@@ -489,13 +500,13 @@ module _ (s : Shared) (some : 1 ≤ s.lanes) where
       omega arith
   few (Sent t o k to ∷ before) h =
       let so_far = few before h.1 in
-      let more = sent_rises s before t o k to (given s before t o k to h.0) (takes_part o) refl in
-      let jobs = lanes_sent t o k to before (takes_part o) refl s.lanes in
+      let more = sent_rises s before t o k to (given s before t o k to h.0) (holds_buffer o) refl in
+      let jobs = lanes_sent t o k to before (holds_buffer o) refl s.lanes (sent_within before t o k to h.0) in
       omega arith
   few (Back from c ∷ before) h =
       let so_far = few before h.1 in
-      let fewer = came_falls s before c c.job.id.task h.0.1 (takes_part c.job.id.op) refl in
-      let jobs = lanes_back from c before h.0.0 (takes_part c.job.id.op) refl s.lanes (first_within before h.1 from c.job.id h.0.0 (nat_lt from s.lanes) refl) in
+      let fewer = came_falls s before c c.job.id.task h.0.1 (holds_buffer c.job.id.op) refl in
+      let jobs = lanes_back from c before h.0.0 (holds_buffer c.job.id.op) refl s.lanes (first_within before h.1 from c.job.id h.0.0 (nat_lt from s.lanes) refl) in
       omega arith
   few (Called t a r ∷ before) h =
       let so_far = few before h.1 in

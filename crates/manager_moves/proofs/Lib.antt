@@ -6,3 +6,4 @@ pub mod HoldLemmas
 pub mod PartLaws
 pub mod QueueLaws
 pub mod ShareLaws
+pub mod JournalLaws

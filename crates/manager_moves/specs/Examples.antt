@@ -4,6 +4,7 @@ use Rattle.jobs.specs.Holders.{Holder}
 use Rattle.jobs.specs.declared.ending.Ending.{Ending}
 use Rattle.jobs.specs.declared.ending.Ending.TheVariants as ending
 use Rattle.jobs.specs.declared.what.What.{What}
+use Rattle.run_promise.specs.Buffers.{holds_buffer}
 use Rattle.s3_model.specs.declared.answers.Reply.TheVariants as reply
 use Rattle.s3_model.specs.declared.outcomes.Cause.TheVariants as cause
 use Rattle.s3_model.specs.declared.outcomes.Outcome.TheVariants as outcome
@@ -20,7 +21,7 @@ use Rattle.task_acts.specs.Examples.{one_piece}
 use Rattle.manager_moves.specs.declared.moves.Move.{Move}
 use Rattle.manager_moves.specs.declared.moves.Move.TheVariants as move
 use Rattle.s3_model.specs.declared.bytes.Part.{Part}
-use Rattle.manager_moves.specs.Laws.{IsRun, takes_part}
+use Rattle.manager_moves.specs.Laws.{IsRun}
 use Rattle.manager_moves.specs.Moves.{next_move}
 use Rattle.manager_moves.specs.Runs.{Event, Events, Shared, Made, Sent, Back, Called, Lined, Stopped, outcome_in}
 
@@ -49,7 +50,7 @@ module _ (for : What) (cell : Holder) (part : Part) where
     job = record {
       id = record { task = Some task; op = of_op; number = number };
       what = for;
-      part = if takes_part of_op then Some part else None;
+      part = if holds_buffer of_op then Some part else None;
       cell = Some cell;
       had = 0;
     };

@@ -1,10 +1,9 @@
 -- What the rule of moves keeps, in every run.
-use Rattle.std.specs.Prelude.{◌≡◌, ◌≢◌, ◌≤◌, ◌<◌, ◌+◌, [], ◌∷◌, ℕ, zero, suc, Bool, filter, length, true, false, Option, Some, None, is_some, slice_get}
+use Rattle.std.specs.Prelude.{◌≡◌, ◌≢◌, ◌≤◌, ◌<◌, ◌+◌, [], ◌∷◌, ℕ, zero, suc, filter, length, Option, Some, None, is_some, slice_get}
 use Rattle.jobs.specs.Endings.{SeenCarried}
+use Rattle.run_promise.specs.Buffers.{KeepsBuffers, holds_buffer}
 use Rattle.s3_model.specs.declared.outcomes.JobId.{JobId}
 use Rattle.s3_model.specs.declared.outcomes.Reason.TheVariants as reason_of
-use Rattle.s3_model.specs.declared.requests.Op.{Op}
-use Rattle.s3_model.specs.declared.requests.Op.TheVariants as op
 use Rattle.task_acts.specs.declared.work.Work.{Work}
 use Rattle.task_acts.specs.Kept.{IsHistory, MayCome, MayHappen}
 use Rattle.task_acts.specs.Histories.{Came}
@@ -13,7 +12,8 @@ use Rattle.manager_moves.specs.declared.moves.Move.TheVariants as move
 use Rattle.manager_moves.specs.Lanes.{jobs_in, out_in}
 use Rattle.manager_moves.specs.Moves.{call_of, made, next_move, unfinished_from}
 use Rattle.manager_moves.specs.Parts.{lent}
-use Rattle.manager_moves.specs.Runs.{Event, Events, Shared, Made, Sent, Back, Called, Lined, Stopped, lined_count, made_count, share}
+use Rattle.manager_moves.specs.Runs.{Event, Events, Shared, Made, Sent, Back, Called, Lined, Stopped}
+use Rattle.manager_moves.specs.Runs.{journal_of, lined_count, made_count, share}
 
 -- it comes back to its task as it was given
 abbrev pub IsOfTask : Shared → Events → Option ℕ → SeenCarried → Type 0
@@ -21,16 +21,9 @@ IsOfTask s events None carried = ⊥
 IsOfTask s events (Some n) carried =
     (w : Work) × (slice_get s.works n ≡ Some w) × MayHappen w (share w n events) (Came carried)
 
--- the bytes of a Put or a Part, and those that a Get brings, stand in a part
-abbrev pub takes_part : Op → Bool
-takes_part op.Put = true
-takes_part op.Part = true
-takes_part op.Get = true
-takes_part of_op = false
-
 -- how many jobs that take a part are out in a lane, and in the first so many lanes
 abbrev pub part_jobs_in : ℕ → Events → ℕ
-part_jobs_in lane events = length (filter (λ (job : JobId). takes_part job.op) (jobs_in lane events))
+part_jobs_in lane events = length (filter (λ (job : JobId). holds_buffer job.op) (jobs_in lane events))
 
 abbrev pub part_jobs_before : ℕ → Events → ℕ
 part_jobs_before zero events = 0
@@ -42,7 +35,7 @@ MayFollow s events (Made fits) = next_move s events ≡ move.Make (made_count ev
 MayFollow s events (Sent task of_op number lane) = next_move s events ≡ move.Give task of_op number lane
 MayFollow s events (Back lane carried) =
     (slice_get (jobs_in lane events) 0 ≡ Some carried.job.id) × IsOfTask s events carried.job.id.task carried
-    × (is_some carried.job.part ≡ takes_part carried.job.id.op)
+    × (is_some carried.job.part ≡ holds_buffer carried.job.id.op)
 MayFollow s events (Called task called result) =
     (call_of s events task called ≡ Some (next_move s events)) × MayCome called result
 MayFollow s events Lined = next_move s events ≡ move.Line (lined_count events)
@@ -78,6 +71,10 @@ PartsAreEnough = (s : Shared) (events : Events) → IsRun s events → lent s.wo
 -- At most so many jobs that take a part are out in all lanes as there are parts.
 abbrev pub BuffersAreKept : Type 0
 BuffersAreKept = (s : Shared) (events : Events) → IsRun s events → part_jobs_before s.lanes events ≤ s.buffers
+
+-- So the journal of a run with a lane keeps to the buffers, as the promise says it.
+abbrev pub JournalsKeepBuffers : Type 0
+JournalsKeepBuffers = (s : Shared) (events : Events) → 1 ≤ s.lanes → IsRun s events → KeepsBuffers s.buffers (journal_of events)
 
 -- At most so many tasks are made and unfinished as the queue holds.
 abbrev pub QueueIsKept : Type 0

@@ -1,7 +1,10 @@
 -- What happened in a run of many tasks, and each task's share of it.
-use Rattle.std.specs.Prelude.{◌+◌, ◌==◌, [], ◌∷◌, ℕ, Bool, true, false, List, Option, Some, None, is_some, nat_lt, if◌then◌else◌}
+use Rattle.std.specs.Prelude.{◌+◌, ◌++◌, ◌==◌, [], ◌∷◌, ℕ, Bool, true, false, List, Option, Some, None, is_some, nat_lt, if◌then◌else◌}
 use Rattle.jobs.specs.Endings.{SeenCarried}
+use Rattle.run_promise.specs.Schedule.{job_of}
 use Rattle.s3_model.specs.declared.outcomes.Cause.TheVariants as cause
+use Rattle.s3_model.specs.declared.outcomes.Event.{Event as Entry}
+use Rattle.s3_model.specs.declared.outcomes.Event.TheVariants as entry
 use Rattle.s3_model.specs.declared.outcomes.Outcome.{Outcome}
 use Rattle.s3_model.specs.declared.outcomes.Outcome.TheVariants as outcome
 use Rattle.s3_model.specs.declared.outcomes.Reason.{Reason}
@@ -61,6 +64,15 @@ abbrev pub lacks_memory : ℕ → Events → Bool
 lacks_memory n [] = false
 lacks_memory n (Made false ∷ before) = if made_count before == n then true else lacks_memory n before
 lacks_memory n (event ∷ before) = lacks_memory n before
+
+-- ---- the journal
+
+-- the jobs that were given and came, the oldest first
+abbrev pub journal_of : Events → List Entry
+journal_of [] = []
+journal_of (Sent task of_op number lane ∷ before) = journal_of before ++ entry.Given (job_of task of_op number) lane ∷ []
+journal_of (Back lane carried ∷ before) = journal_of before ++ entry.Came carried.job.id lane carried.tries ∷ []
+journal_of (event ∷ before) = journal_of before
 
 -- ---- one task's share
 

@@ -1,4 +1,5 @@
 use Rattle.manager_moves.proofs.BufferLaws as buffers
+use Rattle.manager_moves.proofs.JournalLaws as journals
 use Rattle.manager_moves.proofs.MoveLaws as moves
 use Rattle.manager_moves.proofs.PartLaws as parts
 use Rattle.manager_moves.proofs.QueueLaws as queue
@@ -10,5 +11,6 @@ returns c = record {
   depth = moves.lanes_keep_their_depth;
   parts = parts.parts_are_enough;
   buffers = buffers.buffers_are_kept;
+  journal = journals.journals_keep_buffers;
   queue = queue.queue_is_kept;
 }
