@@ -30,8 +30,8 @@ abbrev pub bytes_of : Gained → List ℕ
 bytes_of (gained.Got object) = object.bytes.items
 bytes_of got = []
 
--- The request did what its definition says. Of a page only this is said: its bucket is there, and at most a token is
--- new.
+-- The request did what its definition says. Of a page only this is said: its bucket is there, and nothing but tokens
+-- changes.
 abbrev pub IsServed : Limits → State → Ask → List ℕ → Gained → State → Type 0
 IsServed limits old (ask.List bucket prefix delimited token) body got new =
     HasBucket old bucket × (new.objects ≡ old.objects) × (new.uploads ≡ old.uploads) × (new.ended ≡ old.ended)
