@@ -1,0 +1,9 @@
+use Rattle.task_core.proofs.Acts.{out_has}
+use Rattle.task_core.proofs.Standing.{returned}
+use Rattle.task_core.proofs.state.TaskState.file_came.Goals as goal
+
+pub mark_returned-requires : goal.mark_returned-requires
+mark_returned-requires c = out_has c.args.self.now.stages c.args.act c.requires
+
+pub returns : goal.returns
+returns c w history s = returned w history c.args.self.now s c.args.act c.args.came c.mark_returned.new.self c.settle.new.self c.mark_returned.ensures c.settle.ensures
