@@ -1,6 +1,6 @@
 //! What a service in memory does for what is asked.
 
-ghost use Rattle.std.specs.Prelude.{◌≡◌, IfOk, OnErr, Err, length, map, take};
+ghost use Rattle.std.specs.Prelude.{◌≡◌, IfOk, OnErr, Err, length, map};
 ghost use Rattle.std.specs.FinMap.{keys};
 ghost use Rattle.s3_model.specs.declared.places.Entry.{Entry};
 ghost use Rattle.s3_service.specs.Serves.{Finds, Gets, MayRefuse};
