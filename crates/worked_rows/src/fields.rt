@@ -34,11 +34,7 @@ pub(crate) fn written(alloc: Global, spelled: &str) -> Result<String, AllocError
 }
 
 /// The values of all fields of that name.
-pub(crate) fn all<'a>(
-    alloc: Global,
-    row: &'a str,
-    name: &str,
-) -> Result<Vec<&'a str>, AllocError> {
+pub(crate) fn all<'a>(alloc: Global, row: &'a str, name: &str) -> Result<Vec<&'a str>, AllocError> {
     let mut values = Vec::new(alloc);
     for field in row.split("; ") {
         if let Some((named, value)) = field.split_once('=') {

@@ -60,7 +60,12 @@ pub(crate) fn environment(alloc: Global, row: &str) -> Result<MemEnv, OutOfMemor
         env.set(alloc, name, value)?;
     }
     put(alloc, &mut env, "/h/.aws/config", value(row, "config"))?;
-    put(alloc, &mut env, "/h/.aws/credentials", value(row, "credentials"))?;
+    put(
+        alloc,
+        &mut env,
+        "/h/.aws/credentials",
+        value(row, "credentials"),
+    )?;
     Ok(env)
 }
 

@@ -28,11 +28,7 @@ fn seen_of(sent: &str) -> &str {
     }
 }
 
-fn push_sent(
-    alloc: Global,
-    shown: &mut String,
-    talks: &[TalkRecord],
-) -> Result<(), AllocError> {
+fn push_sent(alloc: Global, shown: &mut String, talks: &[TalkRecord]) -> Result<(), AllocError> {
     for talk in talks {
         let sent = seen_of(text(talk.sent.as_slice()));
         let sent = format!(in alloc; " sent {sent:?}")?;
