@@ -1,5 +1,5 @@
 -- Tags that came, one more at a time.
-use Rattle.std.proofs.Common.{◌≡◌, ◌∙◌, ◌<◌, ◌+◌, ℕ, zero, suc, List, [], ◌∷◌, ◌++◌, Option, Some, None, get_or, length, take, refl, sym, ap, arith}
+use Rattle.std.proofs.Common.{◌≡◌, ◌<◌, ℕ, zero, suc, List, [], ◌∷◌, ◌++◌, Option, Some, None, get_or, length, take, refl, ap, arith}
 use Rattle.kept_jobs.specs.Tags.{present}
 
 pub present_one : (tags : List (Option (List ℕ))) (index : ℕ) → index < length tags → present (take (suc index) tags) ≡ present (take index tags) ++ present (get_or tags index None ∷ [])

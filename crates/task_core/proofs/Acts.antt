@@ -1,15 +1,14 @@
 -- The acts that a task has: those that are out, and those that are ready.
-use Rattle.std.proofs.Common.{◌≡◌, ◌∙◌, ◌⊎◌, ◌<◌, ◌≤◌, ◌+◌, ◌-◌, ◌==◌, ◌&&◌, ◌||◌, ◌≢◌, ℕ, Bool, true, false, not, List, [], ◌∷◌, Option, Some, None, IfSome, cond, is_some, get_or, set, length, length-set, map, nat_lt, refl, sym, ap, subst, arith, inl, inr, if◌then◌else◌}
+use Rattle.std.proofs.Common.{◌≡◌, ◌∙◌, ◌<◌, ◌≤◌, ◌+◌, ◌-◌, ◌==◌, ◌&&◌, ◌||◌, ℕ, Bool, true, false, not, List, [], ◌∷◌, Option, Some, None, IfSome, cond, is_some, length, length-set, nat_lt, refl, sym, ap, subst, arith, inl, inr, if◌then◌else◌}
 use Rattle.std.specs.List.{find}
-use Rattle.std.proofs.lemmas.Bool.{and_parts, cases_lt, eq-eqb, eqb-true, le-ltb, lt-ltb}
+use Rattle.std.proofs.lemmas.Bool.{and_parts, cases_lt, eqb-true, le-ltb, lt-ltb}
 use Rattle.jobs.specs.Endings.{IsEnded, SeenCarried}
 use Rattle.jobs.specs.declared.ending.Ending.{Ending}
 use Rattle.jobs.specs.declared.ending.Ending.TheVariants as ending
 use Rattle.kept_jobs.specs.Slots.{HasSlot, SeenKept, piece_slot, rank, slot, slots}
 use Rattle.kept_jobs.specs.Tags.{HasPart, SeenTags}
 use Rattle.piece_stages.specs.declared.piece.PieceStages.{PieceStages}
-use Rattle.run_promise.specs.Dispatches.{is_op, op_number}
-use Rattle.s3_model.specs.Classes.{is_tried_again}
+use Rattle.run_promise.specs.Dispatches.{is_op}
 use Rattle.s3_model.specs.declared.requests.Op.{Op}
 use Rattle.s3_model.specs.declared.requests.Op.TheVariants as op
 use Rattle.s3_model.specs.declared.tasks.Kind.{Kind}
@@ -24,7 +23,7 @@ use Rattle.task_acts.specs.Rule.{acts_of, first_ready, is_ready}
 use Rattle.task_acts.specs.Stages.{is_out, may_be_given}
 use Rattle.task_acts.specs.Work.{first_number, is_piece, piece_op}
 use Rattle.task_causes.specs.Pieces.{HasNumber}
-use Rattle.task_stages.specs.Stages.{HasAct, HasPiece, HasSend, SeenStages, piece_at, piece_count, removes, sent_at, stage_by}
+use Rattle.task_stages.specs.Stages.{HasAct, HasPiece, HasSend, SeenStages, piece_at, piece_count, removes, stage_by}
 use Rattle.task_stages.proofs.PieceLemmas.{before_first, past}
 use Rattle.task_core.specs.Machine.{HasTags, IsNumbered, IsSound, SeenTask}
 use Rattle.std.proofs.lemmas.List.{length-replicate}

@@ -1,5 +1,5 @@
 -- What a task keeps of its history stands after each happening.
-use Rattle.std.proofs.Common.{◌≡◌, ◌∙◌, ◌&&◌, ◌||◌, ◌+◌, ◌-◌, ◌<◌, ◌≤◌, ◌==◌, ◌≢◌, ℕ, suc, Bool, true, false, not, List, [], ◌∷◌, Option, Some, None, IfSome, IsSome, is_some, get_or, map, set, length, length-set, sym, ap, subst, refl, arith, inl, inr, if◌then◌else◌}
+use Rattle.std.proofs.Common.{◌≡◌, ◌∙◌, ◌&&◌, ◌||◌, ◌+◌, ◌-◌, ◌<◌, ◌==◌, ℕ, suc, Bool, true, false, not, List, [], ◌∷◌, Option, Some, None, IfSome, IsSome, is_some, get_or, map, set, length, length-set, sym, ap, subst, refl, arith, inl, inr, if◌then◌else◌}
 use Rattle.std.proofs.Math.Path.{fun_ext}
 use Rattle.std.specs.List.{list_any}
 use Rattle.std.specs.Option.{option_or}

@@ -1,6 +1,6 @@
 -- What one task as a machine of acts keeps of its history.
 use Rattle.std.specs.Option.{option_or}
-use Rattle.std.specs.Prelude.{◌≡◌, ◌≤◌, ◌<◌, ◌+◌, [], ◌&&◌, ◌||◌, ℕ, Bool, true, false, List, Option, Some, None, IfSome, is_some, length, not, replicate, if◌then◌else◌}
+use Rattle.std.specs.Prelude.{◌≡◌, ◌≤◌, ◌<◌, ◌+◌, [], ◌&&◌, ◌||◌, ℕ, Bool, true, List, Option, Some, None, IfSome, is_some, length, not, replicate, if◌then◌else◌}
 use Rattle.kept_jobs.specs.Slots.{SeenKept, job_at}
 use Rattle.kept_jobs.specs.Tags.{HasPart, SeenTags, tag_at}
 use Rattle.s3_model.specs.declared.outcomes.Outcome.{Outcome}

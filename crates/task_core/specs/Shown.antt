@@ -1,5 +1,5 @@
 -- What a job that came back shows of the task.
-use Rattle.std.specs.Prelude.{◌&&◌, ◌+◌, ◌==◌, ℕ, Bool, Option, Some, None, List, if◌then◌else◌}
+use Rattle.std.specs.Prelude.{◌&&◌, ◌+◌, ◌==◌, ℕ, Bool, Option, Some, None, if◌then◌else◌}
 use Rattle.jobs.specs.Jobs.{SeenJob}
 use Rattle.run_promise.specs.Dispatches.{is_op}
 use Rattle.s3_model.specs.declared.outcomes.JobId.{JobId}

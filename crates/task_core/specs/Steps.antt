@@ -1,6 +1,6 @@
 -- What each happening makes of a task, before its outcome is settled.
 use Rattle.std.specs.Option.{option_or}
-use Rattle.std.specs.Prelude.{◌≡◌, ◌&&◌, ◌||◌, ◌-◌, ℕ, Bool, true, List, Option, Some, None, IfSome, is_some, not, set, if◌then◌else◌}
+use Rattle.std.specs.Prelude.{◌≡◌, ◌&&◌, ◌||◌, ◌-◌, ℕ, Bool, true, List, Option, Some, None, IfSome, is_some, set, if◌then◌else◌}
 use Rattle.std.specs.List.{list_any}
 use Rattle.jobs.specs.Endings.{SeenCarried}
 use Rattle.kept_jobs.specs.Slots.{job_at}
@@ -19,7 +19,7 @@ use Rattle.task_acts.specs.Histories.{is_act, sent}
 use Rattle.task_acts.specs.Kept.{etag_in, is_kept, upload_in}
 use Rattle.task_acts.specs.Stages.{carried_stage, file_stage, given_stage}
 use Rattle.task_acts.specs.Work.{piece_op}
-use Rattle.task_ends.specs.Causes.{SeenCauses, failure_of, is_stopped_by}
+use Rattle.task_ends.specs.Causes.{failure_of, is_stopped_by}
 use Rattle.task_stages.specs.Stages.{SeenStages, stage_by}
 use Rattle.task_core.specs.Machine.{SeenTask}
 use Rattle.task_core.specs.Shown.{kept_if}

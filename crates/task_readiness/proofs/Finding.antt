@@ -1,5 +1,5 @@
 -- The first number of a list whose act is ready, by what its piece says.
-use Rattle.std.proofs.Common.{◌≡◌, ◌∙◌, ◌<◌, ◌+◌, ◌&&◌, ℕ, zero, suc, Bool, true, false, not, List, [], ◌∷◌, Option, Some, None, get_or, length, map, nat_lt, refl, sym, ap, arith, cond, inl, inr, if◌then◌else◌}
+use Rattle.std.proofs.Common.{◌≡◌, ◌∙◌, ◌<◌, ◌+◌, ◌&&◌, ℕ, suc, Bool, true, false, not, List, [], ◌∷◌, Option, Some, None, get_or, length, map, nat_lt, refl, sym, ap, arith, cond, inl, inr, if◌then◌else◌}
 use Rattle.std.proofs.lemmas.Bool.{cases_lt, lt-ltb, le-ltb}
 use Rattle.std.specs.List.{find, list_all, position, position_or_len, range_with_len}
 use Rattle.task_acts.specs.declared.acts.Act.{Act}

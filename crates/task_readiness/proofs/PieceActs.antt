@@ -1,5 +1,5 @@
 -- The acts of pieces, by what each piece says.
-use Rattle.std.proofs.Common.{◌≡◌, ◌∙◌, ◌<◌, ◌≤◌, ◌+◌, ◌-◌, ◌==◌, ◌&&◌, ◌||◌, ℕ, Bool, true, false, not, List, Option, Some, None, cond, get_or, length, map, nat_lt, refl, sym, ap, arith, if◌then◌else◌}
+use Rattle.std.proofs.Common.{◌≡◌, ◌∙◌, ◌<◌, ◌+◌, ◌==◌, ◌&&◌, ◌||◌, ℕ, Bool, true, false, not, List, Option, Some, None, cond, get_or, length, map, nat_lt, refl, sym, ap, arith, if◌then◌else◌}
 use Rattle.std.specs.List.{find, list_all, position}
 use Rattle.std.proofs.lemmas.Bool.{lt-ltb}
 use Rattle.piece_stages.specs.declared.piece.PieceStages.{PieceStages}
@@ -12,11 +12,11 @@ use Rattle.task_acts.specs.declared.acts.Act.TheVariants as act
 use Rattle.task_acts.specs.declared.acts.Stage.{Stage}
 use Rattle.task_acts.specs.declared.acts.Stage.TheVariants as at_stage
 use Rattle.task_acts.specs.declared.work.Work.{Work}
-use Rattle.task_acts.specs.Rule.{is_created, is_each_done, is_ready}
-use Rattle.task_acts.specs.Stages.{has_done, is_out, may_be_given}
+use Rattle.task_acts.specs.Rule.{is_each_done, is_ready}
+use Rattle.task_acts.specs.Stages.{has_done, may_be_given}
 use Rattle.task_acts.specs.Work.{first_number, is_piece, numbers, piece_op}
 use Rattle.task_stages.specs.declared.singles.Singles.{Singles}
-use Rattle.task_stages.specs.Stages.{SeenStages, piece_at, piece_count, reads_first, removes, stage_by}
+use Rattle.task_stages.specs.Stages.{SeenStages, piece_at, piece_count, reads_first, stage_by}
 use Rattle.task_stages.proofs.PieceLemmas.{from_first}
 use Rattle.std.specs.Option.{option_or}
 use Rattle.task_acts.specs.Rule.{single_sends}

@@ -1,26 +1,20 @@
 -- The acts that a task has once, by what has to come before them.
-use Rattle.std.proofs.Common.{◌≡◌, ◌∙◌, ◌==◌, ◌&&◌, ◌||◌, ℕ, Bool, true, false, not, List, Option, Some, None, cond, length, map, refl, sym, ap, arith, if◌then◌else◌}
-use Rattle.std.specs.List.{find, list_all, position}
-use Rattle.std.specs.Option.{option_or}
-use Rattle.std.proofs.lemmas.List.Folds.{find-append, list_all-append, list_all-map}
+use Rattle.std.proofs.Common.{◌≡◌, ◌&&◌, ℕ, Bool, true, false, not, List, length, refl, ap}
+use Rattle.std.specs.List.{list_all}
 use Rattle.piece_stages.specs.declared.piece.PieceStages.{PieceStages}
-use Rattle.piece_stages.specs.Pieces.{can_place, can_read, is_busy, is_placed, is_sent, no_piece}
+use Rattle.piece_stages.specs.Pieces.{is_placed, is_sent}
 use Rattle.s3_model.specs.declared.requests.Op.TheVariants as op
 use Rattle.s3_model.specs.declared.tasks.Kind.{Kind}
 use Rattle.s3_model.specs.declared.tasks.Kind.TheVariants as kind
 use Rattle.task_acts.specs.declared.acts.Act.{Act}
 use Rattle.task_acts.specs.declared.acts.Act.TheVariants as act
-use Rattle.task_acts.specs.declared.acts.Stage.{Stage}
-use Rattle.task_acts.specs.declared.acts.Stage.TheVariants as at_stage
-use Rattle.task_acts.specs.Rule.{first_ready, is_decided, is_due, is_idle, is_left_over, is_ready, reads, piece_sends, single_sends}
-use Rattle.task_acts.specs.Stages.{has_done, has_ended, is_out, may_be_given}
-use Rattle.task_acts.specs.Work.{first_number, numbers, piece_op}
+use Rattle.task_acts.specs.Rule.{is_decided, is_due}
+use Rattle.task_acts.specs.Stages.{has_done, has_ended}
 use Rattle.task_stages.specs.declared.singles.Singles.{Singles}
-use Rattle.task_stages.specs.Stages.{SeenStages, piece_count, stage_by}
-use Rattle.task_readiness.specs.Readiness.{has_parts, is_download, may_delete_by, may_remove_by, single_calls}
+use Rattle.task_stages.specs.Stages.{piece_count, stage_by}
+use Rattle.task_readiness.specs.Readiness.{has_parts, is_download, may_delete_by, may_remove_by}
 use Rattle.task_readiness.proofs.Finding.{and_true}
-use Rattle.task_readiness.proofs.PieceActs.{each_copied, each_part, each_placed, jobs, piece_job, places, ready_of, stages_of, work_of}
-use Rattle.task_readiness.proofs.PieceActs as piece_acts
+use Rattle.task_readiness.proofs.PieceActs.{each_copied, each_part, each_placed, stages_of, work_of}
 
 module _ (moves : Bool) (size piece count attempts : ℕ) (singles : Singles) (pieces : List PieceStages) where
   abbrev due_of : Kind → (small stopped : Bool) → Act → Bool

@@ -1,9 +1,8 @@
 -- The first act that is ready, by the order in which acts are asked for.
-use Rattle.std.proofs.Common.{◌≡◌, ◌∙◌, ◌++◌, ◌&&◌, ◌||◌, ℕ, Bool, true, false, not, List, Option, Some, None, length, map, refl, sym, ap, if◌then◌else◌}
+use Rattle.std.proofs.Common.{◌≡◌, ◌∙◌, ◌++◌, ◌&&◌, ◌||◌, Bool, false, not, Option, Some, None, length, map, refl, sym, ap, if◌then◌else◌}
 use Rattle.std.specs.List.{find, list_all, position}
 use Rattle.std.specs.Option.{option_or}
 use Rattle.std.proofs.lemmas.List.Folds.{find-append}
-use Rattle.piece_stages.specs.declared.piece.PieceStages.{PieceStages}
 use Rattle.piece_stages.specs.Pieces.{can_place, can_read, can_send, is_busy, is_placed, is_sent}
 use Rattle.s3_model.specs.declared.requests.Op.TheVariants as op
 use Rattle.task_acts.specs.declared.acts.Act.{Act}
@@ -11,7 +10,7 @@ use Rattle.task_acts.specs.declared.acts.Act.TheVariants as act
 use Rattle.task_acts.specs.declared.work.Work.{Work}
 use Rattle.task_acts.specs.Rule.{file_acts, first_ready, is_decided, is_due, is_idle, is_ready, piece_sends, single_sends}
 use Rattle.task_acts.specs.Rule as rule
-use Rattle.task_acts.specs.Stages.{has_done, has_ended, may_be_given}
+use Rattle.task_acts.specs.Stages.{has_done, has_ended}
 use Rattle.task_acts.specs.Work.{first_number, numbers, piece_op}
 use Rattle.task_stages.specs.Stages.{SeenStages, is_idle_single, piece_count, reads_first, stage_by}
 use Rattle.task_readiness.specs.Readiness.{has_parts, is_download, is_upload, may_delete_by, may_remove_by, may_send, numbered, single_calls}

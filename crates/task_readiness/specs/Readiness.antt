@@ -1,6 +1,5 @@
 -- Which act of a task is ready, piece by piece and act by act.
 use Rattle.std.specs.Prelude.{◌&&◌, ◌||◌, ◌+◌, [], ◌∷◌, ℕ, Bool, true, false, List, Option, Some, None}
-use Rattle.s3_model.specs.declared.requests.Op.TheVariants as op
 use Rattle.s3_model.specs.declared.tasks.Kind.{Kind}
 use Rattle.s3_model.specs.declared.tasks.Kind.TheVariants as kind
 use Rattle.task_acts.specs.declared.acts.Act.{Act}

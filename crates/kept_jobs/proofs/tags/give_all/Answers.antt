@@ -1,6 +1,5 @@
-use Rattle.std.proofs.Common.{◌≡◌, ◌∙◌, ◌++◌, ◌+◌, ◌≤◌, ◌<◌, ℕ, suc, List, [], ◌∷◌, Option, None, get_or, length, length-set, take, ap, sym, arith, append_assoc}
+use Rattle.std.proofs.Common.{◌≡◌, ◌∙◌, ◌++◌, ◌+◌, ◌<◌, ℕ, suc, List, [], ◌∷◌, Option, None, get_or, length, length-set, take, ap, sym, arith, append_assoc}
 use Rattle.std.proofs.lemmas.List.{get_or-set_other, get_or_default}
-use Rattle.std.proofs.lemmas.Grind.{common_steps}
 use Rattle.kept_jobs.specs.Tags.{present}
 use Rattle.kept_jobs.proofs.TagLemmas.{present_one}
 use Rattle.kept_jobs.proofs.tags.give_all.Goals as goal

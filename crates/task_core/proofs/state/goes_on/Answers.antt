@@ -1,10 +1,8 @@
-use Rattle.std.proofs.Common.{◌≡◌, ◌∙◌, ◌||◌, Bool, Option, is_some, not, sym, ap}
+use Rattle.std.proofs.Common.{◌∙◌, ◌||◌, Bool, Option, is_some, not, sym, ap}
 use Rattle.task_acts.specs.declared.acts.Act.{Act}
 use Rattle.task_acts.specs.Rule.{first_ready, is_idle}
 use Rattle.task_ends.specs.Causes.{is_stopped_by}
 use Rattle.task_stages.specs.Stages.{stage_by}
-use Rattle.task_core.proofs.Standing
-use Rattle.task_core.proofs.Acts
 use Rattle.task_core.proofs.state.goes_on.Goals as goal
 
 pub returns-then-is_some : goal.returns-then-is_some

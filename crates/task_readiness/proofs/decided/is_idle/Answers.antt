@@ -1,7 +1,6 @@
-use Rattle.std.proofs.Common.{◌≡◌, ◌∙◌, ◌&&◌, Bool, true, false, not, sym, ap}
+use Rattle.std.proofs.Common.{◌∙◌, ◌&&◌, Bool, not, sym, ap}
 use Rattle.std.specs.List.{list_all}
 use Rattle.piece_stages.specs.Pieces.{is_busy}
-use Rattle.task_stages.specs.declared.singles.Singles.{Singles}
 use Rattle.task_stages.specs.Stages.{is_idle_single}
 use Rattle.task_readiness.proofs.Whole.{idle}
 use Rattle.task_readiness.proofs.decided.is_idle.Goals as goal

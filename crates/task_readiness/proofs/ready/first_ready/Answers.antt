@@ -5,7 +5,7 @@ use Rattle.task_acts.specs.declared.acts.Act.{Act}
 use Rattle.task_acts.specs.Rule.{is_ready, single_sends}
 use Rattle.task_stages.specs.Stages.{stage_by}
 use Rattle.task_readiness.specs.Readiness.{single_calls}
-use Rattle.task_readiness.proofs.Whole.{in_order, nested, piece_act, place_act, read_act}
+use Rattle.task_readiness.proofs.Whole.{in_order, nested, piece_act, place_act}
 use Rattle.task_readiness.proofs.ready.first_ready.Goals as goal
 
 pub returns : goal.returns

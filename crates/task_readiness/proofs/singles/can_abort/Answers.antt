@@ -1,10 +1,9 @@
-use Rattle.std.proofs.Common.{◌≡◌, ◌∙◌, ◌&&◌, ◌||◌, Bool, true, false, not, Option, sym, ap, refl, if◌then◌else◌}
-use Rattle.task_acts.specs.declared.acts.Act.{Act}
+use Rattle.std.proofs.Common.{◌∙◌, ◌&&◌, Bool, false, sym, ap, if◌then◌else◌}
 use Rattle.task_acts.specs.declared.acts.Act.TheVariants as act
 use Rattle.s3_model.specs.declared.requests.Op.TheVariants as op
 use Rattle.task_acts.specs.Stages.{may_be_given}
 use Rattle.task_stages.specs.declared.singles.Singles.{Singles}
-use Rattle.task_stages.specs.Stages.{SeenStages, stage_by}
+use Rattle.task_stages.specs.Stages.{stage_by}
 use Rattle.task_readiness.proofs.Whole as whole
 use Rattle.task_acts.specs.Rule.{is_left_over}
 use Rattle.task_readiness.proofs.singles.can_abort.Goals as goal

@@ -1,14 +1,10 @@
-use Rattle.std.proofs.Common.{◌≡◌, ◌∙◌, ◌&&◌, ◌||◌, Bool, true, false, not, Option, sym, ap, refl, if◌then◌else◌}
-use Rattle.task_acts.specs.declared.acts.Act.{Act}
-use Rattle.task_acts.specs.declared.acts.Act.TheVariants as act
-use Rattle.s3_model.specs.declared.requests.Op.TheVariants as op
+use Rattle.std.proofs.Common.{◌∙◌, ◌&&◌, Bool, false, sym, ap, if◌then◌else◌}
 use Rattle.task_acts.specs.Stages.{may_be_given}
 use Rattle.task_stages.specs.declared.singles.Singles.{Singles}
-use Rattle.task_stages.specs.Stages.{SeenStages, stage_by}
+use Rattle.task_stages.specs.Stages.{stage_by}
 use Rattle.task_acts.specs.declared.work.Work.{Work}
 use Rattle.task_acts.specs.Rule.{is_decided}
-use Rattle.task_acts.specs.Stages.{has_ended}
-use Rattle.task_readiness.specs.Readiness.{may_delete_by, may_remove_by}
+use Rattle.task_readiness.specs.Readiness.{may_remove_by}
 use Rattle.task_readiness.proofs.Whole as whole
 use Rattle.task_readiness.proofs.singles.can_remove.Goals as goal
 

@@ -1,5 +1,4 @@
-use Rattle.std.proofs.Common.{◌≡◌, ◌∙◌, ◌||◌, ◌&&◌, ◌+◌, ◌≤◌, ℕ, Bool, true, false, not, List, Option, Some, None, IfSome, is_some, length, refl, sym, ap, subst, if◌then◌else◌}
-use Rattle.std.specs.List.{list_any}
+use Rattle.std.proofs.Common.{◌≡◌, ◌∙◌, ◌||◌, ◌&&◌, ◌+◌, ◌≤◌, ℕ, Bool, true, not, List, Option, None, IfSome, is_some, length, refl, sym, ap, subst, if◌then◌else◌}
 use Rattle.std.specs.Option.{option_or}
 use Rattle.std.proofs.lemmas.Bool.{and_parts}
 use Rattle.jobs.specs.Jobs.{SeenJob}

@@ -1,12 +1,10 @@
-use Rattle.std.proofs.Common.{◌≡◌, ◌∙◌, ◌||◌, Bool, Option, Some, None, is_some, not, refl, sym, ap, subst, if◌then◌else◌}
+use Rattle.std.proofs.Common.{◌∙◌, ◌||◌, Option, is_some, refl, ap, if◌then◌else◌}
 use Rattle.task_acts.specs.Histories.{is_act}
-use Rattle.task_acts.specs.Stages.{given_stage}
 use Rattle.task_acts.specs.declared.acts.Stage.{Stage}
 use Rattle.s3_model.specs.declared.outcomes.Cause.{Cause}
 use Rattle.task_acts.specs.Failures.{is_memory}
 use Rattle.task_stages.specs.Stages.{stage_by}
-use Rattle.task_core.specs.Machine.{IsSettled, SeenTask, settled_by}
-use Rattle.task_core.specs.Steps.{IsCancelled, IsGiven, IsReturned, IsTaken}
+use Rattle.task_core.specs.Steps.{IsReturned}
 use Rattle.task_core.proofs.Acts.{over, sound_after}
 use Rattle.task_core.proofs.state.TaskState.mark_returned.Goals as goal
 

@@ -1,16 +1,10 @@
 use Rattle.std.proofs.Common.{◌≡◌, ◌∙◌, ◌||◌, ◌&&◌, Bool, true, false, Option, Some, None, is_some, not, refl, sym, ap, subst, if◌then◌else◌}
-use Rattle.task_acts.specs.Histories.{is_act}
-use Rattle.task_acts.specs.Stages.{given_stage}
-use Rattle.task_acts.specs.declared.acts.Stage.{Stage}
-use Rattle.s3_model.specs.declared.outcomes.Cause.{Cause}
-use Rattle.task_acts.specs.Failures.{is_memory}
 use Rattle.task_stages.specs.Stages.{stage_by}
 use Rattle.task_core.specs.Machine.{IsSettled, SeenTask, settled_by}
-use Rattle.task_core.specs.Steps.{IsCancelled, IsGiven, IsReturned, IsTaken}
-use Rattle.task_core.proofs.Acts.{over, sound_after}
+use Rattle.task_core.proofs.Acts.{over}
 use Rattle.std.specs.Option.{option_or}
 use Rattle.s3_model.specs.declared.outcomes.Outcome.{Outcome}
-use Rattle.task_acts.specs.Rule.{first_ready, is_decided, is_idle}
+use Rattle.task_acts.specs.Rule.{is_decided}
 use Rattle.task_acts.specs.Ends.{removal}
 use Rattle.task_acts.specs.Stages.{has_done}
 use Rattle.task_ends.specs.Causes.{how_ended_by, is_stopped_by}
