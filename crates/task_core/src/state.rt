@@ -63,7 +63,6 @@ impl Model for TaskState {
 }
 
 /// Whether an act is ready or out.
-
 fn goes_on(stages: &TaskStages, causes: &Causes) -> bool
     ensures { result ≡ (is_some (first_ready stages.now.work (stage_by stages.now) (is_stopped_by causes.now))
         || not (is_idle stages.now.work (stage_by stages.now) (is_stopped_by causes.now))) }
