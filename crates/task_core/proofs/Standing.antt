@@ -21,7 +21,7 @@ use Rattle.task_acts.specs.Failures.{carried_cause, failure_by, file_cause, firs
 use Rattle.task_acts.specs.Histories.{Came, Cancelled, Gave, Happening, History, Returned, Taken, is_act, sent}
 use Rattle.task_acts.specs.Kept.{etag_in, etag_of, is_kept, kept_job, upload_in, upload_of}
 use Rattle.task_acts.specs.Rule.{first_ready, first_ready_in, is_decided, is_idle}
-use Rattle.task_acts.specs.Stages.{carried_stage, file_stage, given_stage, has_done, stage}
+use Rattle.task_acts.specs.Stages.{carried_stage, file_stage, given_stage, has_done, is_out, stage}
 use Rattle.task_acts.specs.Work.{piece_op}
 use Rattle.task_ends.specs.Causes.{SeenCauses, failure_of, is_stopped_by}
 use Rattle.task_stages.specs.Stages.{SeenStages, stage_by}
@@ -425,3 +425,41 @@ module _ (w : Work) (m new : SeenTask) (work_is : m.stages.work ≡ w) (waits : 
     upload_is = settled_is.upload ∙ upload;
     tags_are = subst (λ (x : Option SeenTags). IfSome x (λ y. (n : ℕ) → HasPart y n → tag_at y n ≡ None)) (sym settled_is.tags) (empty_tags m.tags tags);
   }
+
+-- ---- an act that was given is out
+
+both_true : (x y : Bool) → x ≡ true → y ≡ true → (x && y) ≡ true
+both_true true y e f = f
+both_true false y e f = cc
+
+itself : (a : Act) → is_act a a ≡ true
+itself (act.Send a n) = both_true (is_op a a) (n == n) (eq-eqb (op_number a) (op_number a) refl) (eq-eqb n n refl)
+itself (act.Read n) = eq-eqb n n refl
+itself act.Assemble = refl
+itself (act.Place n) = eq-eqb n n refl
+itself act.Rename = refl
+itself act.DropTemp = refl
+itself act.Remove = refl
+itself act.Stamp = refl
+
+out_once_given : (how : Stage) → is_out (given_stage how) ≡ true
+out_once_given at.Waiting = refl
+out_once_given at.Out = refl
+out_once_given at.Kept = refl
+out_once_given at.Again = refl
+out_once_given at.Fine = refl
+out_once_given at.Failed = refl
+
+chosen_out : (b : Bool) (x y : Stage) → b ≡ true → is_out (if b then given_stage x else y) ≡ true
+chosen_out true x y e = out_once_given x
+chosen_out false x y e = cc
+
+pub gave_out : (t : SeenTask) (a : Act) (given new : SeenTask) → IsGiven a t given → IsSettled given new → is_out (stage_by new.stages a) ≡ true
+gave_out t a given new is settled =
+    subst (λ (s : SeenStages). is_out (stage_by s a) ≡ true) (sym settled.stages)
+    (subst (λ (how : Stage). is_out how ≡ true) (sym (is.marked.stages a)) (chosen_out (is_act a a) (stage_by t.stages a) (stage_by t.stages a) (itself a)))
+
+-- settling changes no act
+pub still_marked : (a : Act) (how : Stage) (s given : SeenStages) (t new : SeenTask) → t.stages ≡ given → IsMarked a how s given → IsSettled t new → IsMarked a how s new.stages
+still_marked a how s given t new is marked settled =
+    subst (λ (x : SeenStages). IsMarked a how s x) (sym (settled.stages ∙ is)) marked

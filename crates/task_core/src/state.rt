@@ -12,12 +12,12 @@ ghost use Rattle.std.specs.Option.{option_copied};
 ghost use Rattle.task_acts.specs.declared.work.Work.{Work};
 ghost use Rattle.task_acts.specs.Ends.{outcome_of};
 ghost use Rattle.task_acts.specs.Failures.{first_failure, is_stopped};
-ghost use Rattle.task_acts.specs.Stages.{is_out};
+ghost use Rattle.task_acts.specs.Stages.{carried_stage, file_stage, given_stage, is_out};
 ghost use Rattle.task_acts.specs.Kept.{etags_of, kept_job, part_back, upload_of};
 ghost use Rattle.task_acts.specs.Rule.{first_ready, first_ready_in, is_idle};
 ghost use Rattle.task_core.specs.Machine.{HasTags, IsNumbered, IsSettled, Stands, ready_by, tags_in};
 ghost use Rattle.task_ends.specs.Causes.{is_stopped_by};
-ghost use Rattle.task_core.specs.Steps.{IsCame, IsCancelled, IsGiven, IsReturned, IsTaken, tagged};
+ghost use Rattle.task_core.specs.Steps.{IsCame, IsCancelled, IsGiven, IsMarked, IsReturned, IsTaken, tagged};
 ghost use Rattle.task_stages.specs.Stages.{HasAct, stage_by};
 
 use crate::gains::{Gains, gains_of};
@@ -260,8 +260,10 @@ impl TaskState {
     /// The act that is ready was given. A job that was kept for it is kept no longer.
     pub fn gave(&mut self, act: Act)
         requires { ready_by self.old ≡ Some act }
-        ensures { (w : Work) (history : History) → Stands w history self.old
+        ensures stands { (w : Work) (history : History) → Stands w history self.old
             → Stands w (Gave act ∷ history) self.new }
+        ensures marked { IsMarked act (given_stage (stage_by self.old.stages act)) self.old.stages self.new.stages }
+        ensures out { is_out (stage_by self.new.stages act) ≡ true }
     {
         self.mark_given(act);
         self.settle();
@@ -275,6 +277,9 @@ impl TaskState {
             → result ≡ part_back w (is_stopped w history) carried }
         ensures stands { (w : Work) (history : History) → Stands w history self.old
             → Stands w (Came carried ∷ history) self.new }
+        ensures marked { IsMarked (sent carried)
+            (carried_stage self.old.stages.work (is_stopped_by self.old.causes) carried)
+            self.old.stages self.new.stages }
     {
         let part = self.mark_came(carried);
         self.settle();
@@ -284,8 +289,9 @@ impl TaskState {
     /// A call on files that was out came back.
     pub fn file_came(&mut self, act: Act, came: FileCame)
         requires { is_out (stage_by self.old.stages act) ≡ true }
-        ensures { (w : Work) (history : History) → Stands w history self.old
+        ensures stands { (w : Work) (history : History) → Stands w history self.old
             → Stands w (Returned act came ∷ history) self.new }
+        ensures marked { IsMarked act (file_stage came) self.old.stages self.new.stages }
     {
         self.mark_returned(act, came);
         self.settle();
@@ -293,8 +299,9 @@ impl TaskState {
 
     /// The run was cancelled.
     pub fn cancel(&mut self, reason: Reason)
-        ensures { (w : Work) (history : History) → Stands w history self.old
+        ensures stands { (w : Work) (history : History) → Stands w history self.old
             → Stands w (Cancelled reason ∷ history) self.new }
+        ensures stages { self.new.stages ≡ self.old.stages }
     {
         self.mark_cancelled(reason);
         self.settle();
