@@ -9,7 +9,7 @@ use Rattle.std.proofs.lemmas.Grind.{common_steps}
 use Rattle.s3_model.specs.declared.bytes.Part.{Part}
 use Rattle.held_parts.specs.declared.held.Held.{Held}
 use Rattle.chunk_plan.specs.Pool.{Pool}
-use Rattle.held_parts.specs.Held.{AreSingle, HasRoomIn, IsTable, HaveRoom, HasRoom, HoldsNone, IsHere, held_at, inner, is_here_of, stopped, stopped_at, is_of, is_vacant, lent_in, part_of}
+use Rattle.held_parts.specs.Held.{AreSingle, HasRoomIn, IsTable, SeenParts, HaveRoom, HasRoom, HoldsNone, IsHere, held_at, inner, is_here_of, stopped, stopped_at, is_of, is_vacant, lent_in, part_of}
 
 no : {P : Type 0} → false ≡ true → P
 no e = cc
@@ -97,10 +97,11 @@ module _ (h : Held) where
   lent_single (suc k) (None ∷ slots) inside vacant none single =
       (tt, lent_single k slots (omega arith) vacant (holds_none h.task h.number None slots none).1 single.1)
   lent_single (suc k) (Some g ∷ slots) inside vacant none single =
-      let parts = holds_none h.task h.number (Some g) slots none in
-      (lent_at k slots (omega arith) vacant parts.1 g.task g.number
-      ∙ ap (λ (b : Bool). if b then Some h.part else held_at slots g.task g.number) (differs g parts.0) ∙ single.0,
-      lent_single k slots (omega arith) vacant parts.1 single.1)
+      let parts = holds_none h.task h.number (Some g) slots none in (
+        lent_at k slots (omega arith) vacant parts.1 g.task g.number
+            ∙ ap (λ (b : Bool). if b then Some h.part else held_at slots g.task g.number) (differs g parts.0) ∙ single.0,
+        lent_single k slots (omega arith) vacant parts.1 single.1,
+      )
 
 -- ---- a place of a piece changes
 
@@ -188,10 +189,11 @@ module _ (task number : ℕ) where
   changed_single (suc k) (None ∷ slots) n inside is own single =
       (tt, changed_single k slots n (omega arith) is own single.1)
   changed_single (suc k) (Some g ∷ slots) n inside is own single =
-      let b = (task == g.task) && (number == g.number) in
-      (changed_at k slots n (omega arith) is own single.1 g.task g.number
-      ∙ ap (λ (p : Bool). if p then part_of n else held_at slots g.task g.number) (not_same k g slots is single.0 b refl) ∙ single.0,
-      changed_single k slots n (omega arith) is own single.1)
+      let b = (task == g.task) && (number == g.number) in (
+        changed_at k slots n (omega arith) is own single.1 g.task g.number
+            ∙ ap (λ (p : Bool). if p then part_of n else held_at slots g.task g.number) (not_same k g slots is single.0 b refl) ∙ single.0,
+        changed_single k slots n (omega arith) is own single.1,
+      )
 
 -- ---- how many are lent
 
@@ -343,6 +345,10 @@ at_place task number (s ∷ slots) (suc k) inside is first =
     ap (λ (b : Bool). if b then part_of s else held_at slots task number) (first 0 (omega arith))
     ∙ at_place task number slots k (omega arith) is (λ j l. first (suc j) (omega arith))
 
+pub placed : (s inside : SeenParts) (task number place : ℕ) → inside ≡ s → position (is_of task number) s.slots ≡ Some place
+    → position (is_of task number) inside.slots ≡ Some place
+placed s inside task number place is at = ap (λ (x : SeenParts). position (is_of task number) x.slots) is ∙ at
+
 module _ (task number : ℕ) (pool : Pool) (slots : List (Option Held)) (k : ℕ) (e : position (is_of task number) slots ≡ Some k)
     (table : IsTable pool slots) where
   abbrev at : (k < length slots) × (is_of task number (get_or slots k None) ≡ true)
@@ -406,10 +412,6 @@ module _ (task number : ℕ) (pool : Pool) (slots : List (Option Held)) (k : ℕ
 
 -- ---- a task that is stopped
 
-taken_of : (task : ℕ) (s : Option Held) → is_here_of task s ≡ true → is_some s ≡ true
-taken_of task None e = no e
-taken_of task (Some held) e = refl
-
 some_of : (s : Option Held) → is_some s ≡ true → (held : Held) × (s ≡ Some held)
 some_of None e = no e
 some_of (Some held) e = (held, refl)
@@ -436,7 +438,7 @@ module _ (pool new : Pool) (slots : List (Option Held)) (k : ℕ) (inside : k < 
         whole = omega (arith, table.whole);
         few = omega (arith, table.few);
         single = changed_single its.0.task its.0.number k slots None inside (subst (λ (s : Option Held). is_of its.0.task its.0.number s ≡ true)
-        (sym its.1) (its_place its.0)) tt table.single;
+            (sym its.1) (its_place its.0)) tt table.single;
         room = rw room (room_set pool.room k slots None tt table.room);
       }
 

@@ -87,9 +87,12 @@ fn into_part(slot: Option<Held>) -> Part
     requires { IsHere (part_of slot) }
     ensures { part_of slot ≡ Some (Some result) }
 {
-    let Some(Held {
-        part: Some(part), ..
-    }) = slot
+    let Some(
+        Held {
+            part: Some(part),
+            ..
+        },
+    ) = slot
     else {
         unreachable!()
     };
@@ -182,11 +185,12 @@ impl HeldParts {
         ensures pool { self.new.pool ≡ self.old.pool }
     {
         let place = self.place(task, number);
-        self.slots[place] = Some(Held {
+        let held = Held {
             task,
             number,
             part: Some(part),
-        });
+        };
+        self.slots[place] = Some(held);
     }
 
     /// The part of a piece that is here. It is away with the piece's job from now on.

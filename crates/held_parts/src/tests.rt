@@ -16,7 +16,10 @@ fn parts_go_to_pieces_and_come_back(rt: HostRuntime) -> Result<(), OutOfMemory> 
     };
     assert!(rt; !held.has_free());
     assert!(rt; held.lend(4, 1).is_none());
-    assert!(rt; held.part(3, 1).is_some_and(|part| part.bytes.as_slice() == b"hello".as_slice()));
+    assert!(rt;
+        held.part(3, 1)
+            .is_some_and(|part| part.bytes.as_slice() == b"hello".as_slice())
+    );
     let taken = held.take(3, 1);
     assert!(rt; held.part(3, 1).is_none());
     held.put(3, 1, taken);

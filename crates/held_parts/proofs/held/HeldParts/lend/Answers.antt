@@ -19,9 +19,11 @@ none_is c = ap (λ (s : SeenParts). held_at s.slots c.args.task c.args.number) c
 pub returns-in_err-place-clause-none : goal.returns-in_err-place-clause-none
 returns-in_err-place-clause-none c =
     let lent = lemmas.none_free c.self.inside.slots.items
-        (ap (position is_vacant) (sym c.deref.ensures.value) ∙ sym c.in_err-place.ensures) in
-    (λ e. ap (λ (s : SeenParts). lent_in s.slots) (sym c.self.view_is) ∙ lent ∙ c.self.invariant.many
-    ∙ ap (λ (s : SeenParts). s.pool.count) c.self.view_is, λ e. rw c.from_residual.ensures refl)
+    (ap (position is_vacant) (sym c.deref.ensures.value) ∙ sym c.in_err-place.ensures) in (
+      λ e. ap (λ (s : SeenParts). lent_in s.slots) (sym c.self.view_is) ∙ lent ∙ c.self.invariant.many
+          ∙ ap (λ (s : SeenParts). s.pool.count) c.self.view_is,
+      λ e. rw c.from_residual.ensures refl,
+    )
 
 pub invariant_of-self-2 : goal.invariant_of-self-2
 invariant_of-self-2 c =

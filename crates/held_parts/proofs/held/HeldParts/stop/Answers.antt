@@ -14,12 +14,13 @@ same_pools a b c p q = record { count = q.count ∙ p.count; room = q.room ∙ p
 pub loop-place-preserved : goal.loop-place-preserved
 loop-place-preserved c =
     let slots = c.args.self.now.slots in
-    let k = c.loop-place.place in
-    (c.stop_at.ensures.slots
-    ∙ ap (λ (xs : List (Option Held)). set xs k (stopped c.args.task (get_or xs k None))) c.loop-place.invariant.0
-    ∙ lemmas.one_stopped c.args.task slots k (omega (arith, c.loop-place-test.true, c.len-place-end.ensures.len))
-    ∙ ap (λ (n : ℕ). map (stopped c.args.task) (take n slots) ++ drop n slots) (sym (next k)),
-    same_pools c.args.self.now.pool c.loop-place.self.pool c.stop_at.new.self.pool c.loop-place.invariant.1 c.stop_at.ensures.pool)
+    let k = c.loop-place.place in (
+      c.stop_at.ensures.slots
+          ∙ ap (λ (xs : List (Option Held)). set xs k (stopped c.args.task (get_or xs k None))) c.loop-place.invariant.0
+          ∙ lemmas.one_stopped c.args.task slots k (omega (arith, c.loop-place-test.true, c.len-place-end.ensures.len))
+          ∙ ap (λ (n : ℕ). map (stopped c.args.task) (take n slots) ++ drop n slots) (sym (next k)),
+      same_pools c.args.self.now.pool c.loop-place.self.pool c.stop_at.new.self.pool c.loop-place.invariant.1 c.stop_at.ensures.pool,
+    )
 
 pub returns-clause-held : goal.returns-clause-held
 returns-clause-held c x y =
