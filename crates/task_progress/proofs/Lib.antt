@@ -1,3 +1,6 @@
+pub mod Begun
 pub mod Endings
 pub mod Pieces
 pub mod Progress
+pub mod Quiet
+pub mod Tags

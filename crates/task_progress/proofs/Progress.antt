@@ -34,7 +34,7 @@ use Rattle.task_progress.proofs.Endings.{chosen, decided_or, no, skipped, uncert
 
 -- ---- lists
 
-all_has : {X : Type 0} (p : X → Bool) (xs : List X) → list_all p xs ≡ true → (x : X) → Has xs x → p x ≡ true
+pub all_has : {X : Type 0} (p : X → Bool) (xs : List X) → list_all p xs ≡ true → (x : X) → Has xs x → p x ≡ true
 all_has p [] e x h = absurd h
 all_has p (y ∷ ys) e x (inl same) = subst (λ z. p z ≡ true) same (and_parts (p y) (list_all p ys) e).0
 all_has p (y ∷ ys) e x (inr h) = all_has p ys (and_parts (p y) (list_all p ys) e).1 x h
@@ -147,7 +147,7 @@ file_fails true e = no e
 file_fails false e = refl
 
 module _ (w : Work) where
-  still_stopped : (e : Happening) (h : History) → is_stopped w h ≡ true → is_stopped w (e ∷ h) ≡ true
+  pub still_stopped : (e : Happening) (h : History) → is_stopped w h ≡ true → is_stopped w (e ∷ h) ≡ true
   still_stopped e h s = either _ _ _ _ (λ f. keeps (first_failure w h) (failure_by w e) f) (λ f. keeps (first_reason h) (reason_by e) f) s
 
   failure_stops : (e : Happening) (h : History) → is_some (failure_by w e) ≡ true → is_stopped w (e ∷ h) ≡ true
@@ -292,7 +292,7 @@ module _ (w : Work) (h : History) (piece : HasPiece w) (none : first_ready_in w 
           let there = subst (λ (x : Op). Has (acts_of w) (act.Send x n)) (op_is kind.Upload up false large) (piece_send n known) in
           done (act.Send op.Part n) there tt (due kind.Upload up (act.Send op.Part n) (all_three (not w.small) (is_piece w n) _ (opposite w.small large) (piece_of n known) (read n known)))
 
-      completed : w.small ≡ false → has_done (stage w h (act.Send op.Complete 0)) ≡ true
+      pub completed : w.small ≡ false → has_done (stage w h (act.Send op.Complete 0)) ≡ true
       completed large =
           let all = each (λ (n : ℕ). act.Send op.Part n) (λ n known. part large n known) in
           done (act.Send op.Complete 0) (single (act.Send op.Complete 0) (inr (inl refl))) tt (due kind.Upload up (act.Send op.Complete 0) (both _ _ (all_three (not w.small) true _ (opposite w.small large) refl (created large)) all))
@@ -320,7 +320,7 @@ module _ (w : Work) (h : History) (piece : HasPiece w) (none : first_ready_in w 
       placed : (n : ℕ) → Has (numbers w) n → has_done (stage w h (act.Place n)) ≡ true
       placed n known = done (act.Place n) (place_act n known) tt (due kind.Download down (act.Place n) (both (is_piece w n) _ (piece_of n known) (got n known)))
 
-      renamed : has_done (stage w h act.Rename) ≡ true
+      pub renamed : has_done (stage w h act.Rename) ≡ true
       renamed =
           let all = each (λ (n : ℕ). act.Place n) (λ n known. placed n known) in
           done act.Rename (file_act act.Rename (inr (inl refl))) tt (due kind.Download down act.Rename (both _ _ assembled all))
@@ -349,7 +349,7 @@ module _ (w : Work) (h : History) (piece : HasPiece w) (none : first_ready_in w 
           let there = subst (λ (x : Op). Has (acts_of w) (act.Send x n)) (op_is kind.Copy over false large) (piece_send n known) in
           done (act.Send op.PartCopy n) there tt (due kind.Copy over (act.Send op.PartCopy n) (all_three (not w.small) (is_piece w n) _ (opposite w.small large) (piece_of n known) (copy_created large)))
 
-      copy_completed : w.small ≡ false → has_done (stage w h (act.Send op.Complete 0)) ≡ true
+      pub copy_completed : w.small ≡ false → has_done (stage w h (act.Send op.Complete 0)) ≡ true
       copy_completed large =
           let all = each (λ (n : ℕ). act.Send op.PartCopy n) (λ n known. copied_part large n known) in
           done (act.Send op.Complete 0) (single (act.Send op.Complete 0) (inr (inl refl))) tt
