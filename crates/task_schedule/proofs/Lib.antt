@@ -1,0 +1,2 @@
+pub mod AskRows
+pub mod Successes

@@ -1,0 +1,6 @@
+//! Laws that join the history of a task with the schedule of a run.
+#![tactic(auto)]
+
+mod laws;
+
+pub use laws::jobs_ask_as_scheduled;
