@@ -48,10 +48,10 @@ module _ (w : Work) where
   IsQuiet h = (first_ready_in w h ≡ None) × (is_idle_in w h ≡ true)
 
   module _ (h : History) (piece : HasPiece w) (is : IsHistory w h) (quiet : IsQuiet h) where
-    not_ready : (a : Act) → is_ready_in w h a ≡ true → false ≡ true
+    pub not_ready : (a : Act) → is_ready_in w h a ≡ true → false ≡ true
     not_ready a e = sym (none_found (is_ready_in w h) (acts_of w) quiet.0 a (ready_known w h a e)) ∙ e
 
-    not_out : (a : Act) → is_out (stage w h a) ≡ true → false ≡ true
+    pub not_out : (a : Act) → is_out (stage w h a) ≡ true → false ≡ true
     not_out a e = clash (is_out (stage w h a)) e
         (all_has (λ of_act. not (is_out (stage w h of_act))) (acts_of w) quiet.1 a (begun_known w h is a (out_has_begun (stage w h a) e)))
       where
@@ -62,7 +62,7 @@ module _ (w : Work) where
     -- ---- after a cancel
 
     module _ (going : is_stopped w h ≡ false) where
-      created_completed : has_done (stage w h (act.Send op.Create 0)) ≡ true → has_done (stage w h (act.Send op.Complete 0)) ≡ true
+      pub created_completed : has_done (stage w h (act.Send op.Create 0)) ≡ true → has_done (stage w h (act.Send op.Complete 0)) ≡ true
       created_completed e =
           let parts = begun_calls w h is (act.Send op.Create 0) (done_has_begun (stage w h (act.Send op.Create 0)) e) in
           elim parts.1 [
@@ -143,7 +143,7 @@ module _ (w : Work) where
       by None true p q f = (p, q)
       by None false p q f = no f
 
-  outcome_quiet : (h : History) → HasPiece w → IsHistory w h → is_some (outcome_of w h) ≡ true → IsQuiet h
+  pub outcome_quiet : (h : History) → HasPiece w → IsHistory w h → is_some (outcome_of w h) ≡ true → IsQuiet h
   outcome_quiet [] piece is e = settled_quiet [] e
   outcome_quiet (event ∷ h) piece is e = by (outcome_of w h) e (λ f. outcome_quiet h piece is.1 f)
     where

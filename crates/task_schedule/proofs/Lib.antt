@@ -1,2 +1,5 @@
 pub mod AskRows
+pub mod Givings
+pub mod Sources
+pub mod Standing
 pub mod Successes

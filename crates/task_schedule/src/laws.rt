@@ -1,8 +1,31 @@
 //! The laws, functions that do nothing.
 
 ghost use Rattle.task_schedule.specs.Asks.{AsksAreOfSchedule};
+ghost use Rattle.task_schedule.specs.Givings.{
+  AbortedIsNotCompleted,
+  AbortsComeLast,
+  CreatedIsEnded,
+  NoneIsGivenThrice,
+  OnlyCutIsGivenAgain,
+  SourcesGoAfterSuccess,
+  StopsGivings,
+};
 
 /// A job that is formed when its act is ready asks what the schedule says of it, by the successes that came before.
 pub fn jobs_ask_as_scheduled()
     ensures { AsksAreOfSchedule }
+{}
+
+/// The jobs of one task are given as the schedule says, whatever comes back and wherever the run is cancelled. A job is
+/// given again only where it came back cut short, before a failure and a cancel, and never a third time. After a
+/// failure or a cancel an Abort alone is given: after every other job has come, exactly where an upload was created and
+/// not completed. The source of a move goes only after the success that decides its task.
+pub fn jobs_are_given_as_scheduled()
+    ensures again { OnlyCutIsGivenAgain }
+    ensures thrice { NoneIsGivenThrice }
+    ensures stops { StopsGivings }
+    ensures last { AbortsComeLast }
+    ensures ends { CreatedIsEnded }
+    ensures aborted { AbortedIsNotCompleted }
+    ensures sources { SourcesGoAfterSuccess }
 {}
