@@ -128,14 +128,14 @@ module _ (w : Work) where
           ended_is_not_given (stage w (came.later ++ Came came.carried ∷ then_) (act.Send o k)) (subst (λ (how : Stage). has_ended how ≡ true) (sym still) ended)
           (subst (λ (x : History). may_be_given (stage w x (act.Send o k)) ≡ true) all_is ready)
 
-      is_cut : is_cut_short w came.carried ≡ true
+      pub is_cut : is_cut_short w came.carried ≡ true
       is_cut = by (is_cut_short w came.carried) refl
         where
           by : (b : Bool) → is_cut_short w came.carried ≡ b → is_cut_short w came.carried ≡ true
           by true e = e
           by false e = no (not_ended (inl e))
 
-      was_going : is_stopped w then_ ≡ false
+      pub was_going : is_stopped w then_ ≡ false
       was_going = by (is_stopped w then_) refl
         where
           by : (b : Bool) → is_stopped w then_ ≡ b → is_stopped w then_ ≡ false
@@ -152,10 +152,10 @@ module _ (w : Work) where
           (subst (λ (a : Act). has_cell (stage w then_ a) came.carried.job.id.op ≡ true) (sym (same_act (act.Send o k) (sent came.carried) came.act_is))
           (sym came_holds.0.1 ∙ cell_of_cut came.carried is_cut))
 
-      no_abort : o ≢ op.Abort
+      pub no_abort : o ≢ op.Abort
       no_abort e = absurd (false_true (abort_has_no_cell (stage w then_ (act.Send o k)) o e has_its_cell))
 
-      is_going : is_stopped w (between ++ Gave (act.Send o k) ∷ before) ≡ false
+      pub is_going : is_stopped w (between ++ Gave (act.Send o k) ∷ before) ≡ false
       is_going = by (is_stopped w (between ++ Gave (act.Send o k) ∷ before)) refl
         where
           by : (b : Bool) → is_stopped w (between ++ Gave (act.Send o k) ∷ before) ≡ b → is_stopped w (between ++ Gave (act.Send o k) ∷ before) ≡ false
@@ -165,11 +165,11 @@ module _ (w : Work) where
       first_holds : IsHistory w (Gave (act.Send o k) ∷ before)
       first_holds = earlier w between (Gave (act.Send o k) ∷ before) is.1
 
-      is_fresh : has_begun (stage w before (act.Send o k)) ≡ false
+      pub is_fresh : has_begun (stage w before (act.Send o k)) ≡ false
       is_fresh = fresh_cell (stage w before (act.Send o k)) o (and_parts (may_be_given (stage w before (act.Send o k))) _ first_holds.0).0
           (subst (λ (how : Stage). has_cell how o ≡ true) (came.still.same ∙ given_out w o k before) has_its_cell)
 
-      again_by : IsAgain between before
+      pub again_by : IsAgain between before
       again_by = record { came = came; cut = is_cut; going_then = was_going; going = is_going; no_abort = no_abort; fresh = is_fresh }
 
     pub again : (between before : History) → IsHistory w (Gave (act.Send o k) ∷ (between ++ Gave (act.Send o k) ∷ before)) → IsAgain between before

@@ -1,5 +1,11 @@
 pub mod AskRows
 pub mod Givings
+pub mod Growth
+pub mod Joined
+pub mod Marks
+pub mod Places
+pub mod SentJobs
+pub mod Shares
 pub mod Sources
 pub mod Standing
 pub mod Successes

@@ -52,7 +52,7 @@ number_in : Act → ℕ
 number_in (act.Send o k) = k
 number_in a = 0
 
-sends : (o : Op) (k : ℕ) (c : SeenCarried) → is_act (act.Send o k) (sent c) ≡ true → (c.job.id.op ≡ o) × (c.job.id.number ≡ k)
+pub sends : (o : Op) (k : ℕ) (c : SeenCarried) → is_act (act.Send o k) (sent c) ≡ true → (c.job.id.op ≡ o) × (c.job.id.number ≡ k)
 unfolding op_in number_in
 sends o k c e = let is = same_act (act.Send o k) (sent c) e in (ap op_in (sym is), ap number_in (sym is))
 

@@ -43,8 +43,8 @@ pub record IsCutBetween (w : Work) (between before : History) (of_op : Op) (numb
   pub no_abort : of_op ≢ op.Abort
 
 abbrev pub OnlyCutIsGivenAgain : Type 0
-OnlyCutIsGivenAgain = (w : Work) (history later between before : History) (of_op : Op) (number : ℕ) → IsHistory w history
-    → IsGivenAt history later (between ++ Gave (act.Send of_op number) ∷ before) of_op number
+OnlyCutIsGivenAgain = (w : Work) (history later between before : History) (of_op : Op) (number : ℕ)
+    → IsHistory w history → IsGivenAt history later (between ++ Gave (act.Send of_op number) ∷ before) of_op number
     → IsCutBetween w between before of_op number
 
 abbrev pub NoneIsGivenThrice : Type 0
@@ -74,14 +74,14 @@ CreatedIsEnded = (w : Work) (history : History) → HasPiece w → IsHistory w h
 
 -- Where an Abort was given no Complete came with success, neither before nor later.
 abbrev pub AbortedIsNotCompleted : Type 0
-AbortedIsNotCompleted = (w : Work) (history : History) (number : ℕ) → IsHistory w history → IsGiven history op.Abort number
-    → (carried : SeenCarried) (said : Reply) → Contains history (Came carried)
+AbortedIsNotCompleted = (w : Work) (history : History) (number : ℕ) → IsHistory w history
+    → IsGiven history op.Abort number → (carried : SeenCarried) (said : Reply) → Contains history (Came carried)
     → sent carried ≡ act.Send op.Complete 0 → carried.ending ≢ ending.Gained said
 
 -- ---- the source of a move
 
 -- It goes only after the deciding request, or each Get, came with success.
 abbrev pub SourcesGoAfterSuccess : Type 0
-SourcesGoAfterSuccess = (w : Work) (history later before : History) (n number : ℕ) → HasPiece w → IsHistory w history → AreOfTask n history
-    → w.of_kind ≢ kind.RemoveObject → IsGivenAt history later before op.Delete number
+SourcesGoAfterSuccess = (w : Work) (history later before : History) (n number : ℕ) → HasPiece w
+    → IsHistory w history → AreOfTask n history → w.of_kind ≢ kind.RemoveObject → IsGivenAt history later before op.Delete number
     → IsDecidedBy w.of_kind w.small n w.count (gained_in before)

@@ -10,6 +10,9 @@ ghost use Rattle.task_schedule.specs.Givings.{
   SourcesGoAfterSuccess,
   StopsGivings,
 };
+ghost use Rattle.task_schedule.specs.Journals.{SharesKeepSchedule};
+
+use world_laws::Reading;
 
 /// A job that is formed when its act is ready asks what the schedule says of it, by the successes that came before.
 pub fn jobs_ask_as_scheduled()
@@ -28,4 +31,10 @@ pub fn jobs_are_given_as_scheduled()
     ensures ends { CreatedIsEnded }
     ensures aborted { AbortedIsNotCompleted }
     ensures sources { SourcesGoAfterSuccess }
+{}
+
+/// In a run of many tasks whose dispatches show what was sent and what came back, the jobs of its tasks keep to the
+/// schedule.
+pub fn shares_keep_schedule<R: Reading>()
+    ensures { SharesKeepSchedule R.shows }
 {}

@@ -3,4 +3,4 @@
 
 mod laws;
 
-pub use laws::{jobs_are_given_as_scheduled, jobs_ask_as_scheduled};
+pub use laws::{jobs_are_given_as_scheduled, jobs_ask_as_scheduled, shares_keep_schedule};
