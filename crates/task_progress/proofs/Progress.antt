@@ -150,7 +150,7 @@ module _ (w : Work) where
   pub still_stopped : (e : Happening) (h : History) → is_stopped w h ≡ true → is_stopped w (e ∷ h) ≡ true
   still_stopped e h s = either _ _ _ _ (λ f. keeps (first_failure w h) (failure_by w e) f) (λ f. keeps (first_reason h) (reason_by e) f) s
 
-  failure_stops : (e : Happening) (h : History) → is_some (failure_by w e) ≡ true → is_stopped w (e ∷ h) ≡ true
+  pub failure_stops : (e : Happening) (h : History) → is_some (failure_by w e) ≡ true → is_stopped w (e ∷ h) ≡ true
   failure_stops e h f = first (is_some (first_failure w (e ∷ h))) _ (gains (first_failure w h) (failure_by w e) f)
     where
       first : (a b : Bool) → a ≡ true → (a || b) ≡ true

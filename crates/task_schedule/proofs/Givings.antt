@@ -36,11 +36,11 @@ tidying_abort : (o : Op) (k : ℕ) → IsTidying (act.Send o k) → o ≡ op.Abo
 tidying_abort op.Abort k t = refl
 tidying_abort o k t = absurd t
 
-abort_has_no_cell : (how : Stage) (o : Op) → o ≡ op.Abort → has_cell how o ≡ true → false ≡ true
+pub abort_has_no_cell : (how : Stage) (o : Op) → o ≡ op.Abort → has_cell how o ≡ true → false ≡ true
 abort_has_no_cell how o is e = subst (λ (x : Op). has_cell how x ≡ true) is e
 
 -- only what is given for the first time has a cell
-fresh_cell : (how : Stage) (o : Op) → may_be_given how ≡ true → has_cell (given_stage how) o ≡ true → has_begun how ≡ false
+pub fresh_cell : (how : Stage) (o : Op) → may_be_given how ≡ true → has_cell (given_stage how) o ≡ true → has_begun how ≡ false
 fresh_cell at.Waiting o given cell = refl
 fresh_cell at.Kept op.Abort given cell = no cell
 fresh_cell at.Kept o given cell = no cell
@@ -56,7 +56,7 @@ job_ended true false why (inr e) = no e
 job_ended false stopped true e = refl
 job_ended false stopped false e = refl
 
-cut_gained : (w : Work) (c : SeenCarried) (said : Reply) → c.ending ≡ ending.Gained said → is_cut_short w c ≡ true → false ≡ true
+pub cut_gained : (w : Work) (c : SeenCarried) (said : Reply) → c.ending ≡ ending.Gained said → is_cut_short w c ≡ true → false ≡ true
 cut_gained w c said gained cut = sym (ap (λ (e : Ending). is_some c.job.cell && is_unfinished w.attempts (length c.tries) e) gained ∙ never (is_some c.job.cell)) ∙ cut
   where
     never : (b : Bool) → (b && false) ≡ false

@@ -29,13 +29,14 @@ use Rattle.task_acts.specs.Histories.{Came, Cancelled, Gave, History, Returned, 
 use Rattle.task_acts.specs.Kept.{IsHistory, kept_job, created_in, upload_in, upload_of}
 use Rattle.task_acts.specs.Work.{IsWorkOf}
 use Rattle.shared_lemmas.proofs.Clashes.{none_is_some, some_is, true_is_false}
+use Rattle.shared_lemmas.proofs.Lists.{tail_is}
 use Rattle.shared_lemmas.proofs.Members.{Has, contains_of, has, has_at, has_middle, split_of}
 use Rattle.world_laws.proofs.Jobs.{job_is}
 use Rattle.world_laws.proofs.PieceCounts.{pieces_are_one}
 use Rattle.task_progress.proofs.Endings.{no}
 use Rattle.manager_moves.specs.Runs.{Back, Events, Sent, Shared, share, with_taken}
 use Rattle.task_schedule.specs.Asks.{AreOfTask, gained_in, known_of}
-use Rattle.task_schedule.specs.Journals.{EndsAs, IsBack, IsRunOf, KeepsSchedule, SharesKeepSchedule, ShowsLast, place_after}
+use Rattle.task_schedule.specs.Journals.{EndsAs, IsBack, IsRunOf, ShowsLast, place_after}
 use Rattle.task_schedule.proofs.AskRows.{asks_are_of_schedule}
 use Rattle.task_schedule.proofs.Givings.{aborted_is_not_completed, created_is_ended}
 use Rattle.task_schedule.proofs.Growth.{decided_grows, row_grows}
@@ -149,6 +150,7 @@ module _ (Shows : Ask → ℕ → Talk → Class → List ℕ → Type 0) (s : S
       pub a : At n w of_plan c.job.id.op c.job.id.number x
       pub back : IsBack Shows planned a.later (Sent n c.job.id.op c.job.id.number a.lane ∷ a.before) x
       pub same : back.carried ≡ c
+      pub rest_is : back.between ++ Sent n c.job.id.op c.job.id.number a.lane ∷ a.before ≡ before
       pub came_at : x.dispatch.came_at ≡ Some (place_after planned before)
 
     pub return_of : (later before : Events) (lane : ℕ) (c : SeenCarried) → events ≡ later ++ Back lane c ∷ before → c.job.id.task ≡ Some n → IsReturn lane c before
@@ -162,16 +164,21 @@ module _ (Shows : Ask → ℕ → Talk → Class → List ℕ → Type 0) (s : S
             known = found.1;
             a = a;
             back = back;
-            same = back_same back.lane lane back.carried c (back.between ++ Sent n c.job.id.op c.job.id.number a.lane ∷ a.before) before
-                (same_place back.newer (back.between ++ Sent n c.job.id.op c.job.id.number a.lane ∷ a.before) later before (Back back.lane back.carried) (Back lane c)
-                (sym (back_at c.job.id.op c.job.id.number found.0 a back) ∙ is) tt tt
-                (both (some_is (place_after planned (back.between ++ Sent n c.job.id.op c.job.id.number a.lane ∷ a.before)) (place_after planned before) (sym back.came_at ∙ found.3))));
+            same = back_same back.lane lane back.carried c (back.between ++ Sent n c.job.id.op c.job.id.number a.lane ∷ a.before) before (one_event found.0 a back found.3);
+            rest_is = tail_is (Back back.lane back.carried) (Back lane c) (back.between ++ Sent n c.job.id.op c.job.id.number a.lane ∷ a.before) before (one_event found.0 a back found.3);
             came_at = found.3;
           }
         ]
       where
         both : {u v : ℕ} → planned + u ≡ planned + v → u ≡ v
         both e = omega arith
+
+        one_event : (x : Dispatched) (a : At n w of_plan c.job.id.op c.job.id.number x) (back : IsBack Shows planned a.later (Sent n c.job.id.op c.job.id.number a.lane ∷ a.before) x)
+            → x.dispatch.came_at ≡ Some (place_after planned before) → Back back.lane back.carried ∷ (back.between ++ Sent n c.job.id.op c.job.id.number a.lane ∷ a.before) ≡ Back lane c ∷ before
+        one_event x a back came =
+            same_place back.newer (back.between ++ Sent n c.job.id.op c.job.id.number a.lane ∷ a.before) later before (Back back.lane back.carried) (Back lane c)
+            (sym (back_at c.job.id.op c.job.id.number x a back) ∙ is) tt tt
+            (both (some_is (place_after planned (back.between ++ Sent n c.job.id.op c.job.id.number a.lane ∷ a.before)) (place_after planned before) (sym back.came_at ∙ came)))
 
     -- ---- successes
 
@@ -227,7 +234,7 @@ module _ (Shows : Ask → ℕ → Talk → Class → List ℕ → Type 0) (s : S
     sent_as o k x a back = ap (λ (j : JobId). act.Send j.op j.number) (back.of_job ∙ a.job_is)
 
     -- what came before a place came back
-    back_of : (o : Op) (k : ℕ) (x : Dispatched) (a : At n w of_plan o k x) (place : ℕ) → IsBefore x.dispatch.came_at place → IsBack Shows planned a.later (Sent n o k a.lane ∷ a.before) x
+    pub back_of : (o : Op) (k : ℕ) (x : Dispatched) (a : At n w of_plan o k x) (place : ℕ) → IsBefore x.dispatch.came_at place → IsBack Shows planned a.later (Sent n o k a.lane ∷ a.before) x
     back_of o k x a place less = elim a.comes [
       | inl none ↦ absurd (subst (λ (c : Option ℕ). IsBefore c place) none.0 less)
       | inr back ↦ back
@@ -319,10 +326,10 @@ module _ (Shows : Ask → ℕ → Talk → Class → List ℕ → Type 0) (s : S
       let works = r.works.each n found.0 found.1 in
       record { w = found.0; of_plan = found.1; task = works.0; is_task = works.1; is_work = works.2; piece = works.3; removes = works.4 }
 
-  its_id : (x : Dispatched) (n : ℕ) → x.dispatch.job.task ≡ Some n → x.dispatch.job ≡ job_of n x.dispatch.job.op x.dispatch.job.number
+  pub its_id : (x : Dispatched) (n : ℕ) → x.dispatch.job.task ≡ Some n → x.dispatch.job ≡ job_of n x.dispatch.job.op x.dispatch.job.number
   its_id x n is = job_is x.dispatch.job (job_of n x.dispatch.job.op x.dispatch.job.number) is refl refl
 
-  task_of : (x : Dispatched) → IsSome x.dispatch.job.task → (n : ℕ) × (x.dispatch.job.task ≡ Some n)
+  pub task_of : (x : Dispatched) → IsSome x.dispatch.job.task → (n : ℕ) × (x.dispatch.job.task ≡ Some n)
   task_of x some = by (x.dispatch.job.task) refl some
     where
       by : (t : Option ℕ) → x.dispatch.job.task ≡ t → is_some t ≡ true → (n : ℕ) × (x.dispatch.job.task ≡ Some n)
@@ -371,7 +378,7 @@ module _ (Shows : Ask → ℕ → Talk → Class → List ℕ → Type 0) (s : S
       later_gained : (u v : ℕ) (job : JobId) (said : Reply) → u ≤ v → gained_before Shows dispatched u job said → gained_before Shows dispatched v job said
       later_gained u v job said l g = (g.0, g.1, g.2, is_before g.0.dispatch.came_at u v l g.3, g.4)
 
-  in_turn : (i j : ℕ) (a b : Dispatched) → i < j → slice_get dispatched i ≡ Some a → slice_get dispatched j ≡ Some b → a.dispatch.given_at < b.dispatch.given_at
+  pub in_turn : (i j : ℕ) (a b : Dispatched) → i < j → slice_get dispatched i ≡ Some a → slice_get dispatched j ≡ Some b → a.dispatch.given_at < b.dispatch.given_at
   in_turn i j a b l e f = pair_of (λ (x y : Dispatched). x.dispatch.given_at < y.dispatch.given_at) dispatched r.sent.in_order i j a b l e f
 
   known_at : (i : ℕ) (a : Dispatched) → slice_get dispatched i ≡ Some a → Contains dispatched a
@@ -426,16 +433,3 @@ module _ (Shows : Ask → ℕ → Talk → Class → List ℕ → Type 0) (s : S
       subst (λ (k : Kind). IsDecidedBy k (is_small setting task) n count (gained_before Shows dispatched c.dispatch.given_at)) work.kind_is
       (subst (λ (b : Bool). IsDecidedBy its.w.of_kind b n count (gained_before Shows dispatched c.dispatch.given_at)) work.small_is
       (subst (λ (m : ℕ). IsDecidedBy its.w.of_kind its.w.small n m (gained_before Shows dispatched c.dispatch.given_at)) (sym counted.1) decided))
-
-  pub keeps_schedule : KeepsSchedule Shows setting dispatched coming
-  keeps_schedule = record {
-    asks = all_ask;
-    no_third = none_thrice;
-    abort_last = aborts_last;
-    aborts = uploads_end;
-    completed_stays = completed_stay;
-    moves_last = move_last;
-  }
-
-pub shares_keep_schedule : (Shows : Ask → ℕ → Talk → Class → List ℕ → Type 0) → SharesKeepSchedule Shows
-shares_keep_schedule Shows s setting planned events dispatched coming r = keeps_schedule Shows s setting planned events dispatched coming r

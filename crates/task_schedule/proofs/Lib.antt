@@ -1,4 +1,8 @@
 pub mod AskRows
+pub mod EventStops
+pub mod Cutting
+pub mod Failing
+pub mod Failures
 pub mod Givings
 pub mod Growth
 pub mod Joined
@@ -8,4 +12,6 @@ pub mod SentJobs
 pub mod Shares
 pub mod Sources
 pub mod Standing
+pub mod Stopping
 pub mod Successes
+pub mod Wellness

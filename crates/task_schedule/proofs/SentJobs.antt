@@ -25,7 +25,7 @@ use Rattle.manager_moves.proofs.MoveLaws.{in_front}
 use Rattle.manager_moves.proofs.ShareLaws.{act_of, is_next, shares_are_histories}
 use Rattle.manager_moves.specs.Laws.{IsRun}
 use Rattle.manager_moves.specs.Runs.{Back, Event, Events, Sent, Shared, made_count, share, with_taken}
-use Rattle.task_schedule.specs.Journals.{IsBack, IsRunOf, NoneBack, place_after}
+use Rattle.task_schedule.specs.Journals.{IsBack, IsFirst, IsRunOf, IsSecond, NoneBack, place_after}
 use Rattle.task_schedule.proofs.Givings.{again, has_come, is_cut, is_going, last_of_all, never_thrice, no_abort, stopped_is_abort, was_going}
 use Rattle.task_schedule.proofs.Places.{Between, between_of, ends, entry_fills, filled, fills, same_place}
 use Rattle.task_schedule.proofs.Shares.{is_its, run_before, sent_is, since, since_back, since_is, since_parts, taken, taken_is}
@@ -61,7 +61,7 @@ module _ (Shows : Ask → ℕ → Talk → Class → List ℕ → Type 0) (s : S
       pub is : events ≡ later ++ Sent n o k lane ∷ before
       pub job_is : x.dispatch.job ≡ job_of n o k
       pub given_at : x.dispatch.given_at ≡ place_after planned before
-      pub first : x.dispatch.is_second ≡ false → (other : ℕ) → ¬ (Contains before (Sent n o k other))
+      pub giving : IsFirst Shows n before x ⊎ IsSecond Shows n before x
       pub comes : ((x.dispatch.came_at ≡ None) × NoneBack later x.dispatch.job) ⊎ IsBack Shows planned later (Sent n o k lane ∷ before) x
 
     pub at_of : (o : Op) (k : ℕ) (x : Dispatched) → Contains dispatched x → x.dispatch.job ≡ job_of n o k → IsAt o k x
@@ -77,8 +77,7 @@ module _ (Shows : Ask → ℕ → Talk → Class → List ℕ → Type 0) (s : S
           is = sent.is ∙ ap (λ (e : Event). sent.later ++ e ∷ sent.before) event_is;
           job_is = job_is;
           given_at = sent.given_at;
-          first = λ fresh other known_at. sent.first fresh other (subst (λ (p : Op). Contains sent.before (Sent n p x.dispatch.job.number other)) (sym op_is)
-              (subst (λ (m : ℕ). Contains sent.before (Sent n o m other)) (sym number_is) known_at));
+          giving = sent.giving;
           comes = elim sent.comes [
             | inl none ↦ inl none
             | inr back ↦ inr (subst (λ (e : Event). IsBack Shows planned sent.later (e ∷ sent.before) x) event_is back)

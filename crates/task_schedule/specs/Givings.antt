@@ -83,5 +83,6 @@ AbortedIsNotCompleted = (w : Work) (history : History) (number : ℕ) → IsHist
 -- It goes only after the deciding request, or each Get, came with success.
 abbrev pub SourcesGoAfterSuccess : Type 0
 SourcesGoAfterSuccess = (w : Work) (history later before : History) (n number : ℕ) → HasPiece w
-    → IsHistory w history → AreOfTask n history → w.of_kind ≢ kind.RemoveObject → IsGivenAt history later before op.Delete number
+    → IsHistory w history → AreOfTask n history → w.of_kind ≢ kind.RemoveObject
+    → IsGivenAt history later before op.Delete number
     → IsDecidedBy w.of_kind w.small n w.count (gained_in before)

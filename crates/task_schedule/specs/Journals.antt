@@ -1,6 +1,6 @@
 -- How the dispatches of a run show what happened in it, and what the schedule says of the jobs of its tasks.
-use Rattle.std.specs.Prelude.{◌≡◌, ◌≢◌, ◌+◌, ◌<◌, ◌++◌, ◌⊎◌, ◌∷◌, ◌&&◌, ◌||◌, [], ℕ, Bool, true, false, List, Some, None}
-use Rattle.std.specs.Prelude.{AllPairs, Contains, IsPermutation, IsSome, is_some, length, map, not, slice_get}
+use Rattle.std.specs.Prelude.{◌≡◌, ◌≢◌, ◌+◌, ◌<◌, ◌++◌, ◌⊎◌, ◌∷◌, ◌&&◌, ◌||◌, [], ℕ, Bool, true, false, List}
+use Rattle.std.specs.Prelude.{AllPairs, Contains, IsPermutation, IsSome, None, Some, is_some, length, map, not, slice_get}
 use Rattle.jobs.specs.Endings.{SeenCarried}
 use Rattle.jobs.specs.Jobs.{IsAskOf}
 use Rattle.jobs.specs.declared.ending.Ending.{Ending}
@@ -8,8 +8,9 @@ use Rattle.jobs.specs.declared.ending.Ending.TheVariants as ending
 use Rattle.jobs.specs.declared.what.What.{What}
 use Rattle.manager_moves.specs.Laws.{IsRun}
 use Rattle.manager_moves.specs.Runs.{Back, Events, Sent, Shared, Stopped, journal_of, share}
-use Rattle.run_promise.specs.Dispatches.{Attempt, Dispatched, last_of}
-use Rattle.run_promise.specs.Schedule.{IsBefore, IsBeforeAny, IsDecided, IsTaskAsk, IsUpload, Setting, gained_before, is_small, job_of, limit_of, source_bytes}
+use Rattle.run_promise.specs.Dispatches.{Attempt, Dispatched, IsSuccessLast, last_of}
+use Rattle.run_promise.specs.Schedule.{IsBefore, IsBeforeAny, IsDecided, IsFailed, IsTaskAsk, IsUpload, Setting}
+use Rattle.run_promise.specs.Schedule.{gained_before, is_small, job_of, limit_of, source_bytes}
 use Rattle.s3_model.specs.Parts.{HasPieces}
 use Rattle.s3_model.specs.Replies.{IsSameClass}
 use Rattle.s3_model.specs.Talks.{Talk}
@@ -126,6 +127,18 @@ module _ (Shows : Ask → ℕ → Talk → Class → List ℕ → Type 0) where
     pub came_at : c.dispatch.came_at ≡ Some (place_after planned (between ++ before))
     pub brings : IsOf c carried
 
+  -- the job was not sent before
+  pub record IsFirst (n : ℕ) (before : Events) (c : Dispatched) : Type 0 where
+    pub not_second : c.dispatch.is_second ≡ false
+    pub none_earlier : c.dispatch.earlier ≡ 0
+    pub none : (lane : ℕ) → ¬ (Contains before (Sent n c.dispatch.job.op c.dispatch.job.number lane))
+
+  -- it was
+  pub record IsSecond (n : ℕ) (before : Events) (c : Dispatched) : Type 0 where
+    pub second : c.dispatch.is_second ≡ true
+    pub lane : ℕ
+    pub known : Contains before (Sent n c.dispatch.job.op c.dispatch.job.number lane)
+
   -- It was sent for that task, and came back or did not.
   pub record IsSent (planned : ℕ) (events : Events) (n : ℕ) (c : Dispatched) : Type 0 where
     pub later : Events
@@ -134,8 +147,7 @@ module _ (Shows : Ask → ℕ → Talk → Class → List ℕ → Type 0) where
     pub is : events ≡ later ++ Sent n c.dispatch.job.op c.dispatch.job.number lane ∷ before
     pub of_task : c.dispatch.job.task ≡ Some n
     pub given_at : c.dispatch.given_at ≡ place_after planned before
-    pub first : c.dispatch.is_second ≡ false → (other : ℕ)
-        → ¬ (Contains before (Sent n c.dispatch.job.op c.dispatch.job.number other))
+    pub giving : IsFirst n before c ⊎ IsSecond n before c
     pub comes : ((c.dispatch.came_at ≡ None) × NoneBack later c.dispatch.job)
         ⊎ IsBack planned later (Sent n c.dispatch.job.op c.dispatch.job.number lane ∷ before) c
 
@@ -187,9 +199,19 @@ module _ (Shows : Ask → ℕ → Talk → Class → List ℕ → Type 0) where
         × IsTaskAsk (gained_before Shows dispatched c.dispatch.given_at) task
         (record { number = n; bytes = source_bytes setting.held task.source; piece = piece; count = count })
         task.kind (is_small setting task) c.dispatch.job.op c.dispatch.job.number c.ask c.body
+    pub twice : AllPairs (λ (a b : Dispatched). IsSome a.dispatch.job.task → a.dispatch.job ≡ b.dispatch.job
+        → IsBefore a.dispatch.came_at b.dispatch.given_at × ¬ (IsSuccessLast (last_of a.dispatch.attempts))
+        × IsBeforeAny (Some b.dispatch.given_at) setting.cancelled_at
+        × ((failed : Dispatched) → IsFailed Shows setting coming failed
+        → failed.dispatch.job.task ≡ a.dispatch.job.task
+        → IsBeforeAny a.dispatch.came_at failed.dispatch.came_at)
+        × (a.dispatch.job.op ≢ op.Abort)) dispatched
     pub no_third : (a b c : Dispatched) (i j k : ℕ) → i < j → j < k → slice_get dispatched i ≡ Some a
         → slice_get dispatched j ≡ Some b → slice_get dispatched k ≡ Some c → IsSome a.dispatch.job.task
         → a.dispatch.job ≡ b.dispatch.job → b.dispatch.job ≡ c.dispatch.job → ⊥
+    pub stops : (failed c : Dispatched) → IsFailed Shows setting coming failed → IsSome failed.dispatch.job.task
+        → Contains dispatched c → c.dispatch.job.task ≡ failed.dispatch.job.task
+        → IsBefore failed.dispatch.came_at c.dispatch.given_at → c.dispatch.job.op ≡ op.Abort
     pub abort_last : (a c : Dispatched) → Contains dispatched a → Contains dispatched c
         → IsSome a.dispatch.job.task → a.dispatch.job.op ≡ op.Abort
         → c.dispatch.job.task ≡ a.dispatch.job.task → c.dispatch.job.op ≢ op.Abort
@@ -208,5 +230,5 @@ module _ (Shows : Ask → ℕ → Talk → Class → List ℕ → Type 0) where
   -- The shares of a run's tasks keep to the schedule, so that a run of many tasks does.
   abbrev pub SharesKeepSchedule : Type 0
   SharesKeepSchedule = (s : Shared) (setting : Setting) (planned : ℕ) (events : Events)
-      (dispatched coming : List Dispatched) → IsRunOf s setting planned events dispatched coming
+      (dispatched coming : List Dispatched) → ShowOne → IsRunOf s setting planned events dispatched coming
       → KeepsSchedule setting dispatched coming

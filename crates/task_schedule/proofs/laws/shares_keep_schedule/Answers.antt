@@ -1,4 +1,4 @@
-use Rattle.task_schedule.proofs.Joined.{shares_keep_schedule}
+use Rattle.task_schedule.proofs.Failures.{shares_keep_schedule}
 use Rattle.task_schedule.proofs.laws.shares_keep_schedule.Goals as goal
 
 pub returns : goal.returns
