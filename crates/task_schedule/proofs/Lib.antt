@@ -1,4 +1,5 @@
 pub mod AskRows
+pub mod Deciding
 pub mod EventStops
 pub mod Cutting
 pub mod Failing
@@ -10,6 +11,7 @@ pub mod Marks
 pub mod Places
 pub mod SentJobs
 pub mod Shares
+pub mod Shown
 pub mod Sources
 pub mod Standing
 pub mod Stopping

@@ -34,7 +34,7 @@ use Rattle.task_schedule.proofs.Givings.{complete_reply, copy_reply, given_at}
 use Rattle.task_schedule.proofs.Standing.{WasGiven, was_given}
 use Rattle.task_schedule.proofs.Successes.{is_gained}
 
-ended_has_begun : (how : Stage) → has_ended how ≡ true → has_begun how ≡ true
+pub ended_has_begun : (how : Stage) → has_ended how ≡ true → has_begun how ≡ true
 ended_has_begun at.Waiting e = e
 ended_has_begun how e = refl
 

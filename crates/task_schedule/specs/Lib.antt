@@ -1,3 +1,4 @@
 pub mod Asks
 pub mod Givings
 pub mod Journals
+pub mod Outcomes

@@ -11,8 +11,9 @@ ghost use Rattle.task_schedule.specs.Givings.{
   StopsGivings,
 };
 ghost use Rattle.task_schedule.specs.Journals.{SharesKeepSchedule};
+ghost use Rattle.task_schedule.specs.Outcomes.{MarksAreOfDispatches, OutcomesShow};
 
-use world_laws::Reading;
+use world_laws::{Command, Reading};
 
 /// A job that is formed when its act is ready asks what the schedule says of it, by the successes that came before.
 pub fn jobs_ask_as_scheduled()
@@ -37,4 +38,12 @@ pub fn jobs_are_given_as_scheduled()
 /// schedule.
 pub fn shares_keep_schedule<R: Reading>()
     ensures { SharesKeepSchedule R.shows }
+{}
+
+/// The outcome of a task shows what became of its deciding request and of the source of a move: Done and Copied that it
+/// came with success, Failed that no attempt of it succeeded or was uncertain, Unknown that one was uncertain and none a
+/// success. The marks of that request in the history of the task are those that the dispatches of the run show.
+pub fn outcomes_show<C: Command>()
+    ensures show { OutcomesShow }
+    ensures marks { MarksAreOfDispatches C.shows C.has_status C.call_failed }
 {}

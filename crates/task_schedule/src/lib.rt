@@ -3,4 +3,6 @@
 
 mod laws;
 
-pub use laws::{jobs_are_given_as_scheduled, jobs_ask_as_scheduled, shares_keep_schedule};
+pub use laws::{
+    jobs_are_given_as_scheduled, jobs_ask_as_scheduled, outcomes_show, shares_keep_schedule,
+};
