@@ -1,5 +1,5 @@
 -- Parts that are put together one after another.
-use Rattle.std.proofs.Common.{◌≡◌, ◌∙◌, ◌+◌, ◌≤◌, ◌++◌, ℕ, List, [], ◌∷◌, Some, refl, sym, ap, subst, arith, length, append-nil, length-append, take, ◌<◌}
+use Rattle.std.proofs.Common.{◌≡◌, ◌∙◌, ◌+◌, ◌≤◌, ◌++◌, ℕ, List, [], ◌∷◌, Some, refl, sym, ap, subst, arith, length, append-nil, length-append, take, ◌<◌, zero, suc}
 use Rattle.std.specs.FinMap.{get}
 use Rattle.std.specs.List.{flat_map}
 use Rattle.std.proofs.lemmas.List.{length-take, take_more}
@@ -10,7 +10,8 @@ use Rattle.s3_service.specs.ServiceState.{State}
 use Rattle.s3_service.specs.Serves.{Completes, IsOpen}
 use Rattle.object_table.specs.declared.fault.TableFault.{TableFault}
 use Rattle.std.proofs.lemmas.List.Concat.{flat_map-append}
-use Rattle.s3_service.specs.ServiceState.{Upload}
+use Rattle.s3_service.specs.ServiceState.{StoredPart, Upload}
+use Rattle.shared_lemmas.proofs.Clashes.{some_is}
 use Rattle.s3_service.specs.Serves.{AllButLastHave, Assembles}
 use Rattle.object_table.specs.Assembly.{last_length, Joined}
 
@@ -67,6 +68,35 @@ joined_step upload least etags i bytes bytes' last x etag piece inside item same
     (subst (λ (bs : List ℕ). Joined upload least (take i etags ++ etag ∷ []) bs (length piece)) (sym grown)
     (joined_more upload least (take i etags) bytes last etag piece so_far enough
     (subst (λ (n : ℕ). get upload.parts n ≡ Some (record { bytes = piece; etag = etag })) count there)))
+
+-- where the parts are there, the ith of them is
+pub piece_at : (upload : Upload) (at : ℕ) (etags pieces : List (List ℕ)) → Assembles upload at etags pieces → (i : ℕ) → i < length etags → (default : List ℕ) → (piece : List ℕ) × (get upload.parts (at + i) ≡ Some (record { bytes = piece; etag = get_or etags i default }))
+piece_at upload at [] pieces all i inside default = absurd (omega arith)
+piece_at upload at (e ∷ etags) [] all i inside default = absurd all
+piece_at upload at (e ∷ etags) (p ∷ pieces) all zero inside default =
+    let same : at ≡ at + 0 = omega arith in
+    (p, subst (λ (n : ℕ). get upload.parts n ≡ Some (record { bytes = p; etag = e })) same all.0)
+piece_at upload at (e ∷ etags) (p ∷ pieces) all (suc i) inside default =
+    let found = piece_at upload (at + 1) etags pieces all.1 i (omega arith) default in
+    let same : at + 1 + i ≡ at + suc i = omega arith in
+    (found.0, subst (λ (n : ℕ). get upload.parts n ≡ Some (record { bytes = found.0; etag = get_or etags i default })) same found.1)
+
+same_piece : (upload : Upload) (at : ℕ) (etag s p : List ℕ) → get upload.parts at ≡ Some (record { bytes = s; etag = etag }) → get upload.parts at ≡ Some (record { bytes = p; etag = etag }) → s ≡ p
+same_piece upload at etag s p one two = ap (λ (part : StoredPart). part.bytes) (some_is _ _ (sym one ∙ two))
+
+-- where all but the last are large enough, so is the last of those in front of another
+pub last_enough : (upload : Upload) (least at : ℕ) (etags pieces front : List (List ℕ)) (i : ℕ) → Assembles upload at etags pieces → AllButLastHave least pieces → Assembles upload at (take i etags) front → i < length etags → least ≤ last_length least front
+last_enough upload least at [] pieces front i all enough some inside = absurd (omega arith)
+last_enough upload least at (e ∷ etags) [] front i all enough some inside = absurd all
+last_enough upload least at (e ∷ etags) (p ∷ pieces) front zero all enough some inside =
+    subst (λ (ps : List (List ℕ)). least ≤ last_length least ps) (sym some) (omega arith)
+last_enough upload least at (e ∷ etags) (p ∷ pieces) [] (suc i) all enough some inside = absurd some
+last_enough upload least at (e ∷ []) (p ∷ pieces) (s ∷ front) (suc i) all enough some inside = absurd (omega arith)
+last_enough upload least at (e ∷ f ∷ etags) (p ∷ []) (s ∷ front) (suc i) all enough some inside = absurd all.1
+last_enough upload least at (e ∷ f ∷ etags) (p ∷ q ∷ pieces) (s ∷ []) (suc i) all enough some inside =
+    subst (λ (x : List ℕ). least ≤ length x) (sym (same_piece upload at e s p some.0 all.0)) enough.0
+last_enough upload least at (e ∷ f ∷ etags) (p ∷ q ∷ pieces) (s ∷ t ∷ front) (suc i) all enough some inside =
+    last_enough upload least (at + 1) (f ∷ etags) (q ∷ pieces) (t ∷ front) i all.1 enough.1 some.1 (omega arith)
 
 pub completes : {A : Type 0} (items : A → List ℕ) (r : Result A TableFault) (limits : Limits) (t : State) (id bucket key : List ℕ) (upload : Upload) (etags : List (List ℕ)) → IsOpen t id bucket key upload → 1 ≤ length etags
     → IfOk r (λ bytes. (last : ℕ) × Joined upload limits.min_part etags (items bytes) last) → IfOk r (λ bytes. (x : Upload) × IsOpen t id bucket key x × Completes limits x etags (items bytes))

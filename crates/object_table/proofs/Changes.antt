@@ -1,6 +1,7 @@
 -- What a service holds after one of its maps changed.
 use Rattle.std.proofs.Common.{◌≡◌, ◌∙◌, ℕ, List, Some, None, Result, Ok, Err, sym, ap}
-use Rattle.std.specs.FinMap.{get, insert, remove}
+use Rattle.std.specs.FinMap.{empty, get, insert, remove}
+use Rattle.std.specs.Option.{unwrap_or}
 use Rattle.std.specs.Prelude.{IfOk}
 use Rattle.s3_model.specs.Maps.{MapOf}
 use Rattle.file_table.proofs.Keys.{remove_new}
@@ -43,24 +44,19 @@ range_put (Ok etag) old new bucket key id number from_bucket from_key under rang
 )
 range_put (Err fault) old new bucket key id number from_bucket from_key under range bytes source stored there lies is = tt
 
-module _ (objects objects' : MapOf (MapOf Object)) (uploads uploads' uploads'' : MapOf Upload) (ended put ended' : MapOf Ended) (tokens tokens' : MapOf (List ℕ)) (t : State) where
-  -- the end is noted first, then the object is stored, and then the upload goes
-  pub joined_is : made_of objects uploads ended tokens ≡ t → (bucket key id : List ℕ) (object : Object) (how : Ended) → put ≡ insert ended id how → made_of objects' uploads' ended' tokens' ≡ with_object (made_of objects uploads put tokens) bucket key object
-      → uploads'' ≡ remove uploads' id → made_of objects' uploads'' ended' tokens' ≡ with_ended (with_object t bucket key object) id how
+module _ (objects objects' : MapOf (MapOf Object)) (uploads uploads' : MapOf Upload) (ended put ended' : MapOf Ended) (tokens : MapOf (List ℕ)) (t : State) where
+  -- the object is stored, and the upload ended
+  pub joined_is : made_of objects uploads ended tokens ≡ t → (bucket key id : List ℕ) (object : Object) (how : Ended) → put ≡ insert ended id how → objects' ≡ insert objects bucket (insert (unwrap_or (get objects bucket) empty) key object)
+      → uploads' ≡ remove uploads id → made_of objects' uploads' put tokens ≡ with_ended (with_object t bucket key object) id how
   joined_is is bucket key id object how noted stored gone =
-      let goes : State → State = λ (s : State). record s { uploads = remove s.uploads id } in
-      ap (λ (m : MapOf Upload). made_of objects' m ended' tokens') gone
-      ∙ ap goes stored
-      ∙ ap (λ (m : MapOf Ended). goes (with_object (made_of objects uploads m tokens) bucket key object)) noted
+      ap (λ (m : MapOf (MapOf Object)). made_of m uploads' put tokens) stored
+      ∙ ap (λ (m : MapOf Upload). made_of (insert objects bucket (insert (unwrap_or (get objects bucket) empty) key object)) m put tokens) gone
+      ∙ ap (λ (m : MapOf Ended). made_of (insert objects bucket (insert (unwrap_or (get objects bucket) empty) key object)) (remove uploads id) m tokens) noted
       ∙ ap (λ (s : State). with_ended (with_object s bucket key object) id how) is
 
--- the end that was noted is taken out again
-pub undone : (objects objects' : MapOf (MapOf Object)) (uploads uploads' : MapOf Upload) (ended put ended' ended'' : MapOf Ended) (tokens tokens' : MapOf (List ℕ)) (t : State) (id : List ℕ) (how : Ended) → made_of objects uploads ended tokens ≡ t
-    → put ≡ insert ended id how → made_of objects' uploads' ended' tokens' ≡ made_of objects uploads put tokens → ended'' ≡ remove ended' id → get ended id ≡ None → made_of objects' uploads' ended'' tokens' ≡ t
-undone objects objects' uploads uploads' ended put ended' ended'' tokens tokens' t id how is noted same gone none =
-    let goes : State → State = λ (s : State). record s { ended = remove s.ended id } in
-    ap (λ (m : MapOf Ended). made_of objects' uploads' m tokens') gone
-    ∙ ap goes same
-    ∙ ap (λ (m : MapOf Ended). made_of objects uploads (remove m id) tokens) noted
-    ∙ ap (λ (m : MapOf Ended). made_of objects uploads m tokens) (remove_new ended id how none)
-    ∙ is
+  -- the end that was noted is taken out again
+  pub undone : made_of objects uploads ended tokens ≡ t → (id : List ℕ) (how : Ended) → put ≡ insert ended id how → objects' ≡ objects → ended' ≡ remove put id → get ended id ≡ None → made_of objects' uploads ended' tokens ≡ t
+  undone is id how noted same gone none =
+      ap (λ (m : MapOf (MapOf Object)). made_of m uploads ended' tokens) same
+      ∙ ap (λ (m : MapOf Ended). made_of objects uploads m tokens) (gone ∙ ap (λ (m : MapOf Ended). remove m id) noted ∙ remove_new ended id how none)
+      ∙ is

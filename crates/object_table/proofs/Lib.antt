@@ -2,3 +2,4 @@ pub mod PartMaps
 pub mod Swaps
 pub mod Changes
 pub mod Assembled
+pub mod Sound

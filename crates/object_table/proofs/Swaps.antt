@@ -1,11 +1,11 @@
 -- Values of a map that were taken for another and put back.
 use Rattle.file_table.proofs.Keys.{insert_again, insert_twice}
-use Rattle.std.proofs.Common.{◌≡◌, ◌∙◌, ℕ, List, Option, Some, None, sym, ap}
+use Rattle.std.proofs.Common.{◌≡◌, ◌∙◌, ℕ, List, Option, Some, None, false, sym, ap, subst}
 use Rattle.std.specs.FinMap.{empty, get, get-empty, insert}
-use Rattle.std.specs.Option.{OnSome, unwrap_or}
+use Rattle.std.specs.Option.{IsSome, OnSome, is_some, unwrap_or}
 use Rattle.std.specs.Cmp.Lexicographic.{nat_list_cmp_total, slice_cmp}
 use Rattle.std.specs.Ordering.{nat_cmp}
-use Rattle.shared_lemmas.proofs.Clashes.{none_is_some}
+use Rattle.shared_lemmas.proofs.Clashes.{false_true, none_is_some, true_is_false}
 use Rattle.shared_lemmas.proofs.Maps.{get-insert_same, text_exact}
 use Rattle.s3_model.specs.Maps.{MapOf}
 use Rattle.s3_service.specs.ServiceState.{State, Object, object_at}
@@ -30,3 +30,10 @@ pub no_bucket : (t : State) (held : MapOf (MapOf Object)) (bucket key : List ℕ
 no_bucket t held bucket key is none =
     sym (get-empty (slice_cmp nat_cmp) key)
     ∙ ap (λ (o : Option (MapOf Object)). get (unwrap_or o empty) key) (none ∙ ap (λ (m : MapOf (MapOf Object)). get m bucket) is)
+
+none_unbucketed : (held : Option (MapOf Object)) (key : List ℕ) → is_some held ≡ false → IsSome (get (unwrap_or held empty) key) → ⊥
+none_unbucketed None key e some = false_true (subst (λ (o : Option Object). IsSome o) (get-empty (slice_cmp nat_cmp) key) some)
+none_unbucketed (Some held) key e some = true_is_false e
+
+pub no_object : (t : State) (bucket key : List ℕ) → is_some (get t.objects bucket) ≡ false → IsSome (object_at t bucket key) → ⊥
+no_object t bucket key e some = none_unbucketed (get t.objects bucket) key e some

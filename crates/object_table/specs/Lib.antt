@@ -3,3 +3,4 @@ pub mod Endings
 pub mod Parts
 pub mod Refused
 pub mod Assembly
+pub mod Soundness

@@ -14,7 +14,6 @@ pub enum Refusal {
     InvalidPart,
     EntityTooSmall,
     InvalidArgument,
-    InternalError,
 }
 
 /// Why a request changed nothing: it was refused, or memory ran out.

@@ -1,7 +1,10 @@
 //! Listings of buckets and objects.
 
-ghost use Rattle.std.specs.Prelude.{◌≡◌, OnOk, OnErr, IfOk};
+ghost use Rattle.std.specs.Prelude.{◌≡◌, ℕ, List, Option, OnOk, OnErr, IfOk};
 ghost use Rattle.std.specs.FinMap.{keys};
+ghost use Rattle.std.specs.Option.{option_copied};
+ghost use Rattle.object_table.specs.Refused.{IsNotRefused};
+ghost use Rattle.s3_service.specs.Listing.{GoesOnAfter};
 ghost use Rattle.s3_service.specs.ServiceState.{HasBucket};
 
 use crate::fault::{Refusal, TableFault};
@@ -136,7 +139,10 @@ impl ObjectTable {
     }
 
     // A text after which a listing goes on.
-    fn place_of(&self, token: Option<&str>) -> Result<Option<Text>, TableFault> {
+    fn place_of(&self, token: Option<&str>) -> Result<Option<Text>, TableFault>
+        ensures willing { (last : Option (List ℕ)) → GoesOnAfter self.now (option_copied token.entry) last →
+            IsNotRefused result }
+    {
         let Some(token) = token else {
             return Ok(None);
         };
@@ -147,16 +153,16 @@ impl ObjectTable {
     }
 
     // A new token, for the place after a text.
-    fn remember(&mut self, alloc: Global, last: Text) -> Result<Text, TableFault>
+    fn remember(&mut self, alloc: Global, last: Text) -> Result<Text, OutOfMemory>
         ensures objects { self.new.objects ≡ self.old.objects }
         ensures uploads { self.new.uploads ≡ self.old.uploads }
         ensures ended { self.new.ended ≡ self.old.ended }
         ensures same { OnErr result (self.new ≡ self.old) }
     {
-        let number = self.number();
+        let number = self.number()?;
         let token = Text::from(format!(in alloc; "token-{number}")?);
         if self.tokens.has(token.as_str()) {
-            return Err(TableFault::Refused(Refusal::InternalError));
+            return Err(OutOfMemory);
         }
         self.tokens.insert(alloc, token.as_str(), last)?;
         Ok(token)
@@ -177,6 +183,8 @@ impl ObjectTable {
         ensures uploads { self.new.uploads ≡ self.old.uploads }
         ensures ended { self.new.ended ≡ self.old.ended }
         ensures same { OnErr result (self.new ≡ self.old) }
+        ensures willing { (last : Option (List ℕ)) → GoesOnAfter self.old (option_copied token.entry) last →
+            HasBucket self.old bucket.now → IsNotRefused result }
     {
         let place = self.place_of(token)?;
         let after = place.as_ref().map(|text| text.as_str());

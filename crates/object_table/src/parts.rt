@@ -13,7 +13,7 @@ use std::marker::Model;
 /// The parts of an upload by their numbers. Contracts see the finite map.
 #[derive(Debug, Drop)]
 pub struct PartMap {
-    inner: BTreeMap<u32, MemPart>,
+    inner: BTreeMap<u64, MemPart>,
 }
 
 impl Model for PartMap {
@@ -40,14 +40,14 @@ impl PartMap {
         }
     }
 
-    pub fn get(&self, number: u32) -> Option<&MemPart>
+    pub fn get(&self, number: u64) -> Option<&MemPart>
         ensures { option_copied result ≡ get self.now number }
     {
         self.inner.get(&number)
     }
 
     /// Puts a part at a number, in the place of one that is there.
-    pub fn insert(&mut self, number: u32, part: MemPart) -> Result<(), OutOfMemory>
+    pub fn insert(&mut self, number: u64, part: MemPart) -> Result<(), OutOfMemory>
         ensures put { OnOk result (self.new ≡ insert self.old number part) }
         ensures same { OnErr result (self.new ≡ self.old) }
     {

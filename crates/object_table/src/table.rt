@@ -16,6 +16,7 @@ ghost use Rattle.std.specs.Prelude.{
   None,
   Err,
   length,
+  true,
 };
 ghost use Rattle.std.specs.Option.{is_some, option_copied, unwrap_or};
 ghost use Rattle.std.specs.FinMap.{empty, get, insert, remove};
@@ -54,12 +55,15 @@ pub struct ObjectTable {
 impl Model for ObjectTable {
     ghost use Rattle.s3_service.specs.ServiceState.{State};
     ghost use Rattle.object_table.specs.Codes.{state_code};
+    ghost use Rattle.object_table.specs.Soundness.{AreSound};
 
     ghost Value = { State };
 
     ghost coded = { state_code };
 
     ghost view = { λ t. record { objects = t.objects; uploads = t.uploads; ended = t.ended; tokens = t.tokens } };
+
+    ghost invariant = { λ t. AreSound t.objects t.uploads t.ended };
 }
 
 /// What is copied: the object there, under an entity tag.
@@ -71,7 +75,7 @@ pub struct Source<'a> {
 }
 
 // Puts an object into a bucket that is there.
-fn put_object(
+pub(crate) fn put_object(
     objects: &mut TextMap<TextMap<MemObject>>,
     alloc: Global,
     bucket: &str,
@@ -150,19 +154,22 @@ impl ObjectTable {
         }
     }
 
-    // The next number, which no other entity tag, upload or token has.
-    pub(crate) fn number(&mut self) -> u64
+    // The next number, which no other entity tag, upload or token has. Where none is left, memory ran out.
+    pub(crate) fn number(&mut self) -> Result<u64, OutOfMemory>
         ensures { self.new ≡ self.old }
     {
-        self.made = self.made.saturating_add(1);
-        self.made
+        let Some(number) = self.made.checked_add(1) else {
+            return Err(OutOfMemory);
+        };
+        self.made = number;
+        Ok(number)
     }
 
     // An entity tag that nothing else has.
     pub(crate) fn new_etag(&mut self, alloc: Global) -> Result<Text, OutOfMemory>
         ensures { self.new ≡ self.old }
     {
-        let number = self.number();
+        let number = self.number()?;
         let etag = format!(in alloc; "\"{number}\"")?;
         Ok(Text::from(etag))
     }
@@ -220,6 +227,8 @@ impl ObjectTable {
             IsNotRefused result }
         ensures taken { result ≡ Err (TableFault.Refused Refusal.PreconditionFailed) →
             IsSome (object_at self.old bucket.now key.now) }
+        ensures kept { (why : Refusal) → result ≡ Err (TableFault.Refused why) → fresh ≡ true →
+            IsSome (object_at self.old bucket.now key.now) → why ≡ Refusal.PreconditionFailed }
     {
         if !self.has_bucket(bucket) {
             return Err(TableFault::Refused(Refusal::NoSuchBucket));

@@ -1,8 +1,9 @@
 //! Uploads in parts in memory, and how they ended.
 
-ghost use Rattle.std.specs.Prelude.{◌≡◌, ◌+◌, OnOk, OnErr, IfOk, IfSome, Err, Some, None, true};
+ghost use Rattle.std.specs.Prelude.{◌≡◌, ◌↔◌, OnOk, OnErr, IfOk, IsOk, Err, Some, None, true};
 ghost use Rattle.std.specs.Option.{option_copied};
 ghost use Rattle.std.specs.FinMap.{get, insert, empty};
+ghost use Rattle.s3_service.specs.ServiceState.{StoredPart};
 
 use crate::fault::Refusal;
 use crate::object::MemPart;
@@ -11,16 +12,9 @@ use s3_model::{OutOfMemory, Text};
 use std::alloc::Global;
 use std::marker::Model;
 
-// The number of the part at a place that is counted from 0.
-fn number_at(place: usize) -> Option<u32>
-    ensures { IfSome result (λ number. number ≡ place + 1) }
-{
-    u32::try_from(place).ok()?.checked_add(1)
-}
-
 // Whether two lists have the same texts.
 fn are_same(left: &[Text], right: &[Text]) -> bool
-    ensures { result ≡ true → left.now ≡ right.now }
+    ensures { result ≡ true ↔ left.now ≡ right.now }
 {
     if left.len() != right.len() {
         return false;
@@ -89,18 +83,17 @@ impl MemUpload {
     pub fn part(&self, number: u32) -> Option<&MemPart>
         ensures { option_copied result ≡ get self.now.parts number }
     {
-        self.parts.get(number)
+        self.parts.get(u64::from(number))
     }
 
-    // The bytes of the part at a place, counted from 0, where it has that entity tag.
-    pub(crate) fn piece(&self, place: usize, etag: &str) -> Result<&[u8], Refusal>
+    // The bytes of the part of that number, where it has that entity tag.
+    pub(crate) fn piece(&self, number: u64, etag: &str) -> Result<&[u8], Refusal>
         ensures found { IfOk result (λ piece.
-            get self.now.parts (place + 1) ≡ Some (record { bytes = piece.now; etag = etag.now })) }
+            get self.now.parts number ≡ Some (record { bytes = piece.now; etag = etag.now })) }
+        ensures willing { (part : StoredPart) → get self.now.parts number ≡ Some part → part.etag ≡ etag.now →
+            IsOk result }
         ensures refused { result ≡ Err Refusal.PreconditionFailed → ⊥ }
     {
-        let Some(number) = number_at(place) else {
-            return Err(Refusal::InvalidPart);
-        };
         match self.parts.get(number) {
             Some(part) if part.etag() == etag => Ok(part.bytes()),
             _ => Err(Refusal::InvalidPart),
@@ -113,7 +106,7 @@ impl MemUpload {
             (self.new ≡ record self.old { parts = insert self.old.parts number part }) }
         ensures same { OnErr result (self.new ≡ self.old) }
     {
-        self.parts.insert(number, part)
+        self.parts.insert(u64::from(number), part)
     }
 }
 
@@ -147,7 +140,7 @@ impl MemEnding {
 
     /// Whether it was completed by this list.
     pub fn is_completed_by(&self, etags: &[Text]) -> bool
-        ensures { result ≡ true → self.now ≡ CompletedBy etags.now }
+        ensures { result ≡ true ↔ self.now ≡ CompletedBy etags.now }
     {
         match &self.etags {
             Some(kept) => are_same(kept, etags),

@@ -2,6 +2,7 @@
 
 ghost use Rattle.std.specs.Prelude.{
   ◌≡◌,
+  ◌↔◌,
   ◌⊎◌,
   ◌≤◌,
   ℕ,
@@ -50,8 +51,8 @@ ghost use Rattle.s3_service.specs.Serves.{
 };
 
 use crate::fault::{Refusal, TableFault};
-use crate::object::MemPart;
-use crate::table::{ObjectTable, Source};
+use crate::object::{MemObject, MemPart};
+use crate::table::{ObjectTable, Source, put_object};
 use crate::upload::{MemEnding, MemUpload};
 use file_table::TextMap;
 use s3_model::{Limits, OutOfMemory, Text};
@@ -104,12 +105,14 @@ fn assembled(
     etags: &[Text],
 ) -> Result<Vec<u8>, TableFault>
     ensures joined { IfOk result (λ bytes. (last : ℕ) × Joined upload.now least etags.now bytes.items last) }
+    ensures willing { (pieces : List (List ℕ)) → Assembles upload.now 1 etags.now pieces →
+        AllButLastHave least pieces → IsNotRefused result }
     ensures refused { result ≡ Err (TableFault.Refused Refusal.PreconditionFailed) → ⊥ }
 {
     let mut bytes = Vec::new(alloc);
     let mut last = least;
     for (place, etag) in etags.iter().enumerate() {
-        let piece = upload.piece(place, etag.as_str())?;
+        let piece = upload.piece(place as u64 + 1, etag.as_str())?;
         if last < least {
             return Err(TableFault::Refused(Refusal::EntityTooSmall));
         }
@@ -120,18 +123,25 @@ fn assembled(
 }
 
 impl ObjectTable {
-    // A name that nothing else has.
+    // A name that no upload has or had. Where none is left, memory ran out.
     fn new_id(&mut self, alloc: Global) -> Result<Text, OutOfMemory>
-        ensures { self.new ≡ self.old }
+        ensures same { self.new ≡ self.old }
+        ensures open { IfOk result (λ id. IsNone (get self.old.uploads id)) }
+        ensures ended { IfOk result (λ id. IsNone (get self.old.ended id)) }
     {
-        let number = self.number();
-        let id = format!(in alloc; "upload-{number}")?;
-        Ok(Text::from(id))
+        let number = self.number()?;
+        let id = Text::from(format!(in alloc; "upload-{number}")?);
+        if self.uploads.has(id.as_str()) || self.ended.has(id.as_str()) {
+            return Err(OutOfMemory);
+        }
+        Ok(id)
     }
 
     // The upload, where it is open under this bucket and key.
     fn open(&self, bucket: &str, key: &str, id: &str) -> Result<&MemUpload, Refusal>
         ensures open { IfOk result (λ upload. IsOpen self.now id.now bucket.now key.now upload.now) }
+        ensures bucket { OnOk result (HasBucket self.now bucket.now) }
+        ensures apart { OnOk result (IsNone (get self.now.ended id.now)) }
         ensures willing { (upload : Upload) → IsOpen self.now id.now bucket.now key.now upload → IsOk result }
         ensures refused { result ≡ Err Refusal.PreconditionFailed → ⊥ }
     {
@@ -149,16 +159,12 @@ impl ObjectTable {
     pub fn create(&mut self, alloc: Global, bucket: &str, key: &str) -> Result<Text, TableFault>
         ensures created { IfOk result (λ id. Creates self.old bucket.now key.now id self.new) }
         ensures same { OnErr result (self.new ≡ self.old) }
-        ensures no_bucket { result ≡ Err (TableFault.Refused Refusal.NoSuchBucket) → HasBucket self.old bucket.now →
-            ⊥ }
+        ensures willing { HasBucket self.old bucket.now → IsNotRefused result }
     {
         if !self.has_bucket(bucket) {
             return Err(TableFault::Refused(Refusal::NoSuchBucket));
         }
         let id = self.new_id(alloc)?;
-        if self.uploads.has(id.as_str()) || self.ended.has(id.as_str()) {
-            return Err(TableFault::Refused(Refusal::InternalError));
-        }
         let upload = MemUpload::make(alloc, Text::of(alloc, bucket)?, Text::of(alloc, key)?);
         self.uploads.insert(alloc, id.as_str(), upload)?;
         Ok(id)
@@ -200,6 +206,8 @@ impl ObjectTable {
         ensures stored { IfOk result (λ etag. CopiesPart self.old bucket.now key.now id.now number
             source.entry.bucket.now source.entry.key.now source.entry.etag.now range etag self.new) }
         ensures same { OnErr result (self.new ≡ self.old) }
+        ensures willing { (etag : List ℕ) (new : State) → CopiesPart self.old bucket.now key.now id.now number
+            source.entry.bucket.now source.entry.key.now source.entry.etag.now range etag new → IsNotRefused result }
     {
         self.open(bucket, key, id)?;
         let object = self.find(source.bucket, source.key, source.etag)?;
@@ -211,7 +219,7 @@ impl ObjectTable {
     }
 
     /// Makes an object of the parts with these entity tags, in order, and ends the upload. An upload that ended with
-    /// them already is answered so again. A fresh object is made only where there is none.
+    /// them already is answered so again. A fresh object is made only where there is none, and this is looked at first.
     pub fn complete(
         &mut self,
         alloc: Global,
@@ -226,8 +234,13 @@ impl ObjectTable {
         ensures joined { OnOk result (Joins limits.now self.old bucket.now key.now id.now etags.now fresh self.new
             ⊎ JoinsAgain self.old id.now etags.now self.new) }
         ensures same { OnErr result (self.new ≡ self.old) }
+        ensures willing { (new : State) → Joins limits.now self.old bucket.now key.now id.now etags.now fresh new →
+            IsNotRefused result }
+        ensures again { (new : State) → JoinsAgain self.old id.now etags.now new → IsOk result }
         ensures taken { result ≡ Err (TableFault.Refused Refusal.PreconditionFailed) →
             IsSome (object_at self.old bucket.now key.now) }
+        ensures kept { (why : Refusal) → result ≡ Err (TableFault.Refused why) → fresh ≡ true →
+            IsSome (object_at self.old bucket.now key.now) → why ≡ Refusal.PreconditionFailed }
     {
         if self.is_completed_by(id, etags) {
             return Ok(());
@@ -249,21 +262,23 @@ impl ObjectTable {
         fresh: bool,
     ) -> Result<Vec<u8>, TableFault>
         ensures bucket { OnOk result (HasBucket self.now bucket.now) }
-        ensures open { OnOk result (IsNone (get self.now.ended id.now)) }
+        ensures apart { OnOk result (IsNone (get self.now.ended id.now)) }
         ensures vacant { OnOk result (IsVacant fresh self.now bucket.now key.now) }
         ensures bytes { IfOk result (λ bytes. (upload : Upload) × IsOpen self.now id.now bucket.now key.now upload
             × Completes limits.now upload etags.now bytes.items) }
+        ensures willing { (upload : Upload) (bytes : List ℕ) → IsOpen self.now id.now bucket.now key.now upload →
+            IsVacant fresh self.now bucket.now key.now → Completes limits.now upload etags.now bytes →
+            IsNotRefused result }
         ensures taken { result ≡ Err (TableFault.Refused Refusal.PreconditionFailed) →
             IsSome (object_at self.now bucket.now key.now) }
+        ensures kept { (why : Refusal) → result ≡ Err (TableFault.Refused why) → fresh ≡ true →
+            IsSome (object_at self.now bucket.now key.now) → why ≡ Refusal.PreconditionFailed }
     {
-        if etags.is_empty() || self.ended.has(id) {
-            return Err(TableFault::Refused(Refusal::InvalidPart));
-        }
-        if !self.has_bucket(bucket) {
-            return Err(TableFault::Refused(Refusal::NoSuchBucket));
-        }
         if fresh && self.object(bucket, key).is_some() {
             return Err(TableFault::Refused(Refusal::PreconditionFailed));
+        }
+        if etags.is_empty() {
+            return Err(TableFault::Refused(Refusal::InvalidPart));
         }
         let upload = self.open(bucket, key, id)?;
         assembled(alloc, limits.min_part, upload, etags)
@@ -271,7 +286,7 @@ impl ObjectTable {
 
     // Whether the upload ended with this list.
     fn is_completed_by(&self, id: &str, etags: &[Text]) -> bool
-        ensures { result ≡ true → get self.now.ended id.now ≡ Some (CompletedBy etags.now) }
+        ensures { result ≡ true ↔ get self.now.ended id.now ≡ Some (CompletedBy etags.now) }
     {
         match self.ended.get(id) {
             Some(ending) => ending.is_completed_by(etags),
@@ -291,14 +306,15 @@ impl ObjectTable {
         micros: u64,
     ) -> Result<(), OutOfMemory>
         requires bucket { HasBucket self.old bucket.now }
-        requires open { IsNone (get self.old.ended id.now) }
+        requires apart { IsNone (get self.old.ended id.now) }
         ensures joined { OnOk result ((mid : State) × StoresObject self.old bucket.now key.now bytes.items mid
             × (self.new ≡ with_ended mid id.now (CompletedBy etags.now))) }
         ensures same { OnErr result (self.new ≡ self.old) }
     {
+        let object = MemObject::new(bytes, self.new_etag(alloc)?, micros);
         let ending = MemEnding::completed(copies_of(alloc, etags)?);
         self.ended.insert(alloc, id, ending)?;
-        match self.store(alloc, bucket, key, bytes, micros) {
+        match put_object(&mut self.objects, alloc, bucket, key, object) {
             Ok(()) => {
                 self.uploads.remove(id);
                 Ok(())

@@ -39,7 +39,6 @@ refusal_code refusal.InvalidRange = codes "InvalidRange"
 refusal_code refusal.InvalidPart = codes "InvalidPart"
 refusal_code refusal.EntityTooSmall = codes "EntityTooSmall"
 refusal_code refusal.InvalidArgument = codes "InvalidArgument"
-refusal_code refusal.InternalError = codes "InternalError"
 
 -- and its status
 abbrev pub refusal_status : Refusal → ℕ
@@ -48,5 +47,4 @@ refusal_status refusal.NoSuchKey = 404
 refusal_status refusal.NoSuchUpload = 404
 refusal_status refusal.PreconditionFailed = 412
 refusal_status refusal.InvalidRange = 416
-refusal_status refusal.InternalError = 500
 refusal_status why = 400

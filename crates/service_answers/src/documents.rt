@@ -23,7 +23,6 @@ pub(crate) fn code_of(refusal: Refusal) -> &'static str
         Refusal::InvalidPart => "InvalidPart",
         Refusal::EntityTooSmall => "EntityTooSmall",
         Refusal::InvalidArgument => "InvalidArgument",
-        Refusal::InternalError => "InternalError",
     }
 }
 
@@ -36,7 +35,6 @@ pub(crate) fn status_of(refusal: Refusal) -> u16
         Refusal::PreconditionFailed => 412,
         Refusal::InvalidRange => 416,
         Refusal::InvalidPart | Refusal::EntityTooSmall | Refusal::InvalidArgument => 400,
-        Refusal::InternalError => 500,
     }
 }
 
