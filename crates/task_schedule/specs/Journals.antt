@@ -1,6 +1,7 @@
 -- How the dispatches of a run show what happened in it, and what the schedule says of the jobs of its tasks.
 use Rattle.std.specs.Prelude.{◌≡◌, ◌≢◌, ◌+◌, ◌<◌, ◌++◌, ◌⊎◌, ◌∷◌, ◌&&◌, ◌||◌, [], ℕ, Bool, true, false, List}
-use Rattle.std.specs.Prelude.{AllPairs, Contains, IsPermutation, IsSome, None, Some, is_some, length, map, not, slice_get}
+use Rattle.std.specs.Prelude.{AllPairs, Contains, IsPermutation, IsSome, None, Some, is_some, length, map, not}
+use Rattle.std.specs.Prelude.{slice_get}
 use Rattle.jobs.specs.Endings.{SeenCarried}
 use Rattle.jobs.specs.Jobs.{IsAskOf}
 use Rattle.jobs.specs.declared.ending.Ending.{Ending}

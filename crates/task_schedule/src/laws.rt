@@ -40,9 +40,9 @@ pub fn shares_keep_schedule<R: Reading>()
     ensures { SharesKeepSchedule R.shows }
 {}
 
-/// The outcome of a task shows what became of its deciding request and of the source of a move: Done and Copied that it
-/// came with success, Failed that no attempt of it succeeded or was uncertain, Unknown that one was uncertain and none a
-/// success. The marks of that request in the history of the task are those that the dispatches of the run show.
+/// The outcome of a task shows what became of its deciding request and of the source of a move: Done and Copied that
+/// it came with success, Failed that no attempt of it succeeded or was uncertain, Unknown that one was uncertain and
+/// none a success. The marks of that request in the history of the task are those that the dispatches of the run show.
 pub fn outcomes_show<C: Command>()
     ensures show { OutcomesShow }
     ensures marks { MarksAreOfDispatches C.shows C.has_status C.call_failed }
