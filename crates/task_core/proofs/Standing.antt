@@ -463,3 +463,15 @@ gave_out t a given new is settled =
 pub still_marked : (a : Act) (how : Stage) (s given : SeenStages) (t new : SeenTask) → t.stages ≡ given → IsMarked a how s given → IsSettled t new → IsMarked a how s new.stages
 still_marked a how s given t new is marked settled =
     subst (λ (x : SeenStages). IsMarked a how s x) (sym (settled.stages ∙ is)) marked
+
+-- ---- the entity tags stay until they are given away
+
+same_some : (is_part : Bool) (n : ℕ) (tag : Option (List ℕ)) (tags : Option SeenTags) → is_some (tagged is_part n tag tags) ≡ is_some tags
+same_some is_part n tag None = refl
+same_some true n tag (Some x) = refl
+same_some false n tag (Some x) = refl
+
+pub came_tags : (c : SeenCarried) (t m new : SeenTask) → IsCame c t m → IsSettled m new → is_some new.tags ≡ is_some t.tags
+came_tags c t m new came settled =
+    ap is_some settled.tags ∙ ap is_some came.tags
+    ∙ same_some (is_part t.stages.work c.job.id.op) c.job.id.number (etag_in c.ending) t.tags

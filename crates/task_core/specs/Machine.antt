@@ -97,6 +97,10 @@ pub record IsSettled (t new : SeenTask) : Type 0 where
 abbrev pub IsNumbered : Work → Type 0
 IsNumbered w = (n : ℕ) → first_number w ≤ n → n < first_number w + piece_count w → HasNumber w n
 
+-- the entity tags of the parts are kept of an upload and of a copy in parts
+abbrev pub keeps_tags : Work → Bool
+keeps_tags w = has_parts w.of_kind && not w.small
+
 -- no part came
 abbrev pub HasTags : Work → Option SeenTags → Type 0
 HasTags w tags = IfSome tags (λ x. (has_parts w.of_kind ≡ true) × (x.first ≡ first_number w)

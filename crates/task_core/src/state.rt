@@ -12,10 +12,10 @@ ghost use Rattle.std.specs.Option.{option_copied};
 ghost use Rattle.task_acts.specs.declared.work.Work.{Work};
 ghost use Rattle.task_acts.specs.Ends.{outcome_of};
 ghost use Rattle.task_acts.specs.Failures.{first_failure, is_stopped};
-ghost use Rattle.task_acts.specs.Stages.{carried_stage, file_stage, given_stage, is_out};
+ghost use Rattle.task_acts.specs.Stages.{carried_stage, file_stage, given_stage, is_out, stage};
 ghost use Rattle.task_acts.specs.Kept.{etags_of, kept_job, part_back, upload_of};
 ghost use Rattle.task_acts.specs.Rule.{first_ready, first_ready_in, is_idle};
-ghost use Rattle.task_core.specs.Machine.{HasTags, IsNumbered, IsSettled, Stands, ready_by, tags_in};
+ghost use Rattle.task_core.specs.Machine.{HasTags, IsNumbered, IsSettled, Stands, keeps_tags, ready_by, tags_in};
 ghost use Rattle.task_ends.specs.Causes.{is_stopped_by};
 ghost use Rattle.task_core.specs.Steps.{IsCame, IsCancelled, IsGiven, IsMarked, IsReturned, IsTaken, tagged};
 ghost use Rattle.task_stages.specs.Stages.{HasAct, stage_by};
@@ -28,7 +28,7 @@ use kept_jobs::{KeptJobs, PartTags};
 use s3_model::{JobId, Kind, Op, OutOfMemory, Outcome, Part, Reason, Text, Texts, UploadId};
 use std::alloc::Global;
 use std::marker::Model;
-use task_acts::{Act, FileCame, Work};
+use task_acts::{Act, FileCame, Stage, Work};
 use task_causes::{file_cause, file_stage, given_stage};
 use task_ends::Causes;
 use task_readiness::{first_ready, is_decided, is_idle, is_whole};
@@ -79,7 +79,8 @@ fn next_act(stages: &TaskStages, causes: &Causes) -> Option<Act>
 
 /// Places for the entity tags of an upload or a copy in parts.
 fn empty_tags(alloc: Global, work: &Work) -> Result<Option<PartTags>, OutOfMemory>
-    ensures { IfOk result (HasTags work.now) }
+    ensures tags { IfOk result (HasTags work.now) }
+    ensures some { IfOk result (λ tags. is_some tags ≡ keeps_tags work.now) }
 {
     if !matches!(work.of_kind, Kind::Upload | Kind::Copy) || work.small {
         return Ok(None);
@@ -226,12 +227,14 @@ impl TaskState {
         keep(&mut self.kept, job, report.made, report.is_kept)
     }
 
-    /// A task of which nothing happened. It takes all the memory of the task.
+    /// A task of which nothing happened. It takes all the memory of the task. The entity tags of parts are there until
+    /// `etags` gives them away.
     pub fn make(alloc: Global, work: Work) -> Result<TaskState, OutOfMemory>
         requires few { work.count + 1 < 2 ^ 32 }
         requires attempts { work.attempts ≤ 10 }
         requires numbers { IsNumbered work }
-        ensures { IfOk result (Stands work []) }
+        ensures stands { IfOk result (Stands work []) }
+        ensures tags { IfOk result (λ task. is_some task.tags ≡ keeps_tags work) }
     {
         let stages = TaskStages::make(alloc, work)?;
         let kept = KeptJobs::make(alloc, work)?;
@@ -257,6 +260,14 @@ impl TaskState {
         next_act(&self.stages, &self.causes)
     }
 
+    /// How far an act is.
+    pub fn stage(&self, act: Act) -> Stage
+        ensures by { result ≡ stage_by self.now.stages act }
+        ensures stands { (w : Work) (history : History) → Stands w history self.now → result ≡ stage w history act }
+    {
+        self.stages.stage(act)
+    }
+
     /// The act that is ready was given. A job that was kept for it is kept no longer.
     pub fn gave(&mut self, act: Act)
         requires { ready_by self.old ≡ Some act }
@@ -264,6 +275,7 @@ impl TaskState {
             → Stands w (Gave act ∷ history) self.new }
         ensures marked { IsMarked act (given_stage (stage_by self.old.stages act)) self.old.stages self.new.stages }
         ensures out { is_out (stage_by self.new.stages act) ≡ true }
+        ensures tags { self.new.tags ≡ self.old.tags }
     {
         self.mark_given(act);
         self.settle();
@@ -280,6 +292,7 @@ impl TaskState {
         ensures marked { IsMarked (sent carried)
             (carried_stage self.old.stages.work (is_stopped_by self.old.causes) carried)
             self.old.stages self.new.stages }
+        ensures tags { is_some self.new.tags ≡ is_some self.old.tags }
     {
         let part = self.mark_came(carried);
         self.settle();
@@ -292,6 +305,7 @@ impl TaskState {
         ensures stands { (w : Work) (history : History) → Stands w history self.old
             → Stands w (Returned act came ∷ history) self.new }
         ensures marked { IsMarked act (file_stage came) self.old.stages self.new.stages }
+        ensures tags { self.new.tags ≡ self.old.tags }
     {
         self.mark_returned(act, came);
         self.settle();
@@ -302,6 +316,7 @@ impl TaskState {
         ensures stands { (w : Work) (history : History) → Stands w history self.old
             → Stands w (Cancelled reason ∷ history) self.new }
         ensures stages { self.new.stages ≡ self.old.stages }
+        ensures tags { self.new.tags ≡ self.old.tags }
     {
         self.mark_cancelled(reason);
         self.settle();
@@ -336,6 +351,8 @@ impl TaskState {
             → Stands w (Taken op number ∷ history) self.new }
         ensures none { is_some result ≡ false → (w : Work) (history : History) → Stands w history self.old
             → Stands w history self.new }
+        ensures stages { self.new.stages ≡ self.old.stages }
+        ensures tags { self.new.tags ≡ self.old.tags }
     {
         match self.mark_taken(op, number) {
             Some(job) => {
@@ -369,6 +386,8 @@ impl TaskState {
         ensures tags { (w : Work) (history : History) → Stands w history self.old
             → result.items ≡ present (etags_of w history) }
         ensures stands { (w : Work) (history : History) → Stands w history self.old → Stands w history self.new }
+        ensures stages { self.new.stages ≡ self.old.stages }
+        ensures taken { self.new.tags ≡ None }
     {
         let _work = self.stages.work();
         take_tags(&mut self.tags)

@@ -7,3 +7,6 @@ returns-clause-stands c w history s = cancelled w history c.args.self.now s c.ar
 
 pub returns-clause-stages : goal.returns-clause-stages
 returns-clause-stages c = c.settle.ensures.stages ∙ c.mark_cancelled.ensures.stages
+
+pub returns-clause-tags : goal.returns-clause-tags
+returns-clause-tags c = c.settle.ensures.tags ∙ c.mark_cancelled.ensures.tags

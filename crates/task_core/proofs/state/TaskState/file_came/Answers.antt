@@ -1,4 +1,4 @@
-use Rattle.std.proofs.Common.{refl}
+use Rattle.std.proofs.Common.{◌∙◌, refl}
 use Rattle.task_core.proofs.Acts.{out_has}
 use Rattle.task_core.proofs.Standing.{returned, still_marked}
 use Rattle.task_core.proofs.state.TaskState.file_came.Goals as goal
@@ -11,3 +11,6 @@ returns-clause-stands c w history s = returned w history c.args.self.now s c.arg
 
 pub returns-clause-marked : goal.returns-clause-marked
 returns-clause-marked c = still_marked c.args.act _ _ _ c.mark_returned.new.self c.settle.new.self refl c.mark_returned.ensures.marked c.settle.ensures
+
+pub returns-clause-tags : goal.returns-clause-tags
+returns-clause-tags c = c.settle.ensures.tags ∙ c.mark_returned.ensures.tags

@@ -1,4 +1,4 @@
-use Rattle.std.proofs.Common.{refl}
+use Rattle.std.proofs.Common.{◌∙◌, refl}
 use Rattle.task_core.proofs.Standing.{gave, gave_out, still_marked}
 use Rattle.task_core.proofs.state.TaskState.gave.Goals as goal
 
@@ -10,3 +10,6 @@ returns-clause-out c = gave_out c.args.self.now c.args.act c.mark_given.new.self
 
 pub returns-clause-marked : goal.returns-clause-marked
 returns-clause-marked c = still_marked c.args.act _ _ _ c.mark_given.new.self c.settle.new.self refl c.mark_given.ensures.marked c.settle.ensures
+
+pub returns-clause-tags : goal.returns-clause-tags
+returns-clause-tags c = c.settle.ensures.tags ∙ c.mark_given.ensures.tags
