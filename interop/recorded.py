@@ -1,7 +1,8 @@
 """`ls` of listings that real services answered, page by page: each answer is played byte for byte to its own request.
 
-The answers of Ceph's gateway and of OpenStack Swift stand in the rows of `answer_rows`; they came to requests of few names
-a page. A request has to be one of these but for its number of names, else it is refused.
+The answers of Ceph's gateway and of OpenStack Swift stand in the rows of `answer_rows`; they came to requests of few
+names a page. A request has to be one of these but for its number of names and for what it leaves empty, else it is
+refused.
 """
 
 import datetime
@@ -88,7 +89,7 @@ def plays(bucket, by_query):
         for _ in by_query:
             target = hostile.take_head(peer)[0].split(" ")[1]
             path, _, query = target.partition("?")
-            asked = dict(urllib.parse.parse_qsl(query, keep_blank_values=True, strict_parsing=True))
+            asked = {name: value for name, value in urllib.parse.parse_qsl(query) if value}
             found = [said for wanted, said in by_query if path == "/" + bucket and asked == wanted]
             peer.sendall(found[0] if found else hostile.DENIED)
         hostile.hold(peer)
