@@ -1,0 +1,8 @@
+//! Which task has an act ready, by what the act needs, and the least task that can move.
+#![tactic(auto)]
+
+mod act_queues;
+#[cfg(test)]
+mod tests;
+
+pub use act_queues::{ActQueues, ActSort};
