@@ -17,3 +17,4 @@ pub mod Standing
 pub mod Stopping
 pub mod Successes
 pub mod Wellness
+pub mod Witness

@@ -2,3 +2,4 @@ pub mod Asks
 pub mod Givings
 pub mod Journals
 pub mod Outcomes
+pub mod Witness

@@ -12,6 +12,7 @@ ghost use Rattle.task_schedule.specs.Givings.{
 };
 ghost use Rattle.task_schedule.specs.Journals.{SharesKeepSchedule};
 ghost use Rattle.task_schedule.specs.Outcomes.{MarksAreOfDispatches, OutcomesShow};
+ghost use Rattle.task_schedule.specs.Witness.{RunIsMet};
 
 use world_laws::{Command, Reading};
 
@@ -37,7 +38,8 @@ pub fn jobs_are_given_as_scheduled()
 /// In a run of many tasks whose dispatches show what was sent and what came back, the jobs of its tasks keep to the
 /// schedule.
 pub fn shares_keep_schedule<R: Reading>()
-    ensures { SharesKeepSchedule R.shows }
+    ensures keep { SharesKeepSchedule R.shows }
+    ensures met { RunIsMet }
 {}
 
 /// The outcome of a task shows what became of its deciding request and of the source of a move: Done and Copied that
