@@ -1,0 +1,198 @@
+//! Jobs that come back.
+
+ghost use Rattle.std.specs.Prelude.{◌≡◌, ◌≤◌, true, IfOk, IfSome, is_some, length};
+ghost use Rattle.std.specs.Arc.{arc_value};
+ghost use Rattle.jobs.specs.Jobs.{HasPart};
+ghost use Rattle.run_promise.specs.Buffers.{holds_buffer};
+ghost use Rattle.task_acts.specs.declared.acts.Act.TheVariants as act;
+ghost use Rattle.task_acts.specs.Histories.{sent};
+ghost use Rattle.task_rows.specs.Rows.{IsAnObject, IsEndedBy, IsTaskFor, body_of, can_end, is_step, kind_for};
+
+use crate::endings::Ended;
+use jobs::{CancelCell, Carried, Ending, Job, What};
+use s3_model::{
+    Bytes, JobId, Kind, Op, OutOfMemory, Part, Place, Reply, Task, Text, Texts, UploadId,
+};
+use std::alloc::Global;
+use std::sync::Arc;
+
+/// A kind of task that has jobs of that op.
+fn kind_for(op: Op) -> Kind
+    ensures { result ≡ kind_for op }
+{
+    match op {
+        Op::Get => Kind::Download,
+        Op::Copy | Op::PartCopy => Kind::Copy,
+        Op::Delete => Kind::RemoveObject,
+        _ => Kind::Upload,
+    }
+}
+
+fn object(alloc: Global, key: &str) -> Result<Place, OutOfMemory>
+    ensures { IfOk result IsAnObject }
+{
+    Ok(Place::Object {
+        bucket: Text::of(alloc, "b")?,
+        key: Text::of(alloc, key)?,
+    })
+}
+
+/// A task that has jobs of that op. What happens to a task depends on the ids of its jobs and on their endings alone.
+fn task_for(alloc: Global, op: Op) -> Result<Arc<Task, Global>, OutOfMemory>
+    ensures { IfOk result (λ task. IsTaskFor op (arc_value task)) }
+{
+    let source = object(alloc, "k")?;
+    let dest = object(alloc, "l")?;
+    let etag = Text::of(alloc, "e")?;
+    let task = Arc::new(
+        alloc,
+        Task {
+            kind: kind_for(op),
+            moves: false,
+            source: Some(source),
+            dest,
+            size: 4,
+            etag,
+            micros: 0,
+            content: None,
+            fresh: false,
+        },
+    )?;
+    Ok(task)
+}
+
+/// How many bytes the part of a job has.
+fn body_of(ending: &Ending) -> u64
+    ensures { result ≡ body_of ending.now }
+{
+    match ending {
+        Ending::Gained(Reply::Got { length, .. }) => *length,
+        _ => 4,
+    }
+}
+
+fn part_of(alloc: Global, count: u64) -> Result<Part, OutOfMemory>
+    ensures count { IfOk result (λ part. length part.bytes.bytes ≡ count) }
+    ensures room { IfOk result (λ part. 1 ≤ part.bytes.room) }
+{
+    let mut bytes = Bytes::make(alloc, count.max(1))?;
+    bytes.grow(count as usize);
+    Ok(Part { bytes })
+}
+
+/// Whether a job of that op has a part.
+fn has_part(op: Op) -> bool
+    ensures { result ≡ holds_buffer op }
+{
+    matches!(op, Op::Put | Op::Part | Op::Get)
+}
+
+fn part_for(alloc: Global, op: Op, count: u64) -> Result<Option<Part>, OutOfMemory>
+    ensures part { IfOk result (HasPart op 1) }
+    ensures count { IfOk result (λ part. IfSome part (λ p. length p.bytes.bytes ≡ count)) }
+{
+    if !has_part(op) {
+        return Ok(None);
+    }
+    let part = part_of(alloc, count)?;
+    Ok(Some(part))
+}
+
+fn cell_for(alloc: Global, has_cell: bool) -> Result<Option<CancelCell>, OutOfMemory>
+    ensures { IfOk result (λ cell. is_some cell ≡ has_cell) }
+{
+    if has_cell {
+        Ok(Some(CancelCell::make(alloc)?))
+    } else {
+        Ok(None)
+    }
+}
+
+fn is_step(op: Op) -> bool
+    ensures { result ≡ is_step op }
+{
+    !matches!(op, Op::Head | Op::List | Op::Buckets)
+}
+
+/// An upload's id.
+fn upload_id() -> UploadId {
+    let Some(id) = UploadId::of("u") else {
+        unreachable!()
+    };
+    id
+}
+
+fn job_for(
+    alloc: Global,
+    id: JobId,
+    part: Option<Part>,
+    cell: Option<CancelCell>,
+) -> Result<Job, OutOfMemory>
+    requires step { is_step id.op ≡ true }
+    requires part { HasPart id.op 1 part }
+    ensures { IfOk result (λ job. (job.id ≡ id) × (job.part ≡ part) × (job.cell ≡ cell) × (job.had ≡ 0)) }
+{
+    let task = task_for(alloc, id.op)?;
+    let upload = upload_id();
+    let etags = Texts::make(alloc);
+    let what = What::Step {
+        task,
+        range: (0, 1),
+        upload: Some(upload),
+        etags: Some(etags),
+    };
+    Ok(Job {
+        id,
+        what,
+        part,
+        cell,
+        had: 0,
+    })
+}
+
+/// Whether a job with or without a cell can end so.
+fn can_end(ending: &Ending, has_cell: bool) -> bool
+    ensures { result ≡ can_end ending.now has_cell }
+{
+    match ending {
+        Ending::Cancelled(_) => has_cell,
+        _ => true,
+    }
+}
+
+/// A job that comes back with that ending.
+fn carried_as(job: Job, ended: Ended) -> Carried
+    requires ended { IsEndedBy ended.ending job.id.op ended.tries }
+    requires body { IfSome job.part (λ part. length part.bytes.bytes ≡ body_of ended.ending) }
+    requires can { can_end ended.ending (is_some job.cell) ≡ true }
+    ensures { result.job ≡ job }
+{
+    let Ended { tries, ending } = ended;
+    Carried { job, tries, ending }
+}
+
+/// The job of that op and number, with or without a cell, comes back with that ending, or None where it cannot.
+pub(crate) fn job_back(
+    alloc: Global,
+    op: Op,
+    number: u32,
+    has_cell: bool,
+    ended: Ended,
+) -> Result<Option<Carried>, OutOfMemory>
+    requires ended { IsEndedBy ended.ending op ended.tries }
+    ensures id { IfOk result (λ c. IfSome c (λ carried. sent carried ≡ act.Send op number)) }
+    ensures had { IfOk result (λ c. IfSome c (λ carried. carried.job.had ≡ 0)) }
+{
+    if !is_step(op) || !can_end(&ended.ending, has_cell) {
+        return Ok(None);
+    }
+    let id = JobId {
+        task: Some(0),
+        op,
+        number,
+    };
+    let part = part_for(alloc, op, body_of(&ended.ending))?;
+    let cell = cell_for(alloc, has_cell)?;
+    let job = job_for(alloc, id, part, cell)?;
+    Ok(Some(carried_as(job, ended)))
+}
