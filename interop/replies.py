@@ -373,6 +373,8 @@ class Judge:
             self.document()
         except Left:
             pass
+        if self.keys:
+            self.url = names_url(self.doc)
         for place, kind, element, text in self.keys:
             key = self.key(text)
             if key is None:
@@ -400,6 +402,17 @@ class Judge:
             values = self.key(row["Key"]), int(row["Size"]), row["ETag"], moment(row["LastModified"])
             out += " [{} {} {} {}]".format(debug(values[0]), values[1], debug(values[2]), values[3])
         return out + "".join(" " + debug(self.key(row["Prefix"])) for row in found.get("CommonPrefixes", []))
+
+
+def names_url(doc):
+    """Whether the first `EncodingType` in the root of a page is `url`, where whole elements stand in front of it."""
+    judge = Judge("list", doc)
+    judge.tables = {"root": {"EncodingType": judge.tables["root"]["EncodingType"]}}
+    try:
+        judge.document()
+    except Left:
+        pass
+    return judge.url
 
 
 def bytes_of(text):

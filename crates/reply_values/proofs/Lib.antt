@@ -1,3 +1,4 @@
+pub mod CutLemmas
 pub mod NumberLemmas
 pub mod ReferenceLemmas
 pub mod SpellingLemmas

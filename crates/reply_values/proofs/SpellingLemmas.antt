@@ -81,3 +81,19 @@ module _ (StandsFor : List ℕ → List ℕ → Type 0) where
   pub spells_stuck : IsPlainCode → (front rest x : List ℕ) → Spells StandsFor front x → 0 < length rest → StartsNoPiece StandsFor rest → (text : List ℕ) → Spells StandsFor (front ++ rest) text → ⊥
   spells_stuck code front rest x h some none text k =
       stuck_pieces code h.pieces k.pieces rest h.each k.each some none (ap (λ t. t ++ rest) h.whole ∙ sym k.whole)
+
+  pieces_behind : IsPlainCode → (ps qs : List Piece) (rest : List ℕ) → Each ps → Each qs → written ps ++ rest ≡ written qs → (ts : List Piece) × Each ts × (written ts ≡ rest)
+  pieces_behind code [] qs rest h k e = (qs, k, sym e)
+  pieces_behind code (p ∷ ps) [] rest h k e =
+      absurd (not_empty code p.written p.meant (written ps ++ rest) h.0 (sym e ∙ append_assoc p.written (written ps) rest))
+  pieces_behind code (p ∷ ps) (q ∷ qs) rest h k e =
+      let split = sym (append_assoc p.written (written ps) rest) ∙ e in
+      let piece = code.first p.written q.written p.meant q.meant (written ps ++ rest) (written qs) h.0 k.0 split in
+      let tail = append_cancel_left q.written (written ps ++ rest) (written qs) (ap (λ t. t ++ (written ps ++ rest)) (sym piece) ∙ split) in
+      pieces_behind code ps qs rest h.1 k.1 tail
+
+  -- what is left behind a front that spells a text spells one too, where the whole does
+  pub spells_behind : IsPlainCode → (front rest x : List ℕ) → Spells StandsFor front x → (text : List ℕ) → Spells StandsFor (front ++ rest) text → (y : List ℕ) × Spells StandsFor rest y
+  spells_behind code front rest x h text k =
+      let left = pieces_behind code h.pieces k.pieces rest h.each k.each (ap (λ t. t ++ rest) h.whole ∙ sym k.whole) in
+      (meant left.0, record { pieces = left.0; each = left.1; whole = left.2; meaning = refl })

@@ -1,10 +1,10 @@
 -- The pieces of escaped texts.
-use Rattle.std.proofs.Common.{◌≡◌, ◌≢◌, ◌+◌, ◌*◌, ◌<◌, ◌≤◌, ◌++◌, ◌∷◌, ◌∙◌, ℕ, List, [], length, get_or, take, drop, Option, Some, None, inl, inr, sym, ap, refl, arith, lit<}
+use Rattle.std.proofs.Common.{◌≡◌, ◌≢◌, ◌+◌, ◌*◌, ◌<◌, ◌≤◌, ◌++◌, ◌∷◌, ◌∙◌, ℕ, Bool, true, false, List, [], length, get_or, take, drop, Option, Some, None, inl, inr, sym, ap, refl, arith, lit<}
 use Rattle.std.specs.Char.{digit_value}
 use Rattle.std.specs.Prelude.{IfNone}
 use Rattle.std.proofs.Math.Seq.{take-append_seam}
 use Rattle.reply_values.specs.Spelling.{StartsPiece, StartsNoPiece}
-use Rattle.reply_values.specs.UrlText.{IsSpace, IsEscape, IsItself, StandsForByte, SpellsUrlText}
+use Rattle.reply_values.specs.UrlText.{IsSpace, IsEscape, IsItself, MeansText, StandsForByte, SpellsUrlText}
 use Rattle.reply_values.proofs.SpellingLemmas.{IsPlainCode, spells_one, heads, tails}
 use Rattle.reply_values.proofs.NumberLemmas.{Writes-same}
 
@@ -136,3 +136,8 @@ url_code = record { some = some; first = first; one = one }
 -- an escaped text spells one text
 pub SpellsUrlText-same : (written x y : List ℕ) → SpellsUrlText written x → SpellsUrlText written y → x ≡ y
 SpellsUrlText-same written x y h k = spells_one StandsForByte url_code written x y h.bytes k.bytes
+
+-- a written text means one text
+pub MeansText-same : (url : Bool) (written text other : List ℕ) → MeansText url written text → MeansText url written other → other ≡ text
+MeansText-same false written text other r s = s ∙ sym r
+MeansText-same true written text other r s = SpellsUrlText-same written other text s r

@@ -1,7 +1,9 @@
 -- Character data without markup, and the references in it (XML 1.0, sections 2.4, 4.1 and 4.6).
-use Rattle.std.specs.Prelude.{◌≡◌, ◌≢◌, ◌⊎◌, ◌++◌, ◌∷◌, ◌<◌, ℕ, List, [], length, take, drop, slice_index, codes}
+use Rattle.std.specs.Prelude.{◌≡◌, ◌≢◌, ◌⊎◌, ◌++◌, ◌∷◌, ◌<◌, ◌||◌, ℕ, Bool, nat_eq, List, [], length, take, drop}
+use Rattle.std.specs.Prelude.{slice_index, codes}
 use Rattle.std.specs.Prelude.{encode_utf8}
 use Rattle.std.specs.Char.{IsScalar}
+use Rattle.std.specs.List.{starts_with}
 use Rattle.reply_values.specs.Numbers.{Writes}
 use Rattle.reply_values.specs.Spelling.{Spells, StartsNoPiece}
 
@@ -48,3 +50,23 @@ pub record IsBadReference (raw : List ℕ) (place : ℕ) : Type 0 where
   pub inside : place < length raw
   pub ampersand : slice_index raw place ≡ 38
   pub bad : StartsNoPiece IsReference (drop place raw)
+
+-- with more bytes at the end each of its references stands for a character
+abbrev pub GoesOn : List ℕ → Type 0
+GoesOn raw = (more : List ℕ) × (text : List ℕ) × IsUnescaped (raw ++ more) text
+
+-- more bytes make it a reference
+abbrev pub IsCutShort : List ℕ → Type 0
+IsCutShort piece = (more : List ℕ) × (text : List ℕ) × IsReference (piece ++ more) text
+
+-- more digits make it the number of a character
+abbrev pub BeginsNumber : ℕ → List ℕ → Type 0
+BeginsNumber radix digits =
+    (more : List ℕ) × (char : ℕ) × IsScalar char × Writes radix (digits ++ more) char
+
+-- a name as far as it is written is the front of an entity's name with the `;` behind it
+abbrev pub begins_entity : List ℕ → Bool
+begins_entity name =
+    starts_with nat_eq (codes "lt;") name || (starts_with nat_eq (codes "gt;") name
+    || (starts_with nat_eq (codes "amp;") name || (starts_with nat_eq (codes "quot;") name
+    || starts_with nat_eq (codes "apos;") name)))

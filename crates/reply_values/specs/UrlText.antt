@@ -1,5 +1,5 @@
 -- Keys as the S3 API's `encoding-type=url` writes them (RFC 3986, section 2.1).
-use Rattle.std.specs.Prelude.{◌≡◌, ◌≢◌, ◌⊎◌, ◌++◌, ◌∷◌, ℕ, List, [], length, codes, IsUtf8}
+use Rattle.std.specs.Prelude.{◌≡◌, ◌≢◌, ◌⊎◌, ◌++◌, ◌∷◌, ℕ, Bool, true, false, List, [], length, codes, IsUtf8}
 use Rattle.reply_values.specs.Numbers.{Writes}
 use Rattle.reply_values.specs.Spelling.{Spells}
 
@@ -31,3 +31,8 @@ StandsForByte piece byte = IsSpace piece byte ⊎ IsEscape piece byte ⊎ IsItse
 pub record SpellsUrlText (written text : List ℕ) : Type 0 where
   pub bytes : Spells StandsForByte written text
   pub utf8 : IsUtf8 text
+
+-- what a written key or prefix means, where keys are written as URLs and where they are not
+abbrev pub MeansText : Bool → List ℕ → List ℕ → Type 0
+MeansText false written text = text ≡ written
+MeansText true written text = SpellsUrlText written text

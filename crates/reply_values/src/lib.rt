@@ -9,6 +9,6 @@ mod url_text;
 
 pub use forms::{is_etag, is_key, is_upload_id};
 pub use numbers::{number, truth};
-pub use references::{ReferenceFault, bad_reference, may_begin_reference, unescape};
+pub use references::{BadReference, ReferenceFault, bad_reference, unescape};
 pub use times::time;
 pub use url_text::{UrlFault, url_decode};

@@ -1,7 +1,8 @@
 //! References to characters, and the text that character data spells.
 
-ghost use Rattle.std.specs.Prelude.{◌≡◌, ◌≤◌, ◌∷◌, ℕ, List, IfOk, IfSome, IfNone, encode_utf8};
-ghost use Rattle.reply_values.specs.References.{IsNumbered, Names, IsReference, IsUnescaped, IsBadReference};
+ghost use Rattle.std.specs.Prelude.{◌≡◌, ◌≤◌, ◌∷◌, ◌↔◌, ℕ, List, IfOk, IfSome, IfNone, IsTrue, encode_utf8};
+ghost use Rattle.reply_values.specs.References.{BeginsNumber, GoesOn, IsBadReference, IsCutShort, IsNumbered};
+ghost use Rattle.reply_values.specs.References.{IsReference, IsUnescaped, Names, begins_entity};
 ghost use Rattle.reply_values.specs.Spelling.{StartsPiece, StartsNoPiece};
 
 use crate::numbers::unsigned;
@@ -83,27 +84,39 @@ pub fn unescape(alloc: Global, raw: &str) -> Result<Text, ReferenceFault>
     Ok(Text::from(text))
 }
 
-/// The place in bytes of the first `&` that begins no reference.
-pub fn bad_reference(raw: &str) -> Option<usize>
-    ensures bad { IfSome result (IsBadReference raw.now) }
+/// A `&` of a text that begins no reference.
+#[derive(Clone, Copy, Debug, PartialEq, Eq)]
+pub struct BadReference {
+    /// Its place in bytes.
+    pub place: usize,
+    /// Whether more bytes at the end of the text could complete a reference there.
+    pub cut_short: bool,
+}
+
+/// The first `&` that begins no reference.
+pub fn bad_reference(raw: &str) -> Option<BadReference>
+    ensures bad { IfSome result (λ found. IsBadReference raw.now found.place) }
+    ensures cut_short { IfSome result (λ found. IsTrue found.cut_short ↔ GoesOn raw.now) }
     ensures good { IfNone result ((text : List ℕ) × IsUnescaped raw.now text) }
 {
     let mut rest = raw;
     while let Some((_plain, behind)) = rest.split_once('&') {
         let Some((_char, next)) = reference(behind) else {
-            return Some(raw.len() - behind.len() - 1);
+            return Some(BadReference {
+                place: raw.len() - behind.len() - 1,
+                cut_short: may_begin_reference(behind),
+            });
         };
         rest = next;
     }
     None
 }
 
-const NAMES: [&str; 5] = ["lt;", "gt;", "amp;", "quot;", "apos;"];
-
 /// Whether a number written so far in this radix, perhaps without a digit, may be that of a character.
 fn may_be_number(digits: &str, radix: u32) -> bool
     requires least { 2 ≤ radix }
-    requires most { radix ≤ 36 }
+    requires most { radix ≤ 16 }
+    ensures { IsTrue result ↔ BeginsNumber radix digits.now }
 {
     if digits.is_empty() {
         return true;
@@ -114,19 +127,26 @@ fn may_be_number(digits: &str, radix: u32) -> bool
     }
 }
 
-/// Whether the text behind the `&` at this place begins a reference that more characters could complete.
-pub fn may_begin_reference(raw: &str, place: usize) -> bool {
-    let Some((_, behind)) = raw.split_at_checked(place) else {
-        return false;
+/// Whether what is written so far begins the name of an entity, with the `;` behind it.
+fn may_be_entity(name: &[u8]) -> bool
+    ensures { result ≡ begins_entity name.now }
+{
+    b"lt;".starts_with(name)
+        || (b"gt;".starts_with(name)
+            || (b"amp;".starts_with(name)
+                || (b"quot;".starts_with(name) || b"apos;".starts_with(name))))
+}
+
+/// Whether more characters could make a reference of what follows a `&` that begins none.
+fn may_begin_reference(name: &str) -> bool
+    requires { StartsNoPiece IsReference (38 ∷ name.now) }
+    ensures { IsTrue result ↔ IsCutShort (38 ∷ name.now) }
+{
+    let Some(digits) = name.strip_prefix('#') else {
+        return may_be_entity(name.as_bytes());
     };
-    let Some(name) = behind.strip_prefix('&') else {
-        return false;
-    };
-    if let Some(digits) = name.strip_prefix("#x") {
-        return may_be_number(digits, 16);
+    match digits.strip_prefix('x') {
+        Some(hex) => may_be_number(hex, 16),
+        None => may_be_number(digits, 10),
     }
-    if let Some(digits) = name.strip_prefix('#') {
-        return may_be_number(digits, 10);
-    }
-    NAMES.iter().any(|whole| whole.starts_with(name))
 }

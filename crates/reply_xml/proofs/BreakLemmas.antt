@@ -1,5 +1,5 @@
 -- Where a document has a fault, from the innermost element outwards.
-use Rattle.std.proofs.Common.{◌≡◌, ◌++◌, ◌⊎◌, ℕ, Bool, true, false, Option, Some, ◌∙◌, Result, Ok, Err, List, [], ◌∷◌, inl, inr, refl, subst, sym, ⊎_elim}
+use Rattle.std.proofs.Common.{◌≡◌, ◌≢◌, ◌++◌, ◌⊎◌, ℕ, Bool, true, false, not, nat_eq, ap, Option, Some, ◌∙◌, Result, Ok, Err, List, [], ◌∷◌, inl, inr, refl, subst, sym, ⊎_elim}
 use Rattle.std.specs.Result.{IsErrAnd}
 use Rattle.reply_xml.specs.declared.faults.DocFault.{DocFault}
 use Rattle.reply_xml.specs.declared.faults.DocFault.TheVariants as fault
@@ -8,12 +8,13 @@ use Rattle.reply_xml.specs.declared.reader.Tag.{Tag}
 use Rattle.reply_xml.specs.Breaks.{Again, AtEndTag, AtStart, AtText, BreaksElement, BreaksIn, BehindLeafTag, BehindName, BehindOtherTag, BehindTag, Behind, IfBroken, InLeaf, InOther, InTag, Inside, IsMissing, BreaksText, Lacks, OnBroken, StandsAgain, TooLow}
 use Rattle.reply_xml.specs.Tables.{Done, Table, first_missing}
 use Rattle.reply_xml.specs.declared.elements.Element.{Element}
+use Rattle.reply_xml.specs.Faults.{IfRefused}
 use Rattle.reply_xml.specs.Fits.{Fits, Passed}
 use Rattle.reply_xml.proofs.FrontLemmas.{fits_any, fresh_done, none_is_some, nothing_missing}
 use Rattle.reply_xml.specs.Reading.{AtEnd, EndsContent, HoldsSome, IsTagOf, NamesChild, ReadsOpen}
 use Rattle.reply_xml.proofs.OpenLemmas.{child_begins, element_of, open_in, open_out, some_before}
 use Rattle.std.specs.Bool.{MatchBool}
-use Rattle.std.proofs.lemmas.Bool.{false≢true}
+use Rattle.std.proofs.lemmas.Bool.{eqb-true, false≢true}
 use Rattle.reply_values.specs.References.{IsUnescaped}
 use Rattle.reply_xml.specs.Contents.{Only, ReadsText}
 use Rattle.reply_xml.specs.Unfit.{HasText}
@@ -183,3 +184,37 @@ text_closed tag bytes e = none tag.closed e
 pub text_open : (tag : Tag) (bytes rest raw text : List ℕ) → tag.closed ≡ false → ReadsText raw bytes rest → IsUnescaped raw text → HasText tag bytes rest text
 text_open tag bytes rest raw text e r u =
     subst (λ (b : Bool). MatchBool b ((text ≡ []) × (rest ≡ bytes)) ((raw : List ℕ) × ReadsText raw bytes rest × IsUnescaped raw text)) (sym e) (raw, r, u)
+
+-- a text behind which bytes stand ends at a `<`
+after_text : (raw bytes rest : List ℕ) → ReadsText raw bytes rest → rest ≢ [] → (more : List ℕ) × (rest ≡ 60 ∷ more)
+after_text raw bytes [] r some = absurd (some refl)
+after_text raw bytes (byte ∷ more) r some = (more, ap (λ (b : ℕ). b ∷ more) (less_than (nat_eq byte 60) refl r.run.ends))
+  where
+    less_than : (b : Bool) → nat_eq byte 60 ≡ b → not b ≡ false → byte ≡ 60
+    less_than true e h = eqb-true byte 60 e
+    less_than false e h = absurd (false≢true (sym h))
+
+open_text : (closed : Bool) (bytes rest text : List ℕ) → closed ≡ false → MatchBool closed ((text ≡ []) × (rest ≡ bytes)) ((raw : List ℕ) × ReadsText raw bytes rest × IsUnescaped raw text)
+    → (raw : List ℕ) × ReadsText raw bytes rest
+open_text true bytes rest text e h = absurd (false≢true (sym e))
+open_text false bytes rest text e h = (h.0, h.1)
+
+pub text_goes_on : (tag : Tag) (bytes rest text : List ℕ) → tag.closed ≡ false → HasText tag bytes rest text → rest ≢ []
+    → (raw : List ℕ) × (more : List ℕ) × ReadsText raw bytes (60 ∷ more)
+text_goes_on tag bytes rest text e has some =
+    let found = open_text tag.closed bytes rest text e has in
+    let behind = after_text found.0 bytes rest found.1 some in
+    (found.0, behind.0, subst (λ (t : List ℕ). ReadsText found.0 bytes t) behind.1 found.1)
+
+-- an answer that is no fault but want of memory
+pub unbroken : {T : Type 0} (Q : DocFault → Type 0) (r : Result T DocFault) → IfRefused r ⊥ → IfBroken r Q
+unbroken Q (Ok x) h = tt
+unbroken Q (Err fault.Memory) h = tt
+unbroken Q (Err (fault.NotADocument n)) h = absurd h
+unbroken Q (Err (fault.Missing element)) h = absurd h
+unbroken Q (Err (fault.Twice element)) h = absurd h
+unbroken Q (Err fault.BadNumber) h = absurd h
+unbroken Q (Err fault.BadTime) h = absurd h
+unbroken Q (Err fault.BadEscape) h = absurd h
+unbroken Q (Err fault.TooDeep) h = absurd h
+unbroken Q (Err (fault.BadText element)) h = absurd h

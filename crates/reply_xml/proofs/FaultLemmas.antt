@@ -1,5 +1,5 @@
 -- What a fault says, through what it implies.
-use Rattle.std.proofs.Common.{◌≡◌, ◌∙◌, ap, ℕ, IfOk, Result, Ok, Err, refl, subst, sym}
+use Rattle.std.proofs.Common.{◌≡◌, ◌≢◌, ◌∙◌, ap, ℕ, IfOk, Result, Ok, Err, refl, subst, sym}
 use Rattle.std.specs.Result.{IsErrAnd, OnOk}
 use Rattle.reply_xml.specs.declared.faults.DocFault.{DocFault}
 use Rattle.reply_xml.specs.declared.faults.DocFault.TheVariants as fault
@@ -112,3 +112,15 @@ same_fault (fault.BadText element) f h = h
 pub fault_past : {U : Type 0} (r : Result U DocFault) (e f : DocFault) → IsErrAnd r (λ d. d ≡ e) → IsSameFault f e → IsFault r f
 fault_past (Ok x) e f h same = absurd h
 fault_past (Err d) e f h same = subst (λ (k : DocFault). IsSameFault f k) (sym h) same
+
+-- a fault that is not want of memory tells what it says
+pub told : {P : Type 0} (e : DocFault) → e ≢ fault.Memory → Tells e P → P
+told fault.Memory other h = absurd (other refl)
+told (fault.NotADocument n) other h = h
+told (fault.Missing element) other h = h
+told (fault.Twice element) other h = h
+told fault.BadNumber other h = h
+told fault.BadTime other h = h
+told fault.BadEscape other h = h
+told fault.TooDeep other h = h
+told (fault.BadText element) other h = h

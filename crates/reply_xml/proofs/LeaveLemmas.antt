@@ -1,7 +1,8 @@
 -- Where bytes leave a production, from its parts.
 use Rattle.std.proofs.Common.{◌≡◌, ◌≢◌, ◌≤◌, ℕ, suc, List, [], Result, Ok, Err, IfErr, subst, sym, ap, ◌∙◌, length, arith}
-use Rattle.std.proofs.lemmas.List.{length-append}
+use Rattle.std.proofs.lemmas.List.{append-nil, length-append}
 use Rattle.std.specs.Result.{IsErrAnd}
+use Rattle.reply_values.specs.References.{GoesOn, IsUnescaped}
 use Rattle.reply_xml.specs.declared.runs.Sort.TheVariants as sort
 use Rattle.reply_xml.specs.declared.texts.TextFault.{TextFault}
 use Rattle.reply_xml.specs.declared.texts.TextFault.TheVariants as text_fault
@@ -56,3 +57,7 @@ run_within text bytes rest run = let sizes = ap length run.split ∙ length-appe
 
 pub same_name : (found name bytes rest : List ℕ) → found ≡ name → ReadsName found bytes rest → ReadsName name bytes rest
 same_name found name bytes rest same named = subst (λ (n : List ℕ). ReadsName n bytes rest) same named
+
+-- a text whose references are sound goes on, with nothing behind it
+pub sound_goes_on : (raw text : List ℕ) → IsUnescaped raw text → GoesOn raw
+sound_goes_on raw text h = ([], text, subst (λ (t : List ℕ). IsUnescaped t text) (sym (append-nil raw)) h)

@@ -5,6 +5,7 @@ pub mod DocumentLemmas
 pub mod FaultLemmas
 pub mod FrontLemmas
 pub mod LeafLemmas
+pub mod KeyLemmas
 pub mod LeaveLemmas
 pub mod OpenLemmas
 pub mod Rows

@@ -12,7 +12,8 @@ use Rattle.reply_xml.specs.Contents.{ReadsText}
 use Rattle.reply_xml.specs.Documents.{BeginsDocument, NamesRoot, ReadsSpace}
 use Rattle.reply_xml.specs.Reading.{AtEnd, IsTagOf, NamesChild}
 use Rattle.reply_xml.specs.Fits.{HoldsWell, ReadsWell}
-use Rattle.reply_values.specs.References.{IsUnescaped}
+use Rattle.std.specs.Str.{IsUtf8}
+use Rattle.reply_values.specs.References.{GoesOn, IsUnescaped}
 use Rattle.reply_xml.specs.Leaves.{HasBadReference, LeavesEndTag, LeavesStart, LeavesTagEnd, LeavesText}
 use Rattle.reply_xml.specs.Places.{BeginsOtherwise, LacksDeclaration}
 use Rattle.reply_xml.specs.Runs.{ReadsRun}
@@ -24,19 +25,19 @@ use Rattle.reply_xml.specs.Unfit.{Form, HasText, IsFit, IsUnfit}
 abbrev pub Stands : (size left : ℕ) → DocFault → Type 0
 Stands size left reason = reason ≡ fault.NotADocument (size - left)
 
--- a text has a fault: it leaves the grammar, or has a bad reference
+-- a text has a fault: it leaves the grammar, or has a bad reference, which the end of the bytes does not cut short
 pub data BreaksText (size : ℕ) (reason : DocFault) (bytes : List ℕ) : Type 0 where
   Leaves : (left : ℕ) → LeavesText bytes left → Stands size left reason → BreaksText size reason bytes
   BadReference : (text rest : List ℕ) → ReadsRun sort.Text text bytes rest → HasBadReference text
-      → reason ≡ fault.BadEscape → BreaksText size reason bytes
+      → (rest ≡ [] → IsUtf8 text → ¬ (GoesOn text)) → reason ≡ fault.BadEscape → BreaksText size reason bytes
 
--- What stands behind the tag of an element that is read as a text has a fault: the text leaves the grammar, or is out
--- of the form of the element, or the end tag does not follow it.
+-- What stands behind the tag of an element that is read as a text has a fault: the text leaves the grammar, or is whole
+-- and out of the form of the element, or the end tag does not follow it.
 pub data BreaksLeaf (size : ℕ) (reason : DocFault) (form : Form) (of : Element)
     (tag : Tag) (bytes : List ℕ) : Type 0 where
   InText : tag.closed ≡ false → BreaksText size reason bytes → BreaksLeaf size reason form of tag bytes
-  Unfit : (text rest : List ℕ) → HasText tag bytes rest text → IsUnfit form of text reason
-      → BreaksLeaf size reason form of tag bytes
+  Unfit : (text rest : List ℕ) → HasText tag bytes rest text → (tag.closed ≡ false → rest ≢ [])
+      → IsUnfit form of text reason → BreaksLeaf size reason form of tag bytes
   NoEndBehind : (raw text end : List ℕ) (left : ℕ) → tag.closed ≡ false → ReadsText raw bytes end
       → IsUnescaped raw text → IsFit form of text → LeavesEndTag tag.name.now end left → Stands size left reason
       → BreaksLeaf size reason form of tag bytes

@@ -2,7 +2,7 @@
 -- place is told by the number of bytes that are left.
 use Rattle.std.specs.Prelude.{◌≡◌, ◌≢◌, ◌≤◌, ◌<◌, ◌+◌, ◌-◌, ◌⊎◌, ℕ, List, [], ◌∷◌, length, slice_index, take}
 use Rattle.std.specs.Str.{IsUtf8, IsValidUpTo}
-use Rattle.reply_values.specs.References.{IsBadReference, IsUnescaped}
+use Rattle.reply_values.specs.References.{GoesOn, IsBadReference, IsUnescaped}
 use Rattle.reply_xml.specs.declared.runs.Sort.TheVariants as sort
 use Rattle.reply_xml.specs.Runs.{BeginsOutside, ReadsRun, is_name_byte}
 use Rattle.reply_xml.specs.Tags.{NameEnds, NamesTag, ReadsAttributes, ReadsName}
@@ -96,10 +96,10 @@ abbrev pub IsSound : List ℕ → Type 0
 IsSound text = (front : List ℕ) × IsFront front text × ((meaning : List ℕ) × IsUnescaped front meaning)
 
 -- A text does not stand here: no tag follows it, or some of its bytes are not UTF-8. No reference is bad before the
--- first of these.
+-- first of these, but the end of the bytes may cut one short.
 pub data LeavesText (bytes : List ℕ) (left : ℕ) : Type 0 where
   NoTagBehind : (size : ℕ) (text : List ℕ) → ReadsRun sort.Text text bytes [] → size ≤ length text
-      → (IsUtf8 text → size ≡ length text) → (¬ (IsUtf8 text) → IsSound text × IsAtFault text size)
+      → (IsUtf8 text → (size ≡ length text) × GoesOn text) → (¬ (IsUtf8 text) → IsSound text × IsAtFault text size)
       → left ≡ length bytes - size → LeavesText bytes left
   NotUtf8 : (size : ℕ) (text at : List ℕ) → ReadsRun sort.Text text bytes at → ¬ (IsUtf8 text) → IsSound text
       → IsAtFault text size → left ≡ length bytes - size → LeavesText bytes left

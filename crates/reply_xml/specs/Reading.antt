@@ -7,7 +7,7 @@ use Rattle.reply_xml.specs.Contents.{Content, Only, Then, ReadsText, ReadsInner,
 use Rattle.reply_xml.specs.Children.{Once, AtMostOnce, Each, IsLeafOf}
 use Rattle.reply_xml.specs.declared.elements.Element.{Element}
 use Rattle.reply_xml.specs.Elements.{element_named}
-use Rattle.reply_xml.specs.Tags.{NamesTag, ReadsTagEnd}
+use Rattle.reply_xml.specs.Tags.{NameEnds, NamesTag, ReadsTagEnd}
 
 -- an element begins one level below an element with this room: a text, and its tag up to the end of the name
 pub record NamesChild (room : ℕ) (bytes : List ℕ) (child : Child) (rest : List ℕ) : Type 0 where
@@ -15,6 +15,7 @@ pub record NamesChild (room : ℕ) (bytes : List ℕ) (child : Child) (rest : Li
   pub at_tag : List ℕ
   pub before : ReadsText text bytes at_tag
   pub names : NamesTag child.name.now at_tag rest
+  pub ends : NameEnds rest
   pub known : child.element ≡ element_named child.name.now
   pub deeper : child.room + 1 ≡ room
 

@@ -1,6 +1,6 @@
 //! A document that is read from its front.
 
-ghost use Rattle.std.specs.Prelude.{◌∷◌, [], ◌≡◌, ◌≤◌, ◌<◌, ◌+◌, ◌-◌, ℕ, List, Option, Some, None, true};
+ghost use Rattle.std.specs.Prelude.{◌∷◌, [], ◌≡◌, ◌≢◌, ◌≤◌, ◌<◌, ◌+◌, ◌-◌, ℕ, List, Option, Some, None, true};
 ghost use Rattle.std.specs.Prelude.{IfOk, OnOk, length, Bool, false, IfSome, OnSome, IfNone};
 ghost use Rattle.std.specs.Bool.{MatchBool};
 ghost use Rattle.reply_xml.specs.declared.elements.Element.{Element};
@@ -12,7 +12,9 @@ ghost use Rattle.reply_xml.specs.Runs.{ReadsRun};
 ghost use Rattle.reply_xml.specs.declared.runs.Sort.TheVariants as sort;
 ghost use Rattle.reply_xml.specs.Tables.{Done, IsFresh, IsOutside, Table, first_missing, form_in};
 ghost use Rattle.std.specs.Str.{IsUtf8};
+ghost use Rattle.reply_xml.specs.declared.reader.Child.{Child};
 ghost use Rattle.reply_xml.specs.Faults.{IfRefused};
+ghost use Rattle.reply_xml.specs.Unfit.{HasText};
 ghost use Rattle.reply_xml.specs.Tags.{ReadsTag, ReadsTagEnd, ReadsEndTag};
 ghost use Rattle.reply_xml.specs.Meaning.{meaning_of};
 ghost use Rattle.reply_xml.specs.Reading.{AtEnd, EndsContent, IsTagOf, HoldsSome, NamesChild};
@@ -68,6 +70,18 @@ fn at_end_tag(bytes: &[u8]) -> bool
 }
 
 impl<'a> Reader<'a> {
+    /// Another reader at the same place.
+    pub fn fork(&self) -> Reader<'a>
+        ensures rest { result.rest.now ≡ self.now.rest.now }
+        ensures size { result.size ≡ self.now.size }
+    {
+        Reader {
+            alloc: self.alloc,
+            size: self.size,
+            rest: self.rest,
+        }
+    }
+
     /// The place where so many bytes are left.
     pub(crate) fn place(&self, left: usize) -> usize
         requires { left ≤ length self.now.rest.now }
@@ -80,6 +94,7 @@ impl<'a> Reader<'a> {
     fn text(&mut self) -> Result<Meaning<'a>, DocFault>
         ensures value { IfOk result (λ found. (raw : List ℕ) × ReadsText raw self.old.rest.now self.new.rest.now ×
             IsUnescaped raw (meaning_of found)) }
+        ensures followed { OnOk result (self.new.rest.now ≢ []) }
         ensures no_longer { length self.new.rest.now ≤ length self.old.rest.now }
         ensures refused { IfRefused result ((text rest : List ℕ) → ¬ (ReadsText text self.old.rest.now (60 ∷ rest))) }
         ensures size { self.new.size ≡ self.old.size }
@@ -127,6 +142,8 @@ impl<'a> Reader<'a> {
         ensures no_longer { length self.new.rest.now ≤ length self.old.rest.now }
         ensures refused { IfRefused result ((inner : Content) (rest : List ℕ) →
             ¬ (ReadsInner parent.now.closed inner parent.now.room parent.now.name.now self.old.rest.now rest)) }
+        ensures none { IfRefused result ((child : Child) (from : List ℕ) →
+            ¬ (NamesChild parent.now.room self.old.rest.now child from)) }
         ensures size { self.new.size ≡ self.old.size }
         ensures broken { IfBroken result (λ reason. (table : Table) (front : List (Option Element)) →
             BreaksIn self.old.size reason table front parent.now self.old.rest.now) }
@@ -203,7 +220,12 @@ impl<'a> Reader<'a> {
 
     /// What the text of a leaf means, up to its end tag.
     pub fn leaf_text(&mut self, tag: &Tag<'a>) -> Result<Meaning<'a>, DocFault>
+        ensures value { IfOk result (λ found.
+            HasText tag.now self.old.rest.now self.new.rest.now (meaning_of found)) }
+        ensures followed { OnOk result (tag.now.closed ≡ false → self.new.rest.now ≢ []) }
         ensures no_longer { length self.new.rest.now ≤ length self.old.rest.now }
+        ensures refused { IfRefused result ((text rest : List ℕ) → HasText tag.now self.old.rest.now rest text →
+            ¬ (tag.now.closed ≡ false → rest ≢ [])) }
     {
         if tag.closed {
             return Ok(Meaning::Itself(""));

@@ -1,15 +1,15 @@
 //! What the text between two tags means.
 
-ghost use Rattle.std.specs.Prelude.{◌≡◌, ℕ, List, IfOk, length};
+ghost use Rattle.std.specs.Prelude.{◌≡◌, ℕ, List, IfOk, length, true};
 ghost use Rattle.std.specs.Str.{IsUtf8};
 ghost use Rattle.reply_xml.specs.Faults.{EndsIn, EndsWithin, IfBad, IfEnds, OnBad, OnEnds, TellsText};
 ghost use Rattle.reply_xml.specs.Leaves.{HasBadReference, IsAtFault, IsSound};
 ghost use Rattle.reply_xml.specs.Meaning.{meaning_of};
-ghost use Rattle.reply_values.specs.References.{IsUnescaped};
+ghost use Rattle.reply_values.specs.References.{GoesOn, IsUnescaped};
 
 use crate::places::utf8_front;
 use memchr::memchr;
-use reply_values::{ReferenceFault, bad_reference, may_begin_reference, unescape};
+use reply_values::{ReferenceFault, bad_reference, unescape};
 use s3_model::{OutOfMemory, Text};
 use std::alloc::Global;
 
@@ -75,21 +75,22 @@ pub(crate) fn read_meaning<'a>(alloc: Global, bytes: &'a [u8]) -> Result<Meaning
 /// end of the document cuts short is not a bad one where more bytes could complete it.
 pub(crate) fn text_fault(bytes: &[u8], last: bool) -> TextFault
     ensures place { EndsIn result (length bytes.now) }
-    ensures whole { OnEnds result (λ place. IsUtf8 bytes.now → place ≡ length bytes.now) }
+    ensures whole { OnEnds result (λ place. IsUtf8 bytes.now → (place ≡ length bytes.now) × GoesOn bytes.now) }
     ensures sound { OnEnds result (λ place. ¬ (IsUtf8 bytes.now) → IsSound bytes.now) }
     ensures fault { OnEnds result (λ place. ¬ (IsUtf8 bytes.now) → IsAtFault bytes.now place) }
     ensures bad { OnBad result (HasBadReference bytes.now) }
+    ensures uncut { OnBad result (last ≡ true → IsUtf8 bytes.now → ¬ (GoesOn bytes.now)) }
 {
-    let (raw, whole) = match std::str::from_utf8(bytes) {
-        Ok(raw) => (raw, true),
-        Err(fault) => (valid_front(&bytes[..fault.valid_up_to()]), false),
-    };
-    match bad_reference(raw) {
-        Some(place) if last && whole && may_begin_reference(raw, place) => {
-            TextFault::Ends(bytes.len())
-        }
-        Some(_) => TextFault::BadReference,
-        None => TextFault::Ends(utf8_front(bytes)),
+    match std::str::from_utf8(bytes) {
+        Ok(raw) => match bad_reference(raw) {
+            Some(found) if last && found.cut_short => TextFault::Ends(bytes.len()),
+            Some(_) => TextFault::BadReference,
+            None => TextFault::Ends(bytes.len()),
+        },
+        Err(fault) => match bad_reference(valid_front(&bytes[..fault.valid_up_to()])) {
+            Some(_) => TextFault::BadReference,
+            None => TextFault::Ends(utf8_front(bytes)),
+        },
     }
 }
 

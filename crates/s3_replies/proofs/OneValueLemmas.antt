@@ -7,7 +7,7 @@ use Rattle.s3_replies.specs.Buckets.{HasBuckets, HasEachBucket}
 use Rattle.reply_xml.specs.Children.{HasLeaf, HasOnly, IsFormed, IsLeafOf, IsPlain}
 use Rattle.reply_xml.specs.Contents.{Content, named}
 use Rattle.s3_replies.specs.Errors.{HasError}
-use Rattle.s3_replies.specs.Listing.{MeansEntry, MeansText, Page}
+use Rattle.s3_replies.specs.Listing.{MeansEntry, Page}
 use Rattle.s3_replies.specs.OneValue.{OneBucketList, OneEntityTag, OneError, OneListing, OneUpload}
 use Rattle.s3_replies.specs.Results.{copy_root}
 use Rattle.s3_replies.proofs.BucketLemmas.{HasEachBucket-same}
@@ -15,7 +15,8 @@ use Rattle.reply_xml.proofs.ChildLemmas.{IsFormed-same, IsLeafOf-same, Once-same
 use Rattle.s3_replies.proofs.EntryLemmas.{entries_same}
 use Rattle.s3_replies.proofs.ListingLemmas.{at_most_same, IsWritten-same}
 use Rattle.s3_replies.proofs.PageLemmas.{HasLeaf-same}
-use Rattle.s3_replies.proofs.PlainLemmas.{MeansText-same}
+use Rattle.reply_values.specs.UrlText.{MeansText}
+use Rattle.reply_values.proofs.UrlTextLemmas.{MeansText-same}
 use Rattle.reply_xml.proofs.WholeLemmas.{IsOf-same}
 
 pairs_same : {A B : Type 0} (a b : A × B) → b.0 ≡ a.0 → b.1 ≡ a.1 → b ≡ a

@@ -7,8 +7,8 @@ use Rattle.reply_xml.specs.declared.elements.Element.TheVariants as element
 use Rattle.reply_xml.specs.declared.reader.Child.{Child}
 use Rattle.reply_xml.specs.declared.reader.Tag.{Tag}
 use Rattle.reply_xml.specs.Contents.{Content, Only, Then, is_the, named}
-use Rattle.reply_xml.specs.Children.{HasLeaf, IsFormed, IsLeaf, IsLeafOf}
-use Rattle.s3_replies.specs.Listing.{EncodingLeft, HasEncoding, HasObject, HasPage, ObjectsLeft, Page, PageLeft, PrefixesLeft}
+use Rattle.reply_xml.specs.Children.{HasLeaf, HasOnly, IsFormed, IsLeaf, IsLeafOf}
+use Rattle.s3_replies.specs.Listing.{EncodingLeft, HasEncoding, HasObjectBy, HasPageBy, ObjectsLeft, Page, PageLeft, PrefixesLeft}
 use Rattle.reply_values.specs.Numbers.{SpellsTruth}
 use Rattle.reply_xml.specs.Reading.{HoldsAs, ReadsAs, ReadsSome, Advances, Stops, OnceLeft, AtMostOnceLeft, LeafLeft, AtMostLeft, EachLeft}
 use Rattle.reply_xml.proofs.ChildLemmas.{is_other, named_here, nothing_there, content_same, leaf_same, IsFormed-same}
@@ -33,7 +33,7 @@ encoding_advanced false child bytes rest text e h u r = (
       (named_here element.EncodingType before child.element r.0 more h) (subst (IsLeaf r.0) u r.2),
 )
 
-encoding_is : (inner : Content) (contents all : List Content) (url : Bool) → all ≡ inner ∷ contents → HasEncoding all url → IsLeaf inner (codes "url")
+pub encoding_is : (inner : Content) (contents all : List Content) (url : Bool) → all ≡ inner ∷ contents → HasEncoding all url → IsLeaf inner (codes "url")
 encoding_is inner contents all false e h = absurd (nothing_there inner contents (sym e ∙ h))
 encoding_is inner contents all true e h = subst (λ (c : Content). IsLeaf c (codes "url")) (sym (content_same inner h.0 contents [] (sym e ∙ h.1)).0) h.2
 
@@ -56,11 +56,11 @@ TokenLeft token content page = AtMostLeft (IsFormed element.NextContinuationToke
 abbrev UrlLeft : Bool → Content → Page → Type 0
 UrlLeft url content page = EncodingLeft url content page.url
 
-abbrev EntriesLeft : List Entry → Content → Page → Type 0
-EntriesLeft entries content page = ObjectsLeft entries content page.entries
+abbrev EntriesLeft : (List ℕ → List ℕ → Type 0) → List Entry → Content → Page → Type 0
+EntriesLeft SpellsKey entries content page = ObjectsLeft SpellsKey entries content page.entries
 
-abbrev PartsLeft : List (List ℕ) → Content → Page → Type 0
-PartsLeft prefixes content page = PrefixesLeft prefixes content page.prefixes
+abbrev PartsLeft : (List ℕ → List ℕ → Type 0) → List (List ℕ) → Content → Page → Type 0
+PartsLeft SpellsPrefix prefixes content page = PrefixesLeft SpellsPrefix prefixes content page.prefixes
 
 more_passes : (more : Option Bool) (child : Child) → is_the element.IsTruncated child.element ≡ false → Passes (MoreLeft more) child
 more_passes more child h = named_passes (λ cs (page : Page). OnceLeft (IsLeafOf SpellsTruth) more cs page.more) element.IsTruncated child h
@@ -72,56 +72,56 @@ url_passes : (url : Bool) (child : Child) → is_the element.EncodingType child.
 url_passes false child h = named_passes (λ cs (page : Page). HasEncoding cs page.url) element.EncodingType child h
 url_passes true child h = named_passes (λ cs (page : Page). (cs ≡ []) × (page.url ≡ true)) element.EncodingType child h
 
-entries_passes : (entries : List Entry) (child : Child) → is_the element.Contents child.element ≡ false → Passes (EntriesLeft entries) child
-entries_passes entries child h = named_passes (λ cs (page : Page). EachLeft HasObject entries cs page.entries) element.Contents child h
+entries_passes : (SpellsKey : List ℕ → List ℕ → Type 0) → (entries : List Entry) (child : Child) → is_the element.Contents child.element ≡ false → Passes (EntriesLeft SpellsKey entries) child
+entries_passes SpellsKey entries child h = named_passes (λ cs (page : Page). EachLeft (HasObjectBy SpellsKey) entries cs page.entries) element.Contents child h
 
-prefixes_passes : (prefixes : List (List ℕ)) (child : Child) → is_the element.CommonPrefixes child.element ≡ false → Passes (PartsLeft prefixes) child
-prefixes_passes prefixes child h = named_passes (λ cs (page : Page). EachLeft (HasLeaf element.Prefix) prefixes cs page.prefixes) element.CommonPrefixes child h
+prefixes_passes : (SpellsPrefix : List ℕ → List ℕ → Type 0) → (prefixes : List (List ℕ)) (child : Child) → is_the element.CommonPrefixes child.element ≡ false → Passes (PartsLeft SpellsPrefix prefixes) child
+prefixes_passes SpellsPrefix prefixes child h = named_passes (λ cs (page : Page). EachLeft (HasOnly SpellsPrefix element.Prefix) prefixes cs page.prefixes) element.CommonPrefixes child h
 
-pub more_advanced : (more : Option Bool) (token : Option (List ℕ)) (url : Bool) (entries : List Entry) (prefixes : List (List ℕ)) (now : Option Bool) (child : Child) (bytes rest : List ℕ) → is_the element.IsTruncated child.element ≡ true → Advances (LeafLeft SpellsTruth element.IsTruncated more) (LeafLeft SpellsTruth element.IsTruncated now) child bytes rest
-    → Advances (PageLeft more token url entries prefixes) (PageLeft now token url entries prefixes) child bytes rest
-more_advanced more token url entries prefixes now child bytes rest h a = first_advanced (Both (MoreLeft more) (TokenLeft token)) (Both (MoreLeft now) (TokenLeft token)) (Both (UrlLeft url) (Both (EntriesLeft entries) (PartsLeft prefixes))) child bytes rest (first_advanced (MoreLeft more) (MoreLeft now) (TokenLeft token) child bytes rest (part_advanced (λ (page : Page). page.more) (LeafLeft SpellsTruth element.IsTruncated more) (LeafLeft SpellsTruth element.IsTruncated now) child bytes rest a) (token_passes token child (is_other element.IsTruncated element.NextContinuationToken child.element h refl))) (both_pass (UrlLeft url) (Both (EntriesLeft entries) (PartsLeft prefixes)) child (url_passes url child (is_other element.IsTruncated element.EncodingType child.element h refl)) (both_pass (EntriesLeft entries) (PartsLeft prefixes) child (entries_passes entries child (is_other element.IsTruncated element.Contents child.element h refl)) (prefixes_passes prefixes child (is_other element.IsTruncated element.CommonPrefixes child.element h refl))))
+pub more_advanced : (SpellsKey SpellsPrefix : List ℕ → List ℕ → Type 0) → (more : Option Bool) (token : Option (List ℕ)) (url : Bool) (entries : List Entry) (prefixes : List (List ℕ)) (now : Option Bool) (child : Child) (bytes rest : List ℕ) → is_the element.IsTruncated child.element ≡ true → Advances (LeafLeft SpellsTruth element.IsTruncated more) (LeafLeft SpellsTruth element.IsTruncated now) child bytes rest
+    → Advances (PageLeft SpellsKey SpellsPrefix more token url entries prefixes) (PageLeft SpellsKey SpellsPrefix now token url entries prefixes) child bytes rest
+more_advanced SpellsKey SpellsPrefix more token url entries prefixes now child bytes rest h a = first_advanced (Both (MoreLeft more) (TokenLeft token)) (Both (MoreLeft now) (TokenLeft token)) (Both (UrlLeft url) (Both (EntriesLeft SpellsKey entries) (PartsLeft SpellsPrefix prefixes))) child bytes rest (first_advanced (MoreLeft more) (MoreLeft now) (TokenLeft token) child bytes rest (part_advanced (λ (page : Page). page.more) (LeafLeft SpellsTruth element.IsTruncated more) (LeafLeft SpellsTruth element.IsTruncated now) child bytes rest a) (token_passes token child (is_other element.IsTruncated element.NextContinuationToken child.element h refl))) (both_pass (UrlLeft url) (Both (EntriesLeft SpellsKey entries) (PartsLeft SpellsPrefix prefixes)) child (url_passes url child (is_other element.IsTruncated element.EncodingType child.element h refl)) (both_pass (EntriesLeft SpellsKey entries) (PartsLeft SpellsPrefix prefixes) child (entries_passes SpellsKey entries child (is_other element.IsTruncated element.Contents child.element h refl)) (prefixes_passes SpellsPrefix prefixes child (is_other element.IsTruncated element.CommonPrefixes child.element h refl))))
 
-pub more_stopped : (more : Option Bool) (token : Option (List ℕ)) (url : Bool) (entries : List Entry) (prefixes : List (List ℕ)) (child : Child) (bytes : List ℕ) → Stops (LeafLeft SpellsTruth element.IsTruncated more) child bytes → Stops (PageLeft more token url entries prefixes) child bytes
-more_stopped more token url entries prefixes child bytes s = first_stopped (Both (MoreLeft more) (TokenLeft token)) (Both (UrlLeft url) (Both (EntriesLeft entries) (PartsLeft prefixes))) child bytes (first_stopped (MoreLeft more) (TokenLeft token) child bytes (part_stopped (λ (page : Page). page.more) (LeafLeft SpellsTruth element.IsTruncated more) child bytes s))
+pub more_stopped : (SpellsKey SpellsPrefix : List ℕ → List ℕ → Type 0) → (more : Option Bool) (token : Option (List ℕ)) (url : Bool) (entries : List Entry) (prefixes : List (List ℕ)) (child : Child) (bytes : List ℕ) → Stops (LeafLeft SpellsTruth element.IsTruncated more) child bytes → Stops (PageLeft SpellsKey SpellsPrefix more token url entries prefixes) child bytes
+more_stopped SpellsKey SpellsPrefix more token url entries prefixes child bytes s = first_stopped (Both (MoreLeft more) (TokenLeft token)) (Both (UrlLeft url) (Both (EntriesLeft SpellsKey entries) (PartsLeft SpellsPrefix prefixes))) child bytes (first_stopped (MoreLeft more) (TokenLeft token) child bytes (part_stopped (λ (page : Page). page.more) (LeafLeft SpellsTruth element.IsTruncated more) child bytes s))
 
-pub token_advanced : (more : Option Bool) (token : Option (List ℕ)) (url : Bool) (entries : List Entry) (prefixes : List (List ℕ)) (now : Option (List ℕ)) (child : Child) (bytes rest : List ℕ) → is_the element.NextContinuationToken child.element ≡ true → Advances (AtMostLeft (IsFormed element.NextContinuationToken) element.NextContinuationToken token) (AtMostLeft (IsFormed element.NextContinuationToken) element.NextContinuationToken now) child bytes rest
-    → Advances (PageLeft more token url entries prefixes) (PageLeft more now url entries prefixes) child bytes rest
-token_advanced more token url entries prefixes now child bytes rest h a = first_advanced (Both (MoreLeft more) (TokenLeft token)) (Both (MoreLeft more) (TokenLeft now)) (Both (UrlLeft url) (Both (EntriesLeft entries) (PartsLeft prefixes))) child bytes rest (other_advanced (MoreLeft more) (TokenLeft token) (TokenLeft now) child bytes rest (part_advanced (λ (page : Page). page.token) (AtMostLeft (IsFormed element.NextContinuationToken) element.NextContinuationToken token) (AtMostLeft (IsFormed element.NextContinuationToken) element.NextContinuationToken now) child bytes rest a) (more_passes more child (is_other element.NextContinuationToken element.IsTruncated child.element h refl))) (both_pass (UrlLeft url) (Both (EntriesLeft entries) (PartsLeft prefixes)) child (url_passes url child (is_other element.NextContinuationToken element.EncodingType child.element h refl)) (both_pass (EntriesLeft entries) (PartsLeft prefixes) child (entries_passes entries child (is_other element.NextContinuationToken element.Contents child.element h refl)) (prefixes_passes prefixes child (is_other element.NextContinuationToken element.CommonPrefixes child.element h refl))))
+pub token_advanced : (SpellsKey SpellsPrefix : List ℕ → List ℕ → Type 0) → (more : Option Bool) (token : Option (List ℕ)) (url : Bool) (entries : List Entry) (prefixes : List (List ℕ)) (now : Option (List ℕ)) (child : Child) (bytes rest : List ℕ) → is_the element.NextContinuationToken child.element ≡ true → Advances (AtMostLeft (IsFormed element.NextContinuationToken) element.NextContinuationToken token) (AtMostLeft (IsFormed element.NextContinuationToken) element.NextContinuationToken now) child bytes rest
+    → Advances (PageLeft SpellsKey SpellsPrefix more token url entries prefixes) (PageLeft SpellsKey SpellsPrefix more now url entries prefixes) child bytes rest
+token_advanced SpellsKey SpellsPrefix more token url entries prefixes now child bytes rest h a = first_advanced (Both (MoreLeft more) (TokenLeft token)) (Both (MoreLeft more) (TokenLeft now)) (Both (UrlLeft url) (Both (EntriesLeft SpellsKey entries) (PartsLeft SpellsPrefix prefixes))) child bytes rest (other_advanced (MoreLeft more) (TokenLeft token) (TokenLeft now) child bytes rest (part_advanced (λ (page : Page). page.token) (AtMostLeft (IsFormed element.NextContinuationToken) element.NextContinuationToken token) (AtMostLeft (IsFormed element.NextContinuationToken) element.NextContinuationToken now) child bytes rest a) (more_passes more child (is_other element.NextContinuationToken element.IsTruncated child.element h refl))) (both_pass (UrlLeft url) (Both (EntriesLeft SpellsKey entries) (PartsLeft SpellsPrefix prefixes)) child (url_passes url child (is_other element.NextContinuationToken element.EncodingType child.element h refl)) (both_pass (EntriesLeft SpellsKey entries) (PartsLeft SpellsPrefix prefixes) child (entries_passes SpellsKey entries child (is_other element.NextContinuationToken element.Contents child.element h refl)) (prefixes_passes SpellsPrefix prefixes child (is_other element.NextContinuationToken element.CommonPrefixes child.element h refl))))
 
-pub token_stopped : (more : Option Bool) (token : Option (List ℕ)) (url : Bool) (entries : List Entry) (prefixes : List (List ℕ)) (child : Child) (bytes : List ℕ) → Stops (AtMostLeft (IsFormed element.NextContinuationToken) element.NextContinuationToken token) child bytes → Stops (PageLeft more token url entries prefixes) child bytes
-token_stopped more token url entries prefixes child bytes s = first_stopped (Both (MoreLeft more) (TokenLeft token)) (Both (UrlLeft url) (Both (EntriesLeft entries) (PartsLeft prefixes))) child bytes (other_stopped (MoreLeft more) (TokenLeft token) child bytes (part_stopped (λ (page : Page). page.token) (AtMostLeft (IsFormed element.NextContinuationToken) element.NextContinuationToken token) child bytes s))
+pub token_stopped : (SpellsKey SpellsPrefix : List ℕ → List ℕ → Type 0) → (more : Option Bool) (token : Option (List ℕ)) (url : Bool) (entries : List Entry) (prefixes : List (List ℕ)) (child : Child) (bytes : List ℕ) → Stops (AtMostLeft (IsFormed element.NextContinuationToken) element.NextContinuationToken token) child bytes → Stops (PageLeft SpellsKey SpellsPrefix more token url entries prefixes) child bytes
+token_stopped SpellsKey SpellsPrefix more token url entries prefixes child bytes s = first_stopped (Both (MoreLeft more) (TokenLeft token)) (Both (UrlLeft url) (Both (EntriesLeft SpellsKey entries) (PartsLeft SpellsPrefix prefixes))) child bytes (other_stopped (MoreLeft more) (TokenLeft token) child bytes (part_stopped (λ (page : Page). page.token) (AtMostLeft (IsFormed element.NextContinuationToken) element.NextContinuationToken token) child bytes s))
 
-pub url_advanced : (more : Option Bool) (token : Option (List ℕ)) (url : Bool) (entries : List Entry) (prefixes : List (List ℕ)) (now : Bool) (child : Child) (bytes rest : List ℕ) → is_the element.EncodingType child.element ≡ true → Advances (EncodingLeft url) (EncodingLeft now) child bytes rest
-    → Advances (PageLeft more token url entries prefixes) (PageLeft more token now entries prefixes) child bytes rest
-url_advanced more token url entries prefixes now child bytes rest h a = other_advanced (Both (MoreLeft more) (TokenLeft token)) (Both (UrlLeft url) (Both (EntriesLeft entries) (PartsLeft prefixes))) (Both (UrlLeft now) (Both (EntriesLeft entries) (PartsLeft prefixes))) child bytes rest (first_advanced (UrlLeft url) (UrlLeft now) (Both (EntriesLeft entries) (PartsLeft prefixes)) child bytes rest (part_advanced (λ (page : Page). page.url) (EncodingLeft url) (EncodingLeft now) child bytes rest a) (both_pass (EntriesLeft entries) (PartsLeft prefixes) child (entries_passes entries child (is_other element.EncodingType element.Contents child.element h refl)) (prefixes_passes prefixes child (is_other element.EncodingType element.CommonPrefixes child.element h refl)))) (both_pass (MoreLeft more) (TokenLeft token) child (more_passes more child (is_other element.EncodingType element.IsTruncated child.element h refl)) (token_passes token child (is_other element.EncodingType element.NextContinuationToken child.element h refl)))
+pub url_advanced : (SpellsKey SpellsPrefix : List ℕ → List ℕ → Type 0) → (more : Option Bool) (token : Option (List ℕ)) (url : Bool) (entries : List Entry) (prefixes : List (List ℕ)) (now : Bool) (child : Child) (bytes rest : List ℕ) → is_the element.EncodingType child.element ≡ true → Advances (EncodingLeft url) (EncodingLeft now) child bytes rest
+    → Advances (PageLeft SpellsKey SpellsPrefix more token url entries prefixes) (PageLeft SpellsKey SpellsPrefix more token now entries prefixes) child bytes rest
+url_advanced SpellsKey SpellsPrefix more token url entries prefixes now child bytes rest h a = other_advanced (Both (MoreLeft more) (TokenLeft token)) (Both (UrlLeft url) (Both (EntriesLeft SpellsKey entries) (PartsLeft SpellsPrefix prefixes))) (Both (UrlLeft now) (Both (EntriesLeft SpellsKey entries) (PartsLeft SpellsPrefix prefixes))) child bytes rest (first_advanced (UrlLeft url) (UrlLeft now) (Both (EntriesLeft SpellsKey entries) (PartsLeft SpellsPrefix prefixes)) child bytes rest (part_advanced (λ (page : Page). page.url) (EncodingLeft url) (EncodingLeft now) child bytes rest a) (both_pass (EntriesLeft SpellsKey entries) (PartsLeft SpellsPrefix prefixes) child (entries_passes SpellsKey entries child (is_other element.EncodingType element.Contents child.element h refl)) (prefixes_passes SpellsPrefix prefixes child (is_other element.EncodingType element.CommonPrefixes child.element h refl)))) (both_pass (MoreLeft more) (TokenLeft token) child (more_passes more child (is_other element.EncodingType element.IsTruncated child.element h refl)) (token_passes token child (is_other element.EncodingType element.NextContinuationToken child.element h refl)))
 
-pub url_stopped : (more : Option Bool) (token : Option (List ℕ)) (url : Bool) (entries : List Entry) (prefixes : List (List ℕ)) (child : Child) (bytes : List ℕ) → Stops (EncodingLeft url) child bytes → Stops (PageLeft more token url entries prefixes) child bytes
-url_stopped more token url entries prefixes child bytes s = other_stopped (Both (MoreLeft more) (TokenLeft token)) (Both (UrlLeft url) (Both (EntriesLeft entries) (PartsLeft prefixes))) child bytes (first_stopped (UrlLeft url) (Both (EntriesLeft entries) (PartsLeft prefixes)) child bytes (part_stopped (λ (page : Page). page.url) (EncodingLeft url) child bytes s))
+pub url_stopped : (SpellsKey SpellsPrefix : List ℕ → List ℕ → Type 0) → (more : Option Bool) (token : Option (List ℕ)) (url : Bool) (entries : List Entry) (prefixes : List (List ℕ)) (child : Child) (bytes : List ℕ) → Stops (EncodingLeft url) child bytes → Stops (PageLeft SpellsKey SpellsPrefix more token url entries prefixes) child bytes
+url_stopped SpellsKey SpellsPrefix more token url entries prefixes child bytes s = other_stopped (Both (MoreLeft more) (TokenLeft token)) (Both (UrlLeft url) (Both (EntriesLeft SpellsKey entries) (PartsLeft SpellsPrefix prefixes))) child bytes (first_stopped (UrlLeft url) (Both (EntriesLeft SpellsKey entries) (PartsLeft SpellsPrefix prefixes)) child bytes (part_stopped (λ (page : Page). page.url) (EncodingLeft url) child bytes s))
 
-pub entries_advanced : (more : Option Bool) (token : Option (List ℕ)) (url : Bool) (entries : List Entry) (prefixes : List (List ℕ)) (now : List Entry) (child : Child) (bytes rest : List ℕ) → is_the element.Contents child.element ≡ true → Advances (ObjectsLeft entries) (ObjectsLeft now) child bytes rest
-    → Advances (PageLeft more token url entries prefixes) (PageLeft more token url now prefixes) child bytes rest
-entries_advanced more token url entries prefixes now child bytes rest h a = other_advanced (Both (MoreLeft more) (TokenLeft token)) (Both (UrlLeft url) (Both (EntriesLeft entries) (PartsLeft prefixes))) (Both (UrlLeft url) (Both (EntriesLeft now) (PartsLeft prefixes))) child bytes rest (other_advanced (UrlLeft url) (Both (EntriesLeft entries) (PartsLeft prefixes)) (Both (EntriesLeft now) (PartsLeft prefixes)) child bytes rest (first_advanced (EntriesLeft entries) (EntriesLeft now) (PartsLeft prefixes) child bytes rest (part_advanced (λ (page : Page). page.entries) (ObjectsLeft entries) (ObjectsLeft now) child bytes rest a) (prefixes_passes prefixes child (is_other element.Contents element.CommonPrefixes child.element h refl))) (url_passes url child (is_other element.Contents element.EncodingType child.element h refl))) (both_pass (MoreLeft more) (TokenLeft token) child (more_passes more child (is_other element.Contents element.IsTruncated child.element h refl)) (token_passes token child (is_other element.Contents element.NextContinuationToken child.element h refl)))
+pub entries_advanced : (SpellsKey SpellsPrefix : List ℕ → List ℕ → Type 0) → (more : Option Bool) (token : Option (List ℕ)) (url : Bool) (entries : List Entry) (prefixes : List (List ℕ)) (now : List Entry) (child : Child) (bytes rest : List ℕ) → is_the element.Contents child.element ≡ true → Advances (ObjectsLeft SpellsKey entries) (ObjectsLeft SpellsKey now) child bytes rest
+    → Advances (PageLeft SpellsKey SpellsPrefix more token url entries prefixes) (PageLeft SpellsKey SpellsPrefix more token url now prefixes) child bytes rest
+entries_advanced SpellsKey SpellsPrefix more token url entries prefixes now child bytes rest h a = other_advanced (Both (MoreLeft more) (TokenLeft token)) (Both (UrlLeft url) (Both (EntriesLeft SpellsKey entries) (PartsLeft SpellsPrefix prefixes))) (Both (UrlLeft url) (Both (EntriesLeft SpellsKey now) (PartsLeft SpellsPrefix prefixes))) child bytes rest (other_advanced (UrlLeft url) (Both (EntriesLeft SpellsKey entries) (PartsLeft SpellsPrefix prefixes)) (Both (EntriesLeft SpellsKey now) (PartsLeft SpellsPrefix prefixes)) child bytes rest (first_advanced (EntriesLeft SpellsKey entries) (EntriesLeft SpellsKey now) (PartsLeft SpellsPrefix prefixes) child bytes rest (part_advanced (λ (page : Page). page.entries) (ObjectsLeft SpellsKey entries) (ObjectsLeft SpellsKey now) child bytes rest a) (prefixes_passes SpellsPrefix prefixes child (is_other element.Contents element.CommonPrefixes child.element h refl))) (url_passes url child (is_other element.Contents element.EncodingType child.element h refl))) (both_pass (MoreLeft more) (TokenLeft token) child (more_passes more child (is_other element.Contents element.IsTruncated child.element h refl)) (token_passes token child (is_other element.Contents element.NextContinuationToken child.element h refl)))
 
-pub entries_stopped : (more : Option Bool) (token : Option (List ℕ)) (url : Bool) (entries : List Entry) (prefixes : List (List ℕ)) (child : Child) (bytes : List ℕ) → Stops (ObjectsLeft entries) child bytes → Stops (PageLeft more token url entries prefixes) child bytes
-entries_stopped more token url entries prefixes child bytes s = other_stopped (Both (MoreLeft more) (TokenLeft token)) (Both (UrlLeft url) (Both (EntriesLeft entries) (PartsLeft prefixes))) child bytes (other_stopped (UrlLeft url) (Both (EntriesLeft entries) (PartsLeft prefixes)) child bytes (first_stopped (EntriesLeft entries) (PartsLeft prefixes) child bytes (part_stopped (λ (page : Page). page.entries) (ObjectsLeft entries) child bytes s)))
+pub entries_stopped : (SpellsKey SpellsPrefix : List ℕ → List ℕ → Type 0) → (more : Option Bool) (token : Option (List ℕ)) (url : Bool) (entries : List Entry) (prefixes : List (List ℕ)) (child : Child) (bytes : List ℕ) → Stops (ObjectsLeft SpellsKey entries) child bytes → Stops (PageLeft SpellsKey SpellsPrefix more token url entries prefixes) child bytes
+entries_stopped SpellsKey SpellsPrefix more token url entries prefixes child bytes s = other_stopped (Both (MoreLeft more) (TokenLeft token)) (Both (UrlLeft url) (Both (EntriesLeft SpellsKey entries) (PartsLeft SpellsPrefix prefixes))) child bytes (other_stopped (UrlLeft url) (Both (EntriesLeft SpellsKey entries) (PartsLeft SpellsPrefix prefixes)) child bytes (first_stopped (EntriesLeft SpellsKey entries) (PartsLeft SpellsPrefix prefixes) child bytes (part_stopped (λ (page : Page). page.entries) (ObjectsLeft SpellsKey entries) child bytes s)))
 
-pub prefixes_advanced : (more : Option Bool) (token : Option (List ℕ)) (url : Bool) (entries : List Entry) (prefixes : List (List ℕ)) (now : List (List ℕ)) (child : Child) (bytes rest : List ℕ) → is_the element.CommonPrefixes child.element ≡ true → Advances (PrefixesLeft prefixes) (PrefixesLeft now) child bytes rest
-    → Advances (PageLeft more token url entries prefixes) (PageLeft more token url entries now) child bytes rest
-prefixes_advanced more token url entries prefixes now child bytes rest h a = other_advanced (Both (MoreLeft more) (TokenLeft token)) (Both (UrlLeft url) (Both (EntriesLeft entries) (PartsLeft prefixes))) (Both (UrlLeft url) (Both (EntriesLeft entries) (PartsLeft now))) child bytes rest (other_advanced (UrlLeft url) (Both (EntriesLeft entries) (PartsLeft prefixes)) (Both (EntriesLeft entries) (PartsLeft now)) child bytes rest (other_advanced (EntriesLeft entries) (PartsLeft prefixes) (PartsLeft now) child bytes rest (part_advanced (λ (page : Page). page.prefixes) (PrefixesLeft prefixes) (PrefixesLeft now) child bytes rest a) (entries_passes entries child (is_other element.CommonPrefixes element.Contents child.element h refl))) (url_passes url child (is_other element.CommonPrefixes element.EncodingType child.element h refl))) (both_pass (MoreLeft more) (TokenLeft token) child (more_passes more child (is_other element.CommonPrefixes element.IsTruncated child.element h refl)) (token_passes token child (is_other element.CommonPrefixes element.NextContinuationToken child.element h refl)))
+pub prefixes_advanced : (SpellsKey SpellsPrefix : List ℕ → List ℕ → Type 0) → (more : Option Bool) (token : Option (List ℕ)) (url : Bool) (entries : List Entry) (prefixes : List (List ℕ)) (now : List (List ℕ)) (child : Child) (bytes rest : List ℕ) → is_the element.CommonPrefixes child.element ≡ true → Advances (PrefixesLeft SpellsPrefix prefixes) (PrefixesLeft SpellsPrefix now) child bytes rest
+    → Advances (PageLeft SpellsKey SpellsPrefix more token url entries prefixes) (PageLeft SpellsKey SpellsPrefix more token url entries now) child bytes rest
+prefixes_advanced SpellsKey SpellsPrefix more token url entries prefixes now child bytes rest h a = other_advanced (Both (MoreLeft more) (TokenLeft token)) (Both (UrlLeft url) (Both (EntriesLeft SpellsKey entries) (PartsLeft SpellsPrefix prefixes))) (Both (UrlLeft url) (Both (EntriesLeft SpellsKey entries) (PartsLeft SpellsPrefix now))) child bytes rest (other_advanced (UrlLeft url) (Both (EntriesLeft SpellsKey entries) (PartsLeft SpellsPrefix prefixes)) (Both (EntriesLeft SpellsKey entries) (PartsLeft SpellsPrefix now)) child bytes rest (other_advanced (EntriesLeft SpellsKey entries) (PartsLeft SpellsPrefix prefixes) (PartsLeft SpellsPrefix now) child bytes rest (part_advanced (λ (page : Page). page.prefixes) (PrefixesLeft SpellsPrefix prefixes) (PrefixesLeft SpellsPrefix now) child bytes rest a) (entries_passes SpellsKey entries child (is_other element.CommonPrefixes element.Contents child.element h refl))) (url_passes url child (is_other element.CommonPrefixes element.EncodingType child.element h refl))) (both_pass (MoreLeft more) (TokenLeft token) child (more_passes more child (is_other element.CommonPrefixes element.IsTruncated child.element h refl)) (token_passes token child (is_other element.CommonPrefixes element.NextContinuationToken child.element h refl)))
 
-pub prefixes_stopped : (more : Option Bool) (token : Option (List ℕ)) (url : Bool) (entries : List Entry) (prefixes : List (List ℕ)) (child : Child) (bytes : List ℕ) → Stops (PrefixesLeft prefixes) child bytes → Stops (PageLeft more token url entries prefixes) child bytes
-prefixes_stopped more token url entries prefixes child bytes s = other_stopped (Both (MoreLeft more) (TokenLeft token)) (Both (UrlLeft url) (Both (EntriesLeft entries) (PartsLeft prefixes))) child bytes (other_stopped (UrlLeft url) (Both (EntriesLeft entries) (PartsLeft prefixes)) child bytes (other_stopped (EntriesLeft entries) (PartsLeft prefixes) child bytes (part_stopped (λ (page : Page). page.prefixes) (PrefixesLeft prefixes) child bytes s)))
+pub prefixes_stopped : (SpellsKey SpellsPrefix : List ℕ → List ℕ → Type 0) → (more : Option Bool) (token : Option (List ℕ)) (url : Bool) (entries : List Entry) (prefixes : List (List ℕ)) (child : Child) (bytes : List ℕ) → Stops (PrefixesLeft SpellsPrefix prefixes) child bytes → Stops (PageLeft SpellsKey SpellsPrefix more token url entries prefixes) child bytes
+prefixes_stopped SpellsKey SpellsPrefix more token url entries prefixes child bytes s = other_stopped (Both (MoreLeft more) (TokenLeft token)) (Both (UrlLeft url) (Both (EntriesLeft SpellsKey entries) (PartsLeft SpellsPrefix prefixes))) child bytes (other_stopped (UrlLeft url) (Both (EntriesLeft SpellsKey entries) (PartsLeft SpellsPrefix prefixes)) child bytes (other_stopped (EntriesLeft SpellsKey entries) (PartsLeft SpellsPrefix prefixes) child bytes (part_stopped (λ (page : Page). page.prefixes) (PrefixesLeft SpellsPrefix prefixes) child bytes s)))
 
-pub page_skipped : (more : Option Bool) (token : Option (List ℕ)) (url : Bool) (entries : List Entry) (prefixes : List (List ℕ)) (child : Child) (bytes rest : List ℕ) → is_the element.IsTruncated child.element ≡ false → is_the element.NextContinuationToken child.element ≡ false → is_the element.EncodingType child.element ≡ false → is_the element.Contents child.element ≡ false → is_the element.CommonPrefixes child.element ≡ false → ReadsSome child bytes rest
-    → Advances (PageLeft more token url entries prefixes) (PageLeft more token url entries prefixes) child bytes rest
-page_skipped more token url entries prefixes child bytes rest h_more h_token h_url h_entries h_prefixes s =
-    skipped (PageLeft more token url entries prefixes) child bytes rest (both_pass (Both (MoreLeft more) (TokenLeft token)) (Both (UrlLeft url) (Both (EntriesLeft entries) (PartsLeft prefixes))) child (both_pass (MoreLeft more) (TokenLeft token) child (more_passes more child h_more) (token_passes token child h_token)) (both_pass (UrlLeft url) (Both (EntriesLeft entries) (PartsLeft prefixes)) child (url_passes url child h_url) (both_pass (EntriesLeft entries) (PartsLeft prefixes) child (entries_passes entries child h_entries) (prefixes_passes prefixes child h_prefixes)))) s
+pub page_skipped : (SpellsKey SpellsPrefix : List ℕ → List ℕ → Type 0) → (more : Option Bool) (token : Option (List ℕ)) (url : Bool) (entries : List Entry) (prefixes : List (List ℕ)) (child : Child) (bytes rest : List ℕ) → is_the element.IsTruncated child.element ≡ false → is_the element.NextContinuationToken child.element ≡ false → is_the element.EncodingType child.element ≡ false → is_the element.Contents child.element ≡ false → is_the element.CommonPrefixes child.element ≡ false → ReadsSome child bytes rest
+    → Advances (PageLeft SpellsKey SpellsPrefix more token url entries prefixes) (PageLeft SpellsKey SpellsPrefix more token url entries prefixes) child bytes rest
+page_skipped SpellsKey SpellsPrefix more token url entries prefixes child bytes rest h_more h_token h_url h_entries h_prefixes s =
+    skipped (PageLeft SpellsKey SpellsPrefix more token url entries prefixes) child bytes rest (both_pass (Both (MoreLeft more) (TokenLeft token)) (Both (UrlLeft url) (Both (EntriesLeft SpellsKey entries) (PartsLeft SpellsPrefix prefixes))) child (both_pass (MoreLeft more) (TokenLeft token) child (more_passes more child h_more) (token_passes token child h_token)) (both_pass (UrlLeft url) (Both (EntriesLeft SpellsKey entries) (PartsLeft SpellsPrefix prefixes)) child (url_passes url child h_url) (both_pass (EntriesLeft SpellsKey entries) (PartsLeft SpellsPrefix prefixes) child (entries_passes SpellsKey entries child h_entries) (prefixes_passes SpellsPrefix prefixes child h_prefixes)))) s
 
 -- at the start nothing of a page is found
-pub page_started : (entries : List Entry) (prefixes : List (List ℕ)) (root : Tag) (bytes rest : List ℕ) (page : Page) → entries ≡ [] → prefixes ≡ []
-    → HoldsAs HasPage root bytes rest page ↔ HoldsAs (PageLeft None None false entries prefixes) root bytes rest page
-page_started entries prefixes root bytes rest page e f = (
+pub page_started : (SpellsKey SpellsPrefix : List ℕ → List ℕ → Type 0) → (entries : List Entry) (prefixes : List (List ℕ)) (root : Tag) (bytes rest : List ℕ) (page : Page) → entries ≡ [] → prefixes ≡ []
+    → HoldsAs (HasPageBy SpellsKey SpellsPrefix) root bytes rest page ↔ HoldsAs (PageLeft SpellsKey SpellsPrefix None None false entries prefixes) root bytes rest page
+page_started SpellsKey SpellsPrefix entries prefixes root bytes rest page e f = (
   λ r. (
     r.0,
     r.1,
@@ -130,8 +130,8 @@ page_started entries prefixes root bytes rest page e f = (
       (
         r.2.encoding,
         (
-          (each_start HasObject entries (named element.Contents r.0) page.entries e).0 r.2.entries,
-          (each_start (HasLeaf element.Prefix) prefixes (named element.CommonPrefixes r.0) page.prefixes f).0 r.2.prefixes,
+          (each_start (HasObjectBy SpellsKey) entries (named element.Contents r.0) page.entries e).0 r.2.entries,
+          (each_start (HasOnly SpellsPrefix element.Prefix) prefixes (named element.CommonPrefixes r.0) page.prefixes f).0 r.2.prefixes,
         ),
       ),
     ),
@@ -143,8 +143,8 @@ page_started entries prefixes root bytes rest page e f = (
       more = r.2.0.0;
       token = r.2.0.1;
       encoding = r.2.1.0;
-      entries = (each_start HasObject entries (named element.Contents r.0) page.entries e).1 r.2.1.1.0;
-      prefixes = (each_start (HasLeaf element.Prefix) prefixes (named element.CommonPrefixes r.0) page.prefixes f).1 r.2.1.1.1;
+      entries = (each_start (HasObjectBy SpellsKey) entries (named element.Contents r.0) page.entries e).1 r.2.1.1.0;
+      prefixes = (each_start (HasOnly SpellsPrefix element.Prefix) prefixes (named element.CommonPrefixes r.0) page.prefixes f).1 r.2.1.1.1;
     },
   ),
 )
@@ -158,8 +158,8 @@ url_left false text = refl
 url_left true text = (refl, refl)
 
 -- at the end it is what was found
-pub page_left : (page : Page) (found : Option Bool) (text : List ℕ) → found ≡ Some page.more → PageLeft found page.token page.url page.entries page.prefixes (Only text) page
-page_left page found text e = (
+pub page_left : (SpellsKey SpellsPrefix : List ℕ → List ℕ → Type 0) → (page : Page) (found : Option Bool) (text : List ℕ) → found ≡ Some page.more → PageLeft SpellsKey SpellsPrefix found page.token page.url page.entries page.prefixes (Only text) page
+page_left SpellsKey SpellsPrefix page found text e = (
   (subst (λ (o : Option Bool). OnceLeft (IsLeafOf SpellsTruth) o [] page.more) (sym e) (refl, refl), token_left (IsLeafOf (IsFormed element.NextContinuationToken)) page.token),
-  (url_left page.url text, ((each_end HasObject page.entries page.entries).1 refl, (each_end (HasLeaf element.Prefix) page.prefixes page.prefixes).1 refl)),
+  (url_left page.url text, ((each_end (HasObjectBy SpellsKey) page.entries page.entries).1 refl, (each_end (HasOnly SpellsPrefix element.Prefix) page.prefixes page.prefixes).1 refl)),
 )

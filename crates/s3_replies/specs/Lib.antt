@@ -4,3 +4,4 @@ pub mod Listing
 pub mod Results
 pub mod OneValue
 pub mod ErrorCodes
+pub mod Encodings

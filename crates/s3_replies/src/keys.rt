@@ -1,166 +1,197 @@
-//! The first bad key of a page that is refused.
+//! Keys and prefixes as a page is read: as they are written, or judged by their encoding.
 
-ghost use Rattle.std.specs.Prelude.{◌≡◌, ◌≤◌, ◌⊎◌, IfSome, length};
-ghost use Rattle.s3_replies.specs.Listing.{IsKeyFault};
-ghost use Rattle.reply_xml.specs.Breaks.{OnBroken};
+ghost use Rattle.std.specs.Prelude.{◌≡◌, ◌≤◌, ℕ, List, IfOk, OnOk, IsSome, false, length, true, Option};
+ghost use Rattle.std.proofs.Common.{◌∙◌, sym};
+ghost use Rattle.reply_values.specs.UrlText.{MeansText};
+ghost use Rattle.reply_xml.proofs.KeyLemmas.{key_fits, prefix_fits};
+ghost use Rattle.reply_xml.specs.Breaks.{BreaksElement, IfBroken};
+ghost use Rattle.reply_xml.specs.Contents.{is_the};
+ghost use Rattle.reply_xml.specs.declared.elements.Element.TheVariants as element;
+ghost use Rattle.reply_xml.specs.declared.elements.Element.{Element};
+ghost use Rattle.reply_xml.specs.Faults.{IfRefused};
+ghost use Rattle.reply_xml.specs.Fits.{ReadsWell};
+ghost use Rattle.reply_xml.specs.Meaning.{meaning_of};
+ghost use Rattle.reply_xml.specs.Reading.{Advances, LeafLeft, Stops};
+ghost use Rattle.reply_xml.specs.Tables.{IsFound};
+ghost use Rattle.reply_xml.specs.Unfit.{AKey, APrefix, IsUnfit};
+ghost use Rattle.s3_replies.specs.Listing.{IsWrittenKey, IsWrittenPrefix, SpellsKey, key_form, keys_of, object_table};
 
-use crate::pages::judge_key;
-use reply_xml::{Child, DocFault, Element, Meaning, Reader, Tag};
+use reply_values::{UrlFault, is_key, url_decode};
+use reply_xml::{Child, DocFault, Element, FormedText, Leaf, Meaning, PlainText, Reader};
+use s3_model::Text;
 use std::alloc::Global;
 
-/// The leaves of a page, one after another, as far as the bytes are a document. What is missing, stands twice or has no
-/// value is passed over.
-#[derive(Drop)]
-struct Leaves<'a> {
-    reader: Reader<'a>,
-    root: Tag<'a>,
-    /// The object or prefix that is open.
-    row: Option<Tag<'a>>,
-    /// The leaf whose end tag was not read yet.
-    leaf: Option<Tag<'a>>,
-}
-
-/// What an element of a page holds, by the element that it stands in.
+/// How the keys and prefixes of a page are read.
 #[derive(Clone, Copy)]
-enum Kind {
-    Text,
-    Row,
-    Other,
+pub(crate) enum Keys {
+    /// As they are written.
+    Written,
+    /// Judged as plain ones.
+    Plain,
+    /// Judged as those that are written as in a URL.
+    Url,
 }
 
-fn kind_of(parent: Option<Element>, child: Option<Element>) -> Kind {
-    match (parent, child) {
-        (None, Some(Element::Contents | Element::CommonPrefixes)) => Kind::Row,
-        (
-            None,
-            Some(Element::IsTruncated | Element::EncodingType | Element::NextContinuationToken),
-        ) => Kind::Text,
-        (
-            Some(Element::Contents),
-            Some(Element::Key | Element::LastModified | Element::ETag | Element::Size),
-        ) => Kind::Text,
-        (Some(Element::CommonPrefixes), Some(Element::Prefix)) => Kind::Text,
-        _ => Kind::Other,
-    }
-}
-
-impl<'a> Leaves<'a> {
-    /// The leaves of a page, whose elements may stand on any level.
-    fn open(alloc: Global, doc: &'a [u8]) -> Option<Leaves<'a>> {
-        match Reader::open(alloc, doc, "ListBucketResult") {
-            Ok((reader, root)) => Some(Leaves {
-                reader,
-                root: Tag {
-                    room: doc.len(),
-                    ..root
-                },
-                row: None,
-                leaf: None,
-            }),
-            Err(_) => None,
-        }
-    }
-
-    /// Begins an element; a leaf is answered with its text.
-    fn begin(&mut self, child: &Child<'a>) -> Result<Option<(Element, Meaning<'a>)>, DocFault> {
-        let parent = match &self.row {
-            Some(tag) => tag.element,
-            None => None,
-        };
-        match (kind_of(parent, child.element), child.element) {
-            (Kind::Text, Some(element)) => {
-                let tag = self.reader.tag(child)?;
-                let text = self.reader.leaf_text(&tag)?;
-                self.leaf = Some(tag);
-                Ok(Some((element, text)))
-            }
-            (Kind::Row, _) => {
-                self.row = Some(self.reader.tag(child)?);
-                Ok(None)
-            }
-            _ => {
-                self.reader.skip(child)?;
-                Ok(None)
-            }
-        }
-    }
-
-    /// The next leaf, with its text; None behind the last, and where the bytes are no document.
-    fn next(&mut self) -> Result<Option<(Element, Meaning<'a>)>, DocFault> {
-        if let Some(tag) = self.leaf {
-            self.reader.end(&tag)?;
-            self.leaf = None;
-        }
-        for _turn in 0..=self.reader.rest.len() {
-            let parent = match self.row {
-                Some(tag) => tag,
-                None => self.root,
-            };
-            match self.reader.next_child(&parent)? {
-                Some(child) => {
-                    if let Some(leaf) = self.begin(&child)? {
-                        return Ok(Some(leaf));
-                    }
-                }
-                None => {
-                    self.reader.end(&parent)?;
-                    if self.row.is_none() {
-                        return Ok(None);
-                    }
-                    self.row = None;
-                }
-            }
-        }
-        Ok(None)
-    }
-}
-
-/// Whether a page names the encoding `url`, as far as the bytes are a document.
-fn names_url(alloc: Global, doc: &[u8]) -> bool {
-    let Some(mut leaves) = Leaves::open(alloc, doc) else {
-        return false;
-    };
-    for _leaf in 0..doc.len() {
-        match leaves.next() {
-            Ok(Some((Element::EncodingType, text))) => return text.as_str() == "url",
-            Ok(Some(_)) => {}
-            _ => return false,
-        }
-    }
-    false
-}
-
-/// The fault of the first bad key or prefix at the front.
-fn key_fault(alloc: Global, front: &[u8], url: bool) -> Option<DocFault>
-    ensures { IfSome result (λ fault. OnBroken fault IsKeyFault) }
+/// How keys and prefixes are judged where the encoding is `url`, and where it is not.
+pub(crate) fn keys_of(url: bool) -> Keys
+    ensures { result ≡ keys_of url }
 {
-    let mut leaves = Leaves::open(alloc, front)?;
-    for _leaf in 0..front.len() {
-        let Ok(Some((element, text))) = leaves.next() else {
-            return None;
-        };
-        if let Err(fault) = judge_key(alloc, element, url, text.as_str()) {
-            return Some(fault);
-        }
-    }
-    None
+    if url { Keys::Url } else { Keys::Plain }
 }
 
-/// The first fault of a page that has this one where so many bytes are left. A key before it may be bad, by an encoding
-/// that is named behind it.
-pub(crate) fn first_fault(alloc: Global, doc: &[u8], left: usize, fault: DocFault) -> DocFault
-    ensures memory { fault ≡ DocFault.Memory → result ≡ DocFault.Memory }
-    ensures broken { OnBroken result (λ reason. (reason ≡ fault) ⊎ IsKeyFault reason) }
+/// The text of a written key or prefix, which is that of a URL where `url` is true.
+pub(crate) fn decoded(alloc: Global, url: bool, written: Text) -> Result<Text, DocFault>
+    ensures value { IfOk result (λ text. MeansText url written text) }
+    ensures refused { IfRefused result ((text : List ℕ) → ¬ (MeansText url written text)) }
+    ensures unfit { IfBroken result (IsUnfit (APrefix url) element.Prefix written) }
 {
-    if fault == DocFault::Memory {
-        return fault;
+    if !url {
+        return Ok(written);
     }
-    let front = match doc.len().checked_sub(left) {
-        Some(place) if place < doc.len() => &doc[..place + 1],
-        _ => doc,
+    match url_decode(alloc, written.as_str()) {
+        Ok(text) => Ok(text),
+        Err(UrlFault::Bad) => Err(DocFault::BadEscape),
+        Err(UrlFault::Memory) => Err(DocFault::Memory),
+    }
+}
+
+/// What a written key or prefix means.
+fn meaning(alloc: Global, url: bool, written: &str) -> Result<Text, DocFault>
+    ensures value { IfOk result (λ text. MeansText url written.now text) }
+    ensures refused { IfRefused result ((text : List ℕ) → ¬ (MeansText url written.now text)) }
+    ensures unfit { IfBroken result (IsUnfit (APrefix url) element.Prefix written.now) }
+{
+    let Ok(copy) = Text::of(alloc, written) else {
+        return Err(DocFault::Memory);
     };
-    match key_fault(alloc, front, names_url(alloc, doc)) {
-        Some(first) => first,
-        None => fault,
+    decoded(alloc, url, copy)
+}
+
+/// A written key that means one.
+fn judged_key(alloc: Global, of: Element, url: bool, text: Meaning<'_>) -> Result<Text, DocFault>
+    ensures value { IfOk result (IsWrittenKey url (meaning_of text.entry)) }
+    ensures refused { IfRefused result ((value : List ℕ) → ¬ (IsWrittenKey url (meaning_of text.entry) value)) }
+    ensures unfit { IfBroken result (IsUnfit (AKey url) of (meaning_of text.entry)) }
+{
+    let written = PlainText::value_of(alloc, of, text)?;
+    let key = meaning(alloc, url, written.as_str())?;
+    if !is_key(key.as_str()) {
+        return Err(DocFault::BadText(of));
+    }
+    Ok(written)
+}
+
+/// A written prefix that means a text.
+fn judged_prefix(alloc: Global, of: Element, url: bool, text: Meaning<'_>) -> Result<Text, DocFault>
+    ensures value { IfOk result (IsWrittenPrefix url (meaning_of text.entry)) }
+    ensures refused { IfRefused result ((value : List ℕ) → ¬ (IsWrittenPrefix url (meaning_of text.entry) value)) }
+    ensures unfit { IfBroken result (IsUnfit (APrefix url) of (meaning_of text.entry)) }
+{
+    let written = PlainText::value_of(alloc, of, text)?;
+    meaning(alloc, url, written.as_str())?;
+    Ok(written)
+}
+
+/// Keys that are plain.
+pub(crate) struct PlainKey;
+
+impl Leaf for PlainKey {
+    type Value = Text;
+
+    ghost spells = { λ of. IsWrittenKey false };
+
+    ghost form = { AKey false };
+
+    ghost alone = { λ of text v w r s. s.0 ∙ sym r.0 };
+
+    ghost fits = { λ of text v s reason u. key_fits false of text s.1.0 s.1.1 s.1.2 reason u };
+
+    fn value_of(alloc: Global, of: Element, text: Meaning<'_>) -> Result<Text, DocFault> {
+        judged_key(alloc, of, false, text)
+    }
+}
+
+/// Keys as in URLs.
+pub(crate) struct UrlKey;
+
+impl Leaf for UrlKey {
+    type Value = Text;
+
+    ghost spells = { λ of. IsWrittenKey true };
+
+    ghost form = { AKey true };
+
+    ghost alone = { λ of text v w r s. s.0 ∙ sym r.0 };
+
+    ghost fits = { λ of text v s reason u. key_fits true of text s.1.0 s.1.1 s.1.2 reason u };
+
+    fn value_of(alloc: Global, of: Element, text: Meaning<'_>) -> Result<Text, DocFault> {
+        judged_key(alloc, of, true, text)
+    }
+}
+
+/// Prefixes that are plain.
+pub(crate) struct PlainPrefix;
+
+impl Leaf for PlainPrefix {
+    type Value = Text;
+
+    ghost spells = { λ of. IsWrittenPrefix false };
+
+    ghost form = { APrefix false };
+
+    ghost alone = { λ of text v w r s. s.0 ∙ sym r.0 };
+
+    ghost fits = { λ of text v s reason u. prefix_fits false of text s.1.0 s.1.1 reason u };
+
+    fn value_of(alloc: Global, of: Element, text: Meaning<'_>) -> Result<Text, DocFault> {
+        judged_prefix(alloc, of, false, text)
+    }
+}
+
+/// Prefixes as in URLs.
+pub(crate) struct UrlPrefix;
+
+impl Leaf for UrlPrefix {
+    type Value = Text;
+
+    ghost spells = { λ of. IsWrittenPrefix true };
+
+    ghost form = { APrefix true };
+
+    ghost alone = { λ of text v w r s. s.0 ∙ sym r.0 };
+
+    ghost fits = { λ of text v s reason u. prefix_fits true of text s.1.0 s.1.1 reason u };
+
+    fn value_of(alloc: Global, of: Element, text: Meaning<'_>) -> Result<Text, DocFault> {
+        judged_prefix(alloc, of, true, text)
+    }
+}
+
+/// Takes in the key of an object.
+pub(crate) fn take_key<'a>(
+    reader: &mut Reader<'a>,
+    child: &Child<'a>,
+    keys: Keys,
+    found: &mut Option<Text>,
+) -> Result<(), DocFault>
+    requires { is_the element.Key child.now.element ≡ true }
+    ensures value { OnOk result (Advances (LeafLeft (SpellsKey keys) element.Key found.old)
+        (LeafLeft (SpellsKey keys) element.Key found.new) child.now reader.old.rest.now reader.new.rest.now) }
+    ensures some { OnOk result (IsSome found.new) }
+    ensures no_longer { length reader.new.rest.now ≤ length reader.old.rest.now }
+    ensures refused { IfRefused result (Stops (LeafLeft (SpellsKey keys) element.Key found.old)
+        child.now reader.old.rest.now) }
+    ensures size { reader.new.size ≡ reader.old.size }
+    ensures well { OnOk result ((front : List (Option Element)) → IsFound element.Key found.old front →
+        ReadsWell (object_table (key_form keys)) front child.now reader.old.rest.now reader.new.rest.now) }
+    ensures broken { IfBroken result (λ reason. (front : List (Option Element)) →
+        IsFound element.Key found.old front →
+        BreaksElement reader.old.size reason (object_table (key_form keys)) front child.now reader.old.rest.now) }
+{
+    match keys {
+        Keys::Written => reader.take::<FormedText>(child, Element::Key, found),
+        Keys::Plain => reader.take::<PlainKey>(child, Element::Key, found),
+        Keys::Url => reader.take::<UrlKey>(child, Element::Key, found),
     }
 }

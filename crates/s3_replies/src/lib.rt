@@ -3,6 +3,7 @@
 
 mod buckets;
 mod codes;
+mod encodings;
 mod errors;
 mod keys;
 mod law;

@@ -1,43 +1,28 @@
 //! A page of a listing, with its keys unescaped.
 
-ghost use Rattle.std.specs.Prelude.{◌≡◌, ◌⊎◌, ◌≤◌, ℕ, List, Err, IfOk, codes, length};
+ghost use Rattle.std.specs.Prelude.{◌≡◌, ℕ, List, Err, IfOk, OnOk, codes};
 ghost use Rattle.std.specs.List.{AllZip};
 ghost use Rattle.s3_model.specs.declared.answers.Listed.{Listed};
 ghost use Rattle.s3_model.specs.declared.places.Entry.{Entry};
-ghost use Rattle.reply_xml.specs.Breaks.{Breaks, IfBroken};
+ghost use Rattle.reply_xml.specs.Breaks.{IfBroken};
 ghost use Rattle.reply_xml.specs.Faults.{IfRefused, IsFault};
 ghost use Rattle.reply_xml.specs.Places.{BeginsOtherwise, HasBytesBehind};
-ghost use Rattle.s3_replies.specs.Listing.{HasListing, IsKeyFault, IsListing, MeansEntry, MeansPage, MeansText};
-ghost use Rattle.s3_replies.specs.Listing.{page_table};
+ghost use Rattle.reply_values.specs.UrlText.{MeansText};
+ghost use Rattle.s3_replies.specs.Encodings.{BreaksPage};
+ghost use Rattle.s3_replies.specs.Listing.{HasListing, IsListing, MeansEntry, MeansPage};
 
-use crate::keys::first_fault;
+use crate::encodings::names_url;
+use crate::keys::{Keys, decoded, keys_of};
 use crate::listing::{Written, written_page};
-use reply_values::{UrlFault, is_key, url_decode};
-use reply_xml::{DocFault, Element, Reader};
+use reply_values::is_key;
+use reply_xml::{DocFault, Element, Reader, Tag};
 use s3_model::{Entries, Entry, Listed, Text, Texts};
 use std::alloc::Global;
-
-/// The text of a written key or prefix, which is that of a URL where `url` is true.
-fn decoded(alloc: Global, url: bool, written: Text) -> Result<Text, DocFault>
-    ensures value { IfOk result (λ text. MeansText url written text) }
-    ensures refused { IfRefused result ((text : List ℕ) → ¬ (MeansText url written text)) }
-    ensures keyed { IfBroken result IsKeyFault }
-{
-    if !url {
-        return Ok(written);
-    }
-    match url_decode(alloc, written.as_str()) {
-        Ok(text) => Ok(text),
-        Err(UrlFault::Bad) => Err(DocFault::BadEscape),
-        Err(UrlFault::Memory) => Err(DocFault::Memory),
-    }
-}
 
 /// An entry, by its written key.
 fn entry_of(alloc: Global, url: bool, row: Entry) -> Result<Entry, DocFault>
     ensures value { IfOk result (λ entry. MeansEntry url row entry) }
     ensures refused { IfRefused result ((entry : Entry) → ¬ (MeansEntry url row entry)) }
-    ensures keyed { IfBroken result IsKeyFault }
 {
     let Entry {
         key: written,
@@ -61,7 +46,6 @@ fn entry_of(alloc: Global, url: bool, row: Entry) -> Result<Entry, DocFault>
 pub(crate) fn entries_of(alloc: Global, url: bool, rows: Vec<Entry>) -> Result<Entries, DocFault>
     ensures value { IfOk result (λ entries. AllZip (MeansEntry url) rows.items entries.items) }
     ensures refused { IfRefused result ((entries : List Entry) → ¬ (AllZip (MeansEntry url) rows.items entries)) }
-    ensures keyed { IfBroken result IsKeyFault }
 {
     let mut entries = Entries::make(alloc);
     if entries.reserve(rows.len()).is_err() {
@@ -77,7 +61,6 @@ pub(crate) fn entries_of(alloc: Global, url: bool, rows: Vec<Entry>) -> Result<E
 pub(crate) fn prefixes_of(alloc: Global, url: bool, rows: Vec<Text>) -> Result<Texts, DocFault>
     ensures value { IfOk result (λ prefixes. AllZip (MeansText url) rows.items prefixes.items) }
     ensures refused { IfRefused result ((prefixes : List (List ℕ)) → ¬ (AllZip (MeansText url) rows.items prefixes)) }
-    ensures keyed { IfBroken result IsKeyFault }
 {
     let mut prefixes = Texts::make(alloc);
     if prefixes.reserve(rows.len()).is_err() {
@@ -89,33 +72,10 @@ pub(crate) fn prefixes_of(alloc: Global, url: bool, rows: Vec<Text>) -> Result<T
     Ok(prefixes)
 }
 
-/// Judges the text of a leaf of a page where it is a key or a prefix.
-pub(crate) fn judge_key(
-    alloc: Global,
-    element: Element,
-    url: bool,
-    written: &str,
-) -> Result<(), DocFault>
-    ensures { IfBroken result IsKeyFault }
-{
-    if element != Element::Key && element != Element::Prefix {
-        return Ok(());
-    }
-    let Ok(written) = Text::of(alloc, written) else {
-        return Err(DocFault::Memory);
-    };
-    let text = decoded(alloc, url, written)?;
-    if element == Element::Key && !is_key(text.as_str()) {
-        return Err(DocFault::BadText(Element::Key));
-    }
-    Ok(())
-}
-
 /// What a page says.
 fn listed(alloc: Global, page: Written) -> Result<Listed, DocFault>
     ensures value { IfOk result (MeansPage page) }
     ensures refused { IfRefused result ((listed : Listed) → ¬ (MeansPage page listed)) }
-    ensures keyed { IfBroken result IsKeyFault }
 {
     let Written {
         more,
@@ -134,13 +94,27 @@ fn listed(alloc: Global, page: Written) -> Result<Listed, DocFault>
     })
 }
 
-/// Reads a page of a listing. Where the page names the encoding `url`, keys and prefixes are unescaped, with `+` as a
-/// space. Keys have 1 to 1,024 bytes, and entity tags 1 to 256 visible characters.
-pub fn read_list(alloc: Global, doc: &[u8]) -> Result<Listed, DocFault>
+/// A page of a listing. Which fault is the first one is not said.
+fn read_page(alloc: Global, doc: &[u8]) -> Result<Listed, DocFault>
+    ensures value { IfOk result (IsListing doc.now) }
+    ensures root { OnOk result ((place : ℕ) → ¬ (BeginsOtherwise (codes "ListBucketResult") doc.now place)) }
+    ensures whole { OnOk result ((place : ℕ) →
+        ¬ (HasBytesBehind (codes "ListBucketResult") HasListing doc.now place)) }
+{
+    let (mut reader, root) = Reader::open(alloc, doc, "ListBucketResult")?;
+    let page = written_page(&mut reader, &root, Keys::Written)?;
+    match reader.close(doc.len()) {
+        Ok(()) => listed(alloc, page),
+        Err(fault) => Err(fault),
+    }
+}
+
+/// A page of a listing, with keys and prefixes that are judged where they stand. The encoding may be named behind them,
+/// so it is looked for first.
+fn read_judged(alloc: Global, doc: &[u8]) -> Result<Listed, DocFault>
     ensures value { IfOk result (λ listed. IsListing doc.now listed) }
     ensures refused { IfRefused result ((listed : Listed) → ¬ (IsListing doc.now listed)) }
-    ensures broken { IfBroken result (λ reason. Breaks (codes "ListBucketResult") page_table doc.now reason
-        ⊎ IsKeyFault reason) }
+    ensures broken { IfBroken result (BreaksPage doc.now) }
     ensures other_root { (place : ℕ) → BeginsOtherwise (codes "ListBucketResult") doc.now place →
         result ≡ Err (DocFault.NotADocument place) }
     ensures behind { (place : ℕ) → HasBytesBehind (codes "ListBucketResult") HasListing doc.now place →
@@ -150,14 +124,29 @@ pub fn read_list(alloc: Global, doc: &[u8]) -> Result<Listed, DocFault>
         Ok(parts) => parts,
         Err(fault) => return Err(fault),
     };
-    let page = match written_page(&mut reader, &root) {
-        Ok(page) => page,
-        Err(fault) => return Err(first_fault(alloc, doc, reader.rest.len(), fault)),
+    let deep = Tag {
+        room: doc.len(),
+        ..root
     };
-    let page = match listed(alloc, page) {
-        Ok(page) => page,
-        Err(fault) => return Err(first_fault(alloc, doc, 0, fault)),
-    };
+    let url = names_url(&reader, &deep)?;
+    let page = written_page(&mut reader, &root, keys_of(url))?;
     reader.close(doc.len())?;
-    Ok(page)
+    listed(alloc, page)
+}
+
+/// Reads a page of a listing. Where the page names the encoding `url`, keys and prefixes are unescaped, with `+` as a
+/// space. Keys have 1 to 1,024 bytes, and entity tags 1 to 256 visible characters.
+pub fn read_list(alloc: Global, doc: &[u8]) -> Result<Listed, DocFault>
+    ensures value { IfOk result (λ listed. IsListing doc.now listed) }
+    ensures refused { IfRefused result ((listed : Listed) → ¬ (IsListing doc.now listed)) }
+    ensures broken { IfBroken result (BreaksPage doc.now) }
+    ensures other_root { (place : ℕ) → BeginsOtherwise (codes "ListBucketResult") doc.now place →
+        result ≡ Err (DocFault.NotADocument place) }
+    ensures behind { (place : ℕ) → HasBytesBehind (codes "ListBucketResult") HasListing doc.now place →
+        IsFault result (DocFault.NotADocument place) }
+{
+    match read_page(alloc, doc) {
+        Ok(page) => Ok(page),
+        Err(_) => read_judged(alloc, doc),
+    }
 }

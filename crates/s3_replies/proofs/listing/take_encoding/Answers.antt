@@ -28,20 +28,20 @@ returns-clause-value c =
 pub returns-in_err-leaf-clause-broken : goal.returns-in_err-leaf-clause-broken
 returns-in_err-leaf-clause-broken c =
     broken_past c.from_residual.result c.in_err-leaf.field-0.0 c.from_residual.ensures.1 (
-    λ reason b front found. b page_table front refl
-    (fresh_none page_table front c.args.child.now.element element.EncodingType c.requires (sym c.if-url.false ∙ found))
+    λ reason b key prefix front found. b (page_table key prefix) front refl
+    (fresh_none (page_table key prefix) front c.args.child.now.element element.EncodingType c.requires (sym c.if-url.false ∙ found))
     ) c.in_err-leaf.ensures.broken
 
 pub returns-then-url-clause-broken : goal.returns-then-url-clause-broken
-returns-then-url-clause-broken c front found =
+returns-then-url-clause-broken c key prefix front found =
     StandsAgain element.EncodingType (record { same = c.requires; alone = refl; before = sym found ∙ c.if-url.true }) refl
 
 pub returns-clause-well : goal.returns-clause-well
-returns-clause-well c front found =
+returns-clause-well c key prefix front found =
     let read = c.in_ok-leaf.ensures.value in (
       read.0,
       read.1,
       IsText element.EncodingType AnEncoding read.2.0
-          (fresh_none page_table front c.args.child.now.element element.EncodingType c.requires (sym c.if-url.false ∙ found))
+          (fresh_none (page_table key prefix) front c.args.child.now.element element.EncodingType c.requires (sym c.if-url.false ∙ found))
           (record { same = c.requires; read_so = refl }) read.2.1 (λ reason u. u.1 read.2.2),
     )

@@ -1,7 +1,7 @@
 use Rattle.std.proofs.Common.{◌∙◌, sym, subst}
 use Rattle.std.proofs.lemmas.Bool.{false≢true}
 use Rattle.reply_values.specs.Forms.{IsKey}
-use Rattle.s3_replies.proofs.PlainLemmas.{MeansText-same}
+use Rattle.reply_values.proofs.UrlTextLemmas.{MeansText-same}
 use Rattle.s3_replies.proofs.pages.entry_of.Goals as goal
 
 pub returns-then-not-is_key-clause-refused : goal.returns-then-not-is_key-clause-refused

@@ -2,7 +2,7 @@ use Rattle.std.proofs.Common.{◌≡◌, ◌∷◌, [], ℕ, List, append_assoc,
 use Rattle.std.specs.List.{AllZip}
 use Rattle.std.specs.Vec.Iter.{into_iter_items}
 use Rattle.std.proofs.lemmas.List.{append-nil, nil_from_length}
-use Rattle.s3_replies.specs.Listing.{MeansText}
+use Rattle.reply_values.specs.UrlText.{MeansText}
 use Rattle.reply_xml.proofs.FaultLemmas.{refused_past}
 use Rattle.s3_replies.proofs.PlainLemmas.{zip_parts}
 use Rattle.s3_replies.proofs.pages.prefixes_of.Goals as goal

@@ -1,7 +1,7 @@
 use Rattle.std.proofs.Common.{◌++◌, ◌≤◌, ℕ, List}
 use Rattle.std.specs.List.{AllZip}
 use Rattle.std.specs.Vec.Iter.{into_iter_items, into_iter_len}
-use Rattle.s3_replies.specs.Listing.{MeansText}
+use Rattle.reply_values.specs.UrlText.{MeansText}
 use Rattle.s3_replies.proofs.pages.prefixes_of.Given as goal
 
 -- what is left comes behind what was taken, and has a meaning where all rows have one

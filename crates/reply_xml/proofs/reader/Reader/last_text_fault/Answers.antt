@@ -9,4 +9,4 @@ returns-in-Ends c =
     Leaves _ (NoTagBehind _ _ c.requires.whole c.in-Ends.ensures.place c.in-Ends.ensures.whole (λ other. (c.in-Ends.ensures.sound other, c.in-Ends.ensures.fault other)) refl) (ap (λ n. fault.NotADocument n) c.place.ensures)
 
 pub returns-in-BadReference : goal.returns-in-BadReference
-returns-in-BadReference c = BadReference _ _ c.requires.whole c.in-BadReference.ensures.bad refl
+returns-in-BadReference c = BadReference _ _ c.requires.whole c.in-BadReference.ensures.bad (λ none. c.in-BadReference.ensures.uncut refl) refl

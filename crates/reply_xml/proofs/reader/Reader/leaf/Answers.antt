@@ -1,7 +1,8 @@
 use Rattle.reply_xml.proofs.FaultLemmas.{IfOk-map, refused_past, refused_so}
 use Rattle.reply_xml.proofs.LeafLemmas.{leaf_read, leaf_closed, leaf_no_closed, leaf_no_end, leaf_no_tag, leaf_no_text, leaf_no_value}
 use Rattle.reply_xml.specs.Children.{IsLeafOf}
-use Rattle.std.proofs.Common.{ap, ◌-◌, ◌∙◌, []}
+use Rattle.std.proofs.Common.{ap, sym, ◌-◌, ◌∙◌, []}
+use Rattle.std.proofs.lemmas.Bool.{false≢true}
 use Rattle.reply_xml.specs.declared.faults.DocFault.TheVariants as fault
 use Rattle.reply_xml.specs.Breaks.{BehindLeafTag, BehindName, InText, NoEndBehind, Unfit}
 use Rattle.reply_xml.proofs.BreakLemmas.{broken_past, broken_so, text_closed, text_open, text_sized}
@@ -47,7 +48,7 @@ returns-then-tag-clause-broken g c =
     broken_so c.value_of.result
     (
     λ reason u table front form fresh. BehindLeafTag c.in_ok-tag.tag _ c.args.of _ fresh c.in_ok-tag.ensures.value (record { same = c.requires; read_so = form })
-    (Unfit [] _ (text_closed c.in_ok-tag.tag _ c.if-tag.true) u)
+    (Unfit [] _ (text_closed c.in_ok-tag.tag _ c.if-tag.true) (λ unclosed. absurd (false≢true (sym unclosed ∙ c.if-tag.true))) u)
     )
     c.value_of.ensures.unfit
 
@@ -65,7 +66,7 @@ returns-in_err-value-clause-broken g c =
     broken_past c.from_residual-in_err-value.result c.in_err-value.field-0.0 c.from_residual-in_err-value.ensures.1
     (
     λ reason u table front form fresh. BehindLeafTag c.in_ok-tag.tag _ c.args.of _ fresh c.in_ok-tag.ensures.value (record { same = c.requires; read_so = form })
-    (Unfit _ _ (text_open c.in_ok-tag.tag _ _ _ _ c.if-tag.false c.in_ok-text.ensures.value.1 c.in_ok-text.ensures.value.2) u)
+    (Unfit _ _ (text_open c.in_ok-tag.tag _ _ _ _ c.if-tag.false c.in_ok-text.ensures.value.1 c.in_ok-text.ensures.value.2) (λ unclosed. c.in_ok-text.ensures.followed) u)
     )
     c.in_err-value.ensures.unfit
 

@@ -1,7 +1,9 @@
-use Rattle.std.proofs.Common.{arith, ap, ◌-◌, ◌∙◌, refl}
+use Rattle.std.proofs.Common.{List, ℕ, arith, ap, ◌-◌, ◌∙◌, refl, subst}
 use Rattle.reply_xml.proofs.FaultLemmas.{refused_past}
-use Rattle.reply_xml.proofs.ContentLemmas.{inner_open, content_begins, child_there, at_closed, at_open}
+use Rattle.reply_xml.proofs.ContentLemmas.{ReadsText-same, inner_open, content_begins, child_there, at_closed, at_open}
 use Rattle.reply_xml.specs.declared.faults.DocFault.TheVariants as fault
+use Rattle.reply_xml.specs.Contents.{ReadsText}
+use Rattle.reply_xml.specs.Tags.{NamesTag}
 use Rattle.reply_xml.specs.Breaks.{AtStart, AtText, TooLow}
 use Rattle.reply_xml.proofs.BreakLemmas.{broken_past}
 use Rattle.reply_xml.proofs.reader.Reader.next_child.Goals as goal
@@ -43,3 +45,16 @@ returns-in-Err-clause-broken c table front =
 pub returns-then-parent-eq0-clause-broken : goal.returns-then-parent-eq0-clause-broken
 returns-then-parent-eq0-clause-broken c table front =
     TooLow c.in_ok-text.ensures.value.0 _ _ _ c.if-parent.false c.in_ok-text.ensures.value.1 c.in-Ok.ensures.value c.in-Ok.ensures.ended (omega arith) refl
+
+pub returns-in_err-text-clause-none : goal.returns-in_err-text-clause-none
+returns-in_err-text-clause-none c =
+    refused_past c.from_residual.result c.in_err-text.field-0.0 c.from_residual.ensures.1
+    (λ none child from b. none b.text b.names.at_name (subst (λ (t : List ℕ). ReadsText b.text _ t) b.names.opens b.before)) c.in_err-text.ensures.refused
+
+pub returns-in-Err-clause-none : goal.returns-in-Err-clause-none
+returns-in-Err-clause-none c child from b =
+    let there = (ReadsText-same c.in_ok-text.ensures.value.0 b.text _ _ b.at_tag c.in_ok-text.ensures.value.1 b.before).1 in
+    c.in-Err.ensures.unnamed child.name.now from (subst (λ (t : List ℕ). NamesTag child.name.now t from) there b.names) b.ends
+
+pub returns-then-parent-eq0-clause-none : goal.returns-then-parent-eq0-clause-none
+returns-then-parent-eq0-clause-none c child from b = absurd (omega (arith, b.deeper))

@@ -1,7 +1,7 @@
 use Rattle.std.proofs.Common.{sym, ◌∙◌, ap, refl}
 use Rattle.reply_xml.proofs.FaultLemmas.{Tells-any, bad_told, ends_told}
 use Rattle.reply_xml.proofs.ContentLemmas.{no_meaning, no_text_at_end}
-use Rattle.reply_xml.proofs.TagLemmas.{none_from_test}
+use Rattle.reply_xml.proofs.TagLemmas.{none_from_test, some_from_test}
 use Rattle.reply_xml.specs.declared.faults.DocFault.TheVariants as fault
 use Rattle.reply_xml.specs.Breaks.{BadReference, Leaves}
 use Rattle.reply_xml.specs.Leaves.{NotUtf8}
@@ -37,4 +37,5 @@ returns-in-Err-Ends-clause-broken c =
 pub returns-in-Err-BadReference-clause-broken : goal.returns-in-Err-BadReference-clause-broken
 returns-in-Err-BadReference-clause-broken c =
     let bad = c.in-Err-BadReference in
-    BadReference _ _ c.split_text.ensures.value (bad_at _ bad.field-0 bad.field-0-is bad.ensures.bad) refl
+    BadReference _ _ c.split_text.ensures.value (bad_at _ bad.field-0 bad.field-0-is bad.ensures.bad)
+    (λ none. absurd (some_from_test _ (sym c.is_empty.ensures ∙ c.if-is_empty.false) none)) refl

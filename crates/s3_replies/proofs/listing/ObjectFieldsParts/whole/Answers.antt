@@ -4,11 +4,12 @@ use Rattle.reply_xml.specs.declared.elements.Element.TheVariants as element
 use Rattle.reply_xml.specs.Children.{IsFormed}
 use Rattle.reply_values.specs.Numbers.{SpellsNumber}
 use Rattle.reply_values.specs.Times.{SpellsTime}
+use Rattle.s3_replies.specs.Listing.{SpellsKey}
 use Rattle.s3_replies.proofs.ObjectLemmas.{object_left, part_missing}
 use Rattle.s3_replies.proofs.listing.ObjectFieldsParts.whole.Goals as goal
 
 pub returns-in_default-clause-refused : goal.returns-in_default-clause-refused
-returns-in_default-clause-refused c text entry left = part_missing (IsFormed element.Key) c.args.self.key entry.key c.in_default.is left.0.0
+returns-in_default-clause-refused c text entry left = part_missing (SpellsKey c.args.self.keys) c.args.self.key entry.key c.in_default.is left.0.0
 
 pub returns-in_default-modified-clause-refused : goal.returns-in_default-modified-clause-refused
 returns-in_default-modified-clause-refused c text entry left = part_missing SpellsTime c.args.self.modified entry.micros c.in_default-modified.is left.0.1
@@ -20,7 +21,7 @@ pub returns-in_default-size-clause-refused : goal.returns-in_default-size-clause
 returns-in_default-size-clause-refused c text entry left = part_missing SpellsNumber c.args.self.size entry.size c.in_default-size.is left.1.1
 
 pub returns-clause-value : goal.returns-clause-value
-returns-clause-value c text = object_left _ text c.args.self.key c.args.self.modified c.args.self.etag c.args.self.size c.in-Some.is c.in-Some-modified.is c.in-Some-etag.is c.in-Some-size.is
+returns-clause-value c text = object_left (SpellsKey c.args.self.keys) _ text c.args.self.key c.args.self.modified c.args.self.etag c.args.self.size c.in-Some.is c.in-Some-modified.is c.in-Some-etag.is c.in-Some-size.is
 
 pub returns-in_default-clause-missing : goal.returns-in_default-clause-missing
 returns-in_default-clause-missing c front found = (element.Key, refl, missing_here element.Key c.args.self.key front _ c.in_default.is found.0)
