@@ -35,13 +35,19 @@ module _ (StandsFor : List ℕ → List ℕ → Type 0) where
   spells_nothing = record { pieces = []; each = tt; whole = refl; meaning = refl }
 
   pub spells_piece : (p x : List ℕ) → StandsFor p x → Spells StandsFor p x
-  spells_piece p x h = record { pieces = record { written = p; meant = x } ∷ []; each = (h, tt); whole = append-nil p; meaning = append-nil x }
+  spells_piece p x h = record {
+    pieces = record { written = p; meant = x } ∷ [];
+    each = (h, tt);
+    whole = append-nil p;
+    meaning = append-nil x;
+  }
 
   each-append : (ps qs : List Piece) → Each ps → Each qs → Each (ps ++ qs)
   each-append [] qs h k = k
   each-append (p ∷ ps) qs h k = (h.0, each-append ps qs h.1 k)
 
-  pub spells_more : (a b x y : List ℕ) → Spells StandsFor a x → Spells StandsFor b y → Spells StandsFor (a ++ b) (x ++ y)
+  pub spells_more : (a b x y : List ℕ) → Spells StandsFor a x → Spells StandsFor b y
+      → Spells StandsFor (a ++ b) (x ++ y)
   spells_more a b x y h k = record {
     pieces = h.pieces ++ k.pieces;
     each = each-append h.pieces k.pieces h.each k.each;
@@ -59,14 +65,17 @@ module _ (StandsFor : List ℕ → List ℕ → Type 0) where
   same_meaning code (p ∷ ps) (q ∷ qs) h k e =
       let piece = code.first p.written q.written p.meant q.meant (written ps) (written qs) h.0 k.0 e in
       let rest = append_cancel_left q.written (written ps) (written qs) (ap (λ t. t ++ written ps) (sym piece) ∙ e) in
-      let head : p.meant ≡ q.meant = code.one q.written p.meant q.meant (subst (λ (t : List ℕ). StandsFor t p.meant) piece h.0) k.0 in
+      let head : p.meant ≡ q.meant = code.one q.written p.meant q.meant
+      (subst (λ (t : List ℕ). StandsFor t p.meant) piece h.0) k.0 in
       ap (λ t. t ++ meant ps) head ∙ ap (λ t. q.meant ++ t) (same_meaning code ps qs h.1 k.1 rest)
 
   -- a text has one meaning
   pub spells_one : IsPlainCode → (text x y : List ℕ) → Spells StandsFor text x → Spells StandsFor text y → x ≡ y
-  spells_one code text x y h k = sym h.meaning ∙ same_meaning code h.pieces k.pieces h.each k.each (h.whole ∙ sym k.whole) ∙ k.meaning
+  spells_one code text x y h k = sym h.meaning ∙ same_meaning code h.pieces k.pieces h.each k.each
+      (h.whole ∙ sym k.whole) ∙ k.meaning
 
-  stuck_pieces : IsPlainCode → (ps qs : List Piece) (rest : List ℕ) → Each ps → Each qs → 0 < length rest → StartsNoPiece StandsFor rest → written ps ++ rest ≡ written qs → ⊥
+  stuck_pieces : IsPlainCode → (ps qs : List Piece) (rest : List ℕ) → Each ps → Each qs → 0 < length rest
+      → StartsNoPiece StandsFor rest → written ps ++ rest ≡ written qs → ⊥
   stuck_pieces code [] [] rest h k some none e = let empty = ap length e in omega arith
   stuck_pieces code [] (q ∷ qs) rest h k some none e = none q.written q.meant (written qs) e k.0
   stuck_pieces code (p ∷ ps) [] rest h k some none e =
@@ -74,26 +83,32 @@ module _ (StandsFor : List ℕ → List ℕ → Type 0) where
   stuck_pieces code (p ∷ ps) (q ∷ qs) rest h k some none e =
       let split = sym (append_assoc p.written (written ps) rest) ∙ e in
       let piece = code.first p.written q.written p.meant q.meant (written ps ++ rest) (written qs) h.0 k.0 split in
-      let tail = append_cancel_left q.written (written ps ++ rest) (written qs) (ap (λ t. t ++ (written ps ++ rest)) (sym piece) ∙ split) in
+      let tail = append_cancel_left q.written (written ps ++ rest) (written qs)
+      (ap (λ t. t ++ (written ps ++ rest)) (sym piece) ∙ split) in
       stuck_pieces code ps qs rest h.1 k.1 some none tail
 
   -- what is left spells nothing where no piece stands at its front, and so does the whole
-  pub spells_stuck : IsPlainCode → (front rest x : List ℕ) → Spells StandsFor front x → 0 < length rest → StartsNoPiece StandsFor rest → (text : List ℕ) → Spells StandsFor (front ++ rest) text → ⊥
+  pub spells_stuck : IsPlainCode → (front rest x : List ℕ) → Spells StandsFor front x → 0 < length rest
+      → StartsNoPiece StandsFor rest → (text : List ℕ) → Spells StandsFor (front ++ rest) text → ⊥
   spells_stuck code front rest x h some none text k =
       stuck_pieces code h.pieces k.pieces rest h.each k.each some none (ap (λ t. t ++ rest) h.whole ∙ sym k.whole)
 
-  pieces_behind : IsPlainCode → (ps qs : List Piece) (rest : List ℕ) → Each ps → Each qs → written ps ++ rest ≡ written qs → (ts : List Piece) × Each ts × (written ts ≡ rest)
+  pieces_behind : IsPlainCode → (ps qs : List Piece) (rest : List ℕ) → Each ps → Each qs
+      → written ps ++ rest ≡ written qs → (ts : List Piece) × Each ts × (written ts ≡ rest)
   pieces_behind code [] qs rest h k e = (qs, k, sym e)
   pieces_behind code (p ∷ ps) [] rest h k e =
-      absurd (not_empty code p.written p.meant (written ps ++ rest) h.0 (sym e ∙ append_assoc p.written (written ps) rest))
+      absurd (not_empty code p.written p.meant (written ps ++ rest) h.0
+      (sym e ∙ append_assoc p.written (written ps) rest))
   pieces_behind code (p ∷ ps) (q ∷ qs) rest h k e =
       let split = sym (append_assoc p.written (written ps) rest) ∙ e in
       let piece = code.first p.written q.written p.meant q.meant (written ps ++ rest) (written qs) h.0 k.0 split in
-      let tail = append_cancel_left q.written (written ps ++ rest) (written qs) (ap (λ t. t ++ (written ps ++ rest)) (sym piece) ∙ split) in
+      let tail = append_cancel_left q.written (written ps ++ rest) (written qs)
+      (ap (λ t. t ++ (written ps ++ rest)) (sym piece) ∙ split) in
       pieces_behind code ps qs rest h.1 k.1 tail
 
   -- what is left behind a front that spells a text spells one too, where the whole does
-  pub spells_behind : IsPlainCode → (front rest x : List ℕ) → Spells StandsFor front x → (text : List ℕ) → Spells StandsFor (front ++ rest) text → (y : List ℕ) × Spells StandsFor rest y
+  pub spells_behind : IsPlainCode → (front rest x : List ℕ) → Spells StandsFor front x → (text : List ℕ)
+      → Spells StandsFor (front ++ rest) text → (y : List ℕ) × Spells StandsFor rest y
   spells_behind code front rest x h text k =
       let left = pieces_behind code h.pieces k.pieces rest h.each k.each (ap (λ t. t ++ rest) h.whole ∙ sym k.whole) in
       (meant left.0, record { pieces = left.0; each = left.1; whole = left.2; meaning = refl })

@@ -1,11 +1,15 @@
 -- Digits, dates and fractions of times.
-use Rattle.std.proofs.Common.{◌≡◌, ◌≢◌, ◌+◌, ◌-◌, ◌*◌, ◌/◌, ◌^◌, ◌<◌, ◌≤◌, ◌++◌, ◌∷◌, ◌∙◌, ℕ, ℤ, pos, negsuc, ◌≤ℤ◌, List, [], length, get_or, take, Option, Some, None, Result, Ok, Err, IfSome, IfOk, inl, inr, Bool, true, false, not, ◌&&◌, eqb, drop, sym, ap, refl, add-one, arith, lit<, FitsSigned, to_z, of_z, w8, w16, w32, subst}
+use Rattle.std.proofs.Common.{◌≡◌, ◌≢◌, ◌+◌, ◌-◌, ◌*◌, ◌/◌, ◌^◌, ◌<◌, ◌≤◌, ◌++◌, ◌∷◌, ◌∙◌, ℕ, ℤ, pos, negsuc, ◌≤ℤ◌}
+use Rattle.std.proofs.Common.{List, [], length, get_or, take, Option, Some, None, Result, Ok, Err, IfSome, IfOk, inl}
+use Rattle.std.proofs.Common.{inr, Bool, true, false, not, ◌&&◌, eqb, drop, sym, ap, refl, add-one, arith, lit<}
+use Rattle.std.proofs.Common.{FitsSigned, to_z, of_z, w8, w16, w32, subst}
 use Rattle.std.specs.Char.{digit_value}
 use Rattle.std.specs.Int.{FitsUnsignedBits}
 use Rattle.std.specs.Prelude.{unsigned_abs, codes, IfNone}
 use Rattle.std.specs.Result.{OkIff, result_ok}
 use Rattle.std.specs.Str.Parse.{AllDigits, digits_value}
-use Rattle.std.proofs.Math.Nat.{pow-le-pow_right, pow-suc, one-le-pow, mul_assoc, mul_comm, mul-div-mul_right, div-lt_iff_lt-mul}
+use Rattle.std.proofs.Math.Nat.{pow-le-pow_right, pow-suc, one-le-pow, mul_assoc, mul_comm, mul-div-mul_right}
+use Rattle.std.proofs.Math.Nat.{div-lt_iff_lt-mul}
 use Rattle.std.proofs.lemmas.Nat.{pow-add}
 use Rattle.std.proofs.lemmas.List.{length-take, length-append, append_cancel_left, append_cancel_right}
 use Rattle.std.proofs.lemmas.Bool.Decides.{nat_tests}
@@ -23,7 +27,8 @@ pub record ReadsTo (text : List ℕ) (i number : ℕ) : Type 0 where
   pub digits : AllDigits 10 (take i text)
   pub small : number < 10 ^ i
 
-pub reads_more : (text : List ℕ) (i number digit : ℕ) → i < length text → ReadsTo text i number → digit_value (get_or text i 0) ≡ digit → digit < 10 → ReadsTo text (i + 1) (number * 10 + digit)
+pub reads_more : (text : List ℕ) (i number digit : ℕ) → i < length text → ReadsTo text i number
+    → digit_value (get_or text i 0) ≡ digit → digit < 10 → ReadsTo text (i + 1) (number * 10 + digit)
 reads_more text i number digit inside h value small = record {
   value = omega (arith, digits_value_more 10 text i inside, h.value);
   digits = digits_more 10 text i inside h.digits (omega arith);
@@ -52,7 +57,11 @@ pub record IsSmallDate (y m d : ℕ) : Type 0 where
   pub day : d < 10 ^ 2
 
 signed_date : (y m d : ℕ) → IsCivilDate (pos y) m d → IsDate (pos y) (pos m) (pos d)
-signed_date y m d h = (h.0, (omega (arith, signed_arith, h.1), omega (arith, signed_arith, h.1)), (omega (arith, signed_arith, h.2), omega (arith, signed_arith, h.2)))
+signed_date y m d h = (
+  h.0,
+  (omega (arith, signed_arith, h.1), omega (arith, signed_arith, h.1)),
+  (omega (arith, signed_arith, h.2), omega (arith, signed_arith, h.2)),
+)
 
 pub read_ok : {T E : Type 0} (r : Result T E) (x : T) (P : T → Type 0) → Some x ≡ result_ok r → IfOk r P → P x
 read_ok (Ok y) x P e h = let same : y ≡ x = cc in subst P same h
@@ -68,7 +77,8 @@ date_is y m d small h =
     let ld : d < 2 ^ 7 = omega (arith, small.day) in
     rw (to_z_pos w16 y ly, to_z_pos w8 m lm, to_z_pos w8 d ld) (signed_date y m d h)
 
-pub date_parts : (y m d : ℕ) (date : Date) → IsSmallDate y m d → IsYmd (to_z w16 y) (to_z w8 m) (to_z w8 d) date → (date.year ≡ pos y) × (date.month ≡ m) × (date.day ≡ d)
+pub date_parts : (y m d : ℕ) (date : Date) → IsSmallDate y m d → IsYmd (to_z w16 y) (to_z w8 m) (to_z w8 d) date
+    → (date.year ≡ pos y) × (date.month ≡ m) × (date.day ≡ d)
 date_parts y m d date small h =
     let ly : y < 2 ^ 15 = omega (arith, small.year) in
     let lm : m < 2 ^ 7 = omega (arith, small.month) in
@@ -80,16 +90,23 @@ not_negative : (z : ℤ) (n : ℕ) → FitsUnsignedBits 64 z → n ≡ unsigned_
 not_negative (pos m) n h e = ap pos (sym e)
 not_negative (negsuc m) n h e = absurd h
 
-pub counted : {E : Type 0} (r : Result ℕ E) (z : ℤ) (P : ℕ → Type 0) → FitsSigned w32 z → OkIff r (FitsUnsignedBits 64 (to_z w32 (of_z w32 z))) (unsigned_abs (to_z w32 (of_z w32 z))) → ((n : ℕ) → z ≡ pos n → P n) → IfSome (result_ok r) P
+pub counted : {E : Type 0} (r : Result ℕ E) (z : ℤ) (P : ℕ → Type 0) → FitsSigned w32 z
+    → OkIff r (FitsUnsignedBits 64 (to_z w32 (of_z w32 z))) (unsigned_abs (to_z w32 (of_z w32 z)))
+    → ((n : ℕ) → z ≡ pos n → P n) → IfSome (result_ok r) P
 counted (Err e) z P fits h value = tt
 counted (Ok n) z P fits h value = let k = rw (to_z-of_z w32 z fits) at h in value n (not_negative z n k.0 k.1)
 
-pub not_counted : {E : Type 0} (r : Result ℕ E) (z : ℤ) → z ≤ℤ pos 2_932_896 → FitsSigned w32 z → OkIff r (FitsUnsignedBits 64 (to_z w32 (of_z w32 z))) (unsigned_abs (to_z w32 (of_z w32 z))) → IfNone (result_ok r) ((n : ℕ) → z ≢ pos n)
-not_counted (Err e) z most fits h = λ n is. let k = rw (to_z-of_z w32 z fits, is) at h in let small : n < 2 ^ 64 = omega (arith, signed_arith, rw is at most) in k small
+pub not_counted : {E : Type 0} (r : Result ℕ E) (z : ℤ) → z ≤ℤ pos 2_932_896 → FitsSigned w32 z
+    → OkIff r (FitsUnsignedBits 64 (to_z w32 (of_z w32 z))) (unsigned_abs (to_z w32 (of_z w32 z)))
+    → IfNone (result_ok r) ((n : ℕ) → z ≢ pos n)
+not_counted (Err e) z most fits h = λ n is. let k = rw (to_z-of_z w32 z fits, is) at h in let small : n < 2 ^ 64 =
+    omega (arith, signed_arith, rw is at most) in k small
 not_counted (Ok n) z most fits h = tt
 
 -- the separators
-pub separators_are : (a b c d e : ℕ) (differ : Bool) → differ ≡ not (eqb a 45 && (eqb b 45 && (eqb c 84 && (eqb d 58 && (eqb e 58 && true))))) → differ ≡ false → a ∷ b ∷ c ∷ d ∷ e ∷ [] ≡ codes "--T::"
+pub separators_are : (a b c d e : ℕ) (differ : Bool) → differ ≡ not
+    (eqb a 45 && (eqb b 45 && (eqb c 84 && (eqb d 58 && (eqb e 58 && true))))) → differ ≡ false
+    → a ∷ b ∷ c ∷ d ∷ e ∷ [] ≡ codes "--T::"
 separators_are a b c d e differ is same =
     let a_is : a ≡ 45 = grind (arith, nat_tests) in
     let b_is : b ≡ 45 = grind (arith, nat_tests) in
@@ -122,7 +139,8 @@ micros_small places number small =
     (div-lt_iff_lt-mul (ten_pow places)).1 below
 
 -- what follows the seconds
-pub no_zone : (end zone : List ℕ) → zone ≡ codes "Z" → ((front : List ℕ) → end ≢ front ++ zone) → (micros : ℕ) → EndsTime end micros → ⊥
+pub no_zone : (end zone : List ℕ) → zone ≡ codes "Z" → ((front : List ℕ) → end ≢ front ++ zone) → (micros : ℕ)
+    → EndsTime end micros → ⊥
 no_zone end zone e none micros (inl h) = none [] (h.0 ∙ sym e)
 no_zone end zone e none micros (inr h) = none (codes "." ++ h.0) (rw e h.1)
 
@@ -130,19 +148,24 @@ no_zone end zone e none micros (inr h) = none (codes "." ++ h.0) (rw e h.1)
 abbrev pub HasFraction : List ℕ → List ℕ → Type 0
 HasFraction end fraction = end ≡ codes "." ++ fraction ++ codes "Z"
 
-pub has_fraction : (end before zone point fraction : List ℕ) → zone ≡ codes "Z" → point ≡ codes "." → end ≡ before ++ zone → before ≡ point ++ fraction → HasFraction end fraction
+pub has_fraction : (end before zone point fraction : List ℕ) → zone ≡ codes "Z" → point ≡ codes "."
+    → end ≡ before ++ zone → before ≡ point ++ fraction → HasFraction end fraction
 has_fraction end before zone point fraction e f h k = h ∙ rw (k, e, f) refl
 
-pub end_value : (result : Option ℕ) (end fraction : List ℕ) → HasFraction end fraction → IfSome result (WritesMicros fraction) → IfSome result (EndsTime end)
+pub end_value : (result : Option ℕ) (end fraction : List ℕ) → HasFraction end fraction
+    → IfSome result (WritesMicros fraction) → IfSome result (EndsTime end)
 end_value None end fraction e h = tt
 end_value (Some micros) end fraction e h = inr (fraction, e, h)
 
-pub end_refused : (result : Option ℕ) (end fraction : List ℕ) → HasFraction end fraction → IfNone result ((micros : ℕ) → ¬ (WritesMicros fraction micros)) → IfNone result ((micros : ℕ) → ¬ (EndsTime end micros))
+pub end_refused : (result : Option ℕ) (end fraction : List ℕ) → HasFraction end fraction
+    → IfNone result ((micros : ℕ) → ¬ (WritesMicros fraction micros))
+    → IfNone result ((micros : ℕ) → ¬ (EndsTime end micros))
 end_refused (Some micros) end fraction e h = tt
 end_refused None end fraction e h = λ micros ends. refute micros ends
   where
     refute : (micros : ℕ) → EndsTime end micros → ⊥
-    refute micros (inl alone) = let long = ap length (sym e ∙ alone.0) in absurd (omega (arith, length-append fraction (codes "Z"), long))
+    refute micros (inl alone) = let long = ap length (sym e ∙ alone.0) in
+        absurd (omega (arith, length-append fraction (codes "Z"), long))
     refute micros (inr parts) =
         let same = append_cancel_left (codes ".") _ _ (append_cancel_right _ _ (codes "Z") (sym e ∙ parts.1)) in
         h micros (rw (sym same) at parts.2)

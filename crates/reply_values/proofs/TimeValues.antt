@@ -32,7 +32,8 @@ EndsTime-same text a b (inl h) (inl k) = h.1 ∙ sym k.1
 EndsTime-same text a b (inl h) (inr (fraction, e, k)) = absurd (alone text fraction h.0 e)
 EndsTime-same text a b (inr (fraction, e, h)) (inl k) = absurd (alone text fraction k.0 e)
 EndsTime-same text a b (inr (fraction, e, h)) (inr (other, f, k)) =
-    let same : fraction ≡ other = append_cancel_left (codes ".") _ _ (append_cancel_right _ _ (codes "Z") (sym e ∙ f)) in
+    let same : fraction ≡ other = append_cancel_left (codes ".") _ _
+    (append_cancel_right _ _ (codes "Z") (sym e ∙ f)) in
     WritesMicros-same other a b (rw same at h) k
 
 pub SpellsTime-same : (text : List ℕ) (a b : ℕ) → SpellsTime text a → SpellsTime text b → a ≡ b

@@ -1,13 +1,17 @@
 -- Character data, read piece by piece.
-use Rattle.std.proofs.Common.{◌≡◌, ◌+◌, ◌-◌, ◌<◌, ◌++◌, ◌∷◌, ◌∙◌, ℕ, cond, List, [], length, get_or, take, drop, Option, Some, None, inl, inr, sym, ap, refl, arith, lit<, subst}
+use Rattle.std.proofs.Common.{◌≡◌, ◌+◌, ◌-◌, ◌<◌, ◌++◌, ◌∷◌, ◌∙◌, ℕ, cond, List, [], length, get_or, take, drop, Option}
+use Rattle.std.proofs.Common.{Some, None, inl, inr, sym, ap, refl, arith, lit<, subst}
 use Rattle.std.specs.Prelude.{codes, encode_utf8}
 use Rattle.std.specs.Str.{bytes_eq}
 use Rattle.std.proofs.lemmas.Bool.{and_parts}
-use Rattle.std.proofs.lemmas.List.{append_assoc, length-append, length-drop, take-append-drop, get_or-drop, get_or-append_right}
+use Rattle.std.proofs.lemmas.List.{append_assoc, length-append, length-drop, take-append-drop, get_or-drop}
+use Rattle.std.proofs.lemmas.List.{get_or-append_right}
 use Rattle.std.proofs.Math.Seq.{take-append_seam, drop-append_seam}
 use Rattle.reply_values.specs.Spelling.{StartsPiece, StartsNoPiece}
-use Rattle.reply_values.specs.References.{IsEntity, IsNumbered, Names, IsReference, IsPlain, StandsForText, IsUnescaped, IsBadReference}
-use Rattle.reply_values.proofs.SpellingLemmas.{IsPlainCode, heads, tails, head_is, spells_nothing, spells_piece, spells_more, spells_one, spells_stuck}
+use Rattle.reply_values.specs.References.{IsEntity, IsNumbered, Names, IsReference, IsPlain, StandsForText, IsUnescaped}
+use Rattle.reply_values.specs.References.{IsBadReference}
+use Rattle.reply_values.proofs.SpellingLemmas.{IsPlainCode, heads, tails, head_is, spells_nothing, spells_piece}
+use Rattle.reply_values.proofs.SpellingLemmas.{spells_more, spells_one, spells_stuck}
 use Rattle.reply_values.proofs.NumberLemmas.{Writes-same}
 use Rattle.reply_values.proofs.ReferenceLemmas.{Lacks, differs, first_cut, names_lack, no_decimal_x, reference_split}
 
@@ -36,7 +40,8 @@ same_some : {a b : ℕ} → Some a ≡ Some b → a ≡ b
 same_some e = cc
 
 not_both : (name : List ℕ) (char : ℕ) (rest : List ℕ) → IsEntity name char → name ≡ 35 ∷ rest → ⊥
-not_both name char rest h e = let none : Some char ≡ None = sym (entity_is name char h) ∙ ap entity e ∙ hash_is_none rest in absurd_some none
+not_both name char rest h e = let none : Some char ≡ None = sym (entity_is name char h) ∙ ap entity e
+    ∙ hash_is_none rest in absurd_some none
   where
     absurd_some : Some char ≡ None → ⊥
     absurd_some k = cc
@@ -53,7 +58,8 @@ Names-same name a b (inr h) (inl k) = let rest = numbered_is name a h in absurd 
 Names-same name a b (inr (_, inl (ds, e, h))) (inr (_, inl (es, f, k))) = Writes-same (rw (tails (sym e ∙ f)) at h) k
 Names-same name a b (inr (_, inl (ds, e, h))) (inr (_, inr (es, f, k))) = absurd (no_decimal_x (tails (sym e ∙ f)) h)
 Names-same name a b (inr (_, inr (ds, e, h))) (inr (_, inl (es, f, k))) = absurd (no_decimal_x (tails (sym f ∙ e)) k)
-Names-same name a b (inr (_, inr (ds, e, h))) (inr (_, inr (es, f, k))) = Writes-same (rw (tails (tails (sym e ∙ f))) at h) k
+Names-same name a b (inr (_, inr (ds, e, h))) (inr (_, inr (es, f, k))) =
+    Writes-same (rw (tails (tails (sym e ∙ f))) at h) k
 
 some : (p x : List ℕ) → StandsForText p x → 0 < length p
 some p x (inl reference) = rw reference.written (omega arith)
@@ -71,16 +77,21 @@ same_name p q x y r s h k e =
     (tails (sym (reference_first p x r h) ∙ e ∙ reference_first q y s k))
 
 first : (p q x y r s : List ℕ) → StandsForText p x → StandsForText q y → p ++ r ≡ q ++ s → p ≡ q
-first p q x y r s (inl h) (inl k) e = h.written ∙ ap (λ name. codes "&" ++ name ++ codes ";") (same_name p q x y r s h k e) ∙ sym k.written
-first p q x y r s (inl h) (inr k) e = absurd (k.no_reference (sym (heads (sym (reference_first p x r h) ∙ e ∙ plain_first q y s k))))
-first p q x y r s (inr h) (inl k) e = absurd (h.no_reference (heads (sym (plain_first p x r h) ∙ e ∙ reference_first q y s k)))
-first p q x y r s (inr h) (inr k) e = h.written ∙ ap (λ b. b ∷ []) (heads (sym (plain_first p x r h) ∙ e ∙ plain_first q y s k)) ∙ sym k.written
+first p q x y r s (inl h) (inl k) e = h.written ∙ ap (λ name. codes "&" ++ name ++ codes ";")
+    (same_name p q x y r s h k e) ∙ sym k.written
+first p q x y r s (inl h) (inr k) e =
+    absurd (k.no_reference (sym (heads (sym (reference_first p x r h) ∙ e ∙ plain_first q y s k))))
+first p q x y r s (inr h) (inl k) e =
+    absurd (h.no_reference (heads (sym (plain_first p x r h) ∙ e ∙ reference_first q y s k)))
+first p q x y r s (inr h) (inr k) e = h.written ∙ ap (λ b. b ∷ [])
+    (heads (sym (plain_first p x r h) ∙ e ∙ plain_first q y s k)) ∙ sym k.written
 
 one : (p x y : List ℕ) → StandsForText p x → StandsForText p y → x ≡ y
 one p x y (inl h) (inl k) =
     let named = rw (same_name p p x y [] [] h k refl) at h.named in
     h.meant ∙ ap encode_utf8 (Names-same k.name h.char k.char named k.named) ∙ sym k.meant
-one p x y (inl h) (inr k) = absurd (k.no_reference (sym (heads (sym (reference_first p x [] h) ∙ plain_first p y [] k))))
+one p x y (inl h) (inr k) = absurd (k.no_reference
+    (sym (heads (sym (reference_first p x [] h) ∙ plain_first p y [] k))))
 one p x y (inr h) (inl k) = absurd (h.no_reference (heads (sym (plain_first p x [] h) ∙ reference_first p y [] k)))
 one p x y (inr h) (inr k) = h.meant ∙ ap (λ b. b ∷ []) (heads (sym h.written ∙ k.written)) ∙ sym k.meant
 
@@ -96,23 +107,28 @@ pub plain_run : (raw : List ℕ) → Lacks 38 raw → IsUnescaped raw raw
 plain_run [] none = spells_nothing StandsForText
 plain_run (b ∷ raw) none =
     let parts = and_parts _ _ none in
-    let piece : StandsForText (b ∷ []) (b ∷ []) = inr (record { own = b; written = refl; meant = refl; no_reference = differs b 38 parts.0 }) in
-    spells_more StandsForText (b ∷ []) raw (b ∷ []) raw (spells_piece StandsForText (b ∷ []) (b ∷ []) piece) (plain_run raw parts.1)
+    let piece : StandsForText (b ∷ []) (b ∷ []) =
+    inr (record { own = b; written = refl; meant = refl; no_reference = differs b 38 parts.0 }) in
+    spells_more StandsForText (b ∷ []) raw (b ∷ []) raw (spells_piece StandsForText (b ∷ []) (b ∷ []) piece)
+    (plain_run raw parts.1)
 
-pub unescaped_more : (front plain x : List ℕ) → IsUnescaped front x → Lacks 38 plain → IsUnescaped (front ++ plain) (x ++ plain)
+pub unescaped_more : (front plain x : List ℕ) → IsUnescaped front x → Lacks 38 plain
+    → IsUnescaped (front ++ plain) (x ++ plain)
 unescaped_more front plain x h none = spells_more StandsForText front plain x plain h (plain_run plain none)
 
 no_piece : (text : List ℕ) → StartsNoPiece IsReference (38 ∷ text) → StartsNoPiece StandsForText (38 ∷ text)
 no_piece text none piece meant more e (inl h) = none piece meant more e h
 no_piece text none piece meant more e (inr h) = h.no_reference (sym (heads (e ∙ plain_first piece meant more h)))
 
-pub bad_reference : (raw front behind text : List ℕ) → raw ≡ front ++ (38 ∷ behind) → IsUnescaped front text → StartsNoPiece IsReference (38 ∷ behind) → IsBadReference raw (length front)
+pub bad_reference : (raw front behind text : List ℕ) → raw ≡ front ++ (38 ∷ behind) → IsUnescaped front text
+    → StartsNoPiece IsReference (38 ∷ behind) → IsBadReference raw (length front)
 bad_reference raw front behind text e h none =
     let start : length front - length front ≡ 0 = omega arith in
     rw e (record {
       before = (text, rw (take-append_seam front (38 ∷ behind)) h);
       inside = omega (arith, length-append front (38 ∷ behind));
-      ampersand = get_or-append_right front (38 ∷ behind) (length front) (length front) 0 refl (omega arith) ∙ ap (λ i. get_or (38 ∷ behind) i 0) start;
+      ampersand = get_or-append_right front (38 ∷ behind) (length front) (length front) 0 refl (omega arith)
+          ∙ ap (λ i. get_or (38 ∷ behind) i 0) start;
       bad = rw (drop-append_seam front (38 ∷ behind)) none;
     })
 
@@ -130,19 +146,28 @@ bad_spells_none raw place bad text h =
     (subst (λ (t : List ℕ). StartsNoPiece StandsForText t) (sym start) none) text (rw whole at h)
 
 -- a run without `&`, and then a bad reference
-pub bad_at : (raw front rest plain behind text : List ℕ) (place : ℕ) → raw ≡ front ++ rest → rest ≡ plain ++ (38 ∷ behind) → Lacks 38 plain → IsUnescaped front text → StartsNoPiece IsReference (38 ∷ behind) → place ≡ length raw - length behind - 1 → IsBadReference raw place
+pub bad_at : (raw front rest plain behind text : List ℕ) (place : ℕ) → raw ≡ front ++ rest
+    → rest ≡ plain ++ (38 ∷ behind) → Lacks 38 plain → IsUnescaped front text → StartsNoPiece IsReference (38 ∷ behind)
+    → place ≡ length raw - length behind - 1 → IsBadReference raw place
 bad_at raw front rest plain behind text place e f lacks h none at =
-    let split : raw ≡ (front ++ plain) ++ (38 ∷ behind) = e ∙ ap (λ t. front ++ t) f ∙ sym (append_assoc front plain (38 ∷ behind)) in
-    let here : length (front ++ plain) ≡ place = omega (arith, at, ap length split, length-append (front ++ plain) (38 ∷ behind)) in
-    subst (λ (k : ℕ). IsBadReference raw k) here (bad_reference raw (front ++ plain) behind (text ++ plain) split (unescaped_more front plain text h lacks) none)
+    let split : raw ≡ (front ++ plain) ++ (38 ∷ behind) = e ∙ ap (λ t. front ++ t) f
+    ∙ sym (append_assoc front plain (38 ∷ behind)) in
+    let here : length (front ++ plain) ≡ place =
+    omega (arith, at, ap length split, length-append (front ++ plain) (38 ∷ behind)) in
+    subst (λ (k : ℕ). IsBadReference raw k) here
+    (bad_reference raw (front ++ plain) behind (text ++ plain) split (unescaped_more front plain text h lacks) none)
 
 -- a run without `&`, and then a reference
-pub reference_more : (raw front rest plain behind text char next : List ℕ) → raw ≡ front ++ rest → rest ≡ plain ++ (38 ∷ behind) → Lacks 38 plain → IsUnescaped front text → StartsPiece IsReference (38 ∷ behind) char next → (done : List ℕ) × (raw ≡ done ++ next) × IsUnescaped done (text ++ plain ++ char)
+pub reference_more : (raw front rest plain behind text char next : List ℕ) → raw ≡ front ++ rest
+    → rest ≡ plain ++ (38 ∷ behind) → Lacks 38 plain → IsUnescaped front text
+    → StartsPiece IsReference (38 ∷ behind) char next → (done : List ℕ) × (raw ≡ done ++ next)
+    × IsUnescaped done (text ++ plain ++ char)
 reference_more raw front rest plain behind text char next e f lacks h start =
     let run = unescaped_more front plain text h lacks in
     let split : raw ≡ front ++ plain ++ start.piece ++ next =
     e ∙ ap (λ t. front ++ t) (f ∙ ap (λ t. plain ++ t) start.split) ∙ simp append_assoc in (
       front ++ plain ++ start.piece,
       split,
-      spells_more StandsForText (front ++ plain) start.piece (text ++ plain) char run (spells_piece StandsForText start.piece char (inl start.stands)),
+      spells_more StandsForText (front ++ plain) start.piece (text ++ plain) char run
+          (spells_piece StandsForText start.piece char (inl start.stands)),
     )

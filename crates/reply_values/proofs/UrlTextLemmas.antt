@@ -1,5 +1,6 @@
 -- The pieces of escaped texts.
-use Rattle.std.proofs.Common.{◌≡◌, ◌≢◌, ◌+◌, ◌*◌, ◌<◌, ◌≤◌, ◌++◌, ◌∷◌, ◌∙◌, ℕ, Bool, true, false, List, [], length, get_or, take, drop, Option, Some, None, inl, inr, sym, ap, refl, arith, lit<}
+use Rattle.std.proofs.Common.{◌≡◌, ◌≢◌, ◌+◌, ◌*◌, ◌<◌, ◌≤◌, ◌++◌, ◌∷◌, ◌∙◌, ℕ, Bool, true, false, List, [], length}
+use Rattle.std.proofs.Common.{get_or, take, drop, Option, Some, None, inl, inr, sym, ap, refl, arith, lit<}
 use Rattle.std.specs.Char.{digit_value}
 use Rattle.std.specs.Prelude.{IfNone}
 use Rattle.std.proofs.Math.Seq.{take-append_seam}
@@ -11,7 +12,9 @@ use Rattle.reply_values.proofs.NumberLemmas.{Writes-same}
 apart : {r s : List ℕ} → 43 ∷ r ≡ 37 ∷ s → ⊥
 apart e = let same = heads e in omega arith
 
-pub hex_piece : (digits : List ℕ) (high low : ℕ) → 2 ≤ length digits → digit_value (get_or digits 0 0) ≡ high → high < 16 → digit_value (get_or digits 1 0) ≡ low → low < 16 → StartsPiece IsEscape (37 ∷ digits) ((high * 16 + low) ∷ []) (drop 2 digits)
+pub hex_piece : (digits : List ℕ) (high low : ℕ) → 2 ≤ length digits → digit_value (get_or digits 0 0) ≡ high
+    → high < 16 → digit_value (get_or digits 1 0) ≡ low → low < 16
+    → StartsPiece IsEscape (37 ∷ digits) ((high * 16 + low) ∷ []) (drop 2 digits)
 hex_piece [] high low some h hs l ls = absurd (omega arith)
 hex_piece (a ∷ []) high low some h hs l ls = absurd (omega arith)
 hex_piece (a ∷ (b ∷ rest)) high low some h hs l ls = record {
@@ -42,7 +45,8 @@ refused_from (Some x) P Q f h = tt
 pub space_stands : (text : List ℕ) → StartsPiece StandsForByte (43 ∷ text) (32 ∷ []) text
 space_stands text = record { piece = 43 ∷ []; split = refl; stands = inl (refl, refl) }
 
-pub byte_stands : (byte : ℕ) (text : List ℕ) → byte ≢ 37 → byte ≢ 43 → StartsPiece StandsForByte (byte ∷ text) (byte ∷ []) text
+pub byte_stands : (byte : ℕ) (text : List ℕ) → byte ≢ 37 → byte ≢ 43
+    → StartsPiece StandsForByte (byte ∷ text) (byte ∷ []) text
 byte_stands byte text percent plus = record {
   piece = byte ∷ [];
   split = refl;
@@ -138,6 +142,7 @@ pub SpellsUrlText-same : (written x y : List ℕ) → SpellsUrlText written x �
 SpellsUrlText-same written x y h k = spells_one StandsForByte url_code written x y h.bytes k.bytes
 
 -- a written text means one text
-pub MeansText-same : (url : Bool) (written text other : List ℕ) → MeansText url written text → MeansText url written other → other ≡ text
+pub MeansText-same : (url : Bool) (written text other : List ℕ) → MeansText url written text
+    → MeansText url written other → other ≡ text
 MeansText-same false written text other r s = s ∙ sym r
 MeansText-same true written text other r s = SpellsUrlText-same written other text s r

@@ -18,7 +18,8 @@ returns-in_default-reference-clause-bad c =
     let plain = c.in-Some._plain in
     let behind = c.in-Some.behind in
     let parts = split_parts 38 c.loop-plain.rest.now (Some (plain, behind)) c.in-Some.ensures.cases (lit< tt) in
-    bad_at c.args.raw.now inv.0 c.loop-plain.rest.now plain.now behind.now inv.1 _ inv.2 parts.0 (lacks_from 38 plain.now parts.1) inv.3 c.in_default-reference.ensures.refused refl
+    bad_at c.args.raw.now inv.0 c.loop-plain.rest.now plain.now behind.now inv.1 _ inv.2 parts.0
+    (lacks_from 38 plain.now parts.1) inv.3 c.in_default-reference.ensures.refused refl
 
 pub returns-in_default-reference-clause-cut_short : goal.returns-in_default-reference-clause-cut_short
 returns-in_default-reference-clause-cut_short c =
@@ -30,9 +31,11 @@ returns-in_default-reference-clause-cut_short c =
     let split : raw ≡ (inv.0 ++ plain.now) ++ (38 ∷ behind.now) =
     inv.2 ∙ ap (λ t. inv.0 ++ t) parts.0 ∙ sym (append_assoc inv.0 plain.now (38 ∷ behind.now)) in
     let front = unescaped_more inv.0 plain.now inv.1 inv.3 (lacks_from 38 plain.now parts.1) in (
-      λ h. cut_goes_on raw (inv.0 ++ plain.now) behind.now (inv.1 ++ plain.now) split front (c.may_begin_reference.ensures.0 h),
+      λ h. cut_goes_on raw (inv.0 ++ plain.now) behind.now (inv.1 ++ plain.now) split front
+          (c.may_begin_reference.ensures.0 h),
       λ more. c.may_begin_reference.ensures.1
-          (goes_on_cut raw (inv.0 ++ plain.now) behind.now (inv.1 ++ plain.now) split front c.in_default-reference.ensures.refused more),
+          (goes_on_cut raw (inv.0 ++ plain.now) behind.now (inv.1 ++ plain.now) split front
+          c.in_default-reference.ensures.refused more),
     )
 
 pub loop-plain-preserved : goal.loop-plain-preserved
@@ -42,7 +45,9 @@ loop-plain-preserved c =
     let behind = c.in-Some.behind in
     let next = c.in-Some-reference.next.now in
     let parts = split_parts 38 c.loop-plain.rest.now (Some (plain, behind)) c.in-Some.ensures.cases (lit< tt) in
-    let step = reference_more c.args.raw.now inv.0 c.loop-plain.rest.now plain.now behind.now inv.1 (encode_utf8 c.in-Some-reference._char) next inv.2 parts.0 (lacks_from 38 plain.now parts.1) inv.3 c.in-Some-reference.ensures.value in
+    let step = reference_more c.args.raw.now inv.0 c.loop-plain.rest.now plain.now behind.now inv.1
+    (encode_utf8 c.in-Some-reference._char) next inv.2 parts.0
+    (lacks_from 38 plain.now parts.1) inv.3 c.in-Some-reference.ensures.value in
     (search rules, (step.0, inv.1 ++ plain.now ++ encode_utf8 c.in-Some-reference._char, step.1, step.2))
 
 pub returns-clause-good : goal.returns-clause-good

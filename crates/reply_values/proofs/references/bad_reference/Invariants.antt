@@ -5,7 +5,8 @@ use Rattle.reply_values.specs.References.{IsUnescaped}
 use Rattle.reply_values.proofs.references.bad_reference.Given as goal
 
 abbrev pub invariant-loop-plain : goal.invariant-loop-plain
-invariant-loop-plain l = shadow (Utf8 l.rest) × ((front : List ℕ) × (text : List ℕ) × (l.raw ≡ front ++ l.rest) × IsUnescaped front text)
+invariant-loop-plain l = shadow (Utf8 l.rest)
+    × ((front : List ℕ) × (text : List ℕ) × (l.raw ≡ front ++ l.rest) × IsUnescaped front text)
 
 abbrev pub decreases-loop-plain : goal.decreases-loop-plain
 decreases-loop-plain l = length l.rest

@@ -1,15 +1,19 @@
 use Rattle.std.proofs.Common.{◌∙◌, Some, None, ap, sym, lit<}
 use Rattle.std.proofs.lemmas.Str.Pattern.{strip_prefix_char}
 use Rattle.reply_values.specs.References.{begins_entity}
-use Rattle.reply_values.proofs.CutLemmas.{decimal_begins, decimal_begun, entity_begun, entity_cut, entity_text, entity_true, hex_begins, hex_begun}
+use Rattle.reply_values.proofs.CutLemmas.{decimal_begins, decimal_begun, entity_begun, entity_cut, entity_text}
+use Rattle.reply_values.proofs.CutLemmas.{entity_true, hex_begins, hex_begun}
 use Rattle.reply_values.proofs.references.may_begin_reference.Goals as goal
 
 pub returns-in_default : goal.returns-in_default
 returns-in_default c =
     let name = c.args.name.now in
     let plain = strip_prefix_char 35 name None c.in_default.ensures.cases (lit< tt) in
-    let same = c.may_be_entity.ensures ∙ ap begins_entity c.as_bytes.ensures.value in
-    (λ h. entity_begun name (entity_text name (sym same ∙ h)), λ cut. same ∙ entity_true name (entity_cut name plain c.requires cut))
+    let same = c.may_be_entity.ensures ∙ ap begins_entity c.as_bytes.ensures.value in (
+      λ h. entity_begun name (entity_text name (sym same ∙ h)),
+      λ cut. same
+          ∙ entity_true name (entity_cut name plain c.requires cut),
+    )
 
 pub returns-in-Some-strip_prefix : goal.returns-in-Some-strip_prefix
 returns-in-Some-strip_prefix c =

@@ -16,7 +16,8 @@ returns-in_err-number-in-Some-clause-refused c =
     let hex = c.in-Some.digits in
     let hash = strip_prefix_char 35 name (Some digits) c.in_ok-digits.ensures.cases (lit< tt) in
     let x = strip_prefix_char 120 digits.now (Some hex) c.in-Some.ensures.cases (lit< tt) in
-    rw c.from_residual-in_err-number-in-Some.ensures (no_hex name digits.now hex.now hash x c.in_err-number-in-Some.ensures.refused)
+    rw c.from_residual-in_err-number-in-Some.ensures
+    (no_hex name digits.now hex.now hash x c.in_err-number-in-Some.ensures.refused)
 
 pub returns-in_err-number-in-None-clause-refused :
     goal.returns-in_err-number-in-None-clause-refused
@@ -25,4 +26,5 @@ returns-in_err-number-in-None-clause-refused c =
     let digits = c.in_ok-digits.digits in
     let hash = strip_prefix_char 35 name (Some digits) c.in_ok-digits.ensures.cases (lit< tt) in
     let plain = strip_prefix_char 120 digits.now None c.in-None.ensures.cases (lit< tt) in
-    rw c.from_residual-in_err-number-in-None.ensures (no_decimal name digits.now hash plain c.in_err-number-in-None.ensures.refused)
+    rw c.from_residual-in_err-number-in-None.ensures
+    (no_decimal name digits.now hash plain c.in_err-number-in-None.ensures.refused)

@@ -18,10 +18,13 @@ returns-in_default-reference-clause-bad c = λ place e.
     let behind = c.in-Some.behind in
     let parts = split_parts 38 c.loop-plain.rest.now (Some (plain, behind)) c.in-Some.ensures.cases (lit< tt) in
     let at : place ≡ length c.args.raw.now - length behind.now - 1 = sym (same_place e) in
-    bad_at c.args.raw.now inv.0 c.loop-plain.rest.now plain.now behind.now (string_bytes c.loop-plain.text) place inv.1 parts.0 (lacks_from 38 plain.now parts.1) inv.2 c.in_default-reference.ensures.refused at
+    bad_at c.args.raw.now inv.0 c.loop-plain.rest.now plain.now behind.now
+    (string_bytes c.loop-plain.text) place inv.1 parts.0
+    (lacks_from 38 plain.now parts.1) inv.2 c.in_default-reference.ensures.refused at
 
 pub returns-in_default-reference-clause-refused : goal.returns-in_default-reference-clause-refused
-returns-in_default-reference-clause-refused c = λ place e. bad_spells_none c.args.raw.now place (returns-in_default-reference-clause-bad c place e)
+returns-in_default-reference-clause-refused c = λ place e. bad_spells_none c.args.raw.now place
+    (returns-in_default-reference-clause-bad c place e)
 
 pub loop-plain-preserved : goal.loop-plain-preserved
 loop-plain-preserved c =
@@ -32,7 +35,9 @@ loop-plain-preserved c =
     let parts = split_parts 38 c.loop-plain.rest.now (Some (plain, behind)) c.in-Some.ensures.cases (lit< tt) in
     let before = rw c.if-is_err.ensures.negation at c.push_str.ensures.bytes in
     let bytes = rw c.if-is_err-2.ensures.negation at c.push.ensures.bytes in
-    let step = reference_more c.args.raw.now inv.0 c.loop-plain.rest.now plain.now behind.now (string_bytes c.loop-plain.text) (encode_utf8 c.in-Some-reference.char) next inv.1 parts.0 (lacks_from 38 plain.now parts.1) inv.2 c.in-Some-reference.ensures.value in
+    let step = reference_more c.args.raw.now inv.0 c.loop-plain.rest.now plain.now behind.now
+    (string_bytes c.loop-plain.text) (encode_utf8 c.in-Some-reference.char) next inv.1 parts.0
+    (lacks_from 38 plain.now parts.1) inv.2 c.in-Some-reference.ensures.value in
     (search rules, (step.0, step.1, rw (bytes, before) step.2))
 
 pub returns-clause-value : goal.returns-clause-value

@@ -6,7 +6,8 @@ use Rattle.reply_values.specs.References.{IsUnescaped}
 use Rattle.reply_values.proofs.references.unescape.Given as goal
 
 abbrev pub invariant-loop-plain : goal.invariant-loop-plain
-invariant-loop-plain l = shadow (Utf8 l.rest) × ((front : List ℕ) × (l.raw ≡ front ++ l.rest) × IsUnescaped front (string_bytes l.text))
+invariant-loop-plain l = shadow (Utf8 l.rest)
+    × ((front : List ℕ) × (l.raw ≡ front ++ l.rest) × IsUnescaped front (string_bytes l.text))
 
 abbrev pub decreases-loop-plain : goal.decreases-loop-plain
 decreases-loop-plain l = length l.rest

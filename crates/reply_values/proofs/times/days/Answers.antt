@@ -20,7 +20,12 @@ returns-in_err-date-clause-refused c =
       month = part_small text _ 5 2 c.in_ok-month.ensures.small;
       day = part_small text _ 8 2 c.in_ok-day.ensures.small;
     } in
-    let valid = rw (Writes-same h.year_digits c.in_ok-year.ensures.value, Writes-same h.month_digits c.in_ok-month.ensures.value, Writes-same h.day_digits c.in_ok-day.ensures.value) at h.valid in
+    let valid = rw (
+      Writes-same h.year_digits c.in_ok-year.ensures.value,
+      Writes-same h.month_digits c.in_ok-month.ensures.value,
+      Writes-same h.day_digits c.in_ok-day.ensures.value,
+    )
+    at h.valid in
     let is = c.new.ensures.succeeds.1 (date_is _ _ _ small valid) in
     false≢true (c.in_err-date.ensures.variant ∙ is))
 
@@ -34,7 +39,8 @@ returns-clause-value c =
       month = part_small text _ 5 2 c.in_ok-month.ensures.small;
       day = part_small text _ 8 2 c.in_ok-day.ensures.small;
     } in
-    let parts = date_parts _ _ _ date small (read_ok c.new.result date _ c.in_ok-date.ensures.value c.new.ensures.value) in
+    let parts = date_parts _ _ _ date small
+    (read_ok c.new.result date _ c.in_ok-date.ensures.value c.new.ensures.value) in
     let fits : FitsSigned w32 day = omega (arith, signed_arith, c.to_unix_epoch_day.ensures.bound) in
     rw c.ok-2.ensures.value (counted c.try_from.result day (HasDate text) fits c.try_from.ensures (λ days is. record {
       year = c.in_ok-year.year;

@@ -13,4 +13,5 @@ returns-clause-value c = rw (c.from.ensures, c.pow-unit.ensures) (record {
 pub returns-clause-small : goal.returns-clause-small
 returns-clause-small c =
     let few : length c.args.fraction.now ≤ 9 = omega arith in
-    rw (c.from.ensures, c.pow-unit.ensures, micros_by (length c.args.fraction.now) c.in_ok-digits.field-0 few) (micros_small _ _ c.in_ok-digits.ensures.small)
+    rw (c.from.ensures, c.pow-unit.ensures, micros_by (length c.args.fraction.now) c.in_ok-digits.field-0 few)
+    (micros_small _ _ c.in_ok-digits.ensures.small)

@@ -12,11 +12,13 @@ returns-in_err-micros-clause-refused c =
 
 pub returns-in_err-days-clause-refused : goal.returns-in_err-days-clause-refused
 returns-in_err-days-clause-refused c =
-    rw c.from_residual-in_err-days.ensures (λ moment h. c.in_err-days.ensures.refused h.days (rw (sym c.as_bytes-text.ensures.value) at h.date))
+    rw c.from_residual-in_err-days.ensures
+    (λ moment h. c.in_err-days.ensures.refused h.days (rw (sym c.as_bytes-text.ensures.value) at h.date))
 
 pub returns-in_err-seconds-clause-refused : goal.returns-in_err-seconds-clause-refused
 returns-in_err-seconds-clause-refused c =
-    rw c.from_residual-in_err-seconds.ensures (λ moment h. c.in_err-seconds.ensures.refused h.seconds (rw (sym c.as_bytes-text.ensures.value) at h.clock))
+    rw c.from_residual-in_err-seconds.ensures
+    (λ moment h. c.in_err-seconds.ensures.refused h.seconds (rw (sym c.as_bytes-text.ensures.value) at h.clock))
 
 pub returns-clause-value : goal.returns-clause-value
 returns-clause-value c =

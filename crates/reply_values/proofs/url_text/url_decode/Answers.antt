@@ -20,10 +20,15 @@ returns-in_err-bytes-clause-refused c = λ bad decoded h.
 pub returns-in-Ok-clause-value : goal.returns-in-Ok-clause-value
 returns-in-Ok-clause-value c =
     let text : string_bytes c.in-Ok.decoded ≡ c.in_ok-bytes.bytes.items = ap (λ v. v.items) c.in-Ok.ensures.ok in
-    rw (c.from.ensures) (record { bytes = rw (text, sym c.as_bytes.ensures.value) c.in_ok-bytes.ensures.value; utf8 = IsUtf8-string_bytes c.in-Ok.decoded })
+    rw (c.from.ensures) (record {
+      bytes = rw (text, sym c.as_bytes.ensures.value) c.in_ok-bytes.ensures.value;
+      utf8 =
+          IsUtf8-string_bytes c.in-Ok.decoded;
+    })
 
 pub returns-clause-refused : goal.returns-clause-refused
 returns-clause-refused c = λ bad decoded h.
     let bytes = rw (sym c.as_bytes.ensures.value) at h.bytes in
-    let same = spells_one StandsForByte url_code c.as_bytes.result.now decoded c.in_ok-bytes.bytes.items bytes c.in_ok-bytes.ensures.value in
+    let same = spells_one StandsForByte url_code c.as_bytes.result.now decoded c.in_ok-bytes.bytes.items bytes
+    c.in_ok-bytes.ensures.value in
     false≢true (c.in-Err.ensures.succeeds (rw same at h.utf8))
