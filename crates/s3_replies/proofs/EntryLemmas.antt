@@ -11,5 +11,6 @@ entry_is e = refl
 
 pub entries_same : (e f : Entry) → f.key ≡ e.key → f.size ≡ e.size → f.etag ≡ e.etag → f.micros ≡ e.micros → f ≡ e
 entries_same e f key size etag micros =
-    sym (entry_is f) ∙ ap (λ k. entry_of k f.size f.etag f.micros) key ∙ ap (λ n. entry_of e.key n f.etag f.micros) size ∙ ap (λ t. entry_of e.key e.size t f.micros) etag
+    sym (entry_is f) ∙ ap (λ k. entry_of k f.size f.etag f.micros) key ∙ ap (λ n. entry_of e.key n f.etag f.micros) size
+    ∙ ap (λ t. entry_of e.key e.size t f.micros) etag
     ∙ ap (λ m. entry_of e.key e.size e.etag m) micros ∙ entry_is e

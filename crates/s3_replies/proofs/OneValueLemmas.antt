@@ -25,24 +25,29 @@ pairs_same a b e f = ap (λ x. (x, b.1)) e ∙ ap (λ y. (a.0, y)) f
 HasError-same : (c : Content) (a b : List ℕ × List ℕ) → HasError c a → HasError c b → b ≡ a
 HasError-same c a b r s =
     let messages =
-    at_most_same (IsLeafOf (IsFormed element.Message)) (IsLeafOf-same (IsFormed element.Message) (IsFormed-same element.Message)) (named element.Message c) r.1.0 s.1.0 r.1.1 s.1.1 in
+    at_most_same (IsLeafOf (IsFormed element.Message))
+    (IsLeafOf-same (IsFormed element.Message) (IsFormed-same element.Message))
+    (named element.Message c) r.1.0 s.1.0 r.1.1 s.1.1 in
     pairs_same a b (HasLeaf-same element.Code c a.0 b.0 r.0 s.0) (s.1.2 ∙ ap (λ m. unwrap_or m []) messages ∙ sym r.1.2)
 
 pub one_error : OneError
 one_error doc a b r s = IsOf-same HasError (codes "Error") doc HasError-same a b r s
 
 -- what each row means is one list
-rows_same : {X Y : Type 0} (R : X → Y → Type 0) → ((x : X) (y z : Y) → R x y → R x z → z ≡ y) → (xs : List X) (ys zs : List Y) → AllZip R xs ys → AllZip R xs zs → zs ≡ ys
+rows_same : {X Y : Type 0} (R : X → Y → Type 0) → ((x : X) (y z : Y) → R x y → R x z → z ≡ y)
+    → (xs : List X) (ys zs : List Y) → AllZip R xs ys → AllZip R xs zs → zs ≡ ys
 rows_same R alone [] [] [] r s = refl
 rows_same R alone [] [] (z ∷ zs) r s = absurd s
 rows_same R alone [] (y ∷ ys) zs r s = absurd r
 rows_same R alone (x ∷ xs) [] zs r s = absurd r
 rows_same R alone (x ∷ xs) (y ∷ ys) [] r s = absurd s
-rows_same R alone (x ∷ xs) (y ∷ ys) (z ∷ zs) r s = ap (λ v. v ∷ zs) (alone x y z r.0 s.0) ∙ ap (λ vs. y ∷ vs) (rows_same R alone xs ys zs r.1 s.1)
+rows_same R alone (x ∷ xs) (y ∷ ys) (z ∷ zs) r s = ap (λ v. v ∷ zs) (alone x y z r.0 s.0)
+    ∙ ap (λ vs. y ∷ vs) (rows_same R alone xs ys zs r.1 s.1)
 
 MeansEntry-same : (url : Bool) (row e f : Entry) → MeansEntry url row e → MeansEntry url row f → f ≡ e
 MeansEntry-same url row e f r s =
-    entries_same e f (MeansText-same url row.key e.key f.key r.key s.key) (s.size ∙ sym r.size) (s.etag ∙ sym r.etag) (s.micros ∙ sym r.micros)
+    entries_same e f (MeansText-same url row.key e.key f.key r.key s.key) (s.size ∙ sym r.size) (s.etag ∙ sym r.etag)
+    (s.micros ∙ sym r.micros)
 
 pub one_listing : OneListing
 one_listing doc a b r s =
@@ -50,9 +55,11 @@ one_listing doc a b r s =
     record {
       more = s.2.more ∙ ap (λ (p : Page). p.more) same ∙ sym r.2.more;
       token = s.2.token ∙ ap (λ (p : Page). p.token) same ∙ sym r.2.token;
-      entries = rows_same (MeansEntry r.0.url) (MeansEntry-same r.0.url) r.0.entries a.entries.items b.entries.items r.2.entries
+      entries = rows_same (MeansEntry r.0.url) (MeansEntry-same r.0.url) r.0.entries a.entries.items b.entries.items
+          r.2.entries
           (subst (λ (p : Page). AllZip (MeansEntry p.url) p.entries b.entries.items) same s.2.entries);
-      prefixes = rows_same (MeansText r.0.url) (MeansText-same r.0.url) r.0.prefixes a.prefixes.items b.prefixes.items r.2.prefixes
+      prefixes = rows_same (MeansText r.0.url) (MeansText-same r.0.url) r.0.prefixes a.prefixes.items b.prefixes.items
+          r.2.prefixes
           (subst (λ (p : Page). AllZip (MeansText p.url) p.prefixes b.prefixes.items) same s.2.prefixes);
     }
 
@@ -63,9 +70,11 @@ pub one_bucket_list : OneBucketList
 one_bucket_list doc a b r s = IsOf-same HasBuckets (codes "ListAllMyBucketsResult") doc HasBuckets-same a b r s
 
 pub one_upload : OneUpload
-one_upload doc a b r s = IsOf-same (HasLeaf element.UploadId) (codes "InitiateMultipartUploadResult") doc (HasLeaf-same element.UploadId) a b r s
+one_upload doc a b r s = IsOf-same (HasLeaf element.UploadId) (codes "InitiateMultipartUploadResult") doc
+    (HasLeaf-same element.UploadId) a b r s
 
-HasPlain-same : (c : Content) (v w : List ℕ) → HasOnly IsPlain element.ETag c v → HasOnly IsPlain element.ETag c w → w ≡ v
+HasPlain-same : (c : Content) (v w : List ℕ) → HasOnly IsPlain element.ETag c v → HasOnly IsPlain element.ETag c w
+    → w ≡ v
 HasPlain-same c v w r s = leaf_same IsPlain (λ text x y a b. b ∙ sym a) (named element.ETag c) v w r s
 
 pub one_entity_tag : OneEntityTag

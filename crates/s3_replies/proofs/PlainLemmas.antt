@@ -7,12 +7,14 @@ use Rattle.s3_replies.specs.declared.keys.Keys.{Keys}
 use Rattle.s3_replies.specs.declared.keys.Keys.TheVariants as keys
 use Rattle.s3_replies.specs.Listing.{SpellsKey, SpellsPrefix}
 
-pub no_url : (url : Bool) (written text : List ℕ) → url ≡ true → ((t : List ℕ) → ¬ (SpellsUrlText written t)) → MeansText url written text → ⊥
+pub no_url : (url : Bool) (written text : List ℕ) → url ≡ true → ((t : List ℕ) → ¬ (SpellsUrlText written t))
+    → MeansText url written text → ⊥
 no_url false written text e none m = false≢true e
 no_url true written text e none m = none text m
 
 -- the value of the first row, and those of the rows behind it
-pub zip_parts : {X Y : Type 0} (R : X → Y → Type 0) (row : X) (rows : List X) (values : List Y) → AllZip R (row ∷ rows) values → (value : Y) × (later : List Y) × R row value × AllZip R rows later
+pub zip_parts : {X Y : Type 0} (R : X → Y → Type 0) (row : X) (rows : List X) (values : List Y)
+    → AllZip R (row ∷ rows) values → (value : Y) × (later : List Y) × R row value × AllZip R rows later
 zip_parts R row rows [] all = absurd all
 zip_parts R row rows (value ∷ later) all = (value, later, all.0, all.1)
 

@@ -8,7 +8,8 @@ use Rattle.s3_replies.specs.Listing.{object_table, page_table}
 use Rattle.s3_replies.specs.Results.{completed_table, copied_table}
 
 -- an object with a key and an entity tag lacks its time first, whatever else stands in it
-first_is_the_time : first_missing (object_table OwnForm) (Some element.ETag ∷ None ∷ Some element.Key ∷ []) ≡ Some element.LastModified
+first_is_the_time : first_missing (object_table OwnForm)
+    (Some element.ETag ∷ None ∷ Some element.Key ∷ []) ≡ Some element.LastModified
 first_is_the_time = refl
 
 -- an error may lack its message, not its code

@@ -97,11 +97,15 @@ fn listed(alloc: Global, page: Written) -> Result<Listed, DocFault>
 /// A page of a listing. Which fault is the first one is not said.
 fn read_page(alloc: Global, doc: &[u8]) -> Result<Listed, DocFault>
     ensures value { IfOk result (IsListing doc.now) }
-    ensures root { OnOk result ((place : ℕ) → ¬ (BeginsOtherwise (codes "ListBucketResult") doc.now place)) }
+    ensures other_root { (place : ℕ) → BeginsOtherwise (codes "ListBucketResult") doc.now place →
+        result ≡ Err (DocFault.NotADocument place) }
     ensures whole { OnOk result ((place : ℕ) →
         ¬ (HasBytesBehind (codes "ListBucketResult") HasListing doc.now place)) }
 {
-    let (mut reader, root) = Reader::open(alloc, doc, "ListBucketResult")?;
+    let (mut reader, root) = match Reader::open(alloc, doc, "ListBucketResult") {
+        Ok(parts) => parts,
+        Err(fault) => return Err(fault),
+    };
     let page = written_page(&mut reader, &root, Keys::Written)?;
     match reader.close(doc.len()) {
         Ok(()) => listed(alloc, page),
@@ -147,6 +151,7 @@ pub fn read_list(alloc: Global, doc: &[u8]) -> Result<Listed, DocFault>
 {
     match read_page(alloc, doc) {
         Ok(page) => Ok(page),
+        Err(DocFault::Memory) => Err(DocFault::Memory),
         Err(_) => read_judged(alloc, doc),
     }
 }

@@ -9,12 +9,14 @@ use Rattle.s3_replies.proofs.buckets.read_buckets.Goals as goal
 
 pub returns-clause-refused : goal.returns-clause-refused
 returns-clause-refused c =
-    refused_so c.read_document.result (λ none entries r. let rows : Reserved Entry = record { items = entries; spare = 0 } in none rows r) c.read_document.ensures.refused
+    refused_so c.read_document.result (λ none entries r. let rows : Reserved Entry =
+    record { items = entries; spare = 0 } in none rows r) c.read_document.ensures.refused
 
 pub returns-clause-behind : goal.returns-clause-behind
 returns-clause-behind c place b =
     c.read_document.ensures.behind place
     (
-    behind_map HasBuckets (λ (content : Content) (rows : Reserved Entry). ListLeft None content rows.items) (codes "ListAllMyBucketsResult") c.args.doc.now place
+    behind_map HasBuckets (λ (content : Content) (rows : Reserved Entry). ListLeft None content rows.items)
+    (codes "ListAllMyBucketsResult") c.args.doc.now place
     (λ content entries m. let rows : Reserved Entry = record { items = entries; spare = 0 } in (rows, m)) b
     )

@@ -30,17 +30,21 @@ returns-in-Err-leaf_text-clause-text c =
     (
     λ named n. (
       λ h. absurd (false≢true (sym n.0 ∙ h)),
-      λ has. let tagged = subst (λ (b : List ℕ). IsTagOf c.args.child.now c.in-Ok.tag b c.tag.new.self.rest.now) c.fork-ahead.ensures.rest c.in-Ok.ensures.value in
+      λ has. let tagged = subst (λ (b : List ℕ). IsTagOf c.args.child.now c.in-Ok.tag b c.tag.new.self.rest.now)
+          c.fork-ahead.ensures.rest c.in-Ok.ensures.value in
           let there = element_text_at c.args.child.now c.in-Ok.tag _ _ (codes "url") tagged has in
-          absurd (told c.in-Err-leaf_text.fault n.1 c.in-Err-leaf_text.ensures.refused (codes "url") there.0 there.1 there.2),
+          absurd (told c.in-Err-leaf_text.fault n.1 c.in-Err-leaf_text.ensures.refused
+          (codes "url") there.0 there.1 there.2),
     )
     )
     c.unnamed-in-Err-leaf_text.ensures.none
 
 pub returns-in-Ok-leaf_text-clause-text : goal.returns-in-Ok-leaf_text-clause-text
 returns-in-Ok-leaf_text-clause-text c =
-    let tagged = subst (λ (b : List ℕ). IsTagOf c.args.child.now c.in-Ok.tag b c.tag.new.self.rest.now) c.fork-ahead.ensures.rest c.in-Ok.ensures.value in
-    let found : HasElementText c.args.child.now c.args.reader.now.rest.now (meaning_of c.in-Ok-leaf_text.text) = record {
+    let tagged = subst (λ (b : List ℕ). IsTagOf c.args.child.now c.in-Ok.tag b c.tag.new.self.rest.now)
+    c.fork-ahead.ensures.rest c.in-Ok.ensures.value in
+    let found : HasElementText c.args.child.now c.args.reader.now.rest.now (meaning_of c.in-Ok-leaf_text.text) =
+    record {
       tag = c.in-Ok.tag;
       at = c.tag.new.self.rest.now;
       ends = tagged;
@@ -51,5 +55,7 @@ returns-in-Ok-leaf_text-clause-text c =
     let same = bytes_eq-Decides c.as_str.result.now (codes "url") in (
       λ h. subst (λ (t : List ℕ). HasElementText c.args.child.now c.args.reader.now.rest.now t)
           (sym c.as_str.ensures ∙ same.0 (sym c.eq.ensures ∙ h)) found,
-      λ has. c.eq.ensures ∙ same.1 (c.as_str.ensures ∙ sym (element_text_same c.args.child.now c.args.child.now c.args.reader.now.rest.now (meaning_of c.in-Ok-leaf_text.text) (codes "url") found has)),
+      λ has. c.eq.ensures ∙ same.1 (c.as_str.ensures
+          ∙ sym (element_text_same c.args.child.now c.args.child.now c.args.reader.now.rest.now
+          (meaning_of c.in-Ok-leaf_text.text) (codes "url") found has)),
     )

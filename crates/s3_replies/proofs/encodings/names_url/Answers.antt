@@ -6,7 +6,8 @@ use Rattle.reply_xml.proofs.OpenLemmas.{iff_past}
 use Rattle.reply_xml.proofs.TakeLemmas.{advanced, at_end_left, named_passes, skipped}
 use Rattle.s3_replies.specs.Encodings.{Behind, Found}
 use Rattle.s3_replies.specs.Listing.{EncodingLeft, HasEncoding}
-use Rattle.s3_replies.proofs.EncodingLemmas.{first_at_end, first_here, first_no_child, first_no_end, first_past, no_end_there, nothing_named, url_there}
+use Rattle.s3_replies.proofs.EncodingLemmas.{first_at_end, first_here, first_no_child, first_no_end, first_past}
+use Rattle.s3_replies.proofs.EncodingLemmas.{no_end_there, nothing_named, url_there}
 use Rattle.s3_replies.proofs.encodings.names_url.Goals as goal
 
 -- at the end nothing is named
@@ -14,13 +15,15 @@ pub returns-in-Ok-None-clause-first : goal.returns-in-Ok-None-clause-first
 returns-in-Ok-None-clause-first c =
     let now = rw c.in-Ok-None.field-0-is at c.in-Ok-None.ensures in (
       λ h. absurd (false≢true h),
-      λ f. absurd (first_at_end element.EncodingType c.args.root.now c.args.root.now.room (codes "url") c.children.here.rest.now _ f.0 now.end (c.children.invariant.first.0 f.1)),
+      λ f. absurd (first_at_end element.EncodingType c.args.root.now c.args.root.now.room
+          (codes "url") c.children.here.rest.now _ f.0 now.end (c.children.invariant.first.0 f.1)),
     )
 
 pub returns-in-Ok-None-clause-page : goal.returns-in-Ok-None-clause-page
 returns-in-Ok-None-clause-page c rest url h =
     let now = rw c.in-Ok-None.field-0-is at c.in-Ok-None.ensures in
-    let left = at_end_left (EncodingLeft false) c.args.root.now c.children.here.rest.now _ rest url now.end ((c.children.invariant.page rest url).0 h) in
+    let left = at_end_left (EncodingLeft false) c.args.root.now c.children.here.rest.now _ rest url now.end
+    ((c.children.invariant.page rest url).0 h) in
     nothing_named url left.1
 
 -- nor where no element begins
@@ -30,7 +33,8 @@ returns-in-Err-clause-first c =
     (
     λ named n. (
       λ h. absurd (false≢true (sym n.0 ∙ h)),
-      λ f. absurd (first_no_child element.EncodingType c.args.root.now.room (codes "url") c.children.here.rest.now (told c.in-Err.fault n.1 c.in-Err.ensures.none) (c.children.invariant.first.0 f.1)),
+      λ f. absurd (first_no_child element.EncodingType c.args.root.now.room (codes "url") c.children.here.rest.now
+          (told c.in-Err.fault n.1 c.in-Err.ensures.none) (c.children.invariant.first.0 f.1)),
     )
     )
     c.unnamed.ensures.none
@@ -38,7 +42,8 @@ returns-in-Err-clause-first c =
 pub returns-in-Err-clause-page : goal.returns-in-Err-clause-page
 returns-in-Err-clause-page c =
     IfOk-map c.unnamed.result
-    (λ named n rest url h. let held = (c.children.invariant.page rest url).0 h in absurd (told c.in-Err.fault n.1 c.in-Err.ensures.refused held.0 rest held.1))
+    (λ named n rest url h. let held = (c.children.invariant.page rest url).0 h in
+    absurd (told c.in-Err.fault n.1 c.in-Err.ensures.refused held.0 rest held.1))
     c.unnamed.ensures.none
 
 -- at the first one, its text decides
@@ -50,7 +55,8 @@ returns-then-is_the-clause-first c =
     (
     λ named same. (
       λ h. (now.apart, c.children.invariant.first.1 (Found c.in-Ok-Some.child _ now.child is (same.0 h))),
-      λ f. same.1 (first_here element.EncodingType c.args.root.now.room (codes "url") c.children.here.rest.now _ c.in-Ok-Some.child now.child is (c.children.invariant.first.0 f.1)),
+      λ f. same.1 (first_here element.EncodingType c.args.root.now.room
+          (codes "url") c.children.here.rest.now _ c.in-Ok-Some.child now.child is (c.children.invariant.first.0 f.1)),
     )
     )
     c.is_url.ensures.text
@@ -62,7 +68,8 @@ returns-then-is_the-clause-page c =
     IfOk-map c.is_url.result
     (
     λ named same rest url h.
-    let there = url_there c.args.root.now c.children.here.rest.now _ rest c.in-Ok-Some.child url now.apart now.child is ((c.children.invariant.page rest url).0 h) in
+    let there = url_there c.args.root.now c.children.here.rest.now _ rest c.in-Ok-Some.child url now.apart now.child is
+    ((c.children.invariant.page rest url).0 h) in
     there.0 ∙ sym (same.1 there.1)
     )
     c.is_url.ensures.text
@@ -78,7 +85,8 @@ returns-in-Err-skip-clause-first c =
       λ h. absurd (false≢true (sym n.0 ∙ h)),
       λ f. absurd
           (
-          first_no_end element.EncodingType c.args.root.now.room (codes "url") c.children.here.rest.now _ c.in-Ok-Some.child now.child other
+          first_no_end element.EncodingType c.args.root.now.room
+          (codes "url") c.children.here.rest.now _ c.in-Ok-Some.child now.child other
           (told c.in-Err-skip.fault n.1 c.in-Err-skip.ensures.refused) (c.children.invariant.first.0 f.1)
           ),
     )
@@ -104,12 +112,15 @@ children-preserved c =
     let other = sym c.is_the.ensures ∙ c.if-is_the.false in
     record {
       first = iff_past c.children.invariant.first (
-        λ f. first_past element.EncodingType c.args.root.now.room (codes "url") c.children.here.rest.now _ _ c.in-Ok-Some.child now.child other c.in_default.ensures.value f,
+        λ f. first_past element.EncodingType c.args.root.now.room
+            (codes "url") c.children.here.rest.now _ _ c.in-Ok-Some.child now.child other c.in_default.ensures.value f,
         λ f. Behind c.in-Ok-Some.child _ _ now.child other c.in_default.ensures.value f,
       );
       page = λ rest url. iff_past (c.children.invariant.page rest url)
           (
-          advanced (EncodingLeft false) (EncodingLeft false) c.args.root.now c.in-Ok-Some.child _ _ _ rest url now.apart now.child
-          (skipped (EncodingLeft false) c.in-Ok-Some.child _ _ (named_passes HasEncoding element.EncodingType c.in-Ok-Some.child other) c.in_default.ensures.value)
+          advanced (EncodingLeft false) (EncodingLeft false) c.args.root.now c.in-Ok-Some.child _ _ _ rest url now.apart
+          now.child
+          (skipped (EncodingLeft false) c.in-Ok-Some.child _ _
+          (named_passes HasEncoding element.EncodingType c.in-Ok-Some.child other) c.in_default.ensures.value)
           );
     }

@@ -8,8 +8,10 @@ use Rattle.s3_replies.proofs.encodings.names_url.Given as goal
 -- what is left names the same encoding
 abbrev pub invariant-children : goal.invariant-children
 invariant-children l = record {
-  first : FirstIs element.EncodingType l.fn.root.room (codes "url") l.fn.reader.rest.now ↔ FirstIs element.EncodingType l.fn.root.room (codes "url") l.here.rest.now;
-  page : (rest : List ℕ) (url : Bool) → HoldsAs (EncodingLeft false) l.fn.root l.fn.reader.rest.now rest url ↔ HoldsAs (EncodingLeft false) l.fn.root l.here.rest.now rest url;
+  first : FirstIs element.EncodingType l.fn.root.room (codes "url") l.fn.reader.rest.now ↔ FirstIs element.EncodingType
+      l.fn.root.room (codes "url") l.here.rest.now;
+  page : (rest : List ℕ) (url : Bool) → HoldsAs (EncodingLeft false) l.fn.root l.fn.reader.rest.now rest url ↔ HoldsAs
+      (EncodingLeft false) l.fn.root l.here.rest.now rest url;
 }
 
 abbrev pub decreases-children : goal.decreases-children

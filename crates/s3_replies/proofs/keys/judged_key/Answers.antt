@@ -9,6 +9,7 @@ use Rattle.s3_replies.proofs.keys.judged_key.Goals as goal
 pub returns-then-not-is_key-clause-refused : goal.returns-then-not-is_key-clause-refused
 returns-then-not-is_key-clause-refused c value w =
     let text = meaning_of c.args.text in
-    let here = subst (λ (t : List ℕ). MeansText c.args.url t c.in_ok-key.key) (c.as_str.ensures ∙ c.in_ok-written.ensures.value) c.in_ok-key.ensures.value in
+    let here = subst (λ (t : List ℕ). MeansText c.args.url t c.in_ok-key.key)
+    (c.as_str.ensures ∙ c.in_ok-written.ensures.value) c.in_ok-key.ensures.value in
     let same = MeansText-same c.args.url text c.in_ok-key.key w.1.0 here w.1.1 in
     false≢true (c.if-not-is_key.ensures.1 (subst IsKey (same ∙ sym c.as_str-2.ensures) w.1.2))

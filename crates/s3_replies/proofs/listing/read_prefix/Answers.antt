@@ -14,7 +14,8 @@ use Rattle.s3_replies.proofs.listing.read_prefix.Goals as goal
 
 pub returns-in-Written-clause-refused : goal.returns-in-Written-clause-refused
 returns-in-Written-clause-refused c =
-    subst (λ (k : Keys). IfRefused c.element.result (ReadsNone (HasOnly (SpellsPrefix k) element.Prefix) c.args.child.now c.args.reader.now.rest.now))
+    subst (λ (k : Keys). IfRefused c.element.result
+    (ReadsNone (HasOnly (SpellsPrefix k) element.Prefix) c.args.child.now c.args.reader.now.rest.now))
     (sym c.in-Written.is) c.element.ensures.refused
 
 pub returns-in-Written-clause-well : goal.returns-in-Written-clause-well
@@ -23,8 +24,10 @@ returns-in-Written-clause-well c =
     (
     λ (k : Keys). OnOk c.element.result
     (
-    (table : Table) (front : List (Option Element)) (of : Element) → IsParentOf table c.args.child.now.element of (prefix_table (prefix_form k))
-    → IsFresh table front c.args.child.now.element → ReadsWell table front c.args.child.now c.args.reader.now.rest.now c.element.new.self.rest.now
+    (table : Table) (front : List (Option Element)) (of : Element)
+    → IsParentOf table c.args.child.now.element of (prefix_table (prefix_form k))
+    → IsFresh table front c.args.child.now.element
+    → ReadsWell table front c.args.child.now c.args.reader.now.rest.now c.element.new.self.rest.now
     )
     )
     (sym c.in-Written.is) c.element.ensures.well
@@ -35,15 +38,18 @@ returns-in-Written-clause-broken c =
     (
     λ (k : Keys). IfBroken c.element.result
     (
-    λ reason. (table : Table) (front : List (Option Element)) (of : Element) → IsParentOf table c.args.child.now.element of (prefix_table (prefix_form k))
-    → IsFresh table front c.args.child.now.element → BreaksElement c.args.reader.now.size reason table front c.args.child.now c.args.reader.now.rest.now
+    λ reason. (table : Table) (front : List (Option Element)) (of : Element)
+    → IsParentOf table c.args.child.now.element of (prefix_table (prefix_form k))
+    → IsFresh table front c.args.child.now.element
+    → BreaksElement c.args.reader.now.size reason table front c.args.child.now c.args.reader.now.rest.now
     )
     )
     (sym c.in-Written.is) c.element.ensures.broken
 
 pub returns-in-Plain-clause-refused : goal.returns-in-Plain-clause-refused
 returns-in-Plain-clause-refused c =
-    subst (λ (k : Keys). IfRefused c.element-in-Plain.result (ReadsNone (HasOnly (SpellsPrefix k) element.Prefix) c.args.child.now c.args.reader.now.rest.now))
+    subst (λ (k : Keys). IfRefused c.element-in-Plain.result
+    (ReadsNone (HasOnly (SpellsPrefix k) element.Prefix) c.args.child.now c.args.reader.now.rest.now))
     (sym c.in-Plain.is) c.element-in-Plain.ensures.refused
 
 pub returns-in-Plain-clause-well : goal.returns-in-Plain-clause-well
@@ -52,8 +58,10 @@ returns-in-Plain-clause-well c =
     (
     λ (k : Keys). OnOk c.element-in-Plain.result
     (
-    (table : Table) (front : List (Option Element)) (of : Element) → IsParentOf table c.args.child.now.element of (prefix_table (prefix_form k))
-    → IsFresh table front c.args.child.now.element → ReadsWell table front c.args.child.now c.args.reader.now.rest.now c.element-in-Plain.new.self.rest.now
+    (table : Table) (front : List (Option Element)) (of : Element)
+    → IsParentOf table c.args.child.now.element of (prefix_table (prefix_form k))
+    → IsFresh table front c.args.child.now.element
+    → ReadsWell table front c.args.child.now c.args.reader.now.rest.now c.element-in-Plain.new.self.rest.now
     )
     )
     (sym c.in-Plain.is) c.element-in-Plain.ensures.well
@@ -64,15 +72,18 @@ returns-in-Plain-clause-broken c =
     (
     λ (k : Keys). IfBroken c.element-in-Plain.result
     (
-    λ reason. (table : Table) (front : List (Option Element)) (of : Element) → IsParentOf table c.args.child.now.element of (prefix_table (prefix_form k))
-    → IsFresh table front c.args.child.now.element → BreaksElement c.args.reader.now.size reason table front c.args.child.now c.args.reader.now.rest.now
+    λ reason. (table : Table) (front : List (Option Element)) (of : Element)
+    → IsParentOf table c.args.child.now.element of (prefix_table (prefix_form k))
+    → IsFresh table front c.args.child.now.element
+    → BreaksElement c.args.reader.now.size reason table front c.args.child.now c.args.reader.now.rest.now
     )
     )
     (sym c.in-Plain.is) c.element-in-Plain.ensures.broken
 
 pub returns-in-Url-clause-refused : goal.returns-in-Url-clause-refused
 returns-in-Url-clause-refused c =
-    subst (λ (k : Keys). IfRefused c.element-in-Url.result (ReadsNone (HasOnly (SpellsPrefix k) element.Prefix) c.args.child.now c.args.reader.now.rest.now))
+    subst (λ (k : Keys). IfRefused c.element-in-Url.result
+    (ReadsNone (HasOnly (SpellsPrefix k) element.Prefix) c.args.child.now c.args.reader.now.rest.now))
     (sym c.in-Url.is) c.element-in-Url.ensures.refused
 
 pub returns-in-Url-clause-well : goal.returns-in-Url-clause-well
@@ -81,8 +92,10 @@ returns-in-Url-clause-well c =
     (
     λ (k : Keys). OnOk c.element-in-Url.result
     (
-    (table : Table) (front : List (Option Element)) (of : Element) → IsParentOf table c.args.child.now.element of (prefix_table (prefix_form k))
-    → IsFresh table front c.args.child.now.element → ReadsWell table front c.args.child.now c.args.reader.now.rest.now c.element-in-Url.new.self.rest.now
+    (table : Table) (front : List (Option Element)) (of : Element)
+    → IsParentOf table c.args.child.now.element of (prefix_table (prefix_form k))
+    → IsFresh table front c.args.child.now.element
+    → ReadsWell table front c.args.child.now c.args.reader.now.rest.now c.element-in-Url.new.self.rest.now
     )
     )
     (sym c.in-Url.is) c.element-in-Url.ensures.well
@@ -93,8 +106,10 @@ returns-in-Url-clause-broken c =
     (
     λ (k : Keys). IfBroken c.element-in-Url.result
     (
-    λ reason. (table : Table) (front : List (Option Element)) (of : Element) → IsParentOf table c.args.child.now.element of (prefix_table (prefix_form k))
-    → IsFresh table front c.args.child.now.element → BreaksElement c.args.reader.now.size reason table front c.args.child.now c.args.reader.now.rest.now
+    λ reason. (table : Table) (front : List (Option Element)) (of : Element)
+    → IsParentOf table c.args.child.now.element of (prefix_table (prefix_form k))
+    → IsFresh table front c.args.child.now.element
+    → BreaksElement c.args.reader.now.size reason table front c.args.child.now c.args.reader.now.rest.now
     )
     )
     (sym c.in-Url.is) c.element-in-Url.ensures.broken

@@ -9,6 +9,8 @@ use Rattle.s3_replies.proofs.pages.entries_of.Given as goal
 abbrev pub invariant-loop-row : goal.invariant-loop-row
 invariant-loop-row l =
     let left = into_iter_items l.row-iterator in
-    ((later : List Entry) → AllZip (MeansEntry l.url) left later → AllZip (MeansEntry l.url) l.fn.rows.items (l.entries.items ++ later))
-    × ((values : List Entry) → AllZip (MeansEntry l.url) l.fn.rows.items values → (later : List Entry) × AllZip (MeansEntry l.url) left later)
+    ((later : List Entry) → AllZip (MeansEntry l.url) left later
+    → AllZip (MeansEntry l.url) l.fn.rows.items (l.entries.items ++ later))
+    × ((values : List Entry) → AllZip (MeansEntry l.url) l.fn.rows.items values
+    → (later : List Entry) × AllZip (MeansEntry l.url) left later)
     × (into_iter_len l.row-iterator ≤ l.entries.spare)

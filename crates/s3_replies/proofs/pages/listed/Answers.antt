@@ -5,8 +5,13 @@ use Rattle.s3_replies.proofs.pages.listed.Goals as goal
 
 pub returns-in_err-entries-clause-refused : goal.returns-in_err-entries-clause-refused
 returns-in_err-entries-clause-refused c =
-    refused_past c.from_residual.result c.in_err-entries.field-0.0 c.from_residual.ensures.1 (λ none listed m. none listed.entries.items (subst (λ (p : Page). MeansPage p listed) (sym c.page.view_is) m).entries) c.in_err-entries.ensures.refused
+    refused_past c.from_residual.result c.in_err-entries.field-0.0 c.from_residual.ensures.1
+    (λ none listed m. none listed.entries.items
+    (subst (λ (p : Page). MeansPage p listed) (sym c.page.view_is) m).entries) c.in_err-entries.ensures.refused
 
 pub returns-in_err-prefixes-clause-refused : goal.returns-in_err-prefixes-clause-refused
 returns-in_err-prefixes-clause-refused c =
-    refused_past c.from_residual-in_err-prefixes.result c.in_err-prefixes.field-0.0 c.from_residual-in_err-prefixes.ensures.1 (λ none listed m. none listed.prefixes.items (subst (λ (p : Page). MeansPage p listed) (sym c.page.view_is) m).prefixes) c.in_err-prefixes.ensures.refused
+    refused_past c.from_residual-in_err-prefixes.result c.in_err-prefixes.field-0.0
+    c.from_residual-in_err-prefixes.ensures.1
+    (λ none listed m. none listed.prefixes.items
+    (subst (λ (p : Page). MeansPage p listed) (sym c.page.view_is) m).prefixes) c.in_err-prefixes.ensures.refused

@@ -25,7 +25,8 @@ loop-row-preserved c =
     let steps = c.in-Some.ensures.steps in (
       (λ later all.
           let whole = c.loop-row.invariant.0 (c.in_ok-decoded.field-0 ∷ later)
-          (subst (λ (rows : List (List ℕ)). AllZip (MeansText c.args.url) rows (c.in_ok-decoded.field-0 ∷ later)) (sym steps.0) (c.in_ok-decoded.ensures.value, all)) in
+          (subst (λ (rows : List (List ℕ)). AllZip (MeansText c.args.url) rows (c.in_ok-decoded.field-0 ∷ later))
+          (sym steps.0) (c.in_ok-decoded.ensures.value, all)) in
           rw (c.push.ensures.items, append_assoc) whole),
       (λ values all.
           let later = c.loop-row.invariant.1 values all in
@@ -37,5 +38,7 @@ loop-row-preserved c =
 
 pub returns-clause-value : goal.returns-clause-value
 returns-clause-value c =
-    let none_left : into_iter_items c.loop-row.row-iterator ≡ [] = nil_from_length (into_iter_items c.loop-row.row-iterator) (omega (arith, c.in-None.ensures.steps.0, c.loop-row.row-iterator.rest.ok.0)) in
+    let none_left : into_iter_items c.loop-row.row-iterator ≡ [] =
+    nil_from_length (into_iter_items c.loop-row.row-iterator)
+    (omega (arith, c.in-None.ensures.steps.0, c.loop-row.row-iterator.rest.ok.0)) in
     rw append-nil at (c.loop-row.invariant.0 [] (rw none_left tt))

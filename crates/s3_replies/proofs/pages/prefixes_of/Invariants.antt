@@ -8,6 +8,8 @@ use Rattle.s3_replies.proofs.pages.prefixes_of.Given as goal
 abbrev pub invariant-loop-row : goal.invariant-loop-row
 invariant-loop-row l =
     let left = into_iter_items l.row-iterator in
-    ((later : List (List ℕ)) → AllZip (MeansText l.url) left later → AllZip (MeansText l.url) l.fn.rows.items (l.prefixes.items ++ later))
-    × ((values : List (List ℕ)) → AllZip (MeansText l.url) l.fn.rows.items values → (later : List (List ℕ)) × AllZip (MeansText l.url) left later)
+    ((later : List (List ℕ)) → AllZip (MeansText l.url) left later
+    → AllZip (MeansText l.url) l.fn.rows.items (l.prefixes.items ++ later))
+    × ((values : List (List ℕ)) → AllZip (MeansText l.url) l.fn.rows.items values
+    → (later : List (List ℕ)) × AllZip (MeansText l.url) left later)
     × (into_iter_len l.row-iterator ≤ l.prefixes.spare)

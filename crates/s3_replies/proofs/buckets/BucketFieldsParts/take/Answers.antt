@@ -9,42 +9,55 @@ use Rattle.std.proofs.Common.{◌∙◌, sym}
 use Rattle.s3_replies.specs.Buckets.{BucketLeft}
 use Rattle.reply_xml.proofs.FaultLemmas.{refused_so, OnOk-map}
 use Rattle.reply_xml.proofs.TakeLemmas.{stops_there}
-use Rattle.s3_replies.proofs.BucketLemmas.{name_advanced, name_stopped, created_advanced, created_stopped, bucket_skipped}
+use Rattle.s3_replies.proofs.BucketLemmas.{name_advanced, name_stopped, created_advanced, created_stopped}
+use Rattle.s3_replies.proofs.BucketLemmas.{bucket_skipped}
 use Rattle.s3_replies.proofs.buckets.BucketFieldsParts.take.Goals as goal
 
 pub returns-then-is_the-clause-value : goal.returns-then-is_the-clause-value
 returns-then-is_the-clause-value c =
-    OnOk-map c.take.result (name_advanced _ _ c.args.self.now.created c.args.child.now c.args.reader.now.rest.now _ (sym c.is_the.ensures ∙ c.if-is_the.true)) c.take.ensures.value
+    OnOk-map c.take.result (name_advanced _ _ c.args.self.now.created c.args.child.now c.args.reader.now.rest.now _
+    (sym c.is_the.ensures ∙ c.if-is_the.true)) c.take.ensures.value
 
 pub returns-then-is_the-clause-refused : goal.returns-then-is_the-clause-refused
 returns-then-is_the-clause-refused c =
-    refused_so c.take.result (name_stopped _ c.args.self.now.created c.args.child.now c.args.reader.now.rest.now) c.take.ensures.refused
+    refused_so c.take.result (name_stopped _ c.args.self.now.created c.args.child.now c.args.reader.now.rest.now)
+    c.take.ensures.refused
 
 pub returns-then-is_the-2-clause-value : goal.returns-then-is_the-2-clause-value
 returns-then-is_the-2-clause-value c =
     OnOk-map c.take-then-is_the-2.result
-    (created_advanced c.args.self.now.name _ _ c.args.child.now c.args.reader.now.rest.now _ (sym c.is_the.ensures ∙ c.if-is_the.false) (sym c.is_the-2.ensures ∙ c.if-is_the-2.true))
+    (created_advanced c.args.self.now.name _ _ c.args.child.now c.args.reader.now.rest.now _
+    (sym c.is_the.ensures ∙ c.if-is_the.false) (sym c.is_the-2.ensures ∙ c.if-is_the-2.true))
     c.take-then-is_the-2.ensures.value
 
 pub returns-then-is_the-2-clause-refused : goal.returns-then-is_the-2-clause-refused
 returns-then-is_the-2-clause-refused c =
-    refused_so c.take-then-is_the-2.result (created_stopped c.args.self.now.name _ c.args.child.now c.args.reader.now.rest.now)
+    refused_so c.take-then-is_the-2.result
+    (created_stopped c.args.self.now.name _ c.args.child.now c.args.reader.now.rest.now)
     c.take-then-is_the-2.ensures.refused
 
 pub returns-clause-value : goal.returns-clause-value
 returns-clause-value c =
     OnOk-map c.skip.result
-    (bucket_skipped c.args.self.now.name c.args.self.now.created c.args.child.now c.args.reader.now.rest.now _ (sym c.is_the.ensures ∙ c.if-is_the.false) (sym c.is_the-2.ensures ∙ c.if-is_the-2.false))
+    (bucket_skipped c.args.self.now.name c.args.self.now.created c.args.child.now c.args.reader.now.rest.now _
+    (sym c.is_the.ensures ∙ c.if-is_the.false) (sym c.is_the-2.ensures ∙ c.if-is_the-2.false))
     c.skip.ensures.value
 
 pub returns-clause-refused : goal.returns-clause-refused
 returns-clause-refused c =
-    refused_so c.skip.result (stops_there (BucketLeft c.args.self.now.name c.args.self.now.created) c.args.child.now c.args.reader.now.rest.now) c.skip.ensures.refused
+    refused_so c.skip.result (stops_there (BucketLeft c.args.self.now.name c.args.self.now.created) c.args.child.now
+    c.args.reader.now.rest.now) c.skip.ensures.refused
 
 pub returns-then-is_the-clause-known : goal.returns-then-is_the-clause-known
 returns-then-is_the-clause-known c =
     OnOk-map c.take.result
-    (λ some front found. (found_here element.Name c.take.new.found c.args.child.now.element front (sym c.is_the.ensures ∙ c.if-is_the.true) some, found_past element.CreationDate c.args.self.now.created c.args.child.now.element front (is_other element.Name element.CreationDate c.args.child.now.element (sym c.is_the.ensures ∙ c.if-is_the.true) refl) found.1))
+    (λ some front found. (
+      found_here element.Name c.take.new.found c.args.child.now.element front
+          (sym c.is_the.ensures ∙ c.if-is_the.true) some,
+      found_past element.CreationDate c.args.self.now.created c.args.child.now.element front
+          (is_other element.Name element.CreationDate c.args.child.now.element
+          (sym c.is_the.ensures ∙ c.if-is_the.true) refl) found.1,
+    ))
     c.take.ensures.some
 
 pub returns-then-is_the-clause-broken : goal.returns-then-is_the-clause-broken
@@ -54,23 +67,36 @@ returns-then-is_the-clause-broken c =
 pub returns-then-is_the-2-clause-known : goal.returns-then-is_the-2-clause-known
 returns-then-is_the-2-clause-known c =
     OnOk-map c.take-then-is_the-2.result
-    (λ some front found. (found_past element.Name c.args.self.now.name c.args.child.now.element front (is_other element.CreationDate element.Name c.args.child.now.element (sym c.is_the-2.ensures ∙ c.if-is_the-2.true) refl) found.0, found_here element.CreationDate c.take-then-is_the-2.new.found c.args.child.now.element front (sym c.is_the-2.ensures ∙ c.if-is_the-2.true) some))
+    (λ some front found. (
+      found_past element.Name c.args.self.now.name c.args.child.now.element front
+          (is_other element.CreationDate element.Name c.args.child.now.element
+          (sym c.is_the-2.ensures ∙ c.if-is_the-2.true) refl) found.0,
+      found_here element.CreationDate c.take-then-is_the-2.new.found c.args.child.now.element front
+          (sym c.is_the-2.ensures ∙ c.if-is_the-2.true) some,
+    ))
     c.take-then-is_the-2.ensures.some
 
 pub returns-then-is_the-2-clause-broken : goal.returns-then-is_the-2-clause-broken
 returns-then-is_the-2-clause-broken c =
-    broken_so c.take-then-is_the-2.result (λ reason b front found. b bucket_table front refl refl found.1) c.take-then-is_the-2.ensures.broken
+    broken_so c.take-then-is_the-2.result (λ reason b front found. b bucket_table front refl refl found.1)
+    c.take-then-is_the-2.ensures.broken
 
 pub returns-clause-known : goal.returns-clause-known
 returns-clause-known c =
     OnOk-map c.skip.result
-    (λ read front found. (found_past element.Name c.args.self.now.name c.args.child.now.element front (sym c.is_the.ensures ∙ c.if-is_the.false) found.0, found_past element.CreationDate c.args.self.now.created c.args.child.now.element front (sym c.is_the-2.ensures ∙ c.if-is_the-2.false) found.1))
+    (λ read front found. (
+      found_past element.Name c.args.self.now.name c.args.child.now.element front
+          (sym c.is_the.ensures ∙ c.if-is_the.false) found.0,
+      found_past element.CreationDate c.args.self.now.created c.args.child.now.element front
+          (sym c.is_the-2.ensures ∙ c.if-is_the-2.false) found.1,
+    ))
     c.skip.ensures.value
 
 pub returns-clause-broken : goal.returns-clause-broken
 returns-clause-broken c =
     broken_so c.skip.result
-    (λ reason b front found. b bucket_table front ((sym c.is_the.ensures ∙ c.if-is_the.false), ((sym c.is_the-2.ensures ∙ c.if-is_the-2.false), tt)))
+    (λ reason b front found. b bucket_table front
+    ((sym c.is_the.ensures ∙ c.if-is_the.false), ((sym c.is_the-2.ensures ∙ c.if-is_the-2.false), tt)))
     c.skip.ensures.broken
 
 pub returns-then-is_the-clause-well : goal.returns-then-is_the-clause-well
@@ -79,10 +105,15 @@ returns-then-is_the-clause-well c =
 
 pub returns-then-is_the-2-clause-well : goal.returns-then-is_the-2-clause-well
 returns-then-is_the-2-clause-well c =
-    OnOk-map c.take-then-is_the-2.result (λ well front found. well bucket_table front refl found.1) c.take-then-is_the-2.ensures.well
+    OnOk-map c.take-then-is_the-2.result (λ well front found. well bucket_table front refl found.1)
+    c.take-then-is_the-2.ensures.well
 
 pub returns-clause-well : goal.returns-clause-well
 returns-clause-well c =
     OnOk-map c.skip.result
-    (λ read front found. (read.0, read.1, Passed ((sym c.is_the.ensures ∙ c.if-is_the.false), ((sym c.is_the-2.ensures ∙ c.if-is_the-2.false), tt))))
+    (λ read front found. (
+      read.0,
+      read.1,
+      Passed ((sym c.is_the.ensures ∙ c.if-is_the.false), ((sym c.is_the-2.ensures ∙ c.if-is_the-2.false), tt)),
+    ))
     c.skip.ensures.value

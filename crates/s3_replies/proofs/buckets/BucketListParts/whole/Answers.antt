@@ -12,7 +12,8 @@ pub returns-in-None-clause-refused : goal.returns-in-None-clause-refused
 returns-in-None-clause-refused c text rows left = no_list c.args.self.found text rows.items c.in-None.is left
 
 pub returns-in-None-clause-missing : goal.returns-in-None-clause-missing
-returns-in-None-clause-missing c front found = (element.Buckets, refl, missing_here element.Buckets c.args.self.found front _ c.in-None.is found)
+returns-in-None-clause-missing c front found =
+    (element.Buckets, refl, missing_here element.Buckets c.args.self.found front _ c.in-None.is found)
 
 pub returns-in-Some-clause-complete : goal.returns-in-Some-clause-complete
 returns-in-Some-clause-complete c front found =

@@ -14,45 +14,60 @@ use Rattle.s3_replies.proofs.buckets.BucketsParts.take.Goals as goal
 
 pub returns-then-not-is_the-clause-refused : goal.returns-then-not-is_the-clause-refused
 returns-then-not-is_the-clause-refused c =
-    refused_so c.skip.result (stops_there (λ content (rows : Reserved Entry). BucketsLeft c.args.self.now.rows.items content rows.items) c.args.child.now c.args.reader.now.rest.now) c.skip.ensures.refused
+    refused_so c.skip.result (stops_there
+    (λ content (rows : Reserved Entry). BucketsLeft c.args.self.now.rows.items content rows.items) c.args.child.now
+    c.args.reader.now.rest.now) c.skip.ensures.refused
 
 pub returns-in_err-key-clause-refused : goal.returns-in_err-key-clause-refused
 returns-in_err-key-clause-refused c =
     refused_past c.from_residual.result c.in_err-key.field-0.0 c.from_residual.ensures.1
     (
-    λ none. part_stopped (λ (rows : Reserved Entry). rows.items) (BucketsLeft c.args.self.now.rows.items) c.args.child.now c.args.reader.now.rest.now
-    (each_stopped HasBucket element.Bucket c.args.self.now.rows.items c.args.child.now c.args.reader.now.rest.now (sym c.is_the.ensures ∙ c.if-not-is_the.false)
-    (λ rest entry r. none rest (entry.key, entry.micros) (bucket_opened c.args.child.now c.args.reader.now.rest.now rest entry r)))
+    λ none. part_stopped (λ (rows : Reserved Entry). rows.items)
+    (BucketsLeft c.args.self.now.rows.items) c.args.child.now c.args.reader.now.rest.now
+    (each_stopped HasBucket element.Bucket c.args.self.now.rows.items c.args.child.now c.args.reader.now.rest.now
+    (sym c.is_the.ensures ∙ c.if-not-is_the.false)
+    (λ rest entry r. none rest (entry.key, entry.micros)
+    (bucket_opened c.args.child.now c.args.reader.now.rest.now rest entry r)))
     )
     c.in_err-key.ensures.refused
 
 pub returns-clause-value : goal.returns-clause-value
 returns-clause-value c =
     let row : Entry = record { key = c.in_ok-key.key; size = 0; etag = c.from.result; micros = c.in_ok-key.micros } in
-    part_advanced (λ (rows : Reserved Entry). rows.items) (BucketsLeft c.args.self.now.rows.items) (BucketsLeft c.push.new.self.items) c.args.child.now c.args.reader.now.rest.now c.element.new.self.rest.now
-    (each_advanced HasBucket element.Bucket c.args.self.now.rows.items c.push.new.self.items c.args.child.now c.args.reader.now.rest.now c.element.new.self.rest.now row
-    (sym c.is_the.ensures ∙ c.if-not-is_the.false) (c.push.ensures.items ∙ ap (λ rows. rows ++ row ∷ []) c.reserve.ensures.items) HasBucket-same
-    (bucket_closed c.args.child.now c.args.reader.now.rest.now c.element.new.self.rest.now row refl (c.from.ensures ∙ c.new.ensures.bytes) c.in_ok-key.ensures.value))
+    part_advanced (λ (rows : Reserved Entry). rows.items) (BucketsLeft c.args.self.now.rows.items)
+    (BucketsLeft c.push.new.self.items) c.args.child.now c.args.reader.now.rest.now c.element.new.self.rest.now
+    (each_advanced HasBucket element.Bucket c.args.self.now.rows.items c.push.new.self.items c.args.child.now
+    c.args.reader.now.rest.now c.element.new.self.rest.now row
+    (sym c.is_the.ensures ∙ c.if-not-is_the.false)
+    (c.push.ensures.items ∙ ap (λ rows. rows ++ row ∷ []) c.reserve.ensures.items) HasBucket-same
+    (bucket_closed c.args.child.now c.args.reader.now.rest.now c.element.new.self.rest.now row refl
+    (c.from.ensures ∙ c.new.ensures.bytes) c.in_ok-key.ensures.value))
 
 pub returns-in_err-key-clause-broken : goal.returns-in_err-key-clause-broken
 returns-in_err-key-clause-broken c =
     broken_past c.from_residual.result c.in_err-key.field-0.0 c.from_residual.ensures.1 (
-    λ reason b front found. b buckets_table front element.Bucket (record { same = sym c.is_the.ensures ∙ c.if-not-is_the.false; read_so = refl })
-    (fresh_many buckets_table front c.args.child.now.element element.Bucket (sym c.is_the.ensures ∙ c.if-not-is_the.false) refl)
+    λ reason b front found. b buckets_table front element.Bucket
+    (record { same = sym c.is_the.ensures ∙ c.if-not-is_the.false; read_so = refl })
+    (fresh_many buckets_table front c.args.child.now.element element.Bucket
+    (sym c.is_the.ensures ∙ c.if-not-is_the.false) refl)
     ) c.in_err-key.ensures.broken
 
 pub returns-then-not-is_the-clause-broken : goal.returns-then-not-is_the-clause-broken
 returns-then-not-is_the-clause-broken c =
-    broken_so c.skip.result (λ reason b front found. b buckets_table front (sym c.is_the.ensures ∙ c.if-not-is_the.true, tt)) c.skip.ensures.broken
+    broken_so c.skip.result (λ reason b front found. b buckets_table front
+    (sym c.is_the.ensures ∙ c.if-not-is_the.true, tt)) c.skip.ensures.broken
 
 pub returns-then-not-is_the-clause-known : goal.returns-then-not-is_the-clause-known
 returns-then-not-is_the-clause-known c = OnOk-map c.skip.result (λ read front found. tt) c.skip.ensures.value
 
 pub returns-then-not-is_the-clause-well : goal.returns-then-not-is_the-clause-well
 returns-then-not-is_the-clause-well c =
-    OnOk-map c.skip.result (λ read front found. (read.0, read.1, Passed (sym c.is_the.ensures ∙ c.if-not-is_the.true, tt))) c.skip.ensures.value
+    OnOk-map c.skip.result (λ read front found.
+    (read.0, read.1, Passed (sym c.is_the.ensures ∙ c.if-not-is_the.true, tt))) c.skip.ensures.value
 
 pub returns-clause-well : goal.returns-clause-well
 returns-clause-well c front found =
-    c.in_ok-key.ensures.well buckets_table front element.Bucket (record { same = sym c.is_the.ensures ∙ c.if-not-is_the.false; read_so = refl })
-    (fresh_many buckets_table front c.args.child.now.element element.Bucket (sym c.is_the.ensures ∙ c.if-not-is_the.false) refl)
+    c.in_ok-key.ensures.well buckets_table front element.Bucket
+    (record { same = sym c.is_the.ensures ∙ c.if-not-is_the.false; read_so = refl })
+    (fresh_many buckets_table front c.args.child.now.element element.Bucket
+    (sym c.is_the.ensures ∙ c.if-not-is_the.false) refl)

@@ -6,13 +6,16 @@ use Rattle.std.proofs.Common.{refl}
 use Rattle.s3_replies.proofs.errors.ErrorFieldsParts.whole.Goals as goal
 
 pub returns-in-Some-clause-value : goal.returns-in-Some-clause-value
-returns-in-Some-clause-value c text = error_left c.in-Some.code c.args.self.message c.args.self.code c.args.self.message text c.in-Some.is refl
+returns-in-Some-clause-value c text =
+    error_left c.in-Some.code c.args.self.message c.args.self.code c.args.self.message text c.in-Some.is refl
 
 pub returns-in-None-clause-refused : goal.returns-in-None-clause-refused
-returns-in-None-clause-refused c text value left = no_code c.args.self.code c.args.self.message text value c.in-None.is left
+returns-in-None-clause-refused c text value left =
+    no_code c.args.self.code c.args.self.message text value c.in-None.is left
 
 pub returns-in-None-clause-missing : goal.returns-in-None-clause-missing
-returns-in-None-clause-missing c front found = (element.Code, refl, missing_here element.Code c.args.self.code front _ c.in-None.is found.0)
+returns-in-None-clause-missing c front found =
+    (element.Code, refl, missing_here element.Code c.args.self.code front _ c.in-None.is found.0)
 
 pub returns-in-Some-clause-complete : goal.returns-in-Some-clause-complete
 returns-in-Some-clause-complete c front found =

@@ -9,22 +9,28 @@ use Rattle.s3_replies.proofs.ObjectLemmas.{object_left, part_missing}
 use Rattle.s3_replies.proofs.listing.ObjectFieldsParts.whole.Goals as goal
 
 pub returns-in_default-clause-refused : goal.returns-in_default-clause-refused
-returns-in_default-clause-refused c text entry left = part_missing (SpellsKey c.args.self.keys) c.args.self.key entry.key c.in_default.is left.0.0
+returns-in_default-clause-refused c text entry left = part_missing
+    (SpellsKey c.args.self.keys) c.args.self.key entry.key c.in_default.is left.0.0
 
 pub returns-in_default-modified-clause-refused : goal.returns-in_default-modified-clause-refused
-returns-in_default-modified-clause-refused c text entry left = part_missing SpellsTime c.args.self.modified entry.micros c.in_default-modified.is left.0.1
+returns-in_default-modified-clause-refused c text entry left =
+    part_missing SpellsTime c.args.self.modified entry.micros c.in_default-modified.is left.0.1
 
 pub returns-in_default-etag-clause-refused : goal.returns-in_default-etag-clause-refused
-returns-in_default-etag-clause-refused c text entry left = part_missing (IsFormed element.ETag) c.args.self.etag entry.etag c.in_default-etag.is left.1.0
+returns-in_default-etag-clause-refused c text entry left =
+    part_missing (IsFormed element.ETag) c.args.self.etag entry.etag c.in_default-etag.is left.1.0
 
 pub returns-in_default-size-clause-refused : goal.returns-in_default-size-clause-refused
-returns-in_default-size-clause-refused c text entry left = part_missing SpellsNumber c.args.self.size entry.size c.in_default-size.is left.1.1
+returns-in_default-size-clause-refused c text entry left =
+    part_missing SpellsNumber c.args.self.size entry.size c.in_default-size.is left.1.1
 
 pub returns-clause-value : goal.returns-clause-value
-returns-clause-value c text = object_left (SpellsKey c.args.self.keys) _ text c.args.self.key c.args.self.modified c.args.self.etag c.args.self.size c.in-Some.is c.in-Some-modified.is c.in-Some-etag.is c.in-Some-size.is
+returns-clause-value c text = object_left (SpellsKey c.args.self.keys) _ text c.args.self.key c.args.self.modified
+    c.args.self.etag c.args.self.size c.in-Some.is c.in-Some-modified.is c.in-Some-etag.is c.in-Some-size.is
 
 pub returns-in_default-clause-missing : goal.returns-in_default-clause-missing
-returns-in_default-clause-missing c front found = (element.Key, refl, missing_here element.Key c.args.self.key front _ c.in_default.is found.0)
+returns-in_default-clause-missing c front found =
+    (element.Key, refl, missing_here element.Key c.args.self.key front _ c.in_default.is found.0)
 
 pub returns-in_default-modified-clause-missing : goal.returns-in_default-modified-clause-missing
 returns-in_default-modified-clause-missing c front found = (
@@ -40,7 +46,8 @@ returns-in_default-etag-clause-missing c front found = (
   refl,
   missing_later element.Key c.args.self.key c.in-Some.key front _ _ c.in-Some.is found.0
       (
-      missing_later element.LastModified c.args.self.modified c.in-Some-modified.micros front _ _ c.in-Some-modified.is found.1
+      missing_later element.LastModified c.args.self.modified c.in-Some-modified.micros front _ _ c.in-Some-modified.is
+      found.1
       (missing_here element.ETag c.args.self.etag front _ c.in_default-etag.is found.2)
       ),
 )
@@ -51,7 +58,8 @@ returns-in_default-size-clause-missing c front found = (
   refl,
   missing_later element.Key c.args.self.key c.in-Some.key front _ _ c.in-Some.is found.0
       (
-      missing_later element.LastModified c.args.self.modified c.in-Some-modified.micros front _ _ c.in-Some-modified.is found.1
+      missing_later element.LastModified c.args.self.modified c.in-Some-modified.micros front _ _ c.in-Some-modified.is
+      found.1
       (
       missing_later element.ETag c.args.self.etag c.in-Some-etag.etag front _ _ c.in-Some-etag.is found.2
       (missing_here element.Size c.args.self.size front _ c.in_default-size.is found.3)
@@ -62,7 +70,8 @@ returns-in_default-size-clause-missing c front found = (
 pub returns-clause-complete : goal.returns-clause-complete
 returns-clause-complete c front found =
     missing_later element.Key c.args.self.key c.in-Some.key front _ _ c.in-Some.is found.0
-    (missing_later element.LastModified c.args.self.modified c.in-Some-modified.micros front _ _ c.in-Some-modified.is found.1
+    (missing_later element.LastModified c.args.self.modified c.in-Some-modified.micros front _ _ c.in-Some-modified.is
+    found.1
     (missing_later element.ETag c.args.self.etag c.in-Some-etag.etag front _ _ c.in-Some-etag.is found.2
     (missing_later element.Size c.args.self.size c.in-Some-size.size front _ _ c.in-Some-size.is found.3
     (refl))))

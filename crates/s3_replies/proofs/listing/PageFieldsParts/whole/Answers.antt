@@ -10,14 +10,23 @@ use Rattle.s3_replies.proofs.listing.PageFieldsParts.whole.Goals as goal
 
 pub returns-in-Some-clause-value : goal.returns-in-Some-clause-value
 returns-in-Some-clause-value c text =
-    let page : Page = record { more = c.in-Some.more; token = c.args.self.token; url = c.args.self.url; entries = c.args.self.entries.items; prefixes = c.args.self.prefixes.items } in
+    let page : Page = record {
+      more = c.in-Some.more;
+      token = c.args.self.token;
+      url = c.args.self.url;
+      entries =
+          c.args.self.entries.items;
+      prefixes = c.args.self.prefixes.items;
+    } in
     page_left (SpellsKey c.args.self.keys) (SpellsPrefix c.args.self.keys) page c.args.self.more text c.in-Some.is
 
 pub returns-in-None-clause-refused : goal.returns-in-None-clause-refused
-returns-in-None-clause-refused c text page left = part_missing SpellsTruth c.args.self.more page.more c.in-None.is left.0.0
+returns-in-None-clause-refused c text page left =
+    part_missing SpellsTruth c.args.self.more page.more c.in-None.is left.0.0
 
 pub returns-in-None-clause-missing : goal.returns-in-None-clause-missing
-returns-in-None-clause-missing c front found = (element.IsTruncated, refl, missing_here element.IsTruncated c.args.self.more front _ c.in-None.is found.0)
+returns-in-None-clause-missing c front found =
+    (element.IsTruncated, refl, missing_here element.IsTruncated c.args.self.more front _ c.in-None.is found.0)
 
 pub returns-in-Some-clause-complete : goal.returns-in-Some-clause-complete
 returns-in-Some-clause-complete c front found =
