@@ -162,8 +162,10 @@ objects_judged url (c ∷ cs) (row ∷ rows) entries h z =
           (
             text,
             h.0.key.2.1,
-            written_key url text row.key
-                (same, (parts.0.key, subst (λ (w : List ℕ). MeansText url w parts.0.key) same parts.2.key, parts.2.form)),
+            written_key url text row.key (
+              same,
+              (parts.0.key, subst (λ (w : List ℕ). MeansText url w parts.0.key) same parts.2.key, parts.2.form),
+            ),
           ),
         );
         modified = h.0.modified;

@@ -55,7 +55,8 @@ returns-then-is_the-clause-known c =
       found_here element.Code c.take.new.found c.args.child.now.element front
           (sym c.is_the.ensures ∙ c.if-is_the.true) some,
       found_past element.Message c.args.self.now.message c.args.child.now.element front
-          (is_other element.Code element.Message c.args.child.now.element (sym c.is_the.ensures ∙ c.if-is_the.true) refl)
+          (is_other element.Code element.Message c.args.child.now.element
+          (sym c.is_the.ensures ∙ c.if-is_the.true) refl)
           found.1,
     ))
     c.take.ensures.some

@@ -125,7 +125,8 @@ returns-then-is_the-3-clause-known c =
     OnOk-map c.take-then-is_the-3.result
     (λ some front found. (
       found_past element.Key c.args.self.now.key c.args.child.now.element front
-          (is_other element.ETag element.Key c.args.child.now.element (sym c.is_the-3.ensures ∙ c.if-is_the-3.true) refl)
+          (is_other element.ETag element.Key c.args.child.now.element
+          (sym c.is_the-3.ensures ∙ c.if-is_the-3.true) refl)
           found.0,
       found_past element.LastModified c.args.self.now.modified c.args.child.now.element front
           (is_other element.ETag element.LastModified c.args.child.now.element
@@ -133,7 +134,8 @@ returns-then-is_the-3-clause-known c =
       found_here element.ETag c.take-then-is_the-3.new.found c.args.child.now.element front
           (sym c.is_the-3.ensures ∙ c.if-is_the-3.true) some,
       found_past element.Size c.args.self.now.size c.args.child.now.element front
-          (is_other element.ETag element.Size c.args.child.now.element (sym c.is_the-3.ensures ∙ c.if-is_the-3.true) refl)
+          (is_other element.ETag element.Size c.args.child.now.element
+          (sym c.is_the-3.ensures ∙ c.if-is_the-3.true) refl)
           found.3,
     ))
     c.take-then-is_the-3.ensures.some
@@ -149,13 +151,15 @@ returns-then-is_the-4-clause-known c =
     OnOk-map c.take-then-is_the-4.result
     (λ some front found. (
       found_past element.Key c.args.self.now.key c.args.child.now.element front
-          (is_other element.Size element.Key c.args.child.now.element (sym c.is_the-4.ensures ∙ c.if-is_the-4.true) refl)
+          (is_other element.Size element.Key c.args.child.now.element
+          (sym c.is_the-4.ensures ∙ c.if-is_the-4.true) refl)
           found.0,
       found_past element.LastModified c.args.self.now.modified c.args.child.now.element front
           (is_other element.Size element.LastModified c.args.child.now.element
           (sym c.is_the-4.ensures ∙ c.if-is_the-4.true) refl) found.1,
       found_past element.ETag c.args.self.now.etag c.args.child.now.element front
-          (is_other element.Size element.ETag c.args.child.now.element (sym c.is_the-4.ensures ∙ c.if-is_the-4.true) refl)
+          (is_other element.Size element.ETag c.args.child.now.element
+          (sym c.is_the-4.ensures ∙ c.if-is_the-4.true) refl)
           found.2,
       found_here element.Size c.take-then-is_the-4.new.found c.args.child.now.element front
           (sym c.is_the-4.ensures ∙ c.if-is_the-4.true) some,
