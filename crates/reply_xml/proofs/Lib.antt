@@ -12,4 +12,5 @@ pub mod Rows
 pub mod RunLemmas
 pub mod TagLemmas
 pub mod TakeLemmas
+pub mod Utf8Lemmas
 pub mod WholeLemmas

@@ -34,3 +34,7 @@ pub record ReadsRun (of : Sort) (run bytes rest : List ℕ) : Type 0 where
   pub split : bytes ≡ run ++ rest
   pub inside : AllPass (is_of of) run
   pub ends : BeginsOutside (is_of of) rest
+
+-- no `&` stands in the bytes, with which a reference begins
+abbrev pub HasNoReference : List ℕ → Type 0
+HasNoReference bytes = AllPass (λ byte. not (byte == 38)) bytes

@@ -12,7 +12,7 @@ ghost use Rattle.reply_xml.specs.Tags.{NameEnds, ReadsTag};
 
 use crate::elements::element_named;
 use crate::faults::DocFault;
-use crate::places::{is_same, utf8_front};
+use crate::places::{is_same, is_utf8, utf8_front};
 use crate::reader::{Reader, Tag};
 use crate::runs::{Sort, split_run};
 use crate::tags::{after_tag_end, split_start};
@@ -136,6 +136,7 @@ impl<'a> Reader<'a> {
             alloc,
             size: doc.len(),
             rest,
+            sound: is_utf8(doc),
         };
         let tag = Tag {
             name,

@@ -1,6 +1,7 @@
 //! The elements that are read, by their names.
 
 ghost use Rattle.std.specs.Prelude.{◌≡◌};
+ghost use Rattle.std.specs.Str.{IsUtf8};
 ghost use Rattle.reply_xml.specs.Elements.{element_named};
 
 /// The elements that are read, known by their names as the S3 API writes them.
@@ -53,10 +54,8 @@ fn element_of(name: &str) -> Option<Element>
 
 /// The element of that name, compared whole.
 pub(crate) fn element_named(name: &[u8]) -> Option<Element>
+    requires { IsUtf8 name.now }
     ensures { result ≡ element_named name.now }
 {
-    match std::str::from_utf8(name) {
-        Ok(text) => element_of(text),
-        Err(_) => None,
-    }
+    element_of(unsafe { std::str::from_utf8_unchecked(name) })
 }

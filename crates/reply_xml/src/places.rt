@@ -1,6 +1,6 @@
 //! Where bytes leave the grammar.
 
-ghost use Rattle.std.specs.Prelude.{◌≡◌, ◌≢◌, ◌≤◌, length};
+ghost use Rattle.std.specs.Prelude.{◌≡◌, ◌≢◌, ◌≤◌, length, true};
 ghost use Rattle.std.specs.Bool.{MatchBool};
 ghost use Rattle.std.specs.Str.{IsUtf8};
 ghost use Rattle.reply_xml.specs.Leaves.{IsAtFault, IsCommonFront};
@@ -9,6 +9,16 @@ pub(crate) fn is_same(one: &[u8], other: &[u8]) -> bool
     ensures { MatchBool result (one.now ≡ other.now) (one.now ≢ other.now) }
 {
     one == other
+}
+
+/// Whether bytes are UTF-8.
+pub(crate) fn is_utf8(bytes: &[u8]) -> bool
+    ensures { result ≡ true → IsUtf8 bytes.now }
+{
+    match std::str::from_utf8(bytes) {
+        Ok(_) => true,
+        Err(_) => false,
+    }
 }
 
 /// How many bytes at the front of a name stand at the front of another one.

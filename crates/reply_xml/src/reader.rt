@@ -11,7 +11,7 @@ ghost use Rattle.reply_xml.specs.Leaves.{LeavesTagEnd};
 ghost use Rattle.reply_xml.specs.Runs.{ReadsRun};
 ghost use Rattle.reply_xml.specs.declared.runs.Sort.TheVariants as sort;
 ghost use Rattle.reply_xml.specs.Tables.{Done, IsFresh, IsOutside, Table, first_missing, form_in};
-ghost use Rattle.std.specs.Str.{IsUtf8};
+ghost use Rattle.std.specs.Str.{IsUtf8, is_utf8};
 ghost use Rattle.reply_xml.specs.declared.reader.Child.{Child};
 ghost use Rattle.reply_xml.specs.Faults.{IfRefused};
 ghost use Rattle.reply_xml.specs.Unfit.{HasText};
@@ -55,7 +55,21 @@ pub struct Reader<'a> {
     pub size: usize,
     /// What is left of it.
     pub rest: &'a [u8],
+    /// Whether the whole document was found to be UTF-8, so that its texts need not be judged again.
+    pub(crate) sound: bool,
     ghost fits: { length rest.now ≤ size },
+    ghost judged: { sound ≡ true → is_utf8 rest.now ≡ true },
+}
+
+/// Whether a tag begins here.
+fn at_tag(bytes: &[u8]) -> bool
+    ensures { MatchBool result ((rest : List ℕ) × (bytes.now ≡ 60 ∷ rest))
+        ((rest : List ℕ) → ¬ (bytes.now ≡ 60 ∷ rest)) }
+{
+    match bytes {
+        [b'<', ..] => true,
+        _ => false,
+    }
 }
 
 /// Whether an end tag begins here, and no other tag.
@@ -79,6 +93,7 @@ impl<'a> Reader<'a> {
             alloc: self.alloc,
             size: self.size,
             rest: self.rest,
+            sound: self.sound,
         }
     }
 
@@ -100,9 +115,16 @@ impl<'a> Reader<'a> {
         ensures size { self.new.size ≡ self.old.size }
         ensures broken { IfBroken result (λ reason. BreaksText self.old.size reason self.old.rest.now) }
     {
-        let (text, rest) = split_text(self.rest);
+        if at_tag(self.rest) {
+            return Ok(Meaning::Itself(""));
+        }
+        let (text, rest, referenced) = split_text(self.rest);
         if rest.is_empty() {
             return Err(self.last_text_fault(text));
+        }
+        if self.sound && !referenced {
+            self.rest = rest;
+            return Ok(Meaning::Itself(unsafe { std::str::from_utf8_unchecked(text) }));
         }
         match read_meaning(self.alloc, text) {
             Ok(found) => {

@@ -9,7 +9,7 @@ ghost use Rattle.reply_xml.specs.Tags.{ReadsTag, ReadsTagEnd, ReadsValue, ends_n
 ghost use Rattle.reply_xml.specs.Runs.{BeginsOutside, is_name_byte};
 
 use crate::places::{common_front, is_same, utf8_front};
-use crate::runs::{Sort, is_of, split_run};
+use crate::runs::{Sort, is_of, split_name_run, split_run};
 
 /// What follows the byte, where it stands at the front.
 pub(crate) fn after_byte(byte: u8, bytes: &[u8]) -> Option<&[u8]>
@@ -32,7 +32,7 @@ pub(crate) fn split_name(bytes: &[u8]) -> Result<(&[u8], &[u8]), usize>
     ensures leaves { IfErr result (λ left. LeavesName bytes.now left) }
     ensures outside { BeginsOutside is_name_byte bytes.now → result ≡ Err (length bytes.now) }
 {
-    let (name, rest) = split_run(Sort::Name, bytes);
+    let (name, rest) = split_name_run(bytes);
     if name.is_empty() {
         return Err(bytes.len());
     }

@@ -6,6 +6,7 @@ use Rattle.std.proofs.lemmas.Bool.{false≢true}
 use Rattle.reply_xml.specs.declared.faults.DocFault.TheVariants as fault
 use Rattle.reply_xml.specs.Breaks.{BehindLeafTag, BehindName, InText, NoEndBehind, Unfit}
 use Rattle.reply_xml.proofs.BreakLemmas.{broken_past, broken_so, text_closed, text_open, text_sized}
+use Rattle.reply_xml.proofs.Utf8Lemmas.{behind_end_tag, judged_on}
 use Rattle.reply_xml.proofs.reader.Reader.leaf.Goals as goal
 
 pub returns-in_err-tag-clause-refused : goal.returns-in_err-tag-clause-refused
@@ -78,3 +79,7 @@ returns-in-Err-clause-broken g c table front form fresh =
     (g.met.L.Leaf.fits c.args.of _ _ c.in_ok-value.ensures.value) c.in-Err.ensures.leaves
     (ap (λ n. fault.NotADocument n) (c.place.ensures ∙ ap (λ s. s - c.in-Err.left) (c.in_ok-text.ensures.size ∙ c.in_ok-tag.ensures.size)))
     )
+
+pub invariant_of-self-clause-judged : goal.invariant_of-self-clause-judged
+invariant_of-self-clause-judged g c =
+    judged_on _ _ _ c.text.new.self.judged (behind_end_tag c.in_ok-tag.tag.name.now _ _ c.in-Ok.ensures.value)

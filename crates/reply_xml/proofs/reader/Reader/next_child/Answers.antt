@@ -6,6 +6,7 @@ use Rattle.reply_xml.specs.Contents.{ReadsText}
 use Rattle.reply_xml.specs.Tags.{NamesTag}
 use Rattle.reply_xml.specs.Breaks.{AtStart, AtText, TooLow}
 use Rattle.reply_xml.proofs.BreakLemmas.{broken_past}
+use Rattle.reply_xml.proofs.Utf8Lemmas.{behind_tag_name, judged_on, utf8_tag_name}
 use Rattle.reply_xml.proofs.reader.Reader.next_child.Goals as goal
 
 pub returns-in_err-text-clause-refused : goal.returns-in_err-text-clause-refused
@@ -58,3 +59,9 @@ returns-in-Err-clause-none c child from b =
 
 pub returns-then-parent-eq0-clause-none : goal.returns-then-parent-eq0-clause-none
 returns-then-parent-eq0-clause-none c child from b = absurd (omega (arith, b.deeper))
+
+pub invariant_of-self-clause-judged : goal.invariant_of-self-clause-judged
+invariant_of-self-clause-judged c = judged_on _ _ _ c.text.new.self.judged (behind_tag_name _ _ _ c.in-Ok.ensures.value)
+
+pub element_named-requires : goal.element_named-requires
+element_named-requires c = utf8_tag_name _ _ _ c.in-Ok.ensures.value

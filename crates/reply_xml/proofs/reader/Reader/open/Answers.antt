@@ -3,6 +3,8 @@ use Rattle.reply_xml.specs.declared.faults.DocFault.TheVariants as fault
 use Rattle.reply_xml.proofs.FaultLemmas.{err_same, not_err}
 use Rattle.reply_xml.proofs.DocumentLemmas.{otherwise_at, root_begins, root_end}
 use Rattle.reply_xml.specs.Breaks.{InRootTag, NoRoot}
+use Rattle.std.proofs.lemmas.Str.{is_utf8-from_IsUtf8}
+use Rattle.reply_xml.proofs.Utf8Lemmas.{behind_begin}
 use Rattle.reply_xml.proofs.reader.Reader.open.Goals as goal
 
 pub returns-in-Err-after_tag_end-clause-refused : goal.returns-in-Err-after_tag_end-clause-refused
@@ -42,3 +44,12 @@ pub returns-in-Err-after_tag_end-clause-broken : goal.returns-in-Err-after_tag_e
 returns-in-Err-after_tag_end-clause-broken c table =
     InRootTag _ c.in-Err-after_tag_end.left c.in-Ok.ensures.value
     c.in-Err-after_tag_end.ensures.leaves refl
+
+pub invariant_of-reader-clause-judged : goal.invariant_of-reader-clause-judged
+invariant_of-reader-clause-judged c sound =
+    is_utf8-from_IsUtf8 _
+    (
+    behind_begin c.args.root.now c.args.doc.now _ _
+    (root_begins c.args.root.now _ _ _ _ c.in-Ok.ensures.value c.in-Ok-after_tag_end.ensures.value)
+    (c.is_utf8.ensures sound)
+    )
