@@ -19,7 +19,8 @@ Tells-map fault.TooDeep f h = f h
 Tells-map (fault.BadText element) f h = f h
 
 -- the fault of a step is handed on
-pub refused_past : {U P Q : Type 0} (r : Result U DocFault) (e : DocFault) → IsErrAnd r (λ f. f ≡ e) → (P → Q) → Tells e P → IfRefused r Q
+pub refused_past : {U P Q : Type 0} (r : Result U DocFault) (e : DocFault) → IsErrAnd r (λ f. f ≡ e) → (P → Q)
+    → Tells e P → IfRefused r Q
 refused_past {U} {P} {Q} (Ok x) e h f t = absurd h
 refused_past {U} {P} {Q} (Err other) e h f t = subst (λ (d : DocFault). Tells d Q) (sym h) (Tells-map e f t)
 
@@ -109,7 +110,8 @@ same_fault fault.TooDeep f h = h
 same_fault (fault.BadText element) f h = h
 
 -- the same of a fault that is handed on
-pub fault_past : {U : Type 0} (r : Result U DocFault) (e f : DocFault) → IsErrAnd r (λ d. d ≡ e) → IsSameFault f e → IsFault r f
+pub fault_past : {U : Type 0} (r : Result U DocFault) (e f : DocFault) → IsErrAnd r (λ d. d ≡ e) → IsSameFault f e
+    → IsFault r f
 fault_past (Ok x) e f h same = absurd h
 fault_past (Err d) e f h same = subst (λ (k : DocFault). IsSameFault f k) (sym h) same
 

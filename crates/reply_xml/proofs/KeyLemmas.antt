@@ -7,7 +7,8 @@ use Rattle.reply_xml.specs.declared.elements.Element.{Element}
 use Rattle.reply_xml.specs.declared.faults.DocFault.{DocFault}
 use Rattle.reply_xml.specs.Unfit.{AKey, APrefix, IsUnfit}
 
-pub key_fits : (url : Bool) (of : Element) (text key : List ℕ) → MeansText url text key → IsKey key → (reason : DocFault)
+pub key_fits : (url : Bool) (of : Element) (text key : List ℕ) → MeansText url text key → IsKey key
+    → (reason : DocFault)
     → IsUnfit (AKey url) of text reason → ⊥
 key_fits url of text key means is reason u =
     ⊎_elim (λ none. none.1 key means)

@@ -1,5 +1,6 @@
 -- Where bytes leave a production, from its parts.
-use Rattle.std.proofs.Common.{◌≡◌, ◌≢◌, ◌≤◌, ℕ, suc, List, [], Result, Ok, Err, IfErr, subst, sym, ap, ◌∙◌, length, arith}
+use Rattle.std.proofs.Common.{◌≡◌, ◌≢◌, ◌≤◌, ℕ, suc, List, [], Result, Ok, Err, IfErr, subst, sym, ap, ◌∙◌, length}
+use Rattle.std.proofs.Common.{arith}
 use Rattle.std.proofs.lemmas.List.{append-nil, length-append}
 use Rattle.std.specs.Result.{IsErrAnd}
 use Rattle.reply_values.specs.References.{GoesOn, IsUnescaped}
@@ -12,17 +13,20 @@ use Rattle.reply_xml.specs.Runs.{ReadsRun}
 use Rattle.reply_xml.specs.Tags.{ReadsAttribute, ReadsName}
 
 -- the place of a part is handed on
-pub leaves_past : {T : Type 0} {P Q : ℕ → Type 0} (r : Result T ℕ) (e : ℕ) → IsErrAnd r (λ d. d ≡ e) → ((left : ℕ) → P left → Q left)
+pub leaves_past : {T : Type 0} {P Q : ℕ → Type 0} (r : Result T ℕ) (e : ℕ) → IsErrAnd r (λ d. d ≡ e)
+    → ((left : ℕ) → P left → Q left)
     → P e → IfErr r Q
 leaves_past {T} {P} {Q} (Ok x) e h f p = absurd h
 leaves_past {T} {P} {Q} (Err d) e h f p = subst Q (sym h) (f e p)
 
-pub leaves_so : {T : Type 0} {P Q : ℕ → Type 0} (r : Result T ℕ) → ((left : ℕ) → P left → Q left) → IfErr r P → IfErr r Q
+pub leaves_so : {T : Type 0} {P Q : ℕ → Type 0} (r : Result T ℕ) → ((left : ℕ) → P left → Q left) → IfErr r P
+    → IfErr r Q
 leaves_so (Ok x) f h = tt
 leaves_so (Err d) f h = f d h
 
 -- an attribute was read
-pub tag_leaves_before : (here space at next : List ℕ) (left : ℕ) → ReadsRun sort.Space space here at → space ≢ [] → ReadsAttribute at next
+pub tag_leaves_before : (here space at next : List ℕ) (left : ℕ) → ReadsRun sort.Space space here at → space ≢ []
+    → ReadsAttribute at next
     → LeavesTagEnd next left → LeavesTagEnd here left
 tag_leaves_before here space at next left run some a l = record {
   count = suc l.count;
@@ -37,7 +41,8 @@ OnEnds-any (text_fault.Ends place) f = f place
 OnEnds-any text_fault.BadReference f = tt
 OnEnds-any text_fault.Memory f = tt
 
-pub OnEnds-both : {P Q S : ℕ → Type 0} (e : TextFault) → ((place : ℕ) → P place → Q place → S place) → OnEnds e P → OnEnds e Q → OnEnds e S
+pub OnEnds-both : {P Q S : ℕ → Type 0} (e : TextFault) → ((place : ℕ) → P place → Q place → S place) → OnEnds e P
+    → OnEnds e Q → OnEnds e S
 OnEnds-both (text_fault.Ends place) f p q = f place p q
 OnEnds-both text_fault.BadReference f p q = tt
 OnEnds-both text_fault.Memory f p q = tt
@@ -49,7 +54,8 @@ pub bad_at : (P : Type 0) (e : TextFault) → e ≡ text_fault.BadReference → 
 bad_at P e same h = subst (λ (f : TextFault). OnBad f P) same h
 
 -- a text that ends with the bytes, and a name that is this one
-pub text_ends : (text bytes rest : List ℕ) → ReadsRun sort.Text text bytes rest → rest ≡ [] → ReadsRun sort.Text text bytes []
+pub text_ends : (text bytes rest : List ℕ) → ReadsRun sort.Text text bytes rest → rest ≡ []
+    → ReadsRun sort.Text text bytes []
 text_ends text bytes rest run none = subst (λ (r : List ℕ). ReadsRun sort.Text text bytes r) none run
 
 pub run_within : (text bytes rest : List ℕ) → ReadsRun sort.Text text bytes rest → length text ≤ length bytes

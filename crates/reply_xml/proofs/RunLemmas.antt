@@ -1,5 +1,6 @@
 -- Bytes begin with one run of a sort.
-use Rattle.std.proofs.Common.{◌≡◌, ◌<◌, ◌≤◌, ◌++◌, ◌∙◌, ℕ, Bool, true, false, List, [], ◌∷◌, refl, sym, ap, subst, length, get_or, drop, take, drop-cons, arith, ◌==◌, not, Option, Some, None}
+use Rattle.std.proofs.Common.{◌≡◌, ◌<◌, ◌≤◌, ◌++◌, ◌∙◌, ℕ, Bool, true, false, List, [], ◌∷◌, refl, sym, ap, subst}
+use Rattle.std.proofs.Common.{length, get_or, drop, take, drop-cons, arith, ◌==◌, not, Option, Some, None}
 use Rattle.std.specs.List.{AllPass}
 use Rattle.std.proofs.lemmas.Bool.{false≢true}
 use Rattle.std.proofs.lemmas.List.{take-append-drop, append-nil, take_all}
@@ -23,30 +24,40 @@ outside test a y ys ends e h =
     false≢true (sym first ∙ h)
 
 -- a list is cut in one way where a test first fails
-pub runs_same : (test : ℕ → Bool) (xs ys a b : List ℕ) → AllPass test xs → AllPass test ys → BeginsOutside test a → BeginsOutside test b → xs ++ a ≡ ys ++ b → (xs ≡ ys) × (a ≡ b)
+pub runs_same : (test : ℕ → Bool) (xs ys a b : List ℕ) → AllPass test xs → AllPass test ys → BeginsOutside test a
+    → BeginsOutside test b → xs ++ a ≡ ys ++ b → (xs ≡ ys) × (a ≡ b)
 runs_same test [] [] a b p q f g e = (refl, e)
-runs_same test [] (y ∷ ys) a b p q f g e = absurd (outside test a y (ys ++ b) f e (All-head (λ x. test x ≡ true) y ys q))
-runs_same test (x ∷ xs) [] a b p q f g e = absurd (outside test b x (xs ++ a) g (sym e) (All-head (λ x. test x ≡ true) x xs p))
+runs_same test [] (y ∷ ys) a b p q f g e =
+    absurd (outside test a y (ys ++ b) f e (All-head (λ x. test x ≡ true) y ys q))
+runs_same test (x ∷ xs) [] a b p q f g e =
+    absurd (outside test b x (xs ++ a) g (sym e) (All-head (λ x. test x ≡ true) x xs p))
 runs_same test (x ∷ xs) (y ∷ ys) a b p q f g e =
     let same = parts_same x y (xs ++ a) (ys ++ b) e in
-    let more = runs_same test xs ys a b (All-tail (λ x. test x ≡ true) x xs p) (All-tail (λ x. test x ≡ true) y ys q) f g same.1 in
+    let more = runs_same test xs ys a b (All-tail (λ x. test x ≡ true) x xs p) (All-tail (λ x. test x ≡ true) y ys q) f
+    g same.1 in
     (front_same x y xs ys same.0 more.0, more.1)
 
-pub ReadsRun-same : (of : Sort) (run other bytes rest left : List ℕ) → ReadsRun of run bytes rest → ReadsRun of other bytes left → (other ≡ run) × (left ≡ rest)
-ReadsRun-same of run other bytes rest left r s = runs_same (is_of of) other run left rest s.inside r.inside s.ends r.ends (sym s.split ∙ r.split)
+pub ReadsRun-same : (of : Sort) (run other bytes rest left : List ℕ) → ReadsRun of run bytes rest
+    → ReadsRun of other bytes left → (other ≡ run) × (left ≡ rest)
+ReadsRun-same of run other bytes rest left r s =
+    runs_same (is_of of) other run left rest s.inside r.inside s.ends r.ends (sym s.split ∙ r.split)
 
 -- where a test fails at a place, what stands from there on begins outside
-begins_at : (test : ℕ → Bool) (bytes : List ℕ) (i : ℕ) → i < length bytes → test (get_or bytes i 0) ≡ false → BeginsOutside test (drop i bytes)
+begins_at : (test : ℕ → Bool) (bytes : List ℕ) (i : ℕ) → i < length bytes → test (get_or bytes i 0) ≡ false
+    → BeginsOutside test (drop i bytes)
 begins_at test bytes i h fails = subst (BeginsOutside test) (sym (drop-cons bytes i 0 h)) fails
 
-pub ReadsRun-to : (of : Sort) (bytes run rest : List ℕ) (i : ℕ) → i < length bytes → run ≡ take i bytes → rest ≡ drop i bytes → AllPass (is_of of) (take i bytes) → is_of of (get_or bytes i 0) ≡ false → ReadsRun of run bytes rest
+pub ReadsRun-to : (of : Sort) (bytes run rest : List ℕ) (i : ℕ) → i < length bytes → run ≡ take i bytes
+    → rest ≡ drop i bytes → AllPass (is_of of) (take i bytes) → is_of of (get_or bytes i 0) ≡ false
+    → ReadsRun of run bytes rest
 ReadsRun-to of bytes run rest i h e f inside fails = record {
   split = sym (take-append-drop i bytes) ∙ ap (λ r. r ++ drop i bytes) (sym e) ∙ ap (λ r. run ++ r) (sym f);
   inside = subst (AllPass (is_of of)) (sym e) inside;
   ends = subst (BeginsOutside (is_of of)) (sym f) (begins_at (is_of of) bytes i h fails);
 }
 
-pub ReadsRun-whole : (of : Sort) (bytes : List ℕ) (i : ℕ) → length bytes ≤ i → AllPass (is_of of) (take i bytes) → ReadsRun of bytes bytes []
+pub ReadsRun-whole : (of : Sort) (bytes : List ℕ) (i : ℕ) → length bytes ≤ i → AllPass (is_of of) (take i bytes)
+    → ReadsRun of bytes bytes []
 ReadsRun-whole of bytes i h inside = record {
   split = sym (append-nil bytes);
   inside = subst (AllPass (is_of of)) (take_all i bytes h) inside;
@@ -54,35 +65,49 @@ ReadsRun-whole of bytes i h inside = record {
 }
 
 -- where the first byte is of another sort, the run is empty
-pub no_run : (of : Sort) (bytes run rest : List ℕ) → BeginsOutside (is_of of) bytes → ReadsRun of run bytes rest → (run ≡ []) × (rest ≡ bytes)
+pub no_run : (of : Sort) (bytes run rest : List ℕ) → BeginsOutside (is_of of) bytes → ReadsRun of run bytes rest
+    → (run ≡ []) × (rest ≡ bytes)
 no_run of bytes run rest ends r =
-    ReadsRun-same of [] run bytes bytes rest (record { split = refl; inside = All-from_get_or (λ b. is_of of b ≡ true) [] 0 (λ i h. absurd (omega (arith, h))); ends = ends }) r
+    ReadsRun-same of [] run bytes bytes rest
+    (record {
+      split = refl;
+      inside = All-from_get_or (λ b. is_of of b ≡ true) [] 0 (λ i h. absurd (omega (arith, h)));
+      ends = ends;
+    }) r
 
 -- where the run is empty, the first byte is of another sort
-pub no_run_begins : (of : Sort) (bytes run rest : List ℕ) → ReadsRun of run bytes rest → run ≡ [] → BeginsOutside (is_of of) bytes
-no_run_begins of bytes run rest r none = subst (BeginsOutside (is_of of)) (sym (r.split ∙ ap (λ front. front ++ rest) none)) r.ends
+pub no_run_begins : (of : Sort) (bytes run rest : List ℕ) → ReadsRun of run bytes rest → run ≡ []
+    → BeginsOutside (is_of of) bytes
+no_run_begins of bytes run rest r none =
+    subst (BeginsOutside (is_of of)) (sym (r.split ∙ ap (λ front. front ++ rest) none)) r.ends
 
 -- where no `<` was found, all is text
 is_false : (b : Bool) → (b ≡ true → ⊥) → not b ≡ true
 is_false true f = absurd (f refl)
 is_false false f = refl
 
-text_before : (bytes : List ℕ) (i : ℕ) → i ≤ length bytes → Nowhere (Passes (is_byte 60) bytes) 0 i → AllPass (is_of sort.Text) (take i bytes)
+text_before : (bytes : List ℕ) (i : ℕ) → i ≤ length bytes → Nowhere (Passes (is_byte 60) bytes) 0 i
+    → AllPass (is_of sort.Text) (take i bytes)
 text_before bytes i within none =
     All-from_get_or (λ b. is_of sort.Text b ≡ true) (take i bytes) 0
     (
     λ k h.
     let size = length-take-le i bytes within in
     let less : k < i = omega (arith, size) in
-    is_false (get_or (take i bytes) k 0 == 60) (λ e. none k (omega arith) less (ap (λ b. b == 60) (sym (get_or-take i bytes k 0 less)) ∙ e))
+    is_false (get_or (take i bytes) k 0 == 60)
+    (λ e. none k (omega arith) less (ap (λ b. b == 60) (sym (get_or-take i bytes k 0 less)) ∙ e))
     )
 
-pub text_to : (bytes text rest : List ℕ) (i : ℕ) → i < length bytes → text ≡ take i bytes → rest ≡ drop i bytes → Nowhere (Passes (is_byte 60) bytes) 0 i → Passes (is_byte 60) bytes i
+pub text_to : (bytes text rest : List ℕ) (i : ℕ) → i < length bytes → text ≡ take i bytes → rest ≡ drop i bytes
+    → Nowhere (Passes (is_byte 60) bytes) 0 i → Passes (is_byte 60) bytes i
     → ReadsRun sort.Text text bytes rest
-text_to bytes text rest i h e f none there = ReadsRun-to sort.Text bytes text rest i h e f (text_before bytes i (omega arith) none) (ap not there)
+text_to bytes text rest i h e f none there =
+    ReadsRun-to sort.Text bytes text rest i h e f (text_before bytes i (omega arith) none) (ap not there)
 
-pub text_whole : (bytes : List ℕ) → Nowhere (Passes (is_byte 60) bytes) 0 (length bytes) → ReadsRun sort.Text bytes bytes []
-text_whole bytes none = ReadsRun-whole sort.Text bytes (length bytes) (omega arith) (text_before bytes (length bytes) (omega arith) none)
+pub text_whole : (bytes : List ℕ) → Nowhere (Passes (is_byte 60) bytes) 0 (length bytes)
+    → ReadsRun sort.Text bytes bytes []
+text_whole bytes none =
+    ReadsRun-whole sort.Text bytes (length bytes) (omega arith) (text_before bytes (length bytes) (omega arith) none)
 
 -- no byte was found
 pub no_byte : (P : ℕ → Type 0) (i j : ℕ) (r : Option ℕ) → is_some r ≡ false → IsFirst P i j r → Nowhere P i j

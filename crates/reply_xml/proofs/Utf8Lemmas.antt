@@ -1,6 +1,7 @@
 -- What follows a part of a text that is UTF-8 is UTF-8.
-use Rattle.std.proofs.Common.{◌≡◌, ◌≢◌, ◌==◌, not, nat_lt, ◌<◌, ◌≤◌, ◌+◌, ◌++◌, ◌⊎◌, ◌∙◌, ⊎_elim, ℕ, zero, suc, Bool, true, false, List, [], ◌∷◌}
-use Rattle.std.proofs.Common.{refl, sym, ap, subst, length, drop, take, get_or, arith, inl, inr, codes}
+use Rattle.std.proofs.Common.{◌≡◌, ◌≢◌, ◌==◌, not, nat_lt, ◌<◌, ◌+◌, ◌++◌, ◌⊎◌, ⊎_elim, ℕ, zero, suc, Bool, true, false}
+use Rattle.std.proofs.Common.{List, [], ◌∷◌}
+use Rattle.std.proofs.Common.{refl, sym, subst, length, get_or, arith, inl, inr, codes}
 use Rattle.std.specs.List.{AllPass}
 use Rattle.std.specs.Str.{IsCharBoundary}
 use Rattle.std.proofs.lemmas.List.Sums.{AllPass-from_list_all, list_all-from_AllPass}
@@ -9,14 +10,13 @@ use Rattle.reply_values.proofs.UnescapeLemmas.{plain_run}
 use Rattle.reply_xml.specs.Contents.{ReadsText}
 use Rattle.std.specs.Str.{IsAscii, IsUtf8, is_utf8}
 use Rattle.std.proofs.Math.Seq.{drop-append_seam, take-append_seam}
-use Rattle.std.proofs.lemmas.Bool.{false≢true}
 use Rattle.std.proofs.lemmas.Bool.Decides.{nat_tests}
 use Rattle.std.proofs.lemmas.List.{length-append}
 use Rattle.std.proofs.lemmas.List.Elements.{All-head, All-tail}
 use Rattle.std.proofs.lemmas.Str.{IsCharBoundary-after_ascii, IsCharBoundary-before_ascii, IsCharBoundary-from_take}
 use Rattle.std.proofs.lemmas.Str.{IsUtf8-drop, IsUtf8-from_ascii, IsUtf8-from_is_utf8, IsUtf8-take, is_utf8-from_IsUtf8}
 use Rattle.reply_xml.specs.declared.runs.Sort.TheVariants as sort
-use Rattle.reply_xml.specs.Documents.{BeginsDocument, EndsAt, MayDeclare, ReadsDeclaration, ReadsSpace}
+use Rattle.reply_xml.specs.Documents.{BeginsDocument, MayDeclare, ReadsDeclaration}
 use Rattle.reply_xml.specs.Runs.{HasNoReference, ReadsRun, is_name_byte, is_space}
 use Rattle.reply_xml.specs.Tags.{NamesTag, ReadsAttribute, ReadsAttributes, ReadsEndTag, ReadsName, ReadsTag}
 use Rattle.reply_xml.specs.Tags.{ReadsTagEnd, ReadsValue, tag_close}
@@ -69,7 +69,8 @@ behind_value : (bytes rest : List ℕ) → ReadsValue bytes rest → IsUtf8 byte
 behind_value bytes rest r u =
     let small = quote_small r.quote r.is_quote in
     utf8_byte r.at_quote rest r.quote small r.closes
-    (utf8_behind r.at_value r.value r.at_quote r.valued.split r.characters (utf8_byte bytes r.at_value r.quote small r.opens u))
+    (utf8_behind r.at_value r.value r.at_quote r.valued.split r.characters
+    (utf8_byte bytes r.at_value r.quote small r.opens u))
 
 behind_attribute : (bytes rest : List ℕ) → ReadsAttribute bytes rest → IsUtf8 bytes → IsUtf8 rest
 behind_attribute bytes rest r u =
@@ -82,7 +83,8 @@ behind_attributes (suc n) bytes rest r u =
     behind_attributes n r.1 rest r.4 (behind_attribute r.0 r.1 r.3 (behind_space r.2.space bytes r.0 r.2.run u))
 
 behind_close : (closed : Bool) (bytes rest : List ℕ) → bytes ≡ tag_close closed ++ rest → IsUtf8 bytes → IsUtf8 rest
-behind_close true bytes rest e u = utf8_byte (62 ∷ rest) rest 62 (omega arith) refl (utf8_byte bytes (62 ∷ rest) 47 (omega arith) e u)
+behind_close true bytes rest e u =
+    utf8_byte (62 ∷ rest) rest 62 (omega arith) refl (utf8_byte bytes (62 ∷ rest) 47 (omega arith) e u)
 behind_close false bytes rest e u = utf8_byte bytes rest 62 (omega arith) e u
 
 pub behind_tag_end : (closed : Bool) (bytes rest : List ℕ) → ReadsTagEnd closed bytes rest → IsUtf8 bytes → IsUtf8 rest
@@ -92,12 +94,14 @@ behind_tag_end closed bytes rest r u =
 
 pub behind_end_tag : (name bytes rest : List ℕ) → ReadsEndTag name bytes rest → IsUtf8 bytes → IsUtf8 rest
 behind_end_tag name bytes rest r u =
-    let at_name = utf8_byte (47 ∷ r.at_name) r.at_name 47 (omega arith) refl (utf8_byte bytes (47 ∷ r.at_name) 60 (omega arith) r.opens u) in
+    let at_name = utf8_byte (47 ∷ r.at_name) r.at_name 47 (omega arith) refl
+    (utf8_byte bytes (47 ∷ r.at_name) 60 (omega arith) r.opens u) in
     utf8_byte r.at_close rest 62 (omega arith) r.closes
     (behind_space r.space r.at_space r.at_close r.run (behind_name name r.at_name r.at_space r.named at_name))
 
 pub behind_tag_name : (name bytes rest : List ℕ) → NamesTag name bytes rest → IsUtf8 bytes → IsUtf8 rest
-behind_tag_name name bytes rest r u = behind_name name r.at_name rest r.named (utf8_byte bytes r.at_name 60 (omega arith) r.opens u)
+behind_tag_name name bytes rest r u =
+    behind_name name r.at_name rest r.named (utf8_byte bytes r.at_name 60 (omega arith) r.opens u)
 
 pub utf8_tag_name : (name bytes rest : List ℕ) → NamesTag name bytes rest → IsUtf8 name
 utf8_tag_name name bytes rest r = utf8_name name r.at_name rest r.named
@@ -145,8 +149,10 @@ text_parts text bytes (byte ∷ more) r some u =
     let size = length-append text (byte ∷ more) in
     let at = at_seam text in
     let small = is_less byte r.ends in
-    let cut = IsCharBoundary-before_ascii (text ++ (byte ∷ more)) (length text) (omega (arith, size)) (omega (arith, at, small)) in
-    let front = subst IsUtf8 (take-append_seam text (byte ∷ more)) (IsUtf8-take (text ++ (byte ∷ more)) (length text) all cut) in
+    let cut = IsCharBoundary-before_ascii (text ++ (byte ∷ more)) (length text) (omega (arith, size))
+    (omega (arith, at, small)) in
+    let front = subst IsUtf8 (take-append_seam text (byte ∷ more))
+    (IsUtf8-take (text ++ (byte ∷ more)) (length text) all cut) in
     (front, utf8_behind bytes text (byte ∷ more) r.split front u)
   where
     at_seam : (xs : List ℕ) → get_or (xs ++ (byte ∷ more)) (length xs) 0 ≡ byte
@@ -160,7 +166,8 @@ plain_text text bytes rest run none utf8 =
     (record { run = run; characters = utf8; meaning = text; unescaped = plain }, plain)
 
 -- what is known of the bytes at one place of a document is known at a later one
-pub judged_on : (sound : Bool) (bytes rest : List ℕ) → (sound ≡ true → is_utf8 bytes ≡ true) → (IsUtf8 bytes → IsUtf8 rest)
+pub judged_on : (sound : Bool) (bytes rest : List ℕ) → (sound ≡ true → is_utf8 bytes ≡ true)
+    → (IsUtf8 bytes → IsUtf8 rest)
     → sound ≡ true → is_utf8 rest ≡ true
 judged_on sound bytes rest known go h = is_utf8-from_IsUtf8 rest (go (IsUtf8-from_is_utf8 bytes (known h)))
 

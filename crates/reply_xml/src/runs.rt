@@ -1,7 +1,7 @@
 //! Runs of bytes of one sort.
 
 ghost use Rattle.std.specs.Prelude.{◌≡◌, ◌≤◌, false, length};
-ghost use Rattle.reply_xml.specs.Runs.{HasNoReference, ReadsRun, is_between, is_name_byte, is_of};
+ghost use Rattle.reply_xml.specs.Runs.{HasNoReference, ReadsRun, is_name_byte, is_of};
 ghost use Rattle.reply_xml.specs.declared.runs.Sort.TheVariants as sort;
 
 use memchr::{memchr, memchr2};
@@ -17,22 +17,22 @@ pub(crate) enum Sort {
     Value(u8),
 }
 
-fn is_between(least: u8, most: u8, byte: u8) -> bool
-    ensures { result ≡ is_between least most byte }
-{
-    least <= byte && byte <= most
-}
+/// Each byte of names stands at its own place, and a comma at every other place.
+static NAME_BYTES: [u8; 256] = *b"\
+    ,,,,,,,,,,,,,,,,,,,,,,,,,,,,,,,,\
+    ,,,,,,,,,,,,,-.,0123456789:,,,,,\
+    ,ABCDEFGHIJKLMNOPQRSTUVWXYZ,,,,_\
+    ,abcdefghijklmnopqrstuvwxyz,,,,,\
+    ,,,,,,,,,,,,,,,,,,,,,,,,,,,,,,,,\
+    ,,,,,,,,,,,,,,,,,,,,,,,,,,,,,,,,\
+    ,,,,,,,,,,,,,,,,,,,,,,,,,,,,,,,,\
+    ,,,,,,,,,,,,,,,,,,,,,,,,,,,,,,,,";
 
-/// Whether names may have the byte; most have lower case letters.
+/// Whether names may have the byte.
 fn is_name_byte(byte: u8) -> bool
     ensures { result ≡ is_name_byte byte }
 {
-    is_between(b'a', b'z', byte)
-        || is_between(b'A', b'Z', byte)
-        || is_between(b'0', b':', byte)
-        || byte == b'-'
-        || byte == b'.'
-        || byte == b'_'
+    NAME_BYTES[byte as usize] != b','
 }
 
 pub(crate) fn is_of(sort: Sort, byte: u8) -> bool

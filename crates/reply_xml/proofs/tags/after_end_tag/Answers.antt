@@ -6,30 +6,38 @@ use Rattle.reply_xml.proofs.tags.after_end_tag.Goals as goal
 
 pub returns-then-not-is_same-clause-refused : goal.returns-then-not-is_same-clause-refused
 returns-then-not-is_same-clause-refused c rest r =
-    c.if-not-is_same.ensures (sym (end_tag_name c.args.name.now _ _ _ _ rest (c.in-Some.ensures.value ∙ ap (λ b. 60 ∷ b) c.in-Some-after_byte.ensures.value) c.in_ok-found.ensures.value r))
+    c.if-not-is_same.ensures
+    (sym (end_tag_name c.args.name.now _ _ _ _ rest
+    (c.in-Some.ensures.value ∙ ap (λ b. 60 ∷ b) c.in-Some-after_byte.ensures.value) c.in_ok-found.ensures.value r))
 
 pub returns-in-None-clause-refused : goal.returns-in-None-clause-refused
 returns-in-None-clause-refused c rest r =
     c.in-None.ensures.value rest
-    (end_tag_of c.args.name.now _ _ _ _ _ _ rest (c.in-Some.ensures.value ∙ ap (λ b. 60 ∷ b) c.in-Some-after_byte.ensures.value) c.in_ok-found.ensures.value c.split_run.ensures.value r).1
+    (end_tag_of c.args.name.now _ _ _ _ _ _ rest
+    (c.in-Some.ensures.value ∙ ap (λ b. 60 ∷ b) c.in-Some-after_byte.ensures.value) c.in_ok-found.ensures.value
+    c.split_run.ensures.value r).1
 
 pub returns-in_default-clause-leaves : goal.returns-in_default-clause-leaves
 returns-in_default-clause-leaves c = NoEndTag c.in_default.ensures.value refl
 
 pub returns-in_default-after_byte-clause-leaves : goal.returns-in_default-after_byte-clause-leaves
-returns-in_default-after_byte-clause-leaves c = NoSlash _ c.in-Some.ensures.value c.in_default-after_byte.ensures.value refl
+returns-in_default-after_byte-clause-leaves c =
+    NoSlash _ c.in-Some.ensures.value c.in_default-after_byte.ensures.value refl
 
 pub returns-in_err-found-clause-leaves : goal.returns-in_err-found-clause-leaves
 returns-in_err-found-clause-leaves c =
     leaves_past c.from_residual.result c.in_err-found.field-0.0 c.from_residual.ensures.1
-    (λ left l. NoEndName _ (c.in-Some.ensures.value ∙ ap (λ b. 60 ∷ b) c.in-Some-after_byte.ensures.value) l) c.in_err-found.ensures.leaves
+    (λ left l. NoEndName _ (c.in-Some.ensures.value ∙ ap (λ b. 60 ∷ b) c.in-Some-after_byte.ensures.value) l)
+    c.in_err-found.ensures.leaves
 
 pub returns-then-not-is_same-clause-leaves : goal.returns-then-not-is_same-clause-leaves
 returns-then-not-is_same-clause-leaves c =
-    OtherName c.common_front.result _ _ _ (c.in-Some.ensures.value ∙ ap (λ b. 60 ∷ b) c.in-Some-after_byte.ensures.value) c.in_ok-found.ensures.value
+    OtherName c.common_front.result _ _ _
+    (c.in-Some.ensures.value ∙ ap (λ b. 60 ∷ b) c.in-Some-after_byte.ensures.value) c.in_ok-found.ensures.value
     c.if-not-is_same.ensures c.common_front.ensures refl
 
 pub returns-in-None-clause-leaves : goal.returns-in-None-clause-leaves
 returns-in-None-clause-leaves c =
     NoEnd _ _ _ _ (c.in-Some.ensures.value ∙ ap (λ b. 60 ∷ b) c.in-Some-after_byte.ensures.value)
-    (same_name _ _ _ _ c.if-not-is_same.ensures c.in_ok-found.ensures.value) c.split_run.ensures.value c.in-None.ensures.value refl
+    (same_name _ _ _ _ c.if-not-is_same.ensures c.in_ok-found.ensures.value) c.split_run.ensures.value
+    c.in-None.ensures.value refl

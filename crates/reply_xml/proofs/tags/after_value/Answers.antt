@@ -16,7 +16,10 @@ returns-in-None-clause-refused c rest r =
 
 pub returns-in_default-from_utf8-clause-leaves : goal.returns-in_default-from_utf8-clause-leaves
 returns-in_default-from_utf8-clause-leaves c =
-    NoValue _ c.utf8_front.result _ _ _ (search rules) c.in-Some.ensures.cases.0 c.split_run.ensures.value c.in_default-from_utf8.ensures.cases.0 (c.utf8_front.ensures.fault c.in_default-from_utf8.ensures.cases.0) refl
+    NoValue _ c.utf8_front.result _ _ _ (search rules) c.in-Some.ensures.cases.0 c.split_run.ensures.value
+    c.in_default-from_utf8.ensures.cases.0 (c.utf8_front.ensures.fault c.in_default-from_utf8.ensures.cases.0) refl
 
 pub returns-in-None-clause-leaves : goal.returns-in-None-clause-leaves
-returns-in-None-clause-leaves c = NoEndQuote _ _ _ _ (search rules) c.in-Some.ensures.cases.0 c.split_run.ensures.value (search rules) c.in-None.ensures.value refl
+returns-in-None-clause-leaves c =
+    NoEndQuote _ _ _ _ (search rules) c.in-Some.ensures.cases.0 c.split_run.ensures.value
+    (search rules) c.in-None.ensures.value refl

@@ -6,14 +6,18 @@ use Rattle.reply_xml.proofs.TagLemmas.{no_name, some_from_test, none_from_test}
 use Rattle.reply_xml.proofs.tags.split_name.Goals as goal
 
 pub returns-then-is_empty-clause-refused : goal.returns-then-is_empty-clause-refused
-returns-then-is_empty-clause-refused c name rest r = no_name _ _ _ name rest c.split_name_run.ensures.value (eqb-true _ _ (sym c.is_empty.ensures ∙ c.if-is_empty.true)) r
+returns-then-is_empty-clause-refused c name rest r =
+    no_name _ _ _ name rest c.split_name_run.ensures.value (eqb-true _ _ (sym c.is_empty.ensures ∙ c.if-is_empty.true))
+    r
 
 pub returns-clause-outside : goal.returns-clause-outside
 returns-clause-outside c h =
-    absurd (some_from_test _ (sym c.is_empty.ensures ∙ c.if-is_empty.false) (no_run sort.Name c.args.bytes.now _ _ h c.split_name_run.ensures.value).0)
+    absurd (some_from_test _ (sym c.is_empty.ensures ∙ c.if-is_empty.false)
+    (no_run sort.Name c.args.bytes.now _ _ h c.split_name_run.ensures.value).0)
 
 pub returns-then-is_empty-clause-leaves : goal.returns-then-is_empty-clause-leaves
 returns-then-is_empty-clause-leaves c = record {
-  outside = no_run_begins sort.Name _ _ _ c.split_name_run.ensures.value (none_from_test _ (sym c.is_empty.ensures ∙ c.if-is_empty.true));
+  outside = no_run_begins sort.Name _ _ _ c.split_name_run.ensures.value
+      (none_from_test _ (sym c.is_empty.ensures ∙ c.if-is_empty.true));
   at = refl;
 }

@@ -1,5 +1,6 @@
 use Rattle.std.proofs.Common.{List, ℕ, ap, length, sym, subst, ◌∙◌, refl}
-use Rattle.reply_xml.proofs.TagLemmas.{first_none, first_of, tag_end_of, no_tag_end-first, no_tag_end-none, NamesTag-of, no_name_end-first, no_name_end-none}
+use Rattle.reply_xml.proofs.TagLemmas.{first_none, first_of, tag_end_of, no_tag_end-first, no_tag_end-none, NamesTag-of}
+use Rattle.reply_xml.proofs.TagLemmas.{no_name_end-first, no_name_end-none}
 use Rattle.reply_xml.specs.Tags.{NameEnds, NamesTag, ReadsName}
 use Rattle.reply_xml.proofs.TagLemmas.{IfErr-any, OnErr-any, err_given}
 use Rattle.reply_xml.proofs.FaultLemmas.{err_same, not_err}
@@ -11,18 +12,21 @@ use Rattle.reply_xml.proofs.tags.split_start.Goals as goal
 
 pub returns-in_default-first-clause-refused : goal.returns-in_default-first-clause-refused
 returns-in_default-first-clause-refused c closed name rest r =
-    no_tag_end-none _ (first_none _ c.in_default-first.ensures.value) closed rest (tag_end_of closed name _ _ _ _ rest c.in-Some.ensures.value c.in_ok-name.ensures.value r).1
+    no_tag_end-none _ (first_none _ c.in_default-first.ensures.value) closed rest
+    (tag_end_of closed name _ _ _ _ rest c.in-Some.ensures.value c.in_ok-name.ensures.value r).1
 
 pub returns-then-not-ends_name-clause-refused : goal.returns-then-not-ends_name-clause-refused
 returns-then-not-ends_name-clause-refused c closed name rest r =
     let first = first_of _ _ c.in-Some-first.ensures.value in
-    no_tag_end-first _ _ _ first.1 (sym c.ends_name.ensures ∙ c.if-not-ends_name.true) closed rest (tag_end_of closed name _ _ _ _ rest c.in-Some.ensures.value c.in_ok-name.ensures.value r).1
+    no_tag_end-first _ _ _ first.1 (sym c.ends_name.ensures ∙ c.if-not-ends_name.true) closed rest
+    (tag_end_of closed name _ _ _ _ rest c.in-Some.ensures.value c.in_ok-name.ensures.value r).1
 
 pub returns-in_err-name-clause-unnamed : goal.returns-in_err-name-clause-unnamed
 returns-in_err-name-clause-unnamed c =
     let none : (name rest : List ℕ) → NamesTag name c.args.bytes.now rest → ¬ (NameEnds rest) =
     λ name rest n ends. c.in_err-name.ensures.refused name rest
-    (subst (λ (b : List ℕ). ReadsName name b rest) (parts_same 60 60 n.at_name _ (sym n.opens ∙ c.in-Some.ensures.value)).1 n.named) in
+    (subst (λ (b : List ℕ). ReadsName name b rest)
+    (parts_same 60 60 n.at_name _ (sym n.opens ∙ c.in-Some.ensures.value)).1 n.named) in
     OnErr-any c.from_residual.result none
 
 pub returns-in_default-first-clause-unnamed : goal.returns-in_default-first-clause-unnamed
@@ -55,7 +59,8 @@ pub returns-in_err-name-clause-nameless : goal.returns-in_err-name-clause-namele
 returns-in_err-name-clause-nameless c more e h =
     let same = (parts_same 60 60 _ more (sym c.in-Some.ensures.value ∙ e)).1 in
     let outside = subst (BeginsOutside is_name_byte) (sym same) h in
-    err_given c.from_residual.result c.in_err-name.field-0.0 (length more) c.from_residual.ensures.1 (err_same _ _ (c.in_err-name.ensures.outside outside) ∙ ap length same)
+    err_given c.from_residual.result c.in_err-name.field-0.0 (length more) c.from_residual.ensures.1
+    (err_same _ _ (c.in_err-name.ensures.outside outside) ∙ ap length same)
 
 pub returns-in_default-first-clause-nameless : goal.returns-in_default-first-clause-nameless
 returns-in_default-first-clause-nameless c more e h =
@@ -80,7 +85,9 @@ returns-in_err-name-clause-named c =
     IfErr-any c.from_residual.result
     (
     λ left name rest n. absurd
-    (c.in_err-name.ensures.refused name rest (subst (λ (b : List ℕ). ReadsName name b rest) (parts_same 60 60 n.at_name _ (sym n.opens ∙ c.in-Some.ensures.value)).1 n.named))
+    (c.in_err-name.ensures.refused name rest
+    (subst (λ (b : List ℕ). ReadsName name b rest)
+    (parts_same 60 60 n.at_name _ (sym n.opens ∙ c.in-Some.ensures.value)).1 n.named))
     )
 
 pub returns-in_default-first-clause-named : goal.returns-in_default-first-clause-named
@@ -103,12 +110,14 @@ returns-in_default-clause-leaves c = NoTag c.in_default.ensures.value refl
 
 pub returns-in_err-name-clause-leaves : goal.returns-in_err-name-clause-leaves
 returns-in_err-name-clause-leaves c =
-    leaves_past c.from_residual.result c.in_err-name.field-0.0 c.from_residual.ensures.1 (λ left l. NoTagName _ c.in-Some.ensures.value l) c.in_err-name.ensures.leaves
+    leaves_past c.from_residual.result c.in_err-name.field-0.0 c.from_residual.ensures.1
+    (λ left l. NoTagName _ c.in-Some.ensures.value l) c.in_err-name.ensures.leaves
 
 pub returns-in_default-first-clause-leaves : goal.returns-in_default-first-clause-leaves
 returns-in_default-first-clause-leaves c =
     let none = first_none _ c.in_default-first.ensures.value in
-    NoNameEnd _ _ (record { at_name = _; opens = c.in-Some.ensures.value; named = c.in_ok-name.ensures.value }) (no_name_end-none _ none) (sym (ap length none))
+    NoNameEnd _ _ (record { at_name = _; opens = c.in-Some.ensures.value; named = c.in_ok-name.ensures.value })
+    (no_name_end-none _ none) (sym (ap length none))
 
 pub returns-then-not-ends_name-clause-leaves : goal.returns-then-not-ends_name-clause-leaves
 returns-then-not-ends_name-clause-leaves c =

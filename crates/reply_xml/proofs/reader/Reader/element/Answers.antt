@@ -8,19 +8,26 @@ use Rattle.reply_xml.proofs.reader.Reader.element.Goals as goal
 
 pub returns-in_err-tag-clause-refused : goal.returns-in_err-tag-clause-refused
 returns-in_err-tag-clause-refused g c =
-    refused_past c.from_residual.result c.in_err-tag.field-0.0 c.from_residual.ensures.1 (leaf_no_tag (g.P.Parts.left c.args.parts) c.args.child.now c.args.self.now.rest.now) c.in_err-tag.ensures.refused
+    refused_past c.from_residual.result c.in_err-tag.field-0.0 c.from_residual.ensures.1
+    (leaf_no_tag (g.P.Parts.left c.args.parts) c.args.child.now c.args.self.now.rest.now) c.in_err-tag.ensures.refused
 
 pub returns-clause-value : goal.returns-clause-value
 returns-clause-value g c =
-    IfOk-map c.inside.result (λ whole s. (s.0, element_of c.args.child.now c.in_ok-tag.tag s.0 _ _ _ c.in_ok-tag.ensures.value s.1, s.2)) c.inside.ensures.value
+    IfOk-map c.inside.result
+    (λ whole s. (s.0, element_of c.args.child.now c.in_ok-tag.tag s.0 _ _ _ c.in_ok-tag.ensures.value s.1, s.2))
+    c.inside.ensures.value
 
 pub returns-clause-refused : goal.returns-clause-refused
 returns-clause-refused g c =
-    refused_so c.inside.result (λ none rest whole s. none rest whole (s.0, inner_of c.args.child.now c.in_ok-tag.tag s.0 _ _ rest c.in_ok-tag.ensures.value s.1, s.2)) c.inside.ensures.refused
+    refused_so c.inside.result
+    (λ none rest whole s. none rest whole
+    (s.0, inner_of c.args.child.now c.in_ok-tag.tag s.0 _ _ rest c.in_ok-tag.ensures.value s.1, s.2))
+    c.inside.ensures.refused
 
 pub returns-in_err-tag-clause-broken : goal.returns-in_err-tag-clause-broken
 returns-in_err-tag-clause-broken g c =
-    broken_past c.from_residual.result c.in_err-tag.field-0.0 c.from_residual.ensures.1 (λ reason t table front of parent fresh. BehindName t.0 fresh t.1 t.2) c.in_err-tag.ensures.broken
+    broken_past c.from_residual.result c.in_err-tag.field-0.0 c.from_residual.ensures.1
+    (λ reason t table front of parent fresh. BehindName t.0 fresh t.1 t.2) c.in_err-tag.ensures.broken
 
 pub returns-clause-broken : goal.returns-clause-broken
 returns-clause-broken g c =

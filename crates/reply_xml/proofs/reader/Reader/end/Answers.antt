@@ -9,10 +9,12 @@ pub returns-then-parent-clause-value : goal.returns-then-parent-clause-value
 returns-then-parent-clause-value c before at = closed_end c.args.parent.now before _ c.if-parent.true at
 
 pub returns-in-Ok-clause-value : goal.returns-in-Ok-clause-value
-returns-in-Ok-clause-value c before at = open_end c.args.parent.now before _ _ c.if-parent.false at c.in-Ok.ensures.value
+returns-in-Ok-clause-value c before at =
+    open_end c.args.parent.now before _ _ c.if-parent.false at c.in-Ok.ensures.value
 
 pub returns-in-Err-clause-refused : goal.returns-in-Err-clause-refused
-returns-in-Err-clause-refused c before at inner rest r = no_open_end c.args.parent.now before _ rest inner c.if-parent.false at c.in-Err.ensures.refused r
+returns-in-Err-clause-refused c before at inner rest r =
+    no_open_end c.args.parent.now before _ rest inner c.if-parent.false at c.in-Err.ensures.refused r
 
 pub returns-in-Err-clause-broken : goal.returns-in-Err-clause-broken
 returns-in-Err-clause-broken c before at table front complete =

@@ -6,7 +6,10 @@ use Rattle.reply_xml.proofs.reader.Reader.last_text_fault.Goals as goal
 
 pub returns-in-Ends : goal.returns-in-Ends
 returns-in-Ends c =
-    Leaves _ (NoTagBehind _ _ c.requires.whole c.in-Ends.ensures.place c.in-Ends.ensures.whole (λ other. (c.in-Ends.ensures.sound other, c.in-Ends.ensures.fault other)) refl) (ap (λ n. fault.NotADocument n) c.place.ensures)
+    Leaves _ (NoTagBehind _ _ c.requires.whole c.in-Ends.ensures.place c.in-Ends.ensures.whole
+    (λ other. (c.in-Ends.ensures.sound other, c.in-Ends.ensures.fault other)) refl)
+    (ap (λ n. fault.NotADocument n) c.place.ensures)
 
 pub returns-in-BadReference : goal.returns-in-BadReference
-returns-in-BadReference c = BadReference _ _ c.requires.whole c.in-BadReference.ensures.bad (λ none. c.in-BadReference.ensures.uncut refl) refl
+returns-in-BadReference c =
+    BadReference _ _ c.requires.whole c.in-BadReference.ensures.bad (λ none. c.in-BadReference.ensures.uncut refl) refl

@@ -8,7 +8,8 @@ returns-then-tag-clause-value c = text_closed c.args.tag.now _ c.if-tag.true
 
 pub returns-clause-value : goal.returns-clause-value
 returns-clause-value c =
-    IfOk-map c.text.result (λ found v. text_open c.args.tag.now _ _ v.0 (meaning_of found) c.if-tag.false v.1 v.2) c.text.ensures.value
+    IfOk-map c.text.result (λ found v. text_open c.args.tag.now _ _ v.0 (meaning_of found) c.if-tag.false v.1 v.2)
+    c.text.ensures.value
 
 pub returns-clause-followed : goal.returns-clause-followed
 returns-clause-followed c = OnOk-map c.text.result (λ some plain. some) c.text.ensures.followed

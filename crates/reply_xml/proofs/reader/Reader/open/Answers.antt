@@ -8,7 +8,9 @@ use Rattle.reply_xml.proofs.Utf8Lemmas.{behind_begin}
 use Rattle.reply_xml.proofs.reader.Reader.open.Goals as goal
 
 pub returns-in-Err-after_tag_end-clause-refused : goal.returns-in-Err-after_tag_end-clause-refused
-returns-in-Err-after_tag_end-clause-refused c closed rest b = c.in-Err-after_tag_end.ensures.refused closed rest (root_end c.args.root.now _ _ rest closed c.in-Ok.ensures.value b)
+returns-in-Err-after_tag_end-clause-refused c closed rest b =
+    c.in-Err-after_tag_end.ensures.refused closed rest
+    (root_end c.args.root.now _ _ rest closed c.in-Ok.ensures.value b)
 
 pub returns-clause-begins : goal.returns-clause-begins
 returns-clause-begins c = root_begins c.args.root.now _ _ _ _ c.in-Ok.ensures.value c.in-Ok-after_tag_end.ensures.value
@@ -17,7 +19,8 @@ pub returns-in-Err-clause-other : goal.returns-in-Err-clause-other
 returns-in-Err-clause-other c place o =
     ap (λ n. Err (fault.NotADocument n))
     (
-    otherwise_at c.args.root.now c.args.doc.now place c.in-Err.left o (λ x. err_same _ _ (c.in-Err.ensures.other place x)) (λ x. err_same _ _ (c.in-Err.ensures.bare place x))
+    otherwise_at c.args.root.now c.args.doc.now place c.in-Err.left o
+    (λ x. err_same _ _ (c.in-Err.ensures.other place x)) (λ x. err_same _ _ (c.in-Err.ensures.bare place x))
     (λ x. err_same _ _ (c.in-Err.ensures.nameless place x))
     )
 
@@ -26,7 +29,8 @@ returns-in-Err-after_tag_end-clause-other c place o =
     absurd
     (
     ⊎_elim (λ other. not_err _ _ (c.in-Ok.ensures.other place other))
-    (⊎_elim (λ lacks. not_err _ _ (c.in-Ok.ensures.bare place lacks)) (λ lacks. not_err _ _ (c.in-Ok.ensures.nameless place lacks))) o
+    (⊎_elim (λ lacks. not_err _ _ (c.in-Ok.ensures.bare place lacks))
+    (λ lacks. not_err _ _ (c.in-Ok.ensures.nameless place lacks))) o
     )
 
 pub returns-clause-other : goal.returns-clause-other
@@ -34,7 +38,8 @@ returns-clause-other c place o =
     absurd
     (
     ⊎_elim (λ other. not_err _ _ (c.in-Ok.ensures.other place other))
-    (⊎_elim (λ lacks. not_err _ _ (c.in-Ok.ensures.bare place lacks)) (λ lacks. not_err _ _ (c.in-Ok.ensures.nameless place lacks))) o
+    (⊎_elim (λ lacks. not_err _ _ (c.in-Ok.ensures.bare place lacks))
+    (λ lacks. not_err _ _ (c.in-Ok.ensures.nameless place lacks))) o
     )
 
 pub returns-in-Err-clause-broken : goal.returns-in-Err-clause-broken

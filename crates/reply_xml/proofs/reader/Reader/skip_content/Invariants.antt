@@ -9,9 +9,11 @@ use Rattle.reply_xml.proofs.reader.Reader.skip_content.Given as goal
 abbrev pub invariant-elements : goal.invariant-elements
 invariant-elements l = record {
   no_longer : length l.self.rest.now ≤ length l.fn.self.rest.now;
-  same : (rest : List ℕ) → ((at : List ℕ) × HoldsSome l.inner l.self.rest.now at × ReadsOpen l.outer.items at rest) ↔ HoldsSome l.fn.tag l.fn.self.rest.now rest;
+  same : (rest : List ℕ) → ((at : List ℕ) × HoldsSome l.inner l.self.rest.now at × ReadsOpen l.outer.items at rest) ↔
+      HoldsSome l.fn.tag l.fn.self.rest.now rest;
   size : l.self.size ≡ l.fn.self.size;
-  broken : (reason : DocFault) → BreaksOpen l.self.size reason l.inner l.outer.items l.self.rest.now → BreaksIn l.fn.self.size reason Done [] l.fn.tag l.fn.self.rest.now;
+  broken : (reason : DocFault) → BreaksOpen l.self.size reason l.inner l.outer.items l.self.rest.now → BreaksIn
+      l.fn.self.size reason Done [] l.fn.tag l.fn.self.rest.now;
 }
 
 abbrev pub decreases-elements : goal.decreases-elements

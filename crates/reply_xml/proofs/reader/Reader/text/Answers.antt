@@ -12,17 +12,24 @@ use Rattle.reply_xml.proofs.reader.Reader.text.Goals as goal
 
 pub returns-then-is_empty-clause-refused : goal.returns-then-is_empty-clause-refused
 returns-then-is_empty-clause-refused c =
-    Tells-any c.last_text_fault.result (λ text rest r. no_text_at_end _ _ _ text rest c.split_text-referenced.ensures.value (none_from_test _ (sym c.is_empty.ensures ∙ c.if-is_empty.true)) r)
+    Tells-any c.last_text_fault.result
+    (λ text rest r. no_text_at_end _ _ _ text rest c.split_text-referenced.ensures.value
+    (none_from_test _ (sym c.is_empty.ensures ∙ c.if-is_empty.true)) r)
 
 pub returns-in-Err-Ends-clause-refused : goal.returns-in-Err-Ends-clause-refused
-returns-in-Err-Ends-clause-refused c text rest r = no_meaning _ _ _ text _ c.split_text-referenced.ensures.value (ends_told c.in-Err-Ends.field-0 _ c.in-Err-Ends.field-0-is c.in-Err-Ends.ensures.refused) r
+returns-in-Err-Ends-clause-refused c text rest r =
+    no_meaning _ _ _ text _ c.split_text-referenced.ensures.value
+    (ends_told c.in-Err-Ends.field-0 _ c.in-Err-Ends.field-0-is c.in-Err-Ends.ensures.refused) r
 
 pub returns-in-Err-BadReference-clause-refused : goal.returns-in-Err-BadReference-clause-refused
-returns-in-Err-BadReference-clause-refused c text rest r = no_meaning _ _ _ text _ c.split_text-referenced.ensures.value (bad_told c.in-Err-BadReference.field-0 c.in-Err-BadReference.field-0-is c.in-Err-BadReference.ensures.refused) r
+returns-in-Err-BadReference-clause-refused c text rest r =
+    no_meaning _ _ _ text _ c.split_text-referenced.ensures.value
+    (bad_told c.in-Err-BadReference.field-0 c.in-Err-BadReference.field-0-is c.in-Err-BadReference.ensures.refused) r
 
 pub last_text_fault-requires-whole : goal.last_text_fault-requires-whole
 last_text_fault-requires-whole c lifetimes =
-    let run = text_ends _ _ _ c.split_text-referenced.ensures.value (none_from_test _ (sym c.is_empty.ensures ∙ c.if-is_empty.true)) in
+    let run = text_ends _ _ _ c.split_text-referenced.ensures.value
+    (none_from_test _ (sym c.is_empty.ensures ∙ c.if-is_empty.true)) in
     (run_within _ _ _ run, run)
 
 pub returns-in-Err-Ends-clause-broken : goal.returns-in-Err-Ends-clause-broken
@@ -30,7 +37,8 @@ returns-in-Err-Ends-clause-broken c =
     let fails = c.in-Err-Ends in
     Leaves _
     (
-    NotUtf8 fails.place _ _ c.split_text-referenced.ensures.value (ends_at _ fails.field-0 fails.place fails.field-0-is fails.ensures.broken)
+    NotUtf8 fails.place _ _ c.split_text-referenced.ensures.value
+    (ends_at _ fails.field-0 fails.place fails.field-0-is fails.ensures.broken)
     (ends_at _ fails.field-0 fails.place fails.field-0-is fails.ensures.sound).0
     (ends_at _ fails.field-0 fails.place fails.field-0-is fails.ensures.sound).1 refl
     )
@@ -45,21 +53,32 @@ returns-in-Err-BadReference-clause-broken c =
 pub invariant_of-self-in-Ok-clause-judged : goal.invariant_of-self-in-Ok-clause-judged
 invariant_of-self-in-Ok-clause-judged c =
     let followed = some_from_test _ (sym c.is_empty.ensures ∙ c.if-is_empty.false) in
-    judged_on _ _ _ c.args.self.now.judged (λ utf8. (text_parts _ _ _ c.split_text-referenced.ensures.value followed utf8).1)
+    judged_on _ _ _ c.args.self.now.judged
+    (λ utf8. (text_parts _ _ _ c.split_text-referenced.ensures.value followed utf8).1)
 
 pub invariant_of-self-clause-judged : goal.invariant_of-self-clause-judged
 invariant_of-self-clause-judged c =
     let followed = some_from_test _ (sym c.is_empty.ensures ∙ c.if-is_empty.false) in
-    judged_on _ _ _ c.args.self.now.judged (λ utf8. (text_parts _ _ _ c.split_text-referenced.ensures.value followed utf8).1)
+    judged_on _ _ _ c.args.self.now.judged
+    (λ utf8. (text_parts _ _ _ c.split_text-referenced.ensures.value followed utf8).1)
 
 pub from_utf8_unchecked-requires : goal.from_utf8_unchecked-requires
 from_utf8_unchecked-requires c =
     let followed = some_from_test _ (sym c.is_empty.ensures ∙ c.if-is_empty.false) in
-    (text_parts _ _ _ c.split_text-referenced.ensures.value followed (judged _ _ c.args.self.now.judged c.if-self.true)).0
+    (text_parts _ _ _ c.split_text-referenced.ensures.value followed
+    (judged _ _ c.args.self.now.judged c.if-self.true)).0
 
 pub returns-then-not-referenced-clause-value : goal.returns-then-not-referenced-clause-value
 returns-then-not-referenced-clause-value c =
     let followed = some_from_test _ (sym c.is_empty.ensures ∙ c.if-is_empty.false) in
-    let utf8 = (text_parts _ _ _ c.split_text-referenced.ensures.value followed (judged _ _ c.args.self.now.judged c.if-self.true)).0 in
-    let plain = plain_text _ _ _ c.split_text-referenced.ensures.value (c.split_text-referenced.ensures.plain c.if-not-referenced.true) utf8 in
-    (c.split_text-referenced.result.0.now, plain.0, subst (λ (t : List ℕ). IsUnescaped c.split_text-referenced.result.0.now t) (sym c.from_utf8_unchecked.ensures) plain.1)
+    let utf8 =
+    (text_parts _ _ _ c.split_text-referenced.ensures.value followed
+    (judged _ _ c.args.self.now.judged c.if-self.true)).0 in
+    let plain = plain_text _ _ _ c.split_text-referenced.ensures.value
+    (c.split_text-referenced.ensures.plain c.if-not-referenced.true) utf8 in (
+      c.split_text-referenced.result.0.now,
+      plain.0,
+      subst
+          (λ (t : List ℕ). IsUnescaped c.split_text-referenced.result.0.now t)
+          (sym c.from_utf8_unchecked.ensures) plain.1,
+    )
