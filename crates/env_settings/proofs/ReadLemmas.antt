@@ -1,7 +1,7 @@
 -- What was read of an environment that stays as it is makes its settings.
-use Rattle.std.proofs.Common.{◌≡◌, ◌∙◌, ◌++◌, ℕ, Bool, Bor, List, codes, is_some, Option, Some, None, Result, Ok, Err, IfSome, IfOk, ap, sym, subst, refl}
+use Rattle.std.proofs.Common.{◌≡◌, ◌∙◌, ◌++◌, ℕ, Bool, List, codes, is_some, Option, Some, None, Result, Ok, Err, IfSome, IfOk, ap, sym, subst, refl}
 use Rattle.std.specs.FinMap.{get}
-use Rattle.std.specs.Option.{option_copied, option_or}
+use Rattle.std.specs.Option.{option_or}
 use Rattle.s3_model.specs.Maps.{MapOf}
 use Rattle.s3_model.specs.declared.settings.EnvWords.{EnvWords}
 use Rattle.s3_model.specs.declared.settings.Settings.{Settings}
@@ -71,24 +71,24 @@ second_read a b first r None middle none same p q = tt
 second_read a b first r (Some env) middle none same p q =
     either_at a b first r env none p (still (λ env. IfOk r (λ word. word ≡ usable (get env.variables b))) (Some env) middle same q)
 
-words_at : (id secret token region profile : Option (List ℕ)) (named : Bool) (given_region given_profile : Option (Bor (List ℕ))) (seen : Option SeenEnv) → named ≡ is_some (option_copied given_profile)
+words_at : (id secret token region profile : Option (List ℕ)) (named : Bool) (given_region given_profile : Option (List ℕ)) (seen : Option SeenEnv) → named ≡ is_some given_profile
     → IfSome seen (λ env. id ≡ get env.variables (codes "AWS_ACCESS_KEY_ID")) → IfSome seen (λ env. secret ≡ get env.variables (codes "AWS_SECRET_ACCESS_KEY"))
-    → IfSome seen (λ env. token ≡ get env.variables (codes "AWS_SESSION_TOKEN")) → IfSome seen (λ env. region ≡ region_of env.variables (option_copied given_region))
-    → IfSome seen (λ env. profile ≡ option_or (option_copied given_profile) (set_value env.variables (codes "AWS_PROFILE")))
-    → IfSome seen (λ env. record { id = id; secret = secret; token = token; region = region; profile = profile; named = named } ≡ words_of env.variables (option_copied given_region) (option_copied given_profile))
+    → IfSome seen (λ env. token ≡ get env.variables (codes "AWS_SESSION_TOKEN")) → IfSome seen (λ env. region ≡ region_of env.variables given_region)
+    → IfSome seen (λ env. profile ≡ option_or given_profile (set_value env.variables (codes "AWS_PROFILE")))
+    → IfSome seen (λ env. record { id = id; secret = secret; token = token; region = region; profile = profile; named = named } ≡ words_of env.variables given_region given_profile)
 words_at id secret token region profile named given_region given_profile None n a b c d e = tt
 words_at id secret token region profile named given_region given_profile (Some env) n a b c d e = rw (n, a, b, c, d, e) refl
 
 -- the words, one after the other
-pub words_read : (id secret token region profile : Option (List ℕ)) (named : Bool) (given_region given_profile : Option (Bor (List ℕ))) (first second third fourth fifth : Option SeenEnv) → named ≡ is_some (option_copied given_profile)
+pub words_read : (id secret token region profile : Option (List ℕ)) (named : Bool) (given_region given_profile : Option (List ℕ)) (first second third fourth fifth : Option SeenEnv) → named ≡ is_some given_profile
     → second ≡ first → third ≡ second → fourth ≡ third → fifth ≡ fourth
     → IfSome first (λ env. id ≡ get env.variables (codes "AWS_ACCESS_KEY_ID")) → IfSome second (λ env. secret ≡ get env.variables (codes "AWS_SECRET_ACCESS_KEY"))
-    → IfSome third (λ env. token ≡ get env.variables (codes "AWS_SESSION_TOKEN")) → IfSome fourth (λ env. region ≡ region_of env.variables (option_copied given_region))
-    → IfSome fifth (λ env. profile ≡ option_or (option_copied given_profile) (set_value env.variables (codes "AWS_PROFILE")))
-    → IfSome first (λ env. record { id = id; secret = secret; token = token; region = region; profile = profile; named = named } ≡ words_of env.variables (option_copied given_region) (option_copied given_profile))
+    → IfSome third (λ env. token ≡ get env.variables (codes "AWS_SESSION_TOKEN")) → IfSome fourth (λ env. region ≡ region_of env.variables given_region)
+    → IfSome fifth (λ env. profile ≡ option_or given_profile (set_value env.variables (codes "AWS_PROFILE")))
+    → IfSome first (λ env. record { id = id; secret = secret; token = token; region = region; profile = profile; named = named } ≡ words_of env.variables given_region given_profile)
 words_read id secret token region profile named given_region given_profile first second third fourth fifth n s t u v a b c d e =
     words_at id secret token region profile named given_region given_profile first n a
     (still (λ env. secret ≡ get env.variables (codes "AWS_SECRET_ACCESS_KEY")) first second s b)
     (still (λ env. token ≡ get env.variables (codes "AWS_SESSION_TOKEN")) first third (t ∙ s) c)
-    (still (λ env. region ≡ region_of env.variables (option_copied given_region)) first fourth (u ∙ (t ∙ s)) d)
-    (still (λ env. profile ≡ option_or (option_copied given_profile) (set_value env.variables (codes "AWS_PROFILE"))) first fifth (v ∙ (u ∙ (t ∙ s))) e)
+    (still (λ env. region ≡ region_of env.variables given_region) first fourth (u ∙ (t ∙ s)) d)
+    (still (λ env. profile ≡ option_or given_profile (set_value env.variables (codes "AWS_PROFILE"))) first fifth (v ∙ (u ∙ (t ∙ s))) e)

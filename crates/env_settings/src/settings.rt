@@ -1,6 +1,6 @@
 //! The settings of a run.
 
-ghost use Rattle.std.specs.Prelude.{◌≡◌, ◌≢◌, ◌≤◌, Err, IfOk, IfSome, length, option_copied};
+ghost use Rattle.std.specs.Prelude.{◌≡◌, ◌≢◌, ◌≤◌, Err, IfOk, IfSome, length};
 ghost use Rattle.s3_model.specs.Counts.{Rose};
 ghost use Rattle.s3_model.specs.Validity.{IsValidConfig};
 ghost use Rattle.aws_profile.specs.Answers.{answer};
@@ -36,7 +36,7 @@ fn settings_from(
 }
 
 /// Reads the settings of a run: variables, the AWS CLI's config and credentials files, and the command's `--region` and
-/// `--profile` (AWS CLI User Guide, "Configuration and credential file settings", "Environment variables").
+/// `--profile`, which it takes over (AWS CLI User Guide, "Configuration and credential file settings", "Environment variables").
 ///
 /// The config file is at AWS_CONFIG_FILE, else at `.aws/config` below HOME, the credentials file at
 /// AWS_SHARED_CREDENTIALS_FILE, else at `.aws/credentials` there; one without a place, and one that is absent, is empty. A
@@ -45,11 +45,11 @@ fn settings_from(
 pub fn read_settings<E: Env>(
     alloc: Global,
     env: &mut E,
-    region: Option<&Text>,
-    profile: Option<&Text>,
+    region: Option<Text>,
+    profile: Option<Text>,
 ) -> Result<Settings, SettingsFault>
     ensures settings { IfSome (E.seen env.new) (λ seen. AnswersAs
-        (settings_of seen.variables seen.files (option_copied region.entry) (option_copied profile.entry)) result) }
+        (settings_of seen.variables seen.files region profile) result) }
     ensures profile { result ≢ Err (SettingsFault.Profile ProfileFault.Memory) }
     ensures read { result ≡ Err SettingsFault.EnvRead → Rose (E.faults env.old) (E.faults env.new) }
     ensures asked { AsksFirst (λ seen. settings_paths seen.variables) result (E.seen env.old) (E.seen env.new)

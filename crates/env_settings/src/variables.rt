@@ -1,6 +1,6 @@
 //! What the variables and the command line say.
 
-ghost use Rattle.std.specs.Prelude.{◌≡◌, ◌≤◌, None, IfOk, IfSome, codes, is_some, option_copied};
+ghost use Rattle.std.specs.Prelude.{◌≡◌, ◌≤◌, None, IfOk, IfSome, codes, is_some};
 ghost use Rattle.std.specs.FinMap.{get};
 ghost use Rattle.std.specs.Option.{option_or};
 ghost use Rattle.aws_profile.specs.Values.{usable};
@@ -123,23 +123,22 @@ fn read_set_region<E: Env>(alloc: Global, env: &mut E) -> Result<Option<Text>, O
 fn read_region<E: Env>(
     alloc: Global,
     env: &mut E,
-    region: Option<&Text>,
+    region: Option<Text>,
 ) -> Result<Option<Text>, OutOfMemory>
-    ensures value { IfSome (E.seen env.old) (λ seen. IfOk result (λ word. word ≡
-        region_of seen.variables (option_copied region.entry))) }
+    ensures value { IfSome (E.seen env.old) (λ seen. IfOk result (λ word. word ≡ region_of seen.variables region)) }
     ensures same { E.seen env.new ≡ E.seen env.old }
     ensures limits { E.allows env.new ≡ E.allows env.old }
     ensures later { E.faults env.old ≤ E.faults env.new }
 {
     match region {
-        Some(region) if is_visible(region.as_str().as_bytes()) => Ok(Some(region.copy()?)),
+        Some(region) if is_visible(region.as_str().as_bytes()) => Ok(Some(region)),
         _ => read_set_region(alloc, env),
     }
 }
 
 /// Whether the command line names the profile.
-fn is_named(profile: Option<&Text>) -> bool
-    ensures { result ≡ is_some (option_copied profile.entry) }
+fn is_named(profile: &Option<Text>) -> bool
+    ensures { result ≡ is_some profile.now }
 {
     matches!(profile, Some(_))
 }
@@ -148,16 +147,16 @@ fn is_named(profile: Option<&Text>) -> bool
 fn read_profile<E: Env>(
     alloc: Global,
     env: &mut E,
-    profile: Option<&Text>,
+    profile: Option<Text>,
 ) -> Result<Option<Text>, OutOfMemory>
     ensures value { IfSome (E.seen env.old) (λ seen. IfOk result (λ word. word ≡
-        option_or (option_copied profile.entry) (set_value seen.variables (codes "AWS_PROFILE")))) }
+        option_or profile (set_value seen.variables (codes "AWS_PROFILE")))) }
     ensures same { E.seen env.new ≡ E.seen env.old }
     ensures limits { E.allows env.new ≡ E.allows env.old }
     ensures later { E.faults env.old ≤ E.faults env.new }
 {
     match profile {
-        Some(profile) => Ok(Some(profile.copy()?)),
+        Some(profile) => Ok(Some(profile)),
         None => read_set(alloc, env, "AWS_PROFILE"),
     }
 }
@@ -165,11 +164,11 @@ fn read_profile<E: Env>(
 pub(crate) fn read_words<E: Env>(
     alloc: Global,
     env: &mut E,
-    region: Option<&Text>,
-    profile: Option<&Text>,
+    region: Option<Text>,
+    profile: Option<Text>,
 ) -> Result<EnvWords, OutOfMemory>
     ensures value { IfSome (E.seen env.old) (λ seen. IfOk result (λ words. words ≡
-        words_of seen.variables (option_copied region.entry) (option_copied profile.entry))) }
+        words_of seen.variables region profile)) }
     ensures same { E.seen env.new ≡ E.seen env.old }
     ensures limits { E.allows env.new ≡ E.allows env.old }
     ensures later { E.faults env.old ≤ E.faults env.new }
@@ -177,7 +176,7 @@ pub(crate) fn read_words<E: Env>(
     let id = env.word(alloc, "AWS_ACCESS_KEY_ID")?;
     let secret = env.word(alloc, "AWS_SECRET_ACCESS_KEY")?;
     let token = env.word(alloc, "AWS_SESSION_TOKEN")?;
-    let named = is_named(profile);
+    let named = is_named(&profile);
     let region = read_region(alloc, env, region)?;
     let profile = read_profile(alloc, env, profile)?;
     Ok(EnvWords {

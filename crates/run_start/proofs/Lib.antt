@@ -1,2 +1,3 @@
 pub mod ExpiryLemmas
+pub mod RestLemmas
 pub mod SettingsLemmas

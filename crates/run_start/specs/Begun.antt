@@ -10,7 +10,7 @@ use Rattle.s3_words.specs.Faults.{word_fault}
 use Rattle.upload_plans.specs.Commands.{is_unbuilt}
 use Rattle.run_report.specs.declared.run.Fatal.{Fatal}
 use Rattle.run_report.specs.declared.run.Fatal.TheVariants as fatal
-use Rattle.run_start.specs.Settings.{AreSettings, RefusesSettings}
+use Rattle.run_start.specs.Settings.{AreSettings, RefusesSettings, without_settings}
 
 -- the words have no fault, and ask for this command, which the program does
 pub record IsRead (words : List (List ℕ)) (command : Command) : Type 0 where
@@ -18,11 +18,17 @@ pub record IsRead (words : List (List ℕ)) (command : Command) : Type 0 where
   pub is_command : IsCommand words command
   pub built : is_unbuilt command ≡ false
 
+-- what is left of it, once its settings took over the texts that are theirs
+pub record IsRestOf (words : List (List ℕ)) (command : Command) : Type 0 where
+  pub whole : Command
+  pub reads : IsRead words whole
+  pub is : command ≡ without_settings whole
+
 -- and the settings are those of the variables and the files
 pub record IsBegun (words : List (List ℕ)) (env : Option SeenEnv) (command : Command)
     (settings : Settings) : Type 0 where
-  pub reads : IsRead words command
-  pub settled : IfSome env (λ seen. AreSettings command seen settings)
+  pub rest : IsRestOf words command
+  pub settled : IfSome env (λ seen. AreSettings rest.whole seen settings)
   pub valid : IsValidConfig settings.config
 
 -- ---- why a run ends there

@@ -1,6 +1,6 @@
 -- The settings of a command, from the variables and the files of the environment (AWS CLI User Guide, "Configuration
 -- and credential file settings").
-use Rattle.std.specs.Prelude.{◌≡◌, ◌⊎◌, ℕ, Option, Result, Ok, Err}
+use Rattle.std.specs.Prelude.{◌≡◌, ◌⊎◌, ℕ, Option, None, Result, Ok, Err}
 use Rattle.env_settings.specs.Calls.{AsksFirst}
 use Rattle.env_settings.specs.Places.{settings_paths}
 use Rattle.env_settings.specs.Settings.{settings_of}
@@ -12,6 +12,10 @@ use Rattle.s3_outside.specs.Env.{SeenEnv}
 use Rattle.s3_words.specs.declared.commands.Command.{Command}
 use Rattle.run_report.specs.declared.run.Fatal.{Fatal}
 use Rattle.run_report.specs.declared.run.Fatal.TheVariants as fatal
+
+-- what is left of a command whose region and profile its settings took over
+abbrev pub without_settings : Command → Command
+without_settings command = record command { region = None; profile = None }
 
 abbrev pub settings_for : Command → SeenEnv → Result Settings ProfileFault
 settings_for command seen = settings_of seen.variables seen.files command.region command.profile

@@ -3,7 +3,7 @@
 ghost use Rattle.std.specs.Prelude.{◌≡◌, ◌≤◌, ◌⊎◌, true, false, IfOk, IfErr, IfSome, map, string_bytes};
 ghost use Rattle.upload_plans.specs.Commands.{CopiesUp, IsListed, NamesObject, is_listing, is_presign};
 ghost use Rattle.run_start.specs.Begun.{IsBegun, IsRead, RefusedFor, StopsInSettings, StopsInWords};
-ghost use Rattle.run_start.specs.Settings.{AreSettings, AsksOnly, settings_fatal};
+ghost use Rattle.run_start.specs.Settings.{AreSettings, AsksOnly, settings_fatal, without_settings};
 ghost use Rattle.s3_model.specs.Validity.{IsValidConfig, IsWithin};
 
 use env_settings::{SettingsFault, read_settings};
@@ -17,6 +17,7 @@ use upload_plans::is_unbuilt;
 /// A command that the program does, and its settings.
 #[derive(Drop)]
 pub struct Start {
+    /// Its region and its profile are with the settings.
     pub command: Command,
     pub settings: Settings,
 }
@@ -69,24 +70,29 @@ fn settings_fatal(fault: SettingsFault) -> Fatal
     }
 }
 
-/// The settings of a command.
-fn settings_for<E: Env>(alloc: Global, env: &mut E, command: &Command) -> Result<Settings, Fatal>
-    ensures settled { IfSome (E.seen env.new) (λ seen. IfOk result (AreSettings command.now seen)) }
+/// The settings of a command, which take over its region and its profile; the rest of it stays.
+fn settings_for<E: Env>(
+    alloc: Global,
+    env: &mut E,
+    command: &mut Command,
+) -> Result<Settings, Fatal>
+    ensures settled { IfSome (E.seen env.new) (λ seen. IfOk result (AreSettings command.old seen)) }
     ensures valid { IfOk result (λ settings. IsValidConfig settings.config) }
-    ensures stops { IfErr result (RefusedFor command.now (E.seen env.new) (E.faults env.old) (E.faults env.new)) }
+    ensures stops { IfErr result (RefusedFor command.old (E.seen env.new) (E.faults env.old) (E.faults env.new)) }
+    ensures rest { command.new ≡ without_settings command.old }
     ensures asked { AsksOnly (E.seen env.old) (E.seen env.new) (E.faults env.old) (E.faults env.new) }
     ensures limits { E.allows env.new ≡ E.allows env.old }
     ensures later { E.faults env.old ≤ E.faults env.new }
 {
-    let region = command.region.as_ref();
-    let profile = command.profile.as_ref();
+    let region = command.region.take();
+    let profile = command.profile.take();
     match read_settings(alloc, env, region, profile) {
         Ok(settings) => Ok(settings),
         Err(fault) => Err(settings_fatal(fault)),
     }
 }
 
-/// Reads the words, then the settings; the first fault ends the run.
+/// Reads the words, then the settings, which take over the command's region and profile; the first fault ends the run.
 pub fn read_start<E: Env>(alloc: Global, words: &[String], env: &mut E) -> Result<Start, Fatal>
     ensures begun { IfOk result (λ start. IsBegun (map string_bytes words.now) (E.seen env.new) start.command
         start.settings) }
@@ -103,7 +109,7 @@ pub fn read_start<E: Env>(alloc: Global, words: &[String], env: &mut E) -> Resul
     ensures limits { E.allows env.new ≡ E.allows env.old }
     ensures later { E.faults env.old ≤ E.faults env.new }
 {
-    let command = read_command(alloc, words)?;
-    let settings = settings_for(alloc, env, &command)?;
+    let mut command = read_command(alloc, words)?;
+    let settings = settings_for(alloc, env, &mut command)?;
     Ok(Start { command, settings })
 }

@@ -11,7 +11,6 @@ use Rattle.s3_model.specs.Talks.{Talk, Note, WireLog}
 use Rattle.s3_outside.specs.Env.{SeenEnv}
 use Rattle.s3_outside.specs.Files.{SeenFiles}
 use Rattle.s3_words.specs.declared.commands.Command.{Command}
-use Rattle.s3_words.specs.Commands.{IsCommand}
 use Rattle.upload_plans.specs.Commands.{is_listing, is_presign, path_at, source_path}
 use Rattle.run_promise.specs.Gains.{Gains}
 use Rattle.upload_promise.specs.Sources.{LooksAt}
@@ -19,19 +18,20 @@ use Rattle.run_promise.proofs.GainLemmas.{gains_as, gains_nothing}
 use Rattle.run_report.specs.declared.run.Fatal.{Fatal}
 use Rattle.run_report.specs.declared.run.Fatal.TheVariants as fatal
 use Rattle.run_report.specs.declared.run.Run.{Run}
-use Rattle.run_start.specs.Begun.{IsBegun, RefusedFor, StopsInSettings, StopsInWords}
+use Rattle.run_start.specs.Begun.{IsBegun, IsRestOf, RefusedFor, StopsInSettings, StopsInWords}
 use Rattle.s3_main.specs.Asked.{path_in}
 use Rattle.s3_main.specs.Executed.{DoesOn, GoesOn}
 use Rattle.s3_main.specs.Runs.{GoesAs, IsUnasked, StopsFor, StopsPlanning, Undertakes}
 use Rattle.run_report.specs.Texts.{HasLine}
+use Rattle.run_start.proofs.RestLemmas.{from_is}
 use Rattle.s3_main.proofs.ExecutionLemmas.{nothing, stops_for, unplanned}
 use Rattle.run_report.specs.Taskless.{HasNoTask}
 
 -- the path of the command is that of the words
-pub source_is : (words : List (List ℕ)) (command : Command) → IsCommand words command → source_path command ≡ path_in words
-source_is words command is = ap path_at is.asks.from
+pub source_is : (words : List (List ℕ)) (command : Command) → IsRestOf words command → source_path command ≡ path_in words
+source_is words command is = ap path_at (from_is words command is)
 
-pub looks_words : (words : List (List ℕ)) (command : Command) → IsCommand words command → (before after : Option SeenFiles) → LooksAt (source_path command) before after → LooksAt (path_in words) before after
+pub looks_words : (words : List (List ℕ)) (command : Command) → IsRestOf words command → (before after : Option SeenFiles) → LooksAt (source_path command) before after → LooksAt (path_in words) before after
 looks_words words command is before after looks = subst (λ (path : List ℕ). LooksAt path before after) (source_is words command is) looks
 
 -- ---- a run that ended in its words or in its settings
@@ -103,4 +103,4 @@ module _ (words : List (List ℕ)) (env : Option SeenEnv) (env_before env_after 
     pub begun_does : DoesOn command settings limits before after run → Undertakes words limits before after run
     begun_does (inl none) = inl none
     begun_does (inr (comes, fated, plan, wants)) =
-        inr (inl (record { command = command; settings = settings; comes = comes; reads = begun.reads; copies = copies; no_listing = no_listing; fated = fated; plan = plan; wants = wants }))
+        inr (inl (record { command = command; settings = settings; comes = comes; rest = begun.rest; copies = copies; no_listing = no_listing; fated = fated; plan = plan; wants = wants }))

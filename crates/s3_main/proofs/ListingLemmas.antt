@@ -128,10 +128,10 @@ module _ (words : List (List ℕ)) (run : Run) (line : Result (Option Line) OutO
     Asks result = ShowsListing command.endpoint settings.keys command.from command.recursive [] run.journal.items result
 
     pub lists_true : lists_in words ≡ true
-    lists_true = lists words command begun.reads.is_command ∙ listing
+    lists_true = lists words command begun.rest ∙ listing
 
     unseen : IsBegun words None command settings
-    unseen = record { reads = begun.reads; settled = tt; valid = begun.valid }
+    unseen = record { rest = begun.rest; settled = tt; valid = begun.valid }
 
     own_line : (result : Result Shown ListingFault) → Gains before after (Asks result) → OfSomeTalks (Asks result) → IsMade words result run line missed → HasLineOf words env before after run line missed
     own_line (Ok shown) gained some (has, texts, is) =

@@ -29,7 +29,7 @@ use Rattle.run_promise.specs.Planning.{Need, PlansFor}
 use Rattle.shared_lemmas.proofs.Clashes.{false_true}
 use Rattle.s3_model.specs.declared.places.Place.{Place}
 use Rattle.s3_model.specs.declared.places.Place.TheVariants as place
-use Rattle.s3_words.specs.Commands.{IsCommand, arguments_of, first_of}
+use Rattle.s3_words.specs.Commands.{arguments_of, first_of}
 use Rattle.s3_words.specs.Given.{is_given}
 use Rattle.s3_words.specs.Places.{places_in}
 use Rattle.s3_words.specs.declared.options.OptionName.TheVariants.{Recursive}
@@ -57,7 +57,8 @@ use Rattle.upload_promise.proofs.PromiseLemmas as promise
 use Rattle.upload_promise.proofs.PromiseLemmas.{one_valid}
 use Rattle.put_promise.proofs.PromiseLemmas.{uploaded}
 use Rattle.run_report.specs.declared.run.Run.{Run}
-use Rattle.run_start.specs.Begun.{IsBegun}
+use Rattle.run_start.specs.Begun.{IsBegun, IsRestOf}
+use Rattle.run_start.proofs.RestLemmas.{from_is, recursive_is}
 use Rattle.s3_main.specs.Asked.{lists_in, needs_in, path_in}
 use Rattle.run_task.specs.Uploaded.{HasUploaded, path_of}
 use Rattle.s3_main.specs.Plans.{HasPlan, IsFate, IsIdle, Works, warnings_of}
@@ -119,14 +120,14 @@ moment_idle moment = record { no_talk = λ h. moment_is_no_talk moment (only (Mo
 
 -- ---- what planning needs
 
-no_needs : (words : List (List ℕ)) (command : Command) → IsCommand words command → is_listing command.verb ≡ false → needs_in words ≡ []
+no_needs : (words : List (List ℕ)) (command : Command) → IsRestOf words command → is_listing command.verb ≡ false → needs_in words ≡ []
 no_needs words command is none =
     ap (λ (lists : Bool). if lists then needs_of (first_of (places_in (arguments_of words))) (is_given Recursive (arguments_of words)) else []) (lists words command is ∙ none)
 
-has_needs : (words : List (List ℕ)) (command : Command) → IsCommand words command → is_listing command.verb ≡ true → needs_in words ≡ needs_of command.from command.recursive
+has_needs : (words : List (List ℕ)) (command : Command) → IsRestOf words command → is_listing command.verb ≡ true → needs_in words ≡ needs_of command.from command.recursive
 has_needs words command is listing =
     ap (λ (lists : Bool). if lists then needs_of (first_of (places_in (arguments_of words))) (is_given Recursive (arguments_of words)) else []) (lists words command is ∙ listing)
-    ∙ ap (λ (at : Option Place). needs_of at (is_given Recursive (arguments_of words))) (sym is.asks.from) ∙ ap (λ (recursive : Bool). needs_of command.from recursive) (sym is.asks.recursive)
+    ∙ ap (λ (at : Option Place). needs_of at (is_given Recursive (arguments_of words))) (sym (from_is words command is)) ∙ ap (λ (recursive : Bool). needs_of command.from recursive) (sym (recursive_is words command is))
 
 -- memory that ran out for a listing ends the run
 memory_ends : {T : Type 0} (Shows : T → Shown → Type 0) (listed : Result T ListingFault) (result : Result Shown ListingFault) (why : Option Fatal) → is_memory listed ≡ true → IsShownBy Shows listed result
@@ -186,7 +187,7 @@ module _ (words : List (List ℕ)) (env : Option SeenEnv) (limits : Limits) (val
     settings = some_settings;
     begun = λ some. absurd (some u.taskless.no_job);
     keeps = of_run nowhere some_settings [] [] [] [] [] (Moment u.moment ∷ []) u.taskless.no_task u.taskless.no_outcome u.taskless.no_job u.taskless.no_warning u.no_talk u.noted
-        (nothing nowhere some_settings some_valid (inl (no_needs words u.command u.begun.reads.is_command (presign_is_no_listing u.command.verb u.presign))) [] refl refl (Moment u.moment ∷ []) (moment_idle u.moment));
+        (nothing nowhere some_settings some_valid (inl (no_needs words u.command u.begun.rest (presign_is_no_listing u.command.verb u.presign))) [] refl refl (Moment u.moment ∷ []) (moment_idle u.moment));
   }
 
   module _ (command : Command) (settings : Settings) (begun : IsBegun words env command settings) where
@@ -198,13 +199,13 @@ module _ (words : List (List ℕ)) (env : Option SeenEnv) (limits : Limits) (val
 
     -- a listing tries each request once, and nothing else does
     config_is : (lists_it : Bool) → is_listing command.verb ≡ lists_it → config_for words settings.config ≡ (if lists_it then one_attempt settings.config else settings.config)
-    config_is lists_it is = ap (λ (b : Bool). if b then one_attempt settings.config else settings.config) (lists words command begun.reads.is_command ∙ is)
+    config_is lists_it is = ap (λ (b : Bool). if b then one_attempt settings.config else settings.config) (lists words command begun.rest ∙ is)
 
     true_by : KeepsBoth run.plan.tasks.items run.outcomes.items run.journal.items run.warnings.items talks notes → IsTrue words env limits before after run talks notes was now
     true_by keeps = record { endpoint = endpoint; settings = settings; begun = λ some. (command, begun, refl); keeps = keeps }
 
     none_planned : is_listing command.verb ≡ false → PlansNone
-    none_planned none = inl (no_needs words command begun.reads.is_command none)
+    none_planned none = inl (no_needs words command begun.rest none)
 
     -- a plan without a task
     idle_true : is_listing command.verb ≡ false → (comes : Fate) → run.plan.tasks.items ≡ [] → run.warnings.items ≡ warnings_of comes → IsIdle run talks notes → IsTrue words env limits before after run talks notes was now
@@ -228,7 +229,7 @@ module _ (words : List (List ℕ)) (env : Option SeenEnv) (limits : Limits) (val
         subst (λ (config : Config). KeepsPromise Shows HasStatus (text_of endpoint settings.keys) endpoint.host endpoint.port (PlansBy words run.fatal) path before after (of_task ∷ []) [] now
         (shown_by config limits run.status (of_task ∷ []) (how ∷ []) run.journal.items talks notes was now)) (sym (config_is false none))
         (subst (λ (at : List ℕ). KeepsPromise Shows HasStatus (text_of endpoint settings.keys) endpoint.host endpoint.port (PlansBy words run.fatal) at before after (of_task ∷ []) [] now
-        (shown_by settings.config limits run.status (of_task ∷ []) (how ∷ []) run.journal.items talks notes was now)) (source_is words command begun.reads.is_command) keeps) in
+        (shown_by settings.config limits run.status (of_task ∷ []) (how ∷ []) run.journal.items talks notes was now)) (source_is words command begun.rest) keeps) in
         true_by (of_run endpoint settings (of_task ∷ []) (how ∷ []) run.journal.items [] talks notes
         (tasks ∙ ap (λ (t : Task). t ∷ []) of_file.is) one refl warnings refl refl here)
 
@@ -277,4 +278,4 @@ all_true limits valid run talks notes words env (Some was) (Some now) before aft
     planned_true words env limits valid before after run talks notes was now looks.0 memory p.command p.settings p.begun p.no_listing p.comes p.fated p.plan p.works
 all_true limits valid run talks notes words env (Some was) (Some now) before after memory looks (inr (inr (inr l))) =
     shown_true words env limits valid before after run talks notes was now looks.0 memory l.command l.settings l.begun l.listing l.nothing l.command.from l.command.recursive
-    (has_needs words l.command l.begun.reads.is_command l.listing) l.result l.shows l.ends
+    (has_needs words l.command l.begun.rest l.listing) l.result l.shows l.ends

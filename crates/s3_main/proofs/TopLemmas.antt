@@ -202,12 +202,12 @@ module _ (work run : Run) (line : Result (Option Line) OutOfMemory) (r : IsRepor
     pub does : Undertakes words limits before after work → Undertakes words limits before after run
     does (inl n) = inl (nothing n)
     does (inr (inr (inr l))) = inr (inr (inr (some_as (IsListing words None work) (IsListing words None run) (listed words None) l)))
-    does (inr (inr (inl u))) = inr (inr (inl (record { command = u.command; reads = u.reads; presign = u.presign; taskless = taskless u.taskless })))
+    does (inr (inr (inl u))) = inr (inr (inl (record { command = u.command; rest = u.rest; presign = u.presign; taskless = taskless u.taskless })))
     does (inr (inl d)) = inr (inl (record {
       command = d.command;
       settings = d.settings;
       comes = d.comes;
-      reads = d.reads;
+      rest = d.rest;
       copies = d.copies;
       no_listing = d.no_listing;
       fated = d.fated;

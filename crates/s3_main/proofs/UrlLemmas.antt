@@ -8,7 +8,6 @@ use Rattle.s3_model.specs.Talks.{WireLog}
 use Rattle.s3_outside.specs.Env.{SeenEnv}
 use Rattle.s3_words.specs.declared.commands.Command.{Command}
 use Rattle.s3_words.specs.declared.commands.Verb.{Verb}
-use Rattle.s3_words.specs.Commands.{IsCommand}
 use Rattle.upload_plans.specs.Commands.{is_listing, is_presign}
 use Rattle.run_promise.specs.Gains.{Gains}
 use Rattle.run_promise.proofs.GainLemmas.{gains_as}
@@ -22,7 +21,8 @@ use Rattle.run_report.specs.declared.run.Fatal.TheVariants as fatal
 use Rattle.run_report.specs.declared.run.Run.{Run}
 use Rattle.shared_lemmas.proofs.Clashes.{false_true}
 use Rattle.s3_words.specs.declared.commands.Verb.TheVariants as verb
-use Rattle.run_start.specs.Begun.{IsBegun}
+use Rattle.run_start.specs.Begun.{IsBegun, IsRestOf}
+use Rattle.run_start.proofs.RestLemmas.{verb_is}
 use Rattle.s3_main.specs.Asked.{lists_by, lists_in, presigns, shows_url}
 use Rattle.s3_main.specs.Own.{IsOwn, Own, nothing_own, only_text}
 use Rattle.s3_main.specs.Executed.{HasLineOf}
@@ -40,18 +40,18 @@ taskless run h = record { ends = subst (λ (f : Option Fatal). MayEnd f) (sym h.
 pub stopped_taskless : (run : Run) → HasNoTask (Some fatal.Memory) [] [] run → IsTaskless run
 stopped_taskless run h = record { ends = subst (λ (f : Option Fatal). MayEnd f) (sym h.fatal) tt; no_task = h.no_task; no_skip = h.skips_are; no_warning = h.warnings_are; no_outcome = h.no_outcome; no_job = h.no_job }
 
-shows : (words : List (List ℕ)) (command : Command) → IsCommand words command → shows_url words ≡ is_presign command.verb
-shows words command is = ap presigns is.verb
+shows : (words : List (List ℕ)) (command : Command) → IsRestOf words command → shows_url words ≡ is_presign command.verb
+shows words command is = ap presigns (verb_is words command is)
 
-pub lists : (words : List (List ℕ)) (command : Command) → IsCommand words command → lists_in words ≡ is_listing command.verb
-lists words command is = ap lists_by is.verb
+pub lists : (words : List (List ℕ)) (command : Command) → IsRestOf words command → lists_in words ≡ is_listing command.verb
+lists words command is = ap lists_by (verb_is words command is)
 
 pub presign_is_no_listing : (of_verb : Verb) → is_presign of_verb ≡ true → is_listing of_verb ≡ false
 presign_is_no_listing verb.Presign h = refl
 presign_is_no_listing of_verb h = absurd (false_true h)
 
 -- a command that makes no URL and lists nothing shows nothing of its own
-pub copy_owns : (words : List (List ℕ)) (env : Option SeenEnv) (before after : Option WireLog) (run : Run) (command : Command) → IsCommand words command → is_presign command.verb ≡ false
+pub copy_owns : (words : List (List ℕ)) (env : Option SeenEnv) (before after : Option WireLog) (run : Run) (command : Command) → IsRestOf words command → is_presign command.verb ≡ false
     → is_listing command.verb ≡ false → IsOwn words env before after run nothing_own
 copy_owns words env before after run command is copies none = inl (shows words command is ∙ copies, lists words command is ∙ none, refl)
 
@@ -59,7 +59,7 @@ pub stopped_owns : (words : List (List ℕ)) (env : Option SeenEnv) (before afte
 stopped_owns words env before after run own stopped = inr (inr (inr stopped))
 
 -- a command that is no listing has the line that it has without anything of its own
-pub copy_line : (words : List (List ℕ)) (env : Option SeenEnv) (before after : Option WireLog) (run : Run) (line : Result (Option Line) OutOfMemory) (command : Command) → IsCommand words command
+pub copy_line : (words : List (List ℕ)) (env : Option SeenEnv) (before after : Option WireLog) (run : Run) (line : Result (Option Line) OutOfMemory) (command : Command) → IsRestOf words command
     → is_presign command.verb ≡ false → is_listing command.verb ≡ false → IsLineOf words [] run line → HasLineOf words env before after run line false
 copy_line words env before after run line command is copies none h = (nothing_own, copy_owns words env before after run command is copies none, h, refl)
 
@@ -109,7 +109,7 @@ module _ (words : List (List ℕ)) (env : Option SeenEnv) (command : Command) (s
       (λ talks notes h. record { command = command; settings = settings; begun = begun; presign = presign; taskless = of_run; moment = makes.moment; no_talk = h.0; noted = h.1 }) before after makes.noted
 
   pub url_does : MakesUrl words run
-  url_does = record { command = command; reads = begun.reads; presign = presign; taskless = of_run }
+  url_does = record { command = command; rest = begun.rest; presign = presign; taskless = of_run }
 
   pub url_line_is : HasLineOf words env before after run line false
   url_line_is = elim makes.made [
@@ -117,7 +117,7 @@ module _ (words : List (List ℕ)) (env : Option SeenEnv) (command : Command) (s
     | inr h ↦ (
       only_text (url_line command settings makes.moment),
       inr (inl (
-        shows words command begun.reads.is_command ∙ presign,
+        shows words command begun.rest ∙ presign,
         refl,
         gains_as (IsMoment makes.moment) (IsUrl words env (url_line command settings makes.moment))
             (λ talks notes m. record { command = command; settings = settings; begun = begun; moment = makes.moment; noted = m.1; is = refl }) before after makes.noted,

@@ -31,7 +31,7 @@ use Rattle.upload_promise.specs.Shown.{KeepsPromise, one_attempt, shown_by}
 use Rattle.run_report.specs.declared.run.Fatal.{Fatal}
 use Rattle.run_report.specs.declared.run.Fatal.TheVariants as fatal
 use Rattle.run_report.specs.declared.run.Run.{Run}
-use Rattle.run_start.specs.Begun.{IsBegun, IsRead, StopsInSettings, StopsInWords}
+use Rattle.run_start.specs.Begun.{IsBegun, IsRestOf, StopsInSettings, StopsInWords}
 use Rattle.s3_main.specs.Asked.{lists_in, needs_in, path_in}
 use Rattle.s3_main.specs.Plans.{HasPlan, IsFate, Wants, Works}
 use Rattle.run_report.specs.Printed.{IsPrintedAs}
@@ -158,7 +158,7 @@ pub record IsSomePlanned (words : List (List ℕ)) (limits : Limits) (faults_bef
   pub command : Command
   pub settings : Settings
   pub comes : Fate
-  pub reads : IsRead words command
+  pub rest : IsRestOf words command
   pub copies : is_presign command.verb ≡ false
   pub no_listing : is_listing command.verb ≡ false
   pub fated : IsFate command settings limits None comes
@@ -168,7 +168,7 @@ pub record IsSomePlanned (words : List (List ℕ)) (limits : Limits) (faults_bef
 -- a URL is made, and there is no task
 pub record MakesUrl (words : List (List ℕ)) (run : Run) : Type 0 where
   pub command : Command
-  pub reads : IsRead words command
+  pub rest : IsRestOf words command
   pub presign : is_presign command.verb ≡ true
   pub taskless : IsTaskless run
 

@@ -47,8 +47,7 @@ fn option(alloc: Global, word: &str) -> Result<Option<Text>, OutOfMemory> {
 
 fn read(alloc: Global, env: &mut MemEnv, named: &str) -> Result<Settings, SettingsFault> {
     let (region, profile) = named.split_once(' ').unwrap_or((named, "-"));
-    let (region, profile) = (option(alloc, region)?, option(alloc, profile)?);
-    read_settings(alloc, env, region.as_ref(), profile.as_ref())
+    read_settings(alloc, env, option(alloc, region)?, option(alloc, profile)?)
 }
 
 fn answered(alloc: Global, found: &Result<Settings, SettingsFault>) -> Result<String, AllocError> {

@@ -1,5 +1,4 @@
 use Rattle.std.proofs.Common.{◌≡◌, ◌∙◌, sym, Err, arith, rules}
-use Rattle.std.specs.Option.{option_copied}
 use Rattle.env_settings.proofs.AskLemmas.{asks_err}
 use Rattle.env_settings.proofs.ReadLemmas.{paths_found, settled, still}
 use Rattle.env_settings.proofs.settings.read_settings.Goals as goal
@@ -14,6 +13,6 @@ returns-in_err-files-clause-asked g c =
 pub returns-clause-settings : goal.returns-clause-settings
 returns-clause-settings g c =
     let before = c.in_ok-words.ensures.same ∙ c.in_ok-paths.ensures.same in
-    settled (option_copied c.args.region) (option_copied c.args.profile) _ _ _ _ _ _ _ _ _ _ _ _ (still _ _ _ (sym before) c.in_ok-paths.ensures.config) (still _ _ _ (sym before) c.in_ok-paths.ensures.credentials)
+    settled c.args.region c.args.profile _ _ _ _ _ _ _ _ _ _ _ _ (still _ _ _ (sym before) c.in_ok-paths.ensures.config) (still _ _ _ (sym before) c.in_ok-paths.ensures.credentials)
     (still _ _ _ (sym c.in_ok-words.ensures.same) c.in_ok-words.ensures.value) c.in_ok-files.ensures.config c.in_ok-files.ensures.credentials
     c.in_ok-files.ensures.asked c.settings_from.ensures.settings

@@ -8,6 +8,7 @@ use Rattle.s3_main.specs.Urls.{IsPresigned}
 use Rattle.s3_main.proofs.BeginLemmas as lemma
 use Rattle.s3_main.proofs.ListingLemmas.{listing_does, listing_goes, listing_line_is, listing_stops, same_status}
 use Rattle.s3_main.proofs.UrlLemmas.{copy_line, lists, presign_is_no_listing, stopped_line, url_does, url_goes, url_line_is}
+use Rattle.run_start.proofs.RestLemmas.{mode_is}
 use Rattle.s3_main.proofs.execution.execute.Goals as goal
 
 pub returns-in-Ok-clause-went : goal.returns-in-Ok-clause-went
@@ -33,7 +34,7 @@ returns-in-Ok-clause-line g c =
 pub returns-in-Ok-clause-lists : goal.returns-in-Ok-clause-lists
 returns-in-Ok-clause-lists g c =
     let words = map (string_bytes {Z = Global}) c.args.words.now in
-    same_status _ _ _ (lists words c.in-Ok.start.command c.in-Ok.ensures.begun.reads.is_command ∙ presign_is_no_listing c.in-Ok.start.command.verb (sym c.is_presign.ensures ∙ c.if-is_presign.true))
+    same_status _ _ _ (lists words c.in-Ok.start.command c.in-Ok.ensures.begun.rest ∙ presign_is_no_listing c.in-Ok.start.command.verb (sym c.is_presign.ensures ∙ c.if-is_presign.true))
 
 pub returns-in-Ok-2-clause-went : goal.returns-in-Ok-2-clause-went
 returns-in-Ok-2-clause-went g c =
@@ -53,7 +54,7 @@ returns-in-Ok-2-clause-line g c =
 pub returns-in-Ok-2-clause-lists : goal.returns-in-Ok-2-clause-lists
 returns-in-Ok-2-clause-lists g c =
     let words = map (string_bytes {Z = Global}) c.args.words.now in
-    same_status _ _ _ (lists words c.in-Ok.start.command c.in-Ok.ensures.begun.reads.is_command ∙ (sym c.is_listing.ensures ∙ c.if-is_listing.true) ∙ sym c.execute_listing.ensures.lists)
+    same_status _ _ _ (lists words c.in-Ok.start.command c.in-Ok.ensures.begun.rest ∙ (sym c.is_listing.ensures ∙ c.if-is_listing.true) ∙ sym c.execute_listing.ensures.lists)
 
 pub returns-in-Ok-2-clause-stops : goal.returns-in-Ok-2-clause-stops
 returns-in-Ok-2-clause-stops g c =
@@ -78,13 +79,21 @@ returns-in-Ok-3-clause-went g c =
 pub returns-in-Ok-3-clause-line : goal.returns-in-Ok-3-clause-line
 returns-in-Ok-3-clause-line g c =
     let words = map (string_bytes {Z = Global}) c.args.words.now in
-    copy_line words _ _ _ c.execute_command.result.run c.execute_command.result.line c.in-Ok.start.command c.in-Ok.ensures.begun.reads.is_command (sym c.is_presign.ensures ∙ c.if-is_presign.false)
+    copy_line words _ _ _ c.execute_command.result.run c.execute_command.result.line c.in-Ok.start.command c.in-Ok.ensures.begun.rest (sym c.is_presign.ensures ∙ c.if-is_presign.false)
     (sym c.is_listing.ensures ∙ c.if-is_listing.false) c.execute_command.ensures.line
 
 pub returns-in-Ok-3-clause-lists : goal.returns-in-Ok-3-clause-lists
 returns-in-Ok-3-clause-lists g c =
     let words = map (string_bytes {Z = Global}) c.args.words.now in
-    same_status _ _ _ (lists words c.in-Ok.start.command c.in-Ok.ensures.begun.reads.is_command ∙ (sym c.is_listing.ensures ∙ c.if-is_listing.false))
+    same_status _ _ _ (lists words c.in-Ok.start.command c.in-Ok.ensures.begun.rest ∙ (sym c.is_listing.ensures ∙ c.if-is_listing.false))
+
+pub execute_command-requires-clause-mode : goal.execute_command-requires-clause-mode
+execute_command-requires-clause-mode g c =
+    mode_is (map (string_bytes {Z = Global}) c.args.words.now) c.in-Ok.start.command c.in-Ok.ensures.begun.rest
+
+pub returns-in-Ok-3-clause-files : goal.returns-in-Ok-3-clause-files
+returns-in-Ok-3-clause-files g c =
+    lemma.looks_words (map (string_bytes {Z = Global}) c.args.words.now) c.in-Ok.start.command c.in-Ok.ensures.begun.rest _ _ c.execute_command.ensures.files
 
 pub returns-in-Err-clause-went : goal.returns-in-Err-clause-went
 returns-in-Err-clause-went g c =
