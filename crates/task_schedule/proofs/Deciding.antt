@@ -15,33 +15,28 @@ use Rattle.s3_model.specs.declared.tasks.Kind.{Kind}
 use Rattle.s3_model.specs.declared.tasks.Kind.TheVariants as kind
 use Rattle.s3_model.specs.declared.tasks.Task.{Task}
 use Rattle.s3_model.specs.declared.tries.Mark.{Mark}
-use Rattle.task_acts.specs.declared.acts.Act.TheVariants as act
-use Rattle.task_acts.specs.declared.acts.Stage.{Stage}
 use Rattle.task_acts.specs.declared.work.Work.{Work}
 use Rattle.task_acts.specs.Ends.{is_by_request}
-use Rattle.task_acts.specs.Histories.{Came, Gave, History}
-use Rattle.task_acts.specs.Stages.{is_out, stage}
+use Rattle.task_acts.specs.Histories.{Came}
 use Rattle.task_acts.specs.Work.{IsWorkOf, deciding_op}
-use Rattle.shared_lemmas.proofs.Clashes.{false_true, none_is_some, some_is}
+use Rattle.shared_lemmas.proofs.Clashes.{none_is_some, some_is}
 use Rattle.shared_lemmas.proofs.Members.{Has, contains_of, has, has_at, has_middle, split_of}
 use Rattle.world_laws.proofs.Jobs.{job_is, op_same}
-use Rattle.task_progress.specs.Progress.{HasPiece}
 use Rattle.task_progress.proofs.Endings.{no}
 use Rattle.task_progress.proofs.Progress.{both}
-use Rattle.task_progress.proofs.Quiet.{not_out, outcome_quiet}
-use Rattle.manager_moves.specs.Runs.{Back, Events, Sent, Shared, share, with_taken}
-use Rattle.task_schedule.specs.Journals.{IsBack, IsRunOf, NoneBack}
+use Rattle.manager_moves.specs.Runs.{Back, Events, Sent, Shared, share}
+use Rattle.task_schedule.specs.Journals.{IsRunOf}
 use Rattle.task_schedule.specs.Outcomes.{HasDecidingMark, MarksAreOfDispatches}
-use Rattle.task_schedule.proofs.Joined.{all_holds, back_at, its_task, return_of}
+use Rattle.task_schedule.proofs.Joined.{back_at, its_task, return_of}
 use Rattle.task_schedule.proofs.Marks.{index_of}
-use Rattle.task_schedule.proofs.SentJobs.{IsAt, at_of, out_still, share_since}
-use Rattle.task_schedule.proofs.Shares.{share_back, share_came, since}
-use Rattle.task_schedule.proofs.Standing.{given_is_out, given_out}
+use Rattle.task_schedule.proofs.Returned.{has_come_back}
+use Rattle.task_schedule.proofs.SentJobs.{at_of}
+use Rattle.task_schedule.proofs.Shares.{share_back, share_came}
 
 same_number : (n : ℕ) → (n == n) ≡ true
 same_number n = grind arith
 
-by_request : (k : Kind) → is_by_request k ≡ true → IsDecidedByRequest k
+pub by_request : (k : Kind) → is_by_request k ≡ true → IsDecidedByRequest k
 by_request kind.Upload e = tt
 by_request kind.Copy e = tt
 by_request kind.RemoveObject e = tt
@@ -59,22 +54,19 @@ made_of f [] k y e = absurd (none_is_some y e)
 made_of f (x ∷ xs) zero y e = (x, refl, some_is (f x) y e)
 made_of f (x ∷ xs) (suc k) y e = made_of f xs k y e
 
-makes : {X Y : Type 0} (f : X → Y) (xs : List X) (k : ℕ) (x : X) → slice_get xs k ≡ Some x → slice_get (map f xs) k ≡ Some (f x)
+pub makes : {X Y : Type 0} (f : X → Y) (xs : List X) (k : ℕ) (x : X) → slice_get xs k ≡ Some x → slice_get (map f xs) k ≡ Some (f x)
 makes f [] k x e = absurd (none_is_some x e)
 makes f (y ∷ xs) zero x e = ap Some (ap f (some_is y x e))
 makes f (y ∷ xs) (suc k) x e = makes f xs k x e
+
+pub op_is : (setting : Setting) {w : Work} {task : Task} → IsWorkOf task setting.config setting.limits w → deciding_op w ≡ deciding task.kind (is_small setting task)
+op_is setting {w} {task} work = ap (λ (k : Kind). deciding k w.small) work.kind_is ∙ ap (deciding task.kind) work.small_is
 
 module _ (Shows : Ask → ℕ → Talk → Class → List ℕ → Type 0) (HasStatus : Ask → ℕ → Talk → ℕ → Type 0) (CallFailed : ℕ → Cause → Type 0)
     (s : Shared) (setting : Setting) (planned : ℕ) (events : Events) (dispatched coming : List Dispatched) (r : IsRunOf Shows s setting planned events dispatched coming)
     (n : ℕ) (w : Work) (task : Task) (of_mark : Mark) (of_plan : slice_get s.works n ≡ Some w) (is_task : slice_get setting.tasks n ≡ Some task) where
   work : IsWorkOf task setting.config setting.limits w
   work = let its = r.works.each n w of_plan in subst (λ (t : Task). IsWorkOf t setting.config setting.limits w) (some_is its.0 task (sym its.1 ∙ is_task)) its.2
-
-  piece : HasPiece w
-  piece = (r.works.each n w of_plan).3
-
-  op_is : deciding_op w ≡ deciding task.kind (is_small setting task)
-  op_is = ap (λ (k : Kind). deciding k w.small) work.kind_is ∙ ap (deciding task.kind) work.small_is
 
   -- what its history shows, the dispatches show
   shown : HasDecidingMark w (share w n events) of_mark → HasDeciding Shows HasStatus CallFailed setting dispatched coming n task of_mark
@@ -84,7 +76,7 @@ module _ (Shows : Ask → ℕ → Talk → Class → List ℕ → Type 0) (HasSt
       let return = return_of Shows s setting planned events dispatched coming r n w of_plan split.front split.back back.0 m.0 split.is back.2 in
       let two = and_parts (is_by_request w.of_kind && is_op m.0.job.id.op (deciding_op w)) (m.0.job.id.number == 0) m.2 in
       let one = and_parts (is_by_request w.of_kind) (is_op m.0.job.id.op (deciding_op w)) two.0 in
-      let its_op = op_same m.0.job.id.op (deciding_op w) (eqb-true (op_number m.0.job.id.op) (op_number (deciding_op w)) one.1) ∙ op_is in
+      let its_op = op_same m.0.job.id.op (deciding_op w) (eqb-true (op_number m.0.job.id.op) (op_number (deciding_op w)) one.1) ∙ op_is setting work in
       let marks : map (λ (t : Attempt). t.mark) return.x.dispatch.attempts ≡ m.0.tries = return.back.brings.marks ∙ ap (λ (c : SeenCarried). c.tries) return.same in
       let index = index_of m.0.tries of_mark m.3 in
       let attempt = made_of (λ (t : Attempt). t.mark) return.x.dispatch.attempts index.0 of_mark (ap (λ (tries : List Mark). slice_get tries index.0) marks ∙ index.1) in (
@@ -97,36 +89,17 @@ module _ (Shows : Ask → ℕ → Talk → Class → List ℕ → Type 0) (HasSt
         (index.0, attempt.0, attempt.1, attempt.2),
       )
 
-  -- each job has come
-  came : (o : Op) (x : Dispatched) (a : IsAt Shows s setting planned events dispatched coming r n w of_plan o 0 x) → IsBack Shows planned a.later (Sent n o 0 a.lane ∷ a.before) x
-  came o x a = elim a.comes [
-    | inl none ↦ absurd (false_true (never none.1))
-    | inr back ↦ back
-  ]
-    where
-      never : NoneBack a.later x.dispatch.job → false ≡ true
-      never none =
-          let holds = all_holds Shows s setting planned events dispatched coming r n w of_plan in
-          let ended = r.ended n 0 a.lane w o of_plan (contains_of events (Sent n o 0 a.lane) (subst (λ (z : Events). Has z (Sent n o 0 a.lane)) (sym a.is) (has_middle a.later (Sent n o 0 a.lane) a.before))) in
-          let still = out_still Shows s setting planned events dispatched coming r n w of_plan o 0 [] a.later a.before a.lane x.dispatch.job a.is a.job_is none in
-          let is : share w n events ≡ since w n a.later (Sent n o 0 a.lane ∷ a.before) ++ Gave (act.Send o 0) ∷ with_taken w o 0 (share w n a.before) =
-          ap (share w n) a.is ∙ share_since Shows s setting planned events dispatched coming r n w of_plan o 0 a.later a.before a.lane in
-          let out : is_out (stage w (share w n events) (act.Send o 0)) ≡ true =
-          subst (λ (how : Stage). is_out how ≡ true) (sym (ap (λ (h : History). stage w h (act.Send o 0)) is ∙ still.same ∙ given_out w o 0 (with_taken w o 0 (share w n a.before))))
-          (given_is_out (stage w (with_taken w o 0 (share w n a.before)) (act.Send o 0))) in
-          not_out w (share w n events) piece holds (outcome_quiet w (share w n events) piece holds ended) (act.Send o 0) out
-
   told : HasDeciding Shows HasStatus CallFailed setting dispatched coming n task of_mark → HasDecidingMark w (share w n events) of_mark
   told d =
       let o = deciding task.kind (is_small setting task) in
       let a = at_of Shows s setting planned events dispatched coming r n w of_plan o 0 d.0 d.1 d.2.1 in
-      let back = came o d.0 a in
+      let back = has_come_back Shows s setting planned events dispatched coming r n w of_plan o 0 d.0 a in
       let id = back.of_job ∙ a.job_is in
       let there = share_came w n events back.lane back.carried
       (subst (λ (z : Events). Has z (Back back.lane back.carried)) (sym (back_at Shows s setting planned events dispatched coming r n w of_plan o 0 d.0 a back))
       (has_middle back.newer (Back back.lane back.carried) (back.between ++ Sent n o 0 a.lane ∷ a.before)))
       (its_task Shows s setting planned events dispatched coming r n w of_plan o 0 d.0 a back) in
-      let its_op : back.carried.job.id.op ≡ deciding_op w = ap (λ (j : JobId). j.op) id ∙ sym op_is in
+      let its_op : back.carried.job.id.op ≡ deciding_op w = ap (λ (j : JobId). j.op) id ∙ sym (op_is setting work) in
       let mark_at = makes (λ (t : Attempt). t.mark) d.0.dispatch.attempts d.3.0 d.3.1 d.3.2 in (
         back.carried,
         contains_of (share w n events) (Came back.carried) there,

@@ -10,7 +10,7 @@ use Rattle.task_acts.specs.declared.acts.Act.{Act}
 use Rattle.task_acts.specs.declared.acts.Act.TheVariants as act
 use Rattle.task_acts.specs.declared.acts.FileCame.{FileCame}
 use Rattle.task_acts.specs.declared.work.Work.{Work}
-use Rattle.task_acts.specs.Failures.{carried_cause, failure_by, first_failure, first_reason, is_cut_short, is_memory, is_stopped, reason_by}
+use Rattle.task_acts.specs.Failures.{carried_cause, failure_by, file_cause, first_failure, first_reason, is_cut_short, is_memory, is_stopped, reason_by}
 use Rattle.task_acts.specs.Histories.{Came, Cancelled, Gave, Happening, History, Returned, Taken}
 use Rattle.task_acts.specs.Kept.{kept_job}
 use Rattle.task_progress.proofs.Endings.{chosen, no, skipped}
@@ -19,7 +19,7 @@ use Rattle.manager_moves.specs.Runs.{Back, Called, Event, Events, Lined, Made, S
 use Rattle.task_schedule.specs.Journals.{fails_otherwise}
 use Rattle.task_schedule.proofs.Stopping.{otherwise_now, stopped_by}
 
-or_none : {X : Type 0} (x : Option X) → option_or x None ≡ x
+pub or_none : {X : Type 0} (x : Option X) → option_or x None ≡ x
 or_none None = refl
 or_none (Some x) = refl
 
@@ -64,17 +64,31 @@ module _ (w : Work) where
     pub not_memory : is_memory (carried_cause w c) ≡ false
 
   module _ (n : ℕ) where
+    -- a call on files that failed, or a job for which memory ran out
+    abbrev pub IsCall : Event → Events → Type 0
+    IsCall e before = (a : Act) × (r : FileCame) × (share w n (e ∷ before) ≡ Returned a r ∷ Gave a ∷ share w n before) × (is_some (file_cause a r) ≡ true)
+
+    abbrev pub IsForgotten : Event → Events → Type 0
+    IsForgotten e before = (c : SeenCarried) × (share w n (e ∷ before) ≡ Came c ∷ share w n before) × (is_cut_short w c ≡ false) × (is_memory (carried_cause w c) ≡ true)
+
+    pub record IsOther (e : Event) (before : Events) : Type 0 where
+      pub fails : fails_otherwise w (share w n (e ∷ before)) ≡ true
+      pub what : IsCall e before ⊎ IsForgotten e before
+
     abbrev pub Stopper : Event → Events → Type 0
-    Stopper e before = ((reason : Reason) × (e ≡ Stopped reason)) ⊎ (fails_otherwise w (share w n (e ∷ before)) ≡ true)
+    Stopper e before = ((reason : Reason) × (e ≡ Stopped reason)) ⊎ IsOther e before
         ⊎ ((lane : ℕ) × (c : SeenCarried) × (e ≡ Back lane c) × (is_task n c.job.id.task ≡ true) × IsFailure c)
 
-    failed_job : (c : SeenCarried) (h : History) → is_stopped w h ≡ false → is_stopped w (Came c ∷ h) ≡ true → (fails_otherwise w (Came c ∷ h) ≡ true) ⊎ IsFailure c
+    abbrev Forgets : SeenCarried → History → Type 0
+    Forgets c h = (fails_otherwise w (Came c ∷ h) ≡ true) × (is_cut_short w c ≡ false) × (is_memory (carried_cause w c) ≡ true)
+
+    failed_job : (c : SeenCarried) (h : History) → is_stopped w h ≡ false → is_stopped w (Came c ∷ h) ≡ true → Forgets c h ⊎ IsFailure c
     failed_job c h going stopped = by (is_cut_short w c) refl (is_memory (carried_cause w c)) refl (stopped_by w (Came c) h going stopped)
       where
         by : (cut : Bool) → is_cut_short w c ≡ cut → (memory : Bool) → is_memory (carried_cause w c) ≡ memory
-            → (is_some (if is_cut_short w c then None else carried_cause w c) ≡ true) ⊎ (is_some (reason_by (Came c)) ≡ true) → (fails_otherwise w (Came c ∷ h) ≡ true) ⊎ IsFailure c
+            → (is_some (if is_cut_short w c then None else carried_cause w c) ≡ true) ⊎ (is_some (reason_by (Came c)) ≡ true) → Forgets c h ⊎ IsFailure c
         by true cut memory m why = no (sym going ∙ sym (cut_goes_on c h cut) ∙ stopped)
-        by false cut true m why = inl (otherwise_now w (Came c) h going (both (not (is_cut_short w c)) (is_memory (carried_cause w c)) (opposite (is_cut_short w c) cut) m))
+        by false cut true m why = inl (otherwise_now w (Came c) h going (both (not (is_cut_short w c)) (is_memory (carried_cause w c)) (opposite (is_cut_short w c) cut) m), cut, m)
         by false cut false m (inl why) = inr (record {
           not_cut = cut;
           has_cause = ap (λ (x : Option Cause). is_some x) (sym (skipped (is_cut_short w c) None (carried_cause w c) cut)) ∙ why;
@@ -82,11 +96,11 @@ module _ (w : Work) where
         })
         by false cut false m (inr why) = no why
 
-    failed_call : (a : Act) (r : FileCame) (h : History) → is_stopped w h ≡ false → is_stopped w (Returned a r ∷ Gave a ∷ h) ≡ true → fails_otherwise w (Returned a r ∷ Gave a ∷ h) ≡ true
+    failed_call : (a : Act) (r : FileCame) (h : History) → is_stopped w h ≡ false → is_stopped w (Returned a r ∷ Gave a ∷ h) ≡ true → (fails_otherwise w (Returned a r ∷ Gave a ∷ h) ≡ true) × (is_some (file_cause a r) ≡ true)
     failed_call a r h going stopped =
         let still = stops_not (Gave a) h refl refl ∙ going in
         elim (stopped_by w (Returned a r) (Gave a ∷ h) still stopped) [
-          | inl failed ↦ otherwise_now w (Returned a r) (Gave a ∷ h) still failed
+          | inl failed ↦ (otherwise_now w (Returned a r) (Gave a ∷ h) still failed, failed)
           | inr reason ↦ no reason
         ]
 
@@ -94,16 +108,26 @@ module _ (w : Work) where
     stopper (Stopped reason) before going stopped = inl (reason, refl)
     stopper (Back lane c) before going stopped = by (is_task n c.job.id.task) refl stopped
       where
+        share_is : is_task n c.job.id.task ≡ true → share w n (Back lane c ∷ before) ≡ Came c ∷ share w n before
+        share_is is = chosen (is_task n c.job.id.task) (Came c ∷ share w n before) (share w n before) is
+
+        with_job : share w n (Back lane c ∷ before) ≡ Came c ∷ share w n before → Forgets c (share w n before) ⊎ IsFailure c → is_task n c.job.id.task ≡ true → Stopper (Back lane c) before
+        with_job same (inl forgets) is = inr (inl (record {
+          fails = subst (λ (h : History). fails_otherwise w h ≡ true) (sym same) forgets.0;
+          what = inr (c, same, forgets.1, forgets.2);
+        }))
+        with_job same (inr failure) is = inr (inr (lane, c, refl, is, failure))
+
         by : (b : Bool) → is_task n c.job.id.task ≡ b → is_stopped w (if b then Came c ∷ share w n before else share w n before) ≡ true → Stopper (Back lane c) before
-        by true is f = elim (failed_job c (share w n before) going f) [
-          | inl otherwise ↦ inr (inl (subst (λ (h : History). fails_otherwise w h ≡ true) (sym (chosen (is_task n c.job.id.task) (Came c ∷ share w n before) (share w n before) is)) otherwise))
-          | inr failure ↦ inr (inr (lane, c, refl, is, failure))
-        ]
+        by true is f = with_job (share_is is) (failed_job c (share w n before) going f) is
         by false is f = no (sym going ∙ f)
     stopper (Called t a r) before going stopped = by (t == n) refl stopped
       where
         by : (b : Bool) → (t == n) ≡ b → is_stopped w (if b then Returned a r ∷ Gave a ∷ share w n before else share w n before) ≡ true → Stopper (Called t a r) before
-        by true is f = inr (inl (subst (λ (h : History). fails_otherwise w h ≡ true) (sym (chosen (t == n) (Returned a r ∷ Gave a ∷ share w n before) (share w n before) is)) (failed_call a r (share w n before) going f)))
+        by true is f =
+            let same = chosen (t == n) (Returned a r ∷ Gave a ∷ share w n before) (share w n before) is in
+            let failed = failed_call a r (share w n before) going f in
+            inr (inl (record { fails = subst (λ (h : History). fails_otherwise w h ≡ true) (sym same) failed.0; what = inl (a, r, same, failed.1) }))
         by false is f = no (sym going ∙ f)
     stopper (Sent t o k lane) before going stopped = by (t == n) stopped
       where

@@ -9,37 +9,57 @@ use Rattle.run_promise.specs.Dispatches.{Dispatched, IsCompletedWell, IsCut, IsF
 use Rattle.run_promise.specs.Schedule.{IsBeforeAny, IsStopped, Setting}
 use Rattle.s3_model.specs.Talks.{Talk}
 use Rattle.s3_model.specs.declared.answers.Class.{Class}
+use Rattle.s3_model.specs.declared.outcomes.Cause.{Cause}
 use Rattle.s3_model.specs.declared.outcomes.JobId.{JobId}
+use Rattle.s3_model.specs.declared.outcomes.Outcome.{Outcome}
 use Rattle.s3_model.specs.declared.outcomes.Reason.{Reason}
 use Rattle.s3_model.specs.declared.requests.Ask.{Ask}
 use Rattle.s3_model.specs.declared.requests.Op.{Op}
 use Rattle.s3_model.specs.declared.requests.Op.TheVariants as op
 use Rattle.task_acts.specs.declared.acts.Act.{Act}
 use Rattle.task_acts.specs.declared.acts.Act.TheVariants as act
+use Rattle.task_acts.specs.declared.acts.FileCame.{FileCame}
 use Rattle.task_acts.specs.declared.acts.Stage.TheVariants as at
 use Rattle.task_acts.specs.declared.work.Work.{Work}
-use Rattle.task_acts.specs.Failures.{carried_cause, is_cut_short, is_stopped}
-use Rattle.task_acts.specs.Histories.{Came, Gave, History, is_act, sent}
-use Rattle.task_acts.specs.Kept.{IsHistory}
+use Rattle.task_acts.specs.Ends.{outcome_of}
+use Rattle.task_acts.specs.Failures.{carried_cause, file_cause, is_cut_short, is_memory, is_stopped}
+use Rattle.task_acts.specs.Histories.{Came, Gave, Happening, History, Returned, is_act, sent}
+use Rattle.task_acts.specs.Kept.{IsHistory, is_file_act}
 use Rattle.task_acts.specs.Stages.{carried_stage, is_out, stage}
 use Rattle.shared_lemmas.proofs.Clashes.{false_true, some_is}
-use Rattle.shared_lemmas.proofs.Members.{Has, contains_of, has, has-append_cases, has-append_right, has_middle, place_middle, split_of}
+use Rattle.shared_lemmas.proofs.Members.{Has, contains_of, found_or_not, has, has-append_cases, has-append_right, has_middle, place_middle, split_of}
 use Rattle.task_progress.specs.Progress.{HasPiece}
 use Rattle.task_progress.proofs.Endings.{chosen, no}
+use Rattle.task_progress.proofs.Progress.{IsCounted}
 use Rattle.task_progress.proofs.Quiet.{IsQuiet, outcome_quiet}
 use Rattle.manager_moves.specs.Laws.{IsRun}
 use Rattle.manager_moves.specs.Runs.{Back, Event, Events, Sent, Shared, Stopped, is_task, share}
 use Rattle.task_schedule.specs.Journals.{IsBack, IsRunOf, ShowOne, fails_otherwise, place_after}
 use Rattle.task_schedule.proofs.Cutting.{cut_first, cut_no_abort, cut_unfinished, holds_then, is_cut, sent_is}
-use Rattle.task_schedule.proofs.EventStops.{IsFailure, StoppedFirst, Stopper, cut_goes_on, stopped_first}
+use Rattle.task_schedule.proofs.Deciders.{IsNoAbort, call_failed, job_failed}
+use Rattle.task_schedule.proofs.EventStops.{IsCall, IsFailure, IsForgotten, IsOther, StoppedFirst, Stopper, cut_goes_on, stopped_first}
 use Rattle.task_schedule.proofs.Joined.{all_holds, back_at, its_task, return_of}
+use Rattle.task_schedule.proofs.KeptJobs.{kept_fails, no_abort_of}
 use Rattle.task_schedule.proofs.Marks.{index_of, pair_of}
 use Rattle.task_schedule.proofs.Places.{entry_fills, fills, same_place}
-use Rattle.task_schedule.proofs.SentJobs.{IsAt, at_of, twice}
+use Rattle.task_schedule.proofs.SentJobs.{IsAt, at_of, holds, twice}
 use Rattle.task_schedule.proofs.Shares.{back_is, since, since_gave, since_is}
 use Rattle.task_schedule.proofs.Standing.{act_itself}
 use Rattle.task_schedule.proofs.Stopping.{GivenOrKept, abort_stopped, given_or_kept, kept_stopped, otherwise_stays}
 use Rattle.task_schedule.proofs.Wellness.{well_is}
+
+pub counted_call : (a : Act) (r : FileCame) → is_some (file_cause a r) ≡ true → IsCounted a
+counted_call act.Stamp r e = no e
+counted_call act.DropTemp r e = no e
+counted_call a r e = tt
+
+call_no_abort : (a : Act) → is_file_act a ≡ true → IsNoAbort a
+call_no_abort (act.Send o k) e = no e
+call_no_abort a e = tt
+
+memory_some : (why : Option Cause) → is_memory why ≡ true → is_some why ≡ true
+memory_some None e = e
+memory_some (Some why) e = refl
 
 kept_by : (cut stopped cause : Bool) → cut ≡ true → stopped ≡ false → (if cut then (if stopped then at.Failed else at.Kept) else if cause then at.Failed else at.Fine) ≡ at.Kept
 kept_by true true cause e f = no (sym f)
@@ -135,16 +155,15 @@ module _ (Shows : Ask → ℕ → Talk → Class → List ℕ → Type 0) (s : S
 
     -- ---- a job that failed
 
-    module _ (o : Op) (k : ℕ) (d : Dispatched) (known : Contains dispatched d) (a : At o k d) (back : IsBack Shows planned a.later (Sent n o k a.lane ∷ a.before) d)
-        (going : is_stopped w (share w n (back.between ++ Sent n o k a.lane ∷ a.before)) ≡ false) (fail : IsFailure w back.carried) where
-      pub failed_no_abort : o ≢ op.Abort
-      failed_no_abort is =
+    module _ (o : Op) (k : ℕ) (d : Dispatched) (known : Contains dispatched d) (a : At o k d) (back : IsBack Shows planned a.later (Sent n o k a.lane ∷ a.before) d) (fail : IsFailure w back.carried) where
+      failed_no_abort : is_stopped w (share w n (back.between ++ Sent n o k a.lane ∷ a.before)) ≡ false → o ≢ op.Abort
+      failed_no_abort going is =
           let holds = holds_then Shows s setting planned events dispatched coming r one n w of_plan o k d a back in
           let out = subst (λ (z : Act). is_out (stage w (share w n (back.between ++ Sent n o k a.lane ∷ a.before)) z) ≡ true)
           (sent_is Shows s setting planned events dispatched coming r one n w of_plan o k d a back ∙ ap (λ (p : Op). act.Send p k) is) holds.0.0 in
           false_true (sym going ∙ abort_stopped w (share w n (back.between ++ Sent n o k a.lane ∷ a.before)) k holds.1 out)
 
-      not_well : IsCompletedWell Shows d → ⊥
+      pub not_well : IsCompletedWell Shows d → ⊥
       not_well well = false_true (sym (well_is Shows s setting planned events dispatched coming r n w of_plan o k d known a back well) ∙ fail.has_cause)
 
       same_back : (other : IsBack Shows planned a.later (Sent n o k a.lane ∷ a.before) d) → other.carried ≡ back.carried
@@ -202,12 +221,13 @@ module _ (Shows : Ask → ℕ → Talk → Class → List ℕ → Type 0) (s : S
       pub not_cut : (front later : List Dispatched) (X : Type 0) → coming ≡ front ++ d ∷ later → IsCut Shows setting.config.attempts d later X → ⊥
       not_cut front later X is (inl again) = not_again front later again.0 is (has later again.0 again.1) again.2
       not_cut front later X is (inr rest) = false_true (sym fail.not_cut
-          ∙ is_cut Shows s setting planned events dispatched coming r one n w of_plan o k d a back rest.0 failed_no_abort rest.3 fail.has_cause fail.not_memory)
+          ∙ is_cut Shows s setting planned events dispatched coming r one n w of_plan o k d a back rest.0 (λ e. rest.1 (ap (λ (j : JobId). j.op) a.job_is ∙ e)) rest.3 fail.has_cause fail.not_memory)
 
-      pub failing : (front later : List Dispatched) (S : Type 0) → coming ≡ front ++ d ∷ later → IsFailing Shows setting.config.attempts (Some n) S (d ∷ later)
-      failing front later S is = inl (
+      pub failing : is_stopped w (share w n (back.between ++ Sent n o k a.lane ∷ a.before)) ≡ false → (front later : List Dispatched) (S : Type 0) → coming ≡ front ++ d ∷ later
+          → IsFailing Shows setting.config.attempts (Some n) S (d ∷ later)
+      failing going front later S is = inl (
         ap (λ (j : JobId). j.task) a.job_is,
-        λ e. failed_no_abort (sym (ap (λ (j : JobId). j.op) a.job_is) ∙ e),
+        λ e. failed_no_abort going (sym (ap (λ (j : JobId). j.op) a.job_is) ∙ e),
         λ cut. not_cut front later _ is cut,
         λ well. not_well well,
       )
@@ -265,6 +285,9 @@ module _ (Shows : Ask → ℕ → Talk → Class → List ℕ → Type 0) (s : S
               let entry = entry_fills (Back back.lane back.carried) rest tt in
               omega arith
 
+      abbrev HasFailed : Act → Type 0
+      HasFailed b = IsCounted b × IsNoAbort b × (stage w (share w n events) b ≡ at.Failed)
+
       -- or it is kept, and something stopped its task
       is_stopped_by : stage w (share w n events) (act.Send o k) ≡ at.Kept → Reasons
       is_stopped_by kept = by stop.by stop.event refl
@@ -272,9 +295,11 @@ module _ (Shows : Ask → ℕ → Talk → Class → List ℕ → Type 0) (s : S
           piece : HasPiece w
           piece = (r.works.each n w of_plan).3
 
+          ended : IsSome (outcome_of w (share w n events))
+          ended = r.ended n k a.lane w o of_plan (contains_of events (Sent n o k a.lane) (subst (λ (z : Events). Has z (Sent n o k a.lane)) (sym a.is) (has_middle a.later (Sent n o k a.lane) a.before)))
+
           quiet : IsQuiet w (share w n events)
-          quiet = outcome_quiet w (share w n events) piece holds_all
-              (r.ended n k a.lane w o of_plan (contains_of events (Sent n o k a.lane) (subst (λ (z : Events). Has z (Sent n o k a.lane)) (sym a.is) (has_middle a.later (Sent n o k a.lane) a.before))))
+          quiet = outcome_quiet w (share w n events) piece holds_all ended
 
           stopped : is_stopped w (share w n events) ≡ true
           stopped = kept_stopped w (share w n events) piece holds_all quiet o k apart kept
@@ -297,11 +322,54 @@ module _ (Shows : Ask → ℕ → Talk → Class → List ℕ → Type 0) (s : S
               (subst (λ (x : Event). Has (stop.newer ++ x ∷ (stop.between ++ Back back.lane back.carried ∷ rest)) (Stopped reason)) (sym e)
               (has_middle stop.newer (Stopped reason) (stop.between ++ Back back.lane back.carried ∷ rest)))))))
 
-          otherwise : fails_otherwise w (share w n (stop.event ∷ (stop.between ++ Back back.lane back.carried ∷ rest))) ≡ true → IsStopped setting (Some n)
-          otherwise e = told (is_some setting.cancelled_at) (setting.file_failed n) (inr (r.files n w of_plan
-              (subst (λ (z : Events). fails_otherwise w (share w n z) ≡ true) (sym at_stop)
-              (subst (λ (h : History). fails_otherwise w h ≡ true) (sym (since_is w n stop.newer (stop.event ∷ (stop.between ++ Back back.lane back.carried ∷ rest))))
-              (otherwise_stays w (since w n stop.newer (stop.event ∷ (stop.between ++ Back back.lane back.carried ∷ rest))) (share w n (stop.event ∷ (stop.between ++ Back back.lane back.carried ∷ rest))) e)))))
+          since_stop : share w n events ≡ since w n stop.newer (stop.event ∷ (stop.between ++ Back back.lane back.carried ∷ rest)) ++ share w n (stop.event ∷ (stop.between ++ Back back.lane back.carried ∷ rest))
+          since_stop = ap (share w n) at_stop ∙ since_is w n stop.newer (stop.event ∷ (stop.between ++ Back back.lane back.carried ∷ rest))
+
+          holds_stop : IsHistory w (share w n (stop.event ∷ (stop.between ++ Back back.lane back.carried ∷ rest)))
+          holds_stop = holds Shows s setting planned events dispatched coming r n w of_plan stop.newer (stop.event ∷ (stop.between ++ Back back.lane back.carried ∷ rest)) at_stop
+
+          -- the newest of what happened then
+          has_newest : (x : Happening) (h : History) → share w n (stop.event ∷ (stop.between ++ Back back.lane back.carried ∷ rest)) ≡ x ∷ h → Has (share w n events) x
+          has_newest x h same = subst (λ (z : History). Has z x) (sym (since_stop ∙ ap (λ (z : History). since w n stop.newer (stop.event ∷ (stop.between ++ Back back.lane back.carried ∷ rest)) ++ z) same)) (has_middle (since w n stop.newer (stop.event ∷ (stop.between ++ Back back.lane back.carried ∷ rest))) x h)
+
+          call_has_failed : IsCall w n stop.event (stop.between ++ Back back.lane back.carried ∷ rest) → (b : Act) × HasFailed b
+          call_has_failed call = (
+            call.0,
+            (
+              counted_call call.0 call.1 call.3,
+              call_no_abort call.0 (subst (IsHistory w) call.2 holds_stop).0.0,
+              call_failed w (share w n events) holds_all call.0 call.1 (has_newest (Returned call.0 call.1) (Gave call.0 ∷ share w n (stop.between ++ Back back.lane back.carried ∷ rest)) call.2) call.3,
+            ),
+          )
+
+          job_has_failed : IsForgotten w n stop.event (stop.between ++ Back back.lane back.carried ∷ rest) → (b : Act) × HasFailed b
+          job_has_failed job = (
+            sent job.0,
+            (
+              tt,
+              no_abort_of job.0.job.id.op job.0.job.id.number (λ e. false_true (sym stop.going ∙ abort_stopped w (share w n (stop.between ++ Back back.lane back.carried ∷ rest)) job.0.job.id.number then_holds.1
+                (subst (λ (p : Op). is_out (stage w (share w n (stop.between ++ Back back.lane back.carried ∷ rest)) (act.Send p job.0.job.id.number)) ≡ true) e then_holds.0.0))),
+              job_failed w (share w n events) holds_all job.0 (has_newest (Came job.0) (share w n (stop.between ++ Back back.lane back.carried ∷ rest)) job.1) job.2 (memory_some (carried_cause w job.0) job.3),
+            ),
+          )
+            where
+              then_holds : IsHistory w (Came job.0 ∷ share w n (stop.between ++ Back back.lane back.carried ∷ rest))
+              then_holds = subst (IsHistory w) job.1 holds_stop
+
+          has_failed : IsOther w n stop.event (stop.between ++ Back back.lane back.carried ∷ rest) → (b : Act) × HasFailed b
+          has_failed other = elim other.what [ inl call ↦ call_has_failed call | inr job ↦ job_has_failed job ]
+
+          otherwise : IsOther w n stop.event (stop.between ++ Back back.lane back.carried ∷ rest) → IsStopped setting (Some n)
+          otherwise other = told (is_some setting.cancelled_at) (setting.file_failed n) (inr (by (found_or_not (outcome_of w (share w n events))) (has_failed other)))
+            where
+              fails : fails_otherwise w (share w n events) ≡ true
+              fails = subst (λ (h : History). fails_otherwise w h ≡ true) (sym since_stop) (otherwise_stays w (since w n stop.newer (stop.event ∷ (stop.between ++ Back back.lane back.carried ∷ rest))) (share w n (stop.event ∷ (stop.between ++ Back back.lane back.carried ∷ rest))) other.fails)
+
+              by : (outcome_of w (share w n events) ≡ None) ⊎ ((how : Outcome) × (outcome_of w (share w n events) ≡ Some how)) → (b : Act) × HasFailed b → setting.file_failed n ≡ true
+              by (inl none) b = no (sym (ap (λ (x : Option Outcome). is_some x) none) ∙ ended)
+              by (inr how) b =
+                  let failed = kept_fails w piece (share w n events) holds_all o k apart kept b.0 b.1.0 b.1.1 b.1.2 how.0 how.1 in
+                  r.files n w failed.0 of_plan (how.1 ∙ ap Some failed.1) fails
 
           failed : (lane : ℕ) (c : SeenCarried) → stop.event ≡ Back lane c → c.job.id.task ≡ Some n → IsFailure w c
               → IsFailing Shows setting.config.attempts (Some n) (IsStopped setting (Some n)) later
@@ -311,7 +379,7 @@ module _ (Shows : Ask → ℕ → Talk → Class → List ℕ → Type 0) (s : S
               let there = comes_later front later f return.x place is back.came_at return.known (λ q came. after stop.between q (some_is (place_after planned tail) q (sym return.came_at ∙ came))) in
               let split = split_of later return.x there in
               let all = failing c.job.id.op c.job.id.number return.x return.known return.a return.back
-              (subst (λ (z : Events). is_stopped w (share w n z) ≡ false) (sym return.rest_is) stop.going) (subst (λ (z : SeenCarried). IsFailure w z) (sym return.same) fail)
+              (subst (λ (z : SeenCarried). IsFailure w z) (sym return.same) fail) (subst (λ (z : Events). is_stopped w (share w n z) ≡ false) (sym return.rest_is) stop.going)
               (front ++ f ∷ split.front) split.back (IsStopped setting (Some n)) (is ∙ ap (λ (z : List Dispatched). front ++ f ∷ z) split.is ∙ sym (append_assoc front (f ∷ split.front) (return.x ∷ split.back))) in
               subst (λ (z : List Dispatched). IsFailing Shows setting.config.attempts (Some n) (IsStopped setting (Some n)) z) (sym split.is)
               (failing_before Shows setting.config.attempts (Some n) (IsStopped setting (Some n)) split.front (return.x ∷ split.back) all)

@@ -1,27 +1,28 @@
 -- The clauses of the schedule on jobs that failed, or are given again.
-use Rattle.std.proofs.Common.{◌≡◌, ◌≢◌, ◌∙◌, ◌⊎◌, ◌++◌, ◌<◌, ℕ, Bool, true, false, List, [], ◌∷◌, Option, Some, None, Contains, AllPairs, refl, sym, subst, ap, inl, inr, arith, get_or, slice_get}
+use Rattle.std.proofs.Common.{◌≡◌, ◌≢◌, ◌∙◌, ◌||◌, ◌⊎◌, ◌++◌, ◌<◌, ℕ, Bool, true, false, List, [], ◌∷◌, Option, Some, None, Contains, AllPairs, refl, sym, subst, ap, inl, inr, arith, get_or, slice_get}
 use Rattle.std.proofs.lemmas.Bool.{ltb-true}
 use Rattle.std.proofs.lemmas.Option.{slice_get-get_or}
 use Rattle.std.specs.Prelude.{is_some, nat_lt, IsSome}
 use Rattle.run_promise.specs.Dispatches.{Attempt, Dispatched, IsSuccessLast, last_of}
-use Rattle.run_promise.specs.Schedule.{IsBefore, IsBeforeAny, IsFailed, Setting}
+use Rattle.run_promise.specs.Schedule.{IsBefore, IsBeforeAny, IsFailed, IsStopped, Setting}
 use Rattle.s3_model.specs.Talks.{Talk}
 use Rattle.s3_model.specs.declared.answers.Class.{Class}
 use Rattle.s3_model.specs.declared.outcomes.Cause.{Cause}
+use Rattle.s3_model.specs.declared.outcomes.JobId.{JobId}
 use Rattle.s3_model.specs.declared.outcomes.Reason.{Reason}
 use Rattle.s3_model.specs.declared.requests.Ask.{Ask}
 use Rattle.s3_model.specs.declared.requests.Op.{Op}
 use Rattle.s3_model.specs.declared.requests.Op.TheVariants as op
 use Rattle.task_acts.specs.declared.work.Work.{Work}
-use Rattle.task_acts.specs.Failures.{carried_cause, is_cut_short, is_stopped}
+use Rattle.task_acts.specs.Failures.{carried_cause, first_failure, first_reason, is_cut_short, is_stopped}
 use Rattle.task_acts.specs.Histories.{Came, History}
 use Rattle.shared_lemmas.proofs.Clashes.{false_true}
 use Rattle.shared_lemmas.proofs.Lists.{tail_is}
-use Rattle.shared_lemmas.proofs.Members.{contains_of, has_at, has_middle}
-use Rattle.task_progress.proofs.Endings.{skipped}
-use Rattle.task_progress.proofs.Progress.{failure_stops}
+use Rattle.shared_lemmas.proofs.Members.{Has, contains_of, found_or_not, has-append_right, has_at, has_middle}
+use Rattle.task_progress.proofs.Endings.{no, skipped}
 use Rattle.manager_moves.specs.Runs.{Back, Events, Sent, Shared, Stopped, share}
 use Rattle.task_schedule.specs.Journals.{IsBack, IsRunOf, KeepsSchedule, SharesKeepSchedule, ShowOne, place_after}
+use Rattle.task_schedule.proofs.Cutting.{cut_first, cut_no_abort, cut_unfinished}
 use Rattle.task_schedule.proofs.EventStops.{ahead_goes_on}
 use Rattle.task_schedule.proofs.Failing.{in_dispatched, is_cut_in}
 use Rattle.task_schedule.proofs.Givings.{cut_gained}
@@ -29,12 +30,13 @@ use Rattle.task_schedule.proofs.Joined.{aborts_last, all_ask, back_at, back_of, 
 use Rattle.task_schedule.proofs.Marks.{gained_by}
 use Rattle.task_schedule.proofs.Places.{ends, entry_fills, filled, fills, happened_before}
 use Rattle.task_schedule.proofs.SentJobs.{IsAt, IsTwice, at_of, stopped_sends, twice}
-use Rattle.task_schedule.proofs.Shares.{back_is, since, since_is}
+use Rattle.task_schedule.proofs.Shares.{back_is, share_stopped, since, since_is}
 use Rattle.task_schedule.proofs.Standing.{stays_stopped}
+use Rattle.task_schedule.proofs.Stopping.{failure_stays, failure_there, reason_there}
 use Rattle.task_schedule.proofs.Wellness.{well}
 use Rattle.task_schedule.proofs.EventStops.{cancel_stops}
 
-all_pairs : {X : Type 0} (R : X → X → Type 0) (xs : List X) → ((i j : ℕ) (a b : X) → i < j → slice_get xs i ≡ Some a → slice_get xs j ≡ Some b → R a b) → AllPairs R xs
+pub all_pairs : {X : Type 0} (R : X → X → Type 0) (xs : List X) → ((i j : ℕ) (a b : X) → i < j → slice_get xs i ≡ Some a → slice_get xs j ≡ Some b → R a b) → AllPairs R xs
 all_pairs R xs each = λ i j d less inside. each i j (get_or xs i d) (get_or xs j d) less (slice_get-get_or xs i d (omega arith)) (slice_get-get_or xs j d inside)
 
 module _ (Shows : Ask → ℕ → Talk → Class → List ℕ → Type 0) (s : Shared) (setting : Setting) (planned : ℕ) (events : Events) (dispatched coming : List Dispatched)
@@ -48,18 +50,52 @@ module _ (Shows : Ask → ℕ → Talk → Class → List ℕ → Type 0) (s : S
       abbrev rest : Events
       rest = back.between ++ Sent n o k a.lane ∷ a.before
 
-      -- a job that failed stops its task
-      pub failed_stops : is_stopped w (share w n (Back back.lane back.carried ∷ rest)) ≡ true
-      failed_stops = subst (λ (h : History). is_stopped w h ≡ true) (sym (back_is w n back.lane back.carried rest (its_task Shows s setting planned events dispatched coming r n w of_plan o k f a back)))
-          (by (is_some (carried_cause w back.carried)) refl (is_cut_short w back.carried) refl (is_stopped w (share w n rest)) refl)
+      came_is : share w n (Back back.lane back.carried ∷ rest) ≡ Came back.carried ∷ share w n rest
+      came_is = back_is w n back.lane back.carried rest (its_task Shows s setting planned events dispatched coming r n w of_plan o k f a back)
+
+      -- what was cut short after a cancel is cut
+      no_cancel : is_cut_short w back.carried ≡ true → is_some (first_reason (share w n rest)) ≡ true → ⊥
+      no_cancel cut some = failed.3 (inr (
+        (cut_first Shows s setting planned events dispatched coming r one n w of_plan o k f a back cut).not_second,
+        λ e. cut_no_abort Shows s setting planned events dispatched coming r one n w of_plan o k f a back cut (sym (ap (λ (j : JobId). j.op) a.job_is) ∙ e),
+        subst (λ (t : Option ℕ). is_some t ≡ true) (sym task_is) refl,
+        cut_unfinished Shows s setting planned events dispatched coming r one n w of_plan o k f a back cut,
+        inl (subst (λ (t : Option ℕ). IsStopped setting t) (sym task_is) (first (is_some setting.cancelled_at) (setting.file_failed n) cancelled)),
+      ))
         where
-          by : (cause : Bool) → is_some (carried_cause w back.carried) ≡ cause → (cut : Bool) → is_cut_short w back.carried ≡ cut → (stopped : Bool) → is_stopped w (share w n rest) ≡ stopped
-              → is_stopped w (Came back.carried ∷ share w n rest) ≡ true
-          by false e cut c stopped st = absurd (failed.4 (well Shows s setting planned events dispatched coming r n w of_plan o k f known a back one e))
-          by true e true c true st = stays_stopped w (Came back.carried ∷ []) (share w n rest) st
-          by true e true c false st = absurd (failed.3 (is_cut_in Shows s setting planned events dispatched coming r one n w of_plan o k f a back c st failed.0 failed.1 failed.2))
-          by true e false c stopped st = failure_stops w (Came back.carried) (share w n rest)
+          task_is : f.dispatch.job.task ≡ Some n
+          task_is = ap (λ (j : JobId). j.task) a.job_is
+
+          first : (b c : Bool) → b ≡ true → (b || c) ≡ true
+          first true c e = refl
+          first false c e = no e
+
+          cancelled : is_some setting.cancelled_at ≡ true
+          cancelled = by (found_or_not (first_reason (share w n rest)))
+            where
+              by : (first_reason (share w n rest) ≡ None) ⊎ ((reason : Reason) × (first_reason (share w n rest) ≡ Some reason)) → is_some setting.cancelled_at ≡ true
+              by (inl none) = no (sym (ap (λ (x : Option Reason). is_some x) none) ∙ some)
+              by (inr reason) = r.cancelled reason.0 (contains_of events (Stopped reason.0)
+                  (subst (λ (z : Events). Has z (Stopped reason.0)) (sym (back_at Shows s setting planned events dispatched coming r n w of_plan o k f a back))
+                  (has-append_right back.newer (Back back.lane back.carried ∷ rest) (Stopped reason.0) (inr (share_stopped w n rest reason.0 (reason_there (share w n rest) reason.0 reason.1))))))
+
+      -- a job that failed is a failure of its task, or came after one
+      pub failed_fails : is_some (first_failure w (share w n (Back back.lane back.carried ∷ rest))) ≡ true
+      failed_fails = subst (λ (h : History). is_some (first_failure w h) ≡ true) (sym came_is)
+          (by (is_some (carried_cause w back.carried)) refl (is_cut_short w back.carried) refl (is_some (first_failure w (share w n rest))) refl (is_some (first_reason (share w n rest))) refl)
+        where
+          by : (cause : Bool) → is_some (carried_cause w back.carried) ≡ cause → (cut : Bool) → is_cut_short w back.carried ≡ cut → (fails : Bool) → is_some (first_failure w (share w n rest)) ≡ fails
+              → (stops : Bool) → is_some (first_reason (share w n rest)) ≡ stops → is_some (first_failure w (Came back.carried ∷ share w n rest)) ≡ true
+          by cause e cut c true had stops g = failure_stays w (Came back.carried ∷ []) (share w n rest) had
+          by false e cut c false had stops g = absurd (failed.4 (well Shows s setting planned events dispatched coming r n w of_plan o k f known a back one e))
+          by true e true c false had true g = absurd (no_cancel c g)
+          by true e true c false had false g = absurd (failed.3 (is_cut_in Shows s setting planned events dispatched coming r one n w of_plan o k f a back c (ap (λ (b : Bool). b || is_some (first_reason (share w n rest))) had ∙ g) failed.0 failed.1 failed.2))
+          by true e false c false had stops g = failure_there w (Came back.carried ∷ share w n rest) (Came back.carried) (inl refl)
               (ap (λ (x : Option Cause). is_some x) (skipped (is_cut_short w back.carried) None (carried_cause w back.carried) c) ∙ e)
+
+      -- so it stops its task
+      pub failed_stops : is_stopped w (share w n (Back back.lane back.carried ∷ rest)) ≡ true
+      failed_stops = ap (λ (b : Bool). b || is_some (first_reason (share w n (Back back.lane back.carried ∷ rest)))) failed_fails
 
       -- so it is stopped as a later job is sent
       pub later_stopped : (p : Op) (m : ℕ) (y : Dispatched) (b : At p m y) → IsBefore f.dispatch.came_at y.dispatch.given_at → is_stopped w (share w n b.before) ≡ true

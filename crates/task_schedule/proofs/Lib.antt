@@ -1,4 +1,5 @@
 pub mod AskRows
+pub mod Deciders
 pub mod Deciding
 pub mod EventStops
 pub mod Cutting
@@ -7,8 +8,10 @@ pub mod Failures
 pub mod Givings
 pub mod Growth
 pub mod Joined
+pub mod KeptJobs
 pub mod Marks
 pub mod Places
+pub mod Returned
 pub mod SentJobs
 pub mod Shares
 pub mod Shown

@@ -75,7 +75,7 @@ same_place xs ys us vs a b e is_a is_b same = by (ends xs (a ∷ ys) us (b ∷ v
 
 -- ---- two places of one run
 
-left_out : {X : Type 0} (xs ys zs : List X) → xs ++ ys ≡ xs ++ zs → ys ≡ zs
+pub left_out : {X : Type 0} (xs ys zs : List X) → xs ++ ys ≡ xs ++ zs → ys ≡ zs
 left_out [] ys zs e = e
 left_out (x ∷ xs) ys zs e = left_out xs ys zs (tail_is x x (xs ++ ys) (xs ++ zs) e)
 

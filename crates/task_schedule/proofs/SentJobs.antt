@@ -13,13 +13,16 @@ use Rattle.s3_model.specs.declared.requests.Ask.{Ask}
 use Rattle.s3_model.specs.declared.requests.Op.{Op}
 use Rattle.task_acts.specs.declared.acts.Act.{Act}
 use Rattle.task_acts.specs.declared.acts.Act.TheVariants as act
+use Rattle.task_acts.specs.declared.acts.Stage.{Stage}
 use Rattle.task_acts.specs.declared.work.Work.{Work}
 use Rattle.task_acts.specs.Failures.{is_cut_short, is_stopped}
 use Rattle.task_acts.specs.Histories.{Came, Gave, History, Taken, is_act, sent}
 use Rattle.task_acts.specs.Kept.{IsHistory, kept_job}
+use Rattle.task_acts.specs.Stages.{given_stage, stage}
 use Rattle.shared_lemmas.proofs.Lists.{tail_is}
-use Rattle.shared_lemmas.proofs.Members.{Has, contains_of, has, has-append_cases, has-append_right, has_middle}
+use Rattle.shared_lemmas.proofs.Members.{Has, contains_of, has, has-append_cases, has-append_right, has_middle, split_of}
 use Rattle.world_laws.proofs.Jobs.{job_is}
+use Rattle.task_progress.proofs.Begun.{has_begun, out_has_begun}
 use Rattle.task_progress.proofs.Endings.{chosen}
 use Rattle.manager_moves.proofs.MoveLaws.{in_front}
 use Rattle.manager_moves.proofs.ShareLaws.{act_of, is_next, shares_are_histories}
@@ -29,7 +32,7 @@ use Rattle.task_schedule.specs.Journals.{IsBack, IsFirst, IsRunOf, IsSecond, Non
 use Rattle.task_schedule.proofs.Givings.{again, has_come, is_cut, is_going, last_of_all, never_thrice, no_abort, stopped_is_abort, was_going}
 use Rattle.task_schedule.proofs.Places.{Between, between_of, ends, entry_fills, filled, fills, same_place}
 use Rattle.task_schedule.proofs.Shares.{is_its, run_before, sent_is, since, since_back, since_is, since_parts, taken, taken_is}
-use Rattle.task_schedule.proofs.Standing.{CameFirst, IsOutStill, Went, act_itself, since_given, stays_stopped}
+use Rattle.task_schedule.proofs.Standing.{CameFirst, IsOutStill, Went, act_itself, begun_stays, given_is_out, given_out, since_given, stays_stopped}
 use Rattle.task_schedule.proofs.Successes.{sends}
 
 taken_no_came : (b : Bool) (o : Op) (k : ℕ) (c : SeenCarried) → Has (if b then Taken o k ∷ [] else []) (Came c) → ⊥
@@ -39,6 +42,18 @@ taken_no_came true o k c (inl e) = not_came o k c e
     not_came o k c e = cc
 taken_no_came true o k c (inr none) = none
 taken_no_came false o k c none = none
+
+-- a job that was sent has begun
+pub sent_begun : (events : Events) (n k lane : ℕ) (w : Work) (o : Op) → Has events (Sent n o k lane) → has_begun (stage w (share w n events) (act.Send o k)) ≡ true
+sent_begun events n k lane w o known =
+    let split = split_of events (Sent n o k lane) known in
+    subst (λ (z : Events). has_begun (stage w (share w n z) (act.Send o k)) ≡ true) (sym split.is)
+    (subst (λ (h : History). has_begun (stage w h (act.Send o k)) ≡ true) (sym (since_is w n split.front (Sent n o k lane ∷ split.back)))
+    (begun_stays w (since w n split.front (Sent n o k lane ∷ split.back)) (share w n (Sent n o k lane ∷ split.back)) (act.Send o k)
+    (subst (λ (h : History). has_begun (stage w h (act.Send o k)) ≡ true) (sym (sent_is w n o k lane split.back)) (begun (with_taken w o k (share w n split.back))))))
+  where
+    begun : (h : History) → has_begun (stage w (Gave (act.Send o k) ∷ h) (act.Send o k)) ≡ true
+    begun h = subst (λ (how : Stage). has_begun how ≡ true) (sym (given_out w o k h)) (out_has_begun (given_stage (stage w h (act.Send o k))) (given_is_out (stage w h (act.Send o k))))
 
 module _ (Shows : Ask → ℕ → Talk → Class → List ℕ → Type 0) (s : Shared) (setting : Setting) (planned : ℕ) (events : Events) (dispatched coming : List Dispatched)
     (r : IsRunOf Shows s setting planned events dispatched coming) where

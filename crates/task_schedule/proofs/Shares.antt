@@ -1,5 +1,5 @@
 -- What the later part of a run adds to the share of a task.
-use Rattle.std.proofs.Common.{append_assoc, ◌≡◌, ◌∙◌, ◌==◌, ◌⊎◌, ◌++◌, ℕ, Bool, true, false, [], ◌∷◌, Option, Some, None, refl, sym, subst, ap, inl, inr, arith}
+use Rattle.std.proofs.Common.{append_assoc, ◌≡◌, ◌∙◌, ◌==◌, ◌⊎◌, ◌++◌, ℕ, Bool, true, false, List, [], ◌∷◌, Option, Some, None, refl, sym, subst, ap, inl, inr, arith}
 use Rattle.std.proofs.lemmas.Bool.{eqb-true}
 use Rattle.std.specs.Prelude.{if◌then◌else◌, is_some}
 use Rattle.jobs.specs.Endings.{SeenCarried}
@@ -12,11 +12,23 @@ use Rattle.task_acts.specs.declared.work.Work.{Work}
 use Rattle.task_acts.specs.Histories.{Came, Cancelled, Gave, Happening, History, Returned, Taken}
 use Rattle.task_acts.specs.Kept.{kept_job}
 use Rattle.shared_lemmas.proofs.Clashes.{none_is_some, some_is}
-use Rattle.shared_lemmas.proofs.Members.{Has, has-append_cases, has-append_left, has-append_right}
+use Rattle.shared_lemmas.proofs.Lists.{cons_is, head_is, no_middle, tail_is}
+use Rattle.shared_lemmas.proofs.Members.{Has, has-append_cases, has-append_left, has-append_right, has_middle}
 use Rattle.task_progress.proofs.Endings.{chosen, no}
 use Rattle.manager_moves.specs.Laws.{IsRun}
 use Rattle.manager_moves.specs.Moves.{call_of, next_move}
 use Rattle.manager_moves.specs.Runs.{Back, Called, Event, Events, Lined, Made, Sent, Shared, Stopped, is_task, share, with_taken}
+
+-- a member of a list in two parts stands in one of them
+pub two_parts : {X : Type 0} (xs ys us : List X) (x : X) (vs : List X) → xs ++ ys ≡ us ++ x ∷ vs → ((r : List X) × (us ≡ xs ++ r) × (ys ≡ r ++ x ∷ vs)) ⊎ ((r : List X) × (xs ≡ us ++ x ∷ r) × (vs ≡ r ++ ys))
+two_parts [] ys us x vs e = inl (us, refl, e)
+two_parts (z ∷ xs) ys [] x vs e = inr (xs, ap (λ y. y ∷ xs) (head_is z x (xs ++ ys) vs e), sym (tail_is z x (xs ++ ys) vs e))
+two_parts (z ∷ xs) ys (u ∷ us) x vs e =
+    let first = head_is z u (xs ++ ys) (us ++ x ∷ vs) e in
+    elim (two_parts xs ys us x vs (tail_is z u (xs ++ ys) (us ++ x ∷ vs) e)) [
+      | inl more ↦ inl (more.0, cons_is u z us (xs ++ more.0) (sym first) more.1, more.2)
+      | inr inside ↦ inr (inside.0, cons_is z u xs (us ++ x ∷ inside.0) first inside.1, inside.2)
+    ]
 
 same_number : (n : ℕ) → (n == n) ≡ true
 same_number n = grind arith
@@ -262,3 +274,167 @@ module _ (w : Work) (n : ℕ) where
 pub run_before : (s : Shared) (later before : Events) → IsRun s (later ++ before) → IsRun s before
 run_before s [] before run = run
 run_before s (e ∷ later) before run = run_before s later before run.1
+
+-- ---- what the run shows of what happened to a task
+
+module _ (w : Work) (n : ℕ) where
+  sent_no_call : (o : Op) (k : ℕ) (a : Act) (r : FileCame) → Gave (act.Send o k) ≡ Returned a r → ⊥
+  sent_no_call o k a r e = cc
+
+  gave_no_call : (g a : Act) (r : FileCame) → Gave g ≡ Returned a r → ⊥
+  gave_no_call g a r e = cc
+
+  taken_no_call : (b : Bool) (o : Op) (k : ℕ) (a : Act) (r : FileCame) → Has (if b then Taken o k ∷ [] else []) (Returned a r) → ⊥
+  taken_no_call true o k a r (inl e) = clash o k a r e
+    where
+      clash : (o : Op) (k : ℕ) (a : Act) (r : FileCame) → Taken o k ≡ Returned a r → ⊥
+      clash o k a r e = cc
+  taken_no_call true o k a r (inr none) = none
+  taken_no_call false o k a r none = none
+
+  came_no_call : (c : SeenCarried) (a : Act) (r : FileCame) → Came c ≡ Returned a r → ⊥
+  came_no_call c a r e = cc
+
+  cancelled_no_call : (reason : Reason) (a : Act) (r : FileCame) → Cancelled reason ≡ Returned a r → ⊥
+  cancelled_no_call reason a r e = cc
+
+  returned_same : (m t : ℕ) (a b : Act) (r f : FileCame) → m ≡ t → Returned a r ≡ Returned b f → Called m a r ≡ Called t b f
+  returned_same m t a b r f e g = cc
+
+  called_by : (e : Event) (before : Events) (a : Act) (r : FileCame) → Has (added w n e before) (Returned a r) → e ≡ Called n a r
+  called_by (Sent t o k lane) before a r known = by (t == n) known
+    where
+      by : (b : Bool) → Has (if b then Gave (act.Send o k) ∷ taken w n (share w n before) o k else []) (Returned a r) → Sent t o k lane ≡ Called n a r
+      by true (inl e) = absurd (sent_no_call o k a r e)
+      by true (inr more) = absurd (taken_no_call (is_some (kept_job w (share w n before) (act.Send o k))) o k a r more)
+      by false none = absurd none
+  called_by (Back lane c) before a r known = by (is_task n c.job.id.task) known
+    where
+      by : (b : Bool) → Has (if b then Came c ∷ [] else []) (Returned a r) → Back lane c ≡ Called n a r
+      by true (inl e) = absurd (came_no_call c a r e)
+      by true (inr none) = absurd none
+      by false none = absurd none
+  called_by (Called t b f) before a r known = by (t == n) refl known
+    where
+      by : (x : Bool) → (t == n) ≡ x → Has (if x then Returned b f ∷ Gave b ∷ [] else []) (Returned a r) → Called t b f ≡ Called n a r
+      by true is (inl e) = returned_same t n b a f r (eqb-true t n is) e
+      by true is (inr (inl e)) = absurd (gave_no_call b a r e)
+      by true is (inr (inr none)) = absurd none
+      by false is none = absurd none
+  called_by (Stopped reason) before a r (inl e) = absurd (cancelled_no_call reason a r e)
+  called_by (Stopped reason) before a r (inr none) = absurd none
+  called_by (Made fits) before a r none = absurd none
+  called_by Lined before a r none = absurd none
+
+  -- a call on files
+  pub share_called : (events : Events) (a : Act) (r : FileCame) → Has (share w n events) (Returned a r) → Has events (Called n a r)
+  share_called [] a r known = absurd known
+  share_called (e ∷ before) a r known =
+      by (has-append_cases (added w n e before) (share w n before) (Returned a r) (subst (λ (h : History). Has h (Returned a r)) (added_is w n e before) known)) (λ f. share_called before a r f)
+    where
+      by : Has (added w n e before) (Returned a r) ⊎ Has (share w n before) (Returned a r) → (Has (share w n before) (Returned a r) → Has before (Called n a r)) → Has (e ∷ before) (Called n a r)
+      by (inl here) rest = inl (called_by e before a r here)
+      by (inr more) rest = inr (rest more)
+
+  taken_no_cancel : (b : Bool) (o : Op) (k : ℕ) (reason : Reason) → Has (if b then Taken o k ∷ [] else []) (Cancelled reason) → ⊥
+  taken_no_cancel true o k reason (inl e) = clash o k reason e
+    where
+      clash : (o : Op) (k : ℕ) (reason : Reason) → Taken o k ≡ Cancelled reason → ⊥
+      clash o k reason e = cc
+  taken_no_cancel true o k reason (inr none) = none
+  taken_no_cancel false o k reason none = none
+
+  gave_no_cancel : (a : Act) (reason : Reason) → Gave a ≡ Cancelled reason → ⊥
+  gave_no_cancel a reason e = cc
+
+  came_no_cancel : (c : SeenCarried) (reason : Reason) → Came c ≡ Cancelled reason → ⊥
+  came_no_cancel c reason e = cc
+
+  returned_no_cancel : (a : Act) (r : FileCame) (reason : Reason) → Returned a r ≡ Cancelled reason → ⊥
+  returned_no_cancel a r reason e = cc
+
+  cancelled_same : (one other : Reason) → Cancelled one ≡ Cancelled other → Stopped one ≡ Stopped other
+  cancelled_same one other e = cc
+
+  stopped_by : (e : Event) (before : Events) (reason : Reason) → Has (added w n e before) (Cancelled reason) → e ≡ Stopped reason
+  stopped_by (Sent t o k lane) before reason known = by (t == n) known
+    where
+      by : (b : Bool) → Has (if b then Gave (act.Send o k) ∷ taken w n (share w n before) o k else []) (Cancelled reason) → Sent t o k lane ≡ Stopped reason
+      by true (inl e) = absurd (gave_no_cancel (act.Send o k) reason e)
+      by true (inr more) = absurd (taken_no_cancel (is_some (kept_job w (share w n before) (act.Send o k))) o k reason more)
+      by false none = absurd none
+  stopped_by (Back lane c) before reason known = by (is_task n c.job.id.task) known
+    where
+      by : (b : Bool) → Has (if b then Came c ∷ [] else []) (Cancelled reason) → Back lane c ≡ Stopped reason
+      by true (inl e) = absurd (came_no_cancel c reason e)
+      by true (inr none) = absurd none
+      by false none = absurd none
+  stopped_by (Called t a r) before reason known = by (t == n) known
+    where
+      by : (b : Bool) → Has (if b then Returned a r ∷ Gave a ∷ [] else []) (Cancelled reason) → Called t a r ≡ Stopped reason
+      by true (inl e) = absurd (returned_no_cancel a r reason e)
+      by true (inr (inl e)) = absurd (gave_no_cancel a reason e)
+      by true (inr (inr none)) = absurd none
+      by false none = absurd none
+  stopped_by (Stopped other) before reason (inl e) = cancelled_same other reason e
+  stopped_by (Stopped other) before reason (inr none) = absurd none
+  stopped_by (Made fits) before reason none = absurd none
+  stopped_by Lined before reason none = absurd none
+
+  -- a cancel
+  pub share_stopped : (events : Events) (reason : Reason) → Has (share w n events) (Cancelled reason) → Has events (Stopped reason)
+  share_stopped [] reason known = absurd known
+  share_stopped (e ∷ before) reason known =
+      by (has-append_cases (added w n e before) (share w n before) (Cancelled reason) (subst (λ (h : History). Has h (Cancelled reason)) (added_is w n e before) known)) (λ f. share_stopped before reason f)
+    where
+      by : Has (added w n e before) (Cancelled reason) ⊎ Has (share w n before) (Cancelled reason) → (Has (share w n before) (Cancelled reason) → Has before (Stopped reason)) → Has (e ∷ before) (Stopped reason)
+      by (inl here) rest = inl (stopped_by e before reason here)
+      by (inr more) rest = inr (rest more)
+
+  -- where a return stands in the run
+  pub record BackAt (events : Events) (later before : History) (c : SeenCarried) : Type 0 where
+    pub newer : Events
+    pub lane : ℕ
+    pub rest : Events
+    pub is : events ≡ newer ++ Back lane c ∷ rest
+    pub task : c.job.id.task ≡ Some n
+    pub since_is : since w n newer (Back lane c ∷ rest) ≡ later
+    pub rest_is : share w n rest ≡ before
+
+  further : (e : Event) (events : Events) (later more before : History) (c : SeenCarried) → later ≡ added w n e events ++ more → BackAt events more before c → BackAt (e ∷ events) later before c
+  further e events later more before c is at = record {
+    newer = e ∷ at.newer;
+    lane = at.lane;
+    rest = at.rest;
+    is = ap (λ (z : Events). e ∷ z) at.is;
+    task = at.task;
+    since_is = ap (λ (z : Events). added w n e z ++ since w n at.newer (Back at.lane c ∷ at.rest)) (sym at.is) ∙ ap (λ (h : History). added w n e events ++ h) at.since_is ∙ sym is;
+    rest_is = at.rest_is;
+  }
+
+  here : (e : Event) (events : Events) (later front before : History) (c : SeenCarried) → added w n e events ≡ later ++ Came c ∷ front → before ≡ front ++ share w n events → BackAt (e ∷ events) later before c
+  here e events later front before c is rest =
+      let back = came_back w n e events c (subst (λ (h : History). Has h (Came c)) (sym is) (has_middle later (Came c) front)) in
+      by back.0 back.1 back.2 later front (sym (ap (λ (x : Event). added w n x events) back.1 ∙ chosen (is_task n c.job.id.task) (Came c ∷ []) [] (is_its w n c.job.id.task back.2)) ∙ is) rest
+    where
+      by : (lane : ℕ) → e ≡ Back lane c → c.job.id.task ≡ Some n → (later front : History) → Came c ∷ [] ≡ later ++ Came c ∷ front → before ≡ front ++ share w n events → BackAt (e ∷ events) later before c
+      by lane same task [] front f g = record {
+        newer = [];
+        lane = lane;
+        rest = events;
+        is = ap (λ (x : Event). x ∷ events) same;
+        task = task;
+        since_is = refl;
+        rest_is = ap (λ (h : History). h ++ share w n events) (tail_is (Came c) (Came c) [] front f) ∙ sym g;
+      }
+      by lane same task (z ∷ later) front f g = absurd (no_middle later (Came c) front (tail_is (Came c) z [] (later ++ Came c ∷ front) f))
+
+  pub back_at : (events : Events) (later before : History) (c : SeenCarried) → share w n events ≡ later ++ Came c ∷ before → BackAt events later before c
+  back_at [] later before c is = absurd (no_middle later (Came c) before is)
+  back_at (e ∷ events) later before c is =
+      by (two_parts (added w n e events) (share w n events) later (Came c) before (sym (added_is w n e events) ∙ is)) (λ more f. back_at events more before c f)
+    where
+      by : ((r : History) × (later ≡ added w n e events ++ r) × (share w n events ≡ r ++ Came c ∷ before)) ⊎ ((r : History) × (added w n e events ≡ later ++ Came c ∷ r) × (before ≡ r ++ share w n events))
+          → ((more : History) → share w n events ≡ more ++ Came c ∷ before → BackAt events more before c) → BackAt (e ∷ events) later before c
+      by (inl more) rest = further e events later more.0 before c more.1 (rest more.0 more.2)
+      by (inr inside) rest = here e events later inside.0 before c inside.1 inside.2

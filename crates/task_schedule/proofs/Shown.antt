@@ -182,7 +182,7 @@ module _ (w : Work) where
     abbrev decider : Act
     decider = act.Send (deciding_op w) 0
 
-    decides_is : (c : SeenCarried) → decides w c ≡ true → (is_by_request w.of_kind ≡ true) × (sent c ≡ decider)
+    pub decides_is : (c : SeenCarried) → decides w c ≡ true → (is_by_request w.of_kind ≡ true) × (sent c ≡ decider)
     decides_is c e =
         let two = and_parts (is_by_request w.of_kind && is_op c.job.id.op (deciding_op w)) (c.job.id.number == 0) e in
         let one = and_parts (is_by_request w.of_kind) (is_op c.job.id.op (deciding_op w)) two.0 in
@@ -495,7 +495,7 @@ module _ (w : Work) (e : Happening) (h : History) (no_came : (c : SeenCarried) �
   shown_still (outcome.Failed why) s = (λ d. s.0 (happened_less w.of_kind d), λ d. s.1 (mark_less mark.Uncertain d), spared_still w.of_kind s.2)
   shown_still how s = absurd s
 
-settled_how : (w : Work) (h : History) (how : Outcome) → settled w h ≡ Some how → how_ended w h ≡ Some how
+pub settled_how : (w : Work) (h : History) (how : Outcome) → settled w h ≡ Some how → how_ended w h ≡ Some how
 settled_how w h how e = by (is_some (first_ready_in w h) || not (is_idle_in w h)) e
   where
     none_is : None ≡ Some how → ⊥

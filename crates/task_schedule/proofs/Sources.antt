@@ -89,7 +89,7 @@ module _ (w : Work) where
     copy_decided true done = let c = came_fine w op.Copy 0 h is done in subst (gained_in h (job_of n op.Copy 0)) (copy_reply c.said c.replies) (gained op.Copy 0 c)
     copy_decided false done = let c = came_fine w op.Complete 0 h is done in subst (gained_in h (job_of n op.Complete 0)) (complete_reply c.said c.replies) (gained op.Complete 0 c)
 
-    download_decided : HasPiece w → (small : Bool) → w.small ≡ small → ((k : ℕ) → Has (numbers w) k → CameFine w h op.Get k) → IsDecidedBy kind.Download small n w.count (gained_in h)
+    pub download_decided : HasPiece w → (small : Bool) → w.small ≡ small → ((k : ℕ) → Has (numbers w) k → CameFine w h op.Get k) → IsDecidedBy kind.Download small n w.count (gained_in h)
     download_decided piece true so got =
         let first : first_number w ≡ 0 = chosen w.small 0 1 so in
         let c = got 0 (subst (λ (k : ℕ). Has (range_with_len k w.count) 0) (sym first) (first_in_range 0 w.count piece.some)) in

@@ -3,6 +3,8 @@ use Rattle.std.proofs.Common.{append_assoc, ◌≡◌, ◌≢◌, ◌∙◌, ◌
 use Rattle.std.proofs.lemmas.Bool.{and_parts}
 use Rattle.std.specs.Option.{option_or}
 use Rattle.std.specs.Prelude.{is_some}
+use Rattle.s3_model.specs.declared.outcomes.Cause.{Cause}
+use Rattle.s3_model.specs.declared.outcomes.Reason.{Reason}
 use Rattle.s3_model.specs.declared.requests.Op.{Op}
 use Rattle.s3_model.specs.declared.requests.Op.TheVariants as op
 use Rattle.s3_model.specs.declared.tasks.Kind.{Kind}
@@ -18,6 +20,7 @@ use Rattle.task_acts.specs.Kept.{IsHistory}
 use Rattle.task_acts.specs.Rule.{is_decided, is_decided_by, is_due, is_each_done, is_named}
 use Rattle.task_acts.specs.Stages.{carried_stage, given_stage, has_done, has_ended, is_out, may_be_given, stage}
 use Rattle.task_acts.specs.Work.{deciding_op, is_piece, numbers}
+use Rattle.shared_lemmas.proofs.Clashes.{none_is_some, some_is}
 use Rattle.shared_lemmas.proofs.Members.{Has}
 use Rattle.task_progress.specs.Progress.{HasPiece}
 use Rattle.task_progress.proofs.Begun.{has_begun, out_has_begun, same_act}
@@ -183,3 +186,40 @@ module _ (w : Work) where
       let last = (aborts_are_last w given.before k given.ready).1 in
       subst (λ (x : History). is_stopped w x ≡ true) (sym given.is) (subst (λ (x : History). is_stopped w x ≡ true) (append_assoc given.later (Gave (act.Send op.Abort k) ∷ []) given.before)
       (stays_stopped w (given.later ++ Gave (act.Send op.Abort k) ∷ []) given.before last.stopped))
+
+-- ---- failures and cancels in a history
+
+module _ (w : Work) where
+  -- a failure is there
+  pub failure_there : (h : History) (e : Happening) → Has h e → is_some (failure_by w e) ≡ true → is_some (first_failure w h) ≡ true
+  failure_there [] e known some = absurd known
+  failure_there (x ∷ h) e (inl same) some = second (first_failure w h) (failure_by w x) (ap (λ (y : Happening). is_some (failure_by w y)) same ∙ some)
+    where
+      second : (a b : Option Cause) → is_some b ≡ true → is_some (option_or a b) ≡ true
+      second None b f = f
+      second (Some a) b f = refl
+  failure_there (x ∷ h) e (inr known) some = first (first_failure w h) (failure_by w x) (failure_there h e known some)
+    where
+      first : (a b : Option Cause) → is_some a ≡ true → is_some (option_or a b) ≡ true
+      first None b f = no f
+      first (Some a) b f = refl
+
+  pub failure_stays : (later h : History) → is_some (first_failure w h) ≡ true → is_some (first_failure w (later ++ h)) ≡ true
+  failure_stays [] h e = e
+  failure_stays (x ∷ later) h e = first (first_failure w (later ++ h)) (failure_by w x) (failure_stays later h e)
+    where
+      first : (a b : Option Cause) → is_some a ≡ true → is_some (option_or a b) ≡ true
+      first None b f = no f
+      first (Some a) b f = refl
+
+pub reason_there : (h : History) (reason : Reason) → first_reason h ≡ Some reason → Has h (Cancelled reason)
+reason_there [] reason e = absurd (none_is_some reason e)
+reason_there (x ∷ h) reason e = by (first_reason h) refl e (λ r f. reason_there h r f)
+  where
+    here : (y : Happening) → reason_by y ≡ Some reason → y ≡ Cancelled reason
+    here (Cancelled r) f = ap Cancelled (some_is r reason f)
+    here y f = absurd (none_is_some reason f)
+
+    by : (o : Option Reason) → first_reason h ≡ o → option_or o (reason_by x) ≡ Some reason → ((r : Reason) → first_reason h ≡ Some r → Has h (Cancelled r)) → Has (x ∷ h) (Cancelled reason)
+    by None f g rest = inl (here x g)
+    by (Some r) f g rest = inr (subst (λ (z : Reason). Has h (Cancelled z)) (some_is r reason g) (rest r f))

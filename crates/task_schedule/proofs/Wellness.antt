@@ -255,13 +255,13 @@ module _ (Shows : Ask → ℕ → Talk → Class → List ℕ → Type 0) (s : S
             (subst (λ (size : ℕ). HasShape size all.1 (is_small setting all.0) x.dispatch.job.op x.dispatch.job.number x.ask) task_size shape)));
       }
 
-  op_is : back.carried.job.id.op ≡ o
+  pub op_is : back.carried.job.id.op ≡ o
   op_is = ap (λ (j : JobId). j.op) (back.of_job ∙ a.job_is)
 
-  number_is : back.carried.job.id.number ≡ k
+  pub number_is : back.carried.job.id.number ≡ k
   number_is = ap (λ (j : JobId). j.number) (back.of_job ∙ a.job_is)
 
-  replies : (said : Reply) → back.carried.ending ≡ ending.Gained said → IsReplyTo o said
+  pub replies : (said : Reply) → back.carried.ending ≡ ending.Gained said → IsReplyTo o said
   replies said gained =
       let ended = subst (λ (e : Ending). IsEnded e back.carried.job.id.op back.carried.job.part back.carried.job.cell back.carried.tries) gained
       (is_ended Shows s setting planned events dispatched coming r n w of_plan o k x a back) in

@@ -13,6 +13,8 @@ use Rattle.s3_model.specs.declared.answers.Class.{Class}
 use Rattle.s3_model.specs.declared.answers.Class.TheVariants as class
 use Rattle.s3_model.specs.declared.answers.Reply.TheVariants as reply
 use Rattle.s3_model.specs.declared.bytes.Part.{Part}
+use Rattle.s3_model.specs.declared.outcomes.Cause.{Cause}
+use Rattle.s3_model.specs.declared.outcomes.Outcome.TheVariants as outcome
 use Rattle.s3_model.specs.declared.outcomes.Reason.{Reason}
 use Rattle.s3_model.specs.declared.requests.Op.{Op}
 use Rattle.s3_model.specs.declared.requests.Op.TheVariants as op
@@ -208,9 +210,9 @@ module _ (for : What) (cell : Holder) (part : Part) where
     ended zero k lane w o e known = subst (λ (x : Work). IsSome (outcome_of x (share x 0 events))) (some_is upload w e) refl
     ended (suc n) k lane w o e known = absurd (none_is_some w e)
 
-    files : (n : ℕ) (w : Work) → slice_get (upload ∷ []) n ≡ Some w → fails_otherwise w (share w n events) ≡ true → false ≡ true
-    files zero w e f = subst (λ (x : Work). fails_otherwise x (share x 0 events) ≡ true) (sym (some_is upload w e)) f
-    files (suc n) w e f = absurd (none_is_some w e)
+    files : (n : ℕ) (w : Work) (why : Cause) → slice_get (upload ∷ []) n ≡ Some w → outcome_of w (share w n events) ≡ Some (outcome.Failed why) → fails_otherwise w (share w n events) ≡ true → false ≡ true
+    files zero w why e failed f = subst (λ (x : Work). fails_otherwise x (share x 0 events) ≡ true) (sym (some_is upload w e)) f
+    files (suc n) w why e failed f = absurd (none_is_some w e)
 
     met : IsRunOf ShowsStored (shared (upload ∷ []) 1 1 1) small_setting 0 events (small_put ∷ []) (small_put ∷ [])
     met = record {

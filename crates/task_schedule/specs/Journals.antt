@@ -19,7 +19,9 @@ use Rattle.s3_model.specs.declared.answers.Class.{Class}
 use Rattle.s3_model.specs.declared.answers.Class.TheVariants as class
 use Rattle.s3_model.specs.declared.answers.Reply.TheVariants as reply
 use Rattle.s3_model.specs.declared.answers.Why.TheVariants as why
+use Rattle.s3_model.specs.declared.outcomes.Cause.{Cause}
 use Rattle.s3_model.specs.declared.outcomes.JobId.{JobId}
+use Rattle.s3_model.specs.declared.outcomes.Outcome.TheVariants as outcome
 use Rattle.s3_model.specs.declared.outcomes.Reason.{Reason}
 use Rattle.s3_model.specs.declared.requests.Ask.{Ask}
 use Rattle.s3_model.specs.declared.requests.Op.{Op}
@@ -70,7 +72,27 @@ pub record IsAsked (setting : Setting) (n : ℕ) (task : Task) (w : Work) (befor
   pub size : c.size ≡ task.size
   pub limit : c.limit ≡ limit_of task.size w.piece c.dispatch.job.number c.ask
 
+-- each dispatch asks so
+abbrev pub AreAsked : Shared → Setting → (planned : ℕ) → Events → List Dispatched → Type 0
+AreAsked s setting planned events dispatched =
+    (c : Dispatched) (n lane : ℕ) (task : Task) (w : Work) (later before : Events) → Contains dispatched c
+    → slice_get setting.tasks n ≡ Some task → slice_get s.works n ≡ Some w
+    → events ≡ later ++ Sent n c.dispatch.job.op c.dispatch.job.number lane ∷ before
+    → c.dispatch.given_at ≡ place_after planned before → IsAsked setting n task w before c
+
+-- they stand in the order of their coming
+abbrev pub ComeInOrder : List Dispatched → Type 0
+ComeInOrder coming = AllPairs (λ (a b : Dispatched). IsBeforeAny a.dispatch.came_at b.dispatch.came_at) coming
+
 -- ---- what stops a task
+
+-- the setting tells whether the run was cancelled, and where first
+abbrev pub TellsCancels : Setting → Events → Type 0
+TellsCancels setting events = (reason : Reason) → Contains events (Stopped reason) → IsSome setting.cancelled_at
+
+abbrev pub TellsWhere : Setting → (planned : ℕ) → Events → Type 0
+TellsWhere setting planned events = (place : ℕ) → setting.cancelled_at ≡ Some place → (later : Events) × (before : Events)
+    × (reason : Reason) × (events ≡ later ++ Stopped reason ∷ before) × (place ≡ place_after planned before)
 
 -- a call on files failed, or memory ran out
 abbrev pub is_otherwise : Work → Happening → Bool
@@ -85,6 +107,12 @@ abbrev pub fails_otherwise : Work → History → Bool
 fails_otherwise w [] = false
 fails_otherwise w (event ∷ before) =
     fails_otherwise w before || (not (is_some (first_failure w before)) && is_otherwise w event)
+
+-- the setting tells which failed tasks failed first so
+abbrev pub TellsFailures : Shared → Setting → Events → Type 0
+TellsFailures s setting events = (n : ℕ) (w : Work) (why : Cause) → slice_get s.works n ≡ Some w
+    → outcome_of w (share w n events) ≡ Some (outcome.Failed why) → fails_otherwise w (share w n events) ≡ true
+    → setting.file_failed n ≡ true
 
 -- `Shows ask limit talk class bytes`: the talk has that class for the ask, and its answer that body
 module _ (Shows : Ask → ℕ → Talk → Class → List ℕ → Type 0) where
@@ -174,22 +202,15 @@ module _ (Shows : Ask → ℕ → Talk → Class → List ℕ → Type 0) where
     pub run : IsRun s events
     pub works : AreWorks setting s.works
     pub sent : AreSent planned events dispatched
-    pub asked : (c : Dispatched) (n lane : ℕ) (task : Task) (w : Work) (later before : Events) → Contains dispatched c
-        → slice_get setting.tasks n ≡ Some task → slice_get s.works n ≡ Some w
-        → events ≡ later ++ Sent n c.dispatch.job.op c.dispatch.job.number lane ∷ before
-        → c.dispatch.given_at ≡ place_after planned before → IsAsked setting n task w before c
+    pub asked : AreAsked s setting planned events dispatched
     -- each task of which a job was given has its outcome
     pub ended : (n number lane : ℕ) (w : Work) (of_op : Op) → slice_get s.works n ≡ Some w
         → Contains events (Sent n of_op number lane) → IsSome (outcome_of w (share w n events))
     pub is_coming : IsPermutation dispatched coming
-    pub in_order : AllPairs (λ (a b : Dispatched). IsBeforeAny a.dispatch.came_at b.dispatch.came_at) coming
-    -- the setting tells whether the run was cancelled, and where first
-    pub cancelled : (reason : Reason) → Contains events (Stopped reason) → IsSome setting.cancelled_at
-    pub cancelled_at : (place : ℕ) → setting.cancelled_at ≡ Some place → (later : Events) × (before : Events)
-        × (reason : Reason) × (events ≡ later ++ Stopped reason ∷ before) × (place ≡ place_after planned before)
-    -- it tells which tasks failed first by a call on files, or for want of memory
-    pub files : (n : ℕ) (w : Work) → slice_get s.works n ≡ Some w → fails_otherwise w (share w n events) ≡ true
-        → setting.file_failed n ≡ true
+    pub in_order : ComeInOrder coming
+    pub cancelled : TellsCancels setting events
+    pub cancelled_at : TellsWhere setting planned events
+    pub files : TellsFailures s setting events
 
   -- The clauses of the schedule on the jobs of tasks.
   pub record KeepsSchedule (setting : Setting) (dispatched coming : List Dispatched) : Type 0 where
