@@ -1,6 +1,7 @@
 -- A run ends only where every task has ended.
 use Rattle.std.proofs.Common.{◌≡◌, ◌∙◌, ◌==◌, ◌&&◌, ◌||◌, ◌⊎◌, ◌+◌, ◌++◌, ◌≤◌, ◌<◌, ℕ, zero, suc, Bool, true, false, List, [], ◌∷◌, Option, Some, None, IfSome, refl, sym, subst, ap, arith, inl, inr, length, nat_lt, not, slice_get, take}
 use Rattle.std.proofs.lemmas.Bool.{and_parts, eqb-true, ltb-false, ltb-true}
+use Rattle.std.proofs.lemmas.Option.{slice_get_within}
 use Rattle.std.specs.List.{range_with_len}
 use Rattle.std.specs.Option.{option_or}
 use Rattle.std.specs.Prelude.{filter, is_some, unwrap_or, if◌then◌else◌}
@@ -36,7 +37,7 @@ use Rattle.manager_moves.specs.Laws.{IsRun}
 use Rattle.manager_moves.specs.Moves.{call_of, first_call, first_giving, giving_of, has_free_part, has_room, if_ready, is_any_out, lacks_part, line_for, made, next_line, next_make, next_move, ready, unfinished_from}
 use Rattle.manager_moves.specs.Parts.{has_part, holds_part, is_kept, lent, parts_of, sum_from}
 use Rattle.manager_moves.specs.Runs.{Events, Shared, lacks_memory, lined_count, made_count, outcome_in, share}
-use Rattle.run_progress.specs.RunProgress.{HasMeans, RunsEndWhole, WaitsAreForJobs}
+use Rattle.run_progress.specs.RunProgress.{HasMeans, RunsEndWhole, TasksHaveEnded, WaitsAreForJobs}
 use Rattle.run_progress.proofs.OutJobs.{InLane, never_out, out_in_lane}
 use Rattle.run_progress.proofs.Ranks.{acts_sorted, found_least, rank}
 use Rattle.run_progress.proofs.Limits.{few_lined, few_made}
@@ -740,6 +741,15 @@ module _ (s : Shared) (events : Events) (means : HasMeans s) (run : IsRun s even
 
 pub runs_end_whole : RunsEndWhole
 runs_end_whole s events means run e = whole s events means run e
+
+-- ---- each task has its outcome
+
+pub tasks_have_ended : TasksHaveEnded
+tasks_have_ended s events n w means run e of_plan =
+    has_ended s events means run (over s events e) n w (taken_at (made_count events) s.works n w of_plan (within (whole s events means run e).0 (slice_get_within s.works n w of_plan)))
+  where
+    within : made_count events ≡ length s.works → n < length s.works → n < made_count events
+    within made below = omega arith
 
 -- ---- a wait
 

@@ -1,5 +1,5 @@
 -- Runs get on: they end only where every task has ended, and wait only for jobs that are out.
-use Rattle.std.specs.Prelude.{◌≡◌, ◌≤◌, ◌<◌, ℕ, true, Some, Contains, length, slice_get}
+use Rattle.std.specs.Prelude.{◌≡◌, ◌≤◌, ◌<◌, ℕ, true, Some, Contains, IsSome, length, slice_get}
 use Rattle.run_promise.specs.Schedule.{job_of}
 use Rattle.s3_model.specs.declared.requests.Op.{Op}
 use Rattle.task_acts.specs.declared.acts.Act.TheVariants as act
@@ -9,7 +9,7 @@ use Rattle.manager_moves.specs.declared.moves.Move.TheVariants as move
 use Rattle.manager_moves.specs.Lanes.{jobs_in, out_in}
 use Rattle.manager_moves.specs.Laws.{IsRun}
 use Rattle.manager_moves.specs.Moves.{next_move}
-use Rattle.manager_moves.specs.Runs.{Events, Shared, lined_count, made_count, share}
+use Rattle.manager_moves.specs.Runs.{Events, Shared, lined_count, made_count, outcome_in, share}
 use Rattle.task_progress.specs.Progress.{HasPiece}
 
 -- what a run needs to get on
@@ -24,6 +24,11 @@ pub record HasMeans (s : Shared) : Type 0 where
 abbrev pub RunsEndWhole : Type 0
 RunsEndWhole = (s : Shared) (events : Events) → HasMeans s → IsRun s events → next_move s events ≡ move.End
     → (made_count events ≡ length s.works) × (lined_count events ≡ length s.works)
+
+-- Each task has its outcome by then.
+abbrev pub TasksHaveEnded : Type 0
+TasksHaveEnded = (s : Shared) (events : Events) (n : ℕ) (w : Work) → HasMeans s → IsRun s events
+    → next_move s events ≡ move.End → slice_get s.works n ≡ Some w → IsSome (outcome_in w n events)
 
 -- A wait is for a job that is in a lane.
 abbrev pub WaitsAreForJobs : Type 0
