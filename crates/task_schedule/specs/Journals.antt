@@ -86,7 +86,7 @@ ComeInOrder coming = AllPairs (λ (a b : Dispatched). IsBeforeAny a.dispatch.cam
 
 -- ---- what stops a task
 
--- the setting tells whether the run was cancelled, and where first
+-- the setting tells whether the run was cancelled, and at which place
 abbrev pub TellsCancels : Setting → Events → Type 0
 TellsCancels setting events = (reason : Reason) → Contains events (Stopped reason) → IsSome setting.cancelled_at
 

@@ -1,0 +1,5 @@
+pub mod Dispatches
+pub mod Entries
+pub mod Scheduled
+pub mod Sent
+pub mod Whole

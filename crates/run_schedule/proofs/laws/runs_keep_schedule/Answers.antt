@@ -1,0 +1,6 @@
+use Rattle.run_schedule.proofs.Scheduled.{runs_are_scheduled}
+use Rattle.run_schedule.proofs.Whole.{runs_keep_schedule}
+use Rattle.run_schedule.proofs.laws.runs_keep_schedule.Goals as goal
+
+pub returns : goal.returns
+returns g c = record { tasks = runs_keep_schedule g.C.Reading.shows; whole = runs_are_scheduled g.C.Reading.shows g.C.Command.plans }
