@@ -225,12 +225,12 @@ module _ (Shows : Ask → ℕ → Talk → Class → List ℕ → Type 0) (s : S
     all_holds = holds Shows s setting planned events dispatched coming r n w of_plan [] events refl
 
     -- a job that came back is in it
-    came_in_all : (o : Op) (k : ℕ) (x : Dispatched) (a : At n w of_plan o k x) (back : IsBack Shows planned a.later (Sent n o k a.lane ∷ a.before) x) → Has (share w n events) (Came back.carried)
+    pub came_in_all : (o : Op) (k : ℕ) (x : Dispatched) (a : At n w of_plan o k x) (back : IsBack Shows planned a.later (Sent n o k a.lane ∷ a.before) x) → Has (share w n events) (Came back.carried)
     came_in_all o k x a back = share_came w n events back.lane back.carried
         (subst (λ (z : Events). Has z (Back back.lane back.carried)) (sym (back_at o k x a back)) (has_middle back.newer (Back back.lane back.carried) (back.between ++ Sent n o k a.lane ∷ a.before)))
         (its_task o k x a back)
 
-    sent_as : (o : Op) (k : ℕ) (x : Dispatched) (a : At n w of_plan o k x) (back : IsBack Shows planned a.later (Sent n o k a.lane ∷ a.before) x) → sent back.carried ≡ act.Send o k
+    pub sent_as : (o : Op) (k : ℕ) (x : Dispatched) (a : At n w of_plan o k x) (back : IsBack Shows planned a.later (Sent n o k a.lane ∷ a.before) x) → sent back.carried ≡ act.Send o k
     sent_as o k x a back = ap (λ (j : JobId). act.Send j.op j.number) (back.of_job ∙ a.job_is)
 
     -- what came before a place came back
@@ -240,7 +240,7 @@ module _ (Shows : Ask → ℕ → Talk → Class → List ℕ → Type 0) (s : S
       | inr back ↦ back
     ]
 
-    given_at_is : (o : Op) (k : ℕ) (x : Dispatched) (a : At n w of_plan o k x)
+    pub given_at_is : (o : Op) (k : ℕ) (x : Dispatched) (a : At n w of_plan o k x)
         → IsGivenAt (share w n events) (since w n a.later (Sent n o k a.lane ∷ a.before)) (with_taken w o k (share w n a.before)) o k
     given_at_is o k x a = ap (share w n) a.is ∙ share_since Shows s setting planned events dispatched coming r n w of_plan o k a.later a.before a.lane
 

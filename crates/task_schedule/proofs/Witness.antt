@@ -77,7 +77,7 @@ called_stopped t a f r e = cc
 made_stopped : (b : Bool) (r : Reason) → Made b ≡ Stopped r → ⊥
 made_stopped b r e = cc
 
-back_same : (l m : ℕ) (c d : SeenCarried) → Back l c ≡ Back m d → c ≡ d
+pub back_same : (l m : ℕ) (c d : SeenCarried) → Back l c ≡ Back m d → c ≡ d
 back_same l m c d e = cc
 
 sent_task : (n m k i lane l : ℕ) (o p : Op) → Sent n o k lane ≡ Sent m p i l → n ≡ m
@@ -86,7 +86,7 @@ sent_task n m k i lane l o p e = cc
 sent_job : (n m k i lane l : ℕ) (o p : Op) → Sent n o k lane ≡ Sent m p i l → job_of n o k ≡ job_of m p i
 sent_job n m k i lane l o p e = cc
 
-only : (x : Dispatched) → Contains (small_put ∷ []) x → small_put ≡ x
+pub only : (x : Dispatched) → Contains (small_put ∷ []) x → small_put ≡ x
 only x known = elim (has (small_put ∷ []) x known) [ inl e ↦ e | inr none ↦ absurd none ]
 
 module _ (for : What) (cell : Holder) (part : Part) where
@@ -103,7 +103,7 @@ module _ (for : What) (cell : Holder) (part : Part) where
   sent_at (a ∷ b ∷ c ∷ d ∷ f ∷ later) before n k lane o e = absurd (no_middle later _ before (tail_is _ _ _ _ (tail_is _ _ _ _ (tail_is _ _ _ _ (tail_is _ _ _ _ (tail_is _ _ _ _ e))))))
 
   -- and the one that came back
-  came_at : (later before : Events) (l : ℕ) (x : SeenCarried) → events ≡ later ++ Back l x ∷ before → (stored for cell part 0 0 ≡ Back l x) × (Sent 0 op.Put 0 0 ∷ read_run ≡ before)
+  pub came_at : (later before : Events) (l : ℕ) (x : SeenCarried) → events ≡ later ++ Back l x ∷ before → (stored for cell part 0 0 ≡ Back l x) × (Sent 0 op.Put 0 0 ∷ read_run ≡ before)
   came_at [] before l x e = absurd (lined_back l x (head_is _ _ _ _ e))
   came_at (a ∷ []) before l x e = let f = tail_is _ _ _ _ e in (head_is _ _ _ _ f, tail_is _ _ _ _ f)
   came_at (a ∷ b ∷ []) before l x e = absurd (sent_back l x _ _ _ _ (head_is _ _ _ _ (tail_is _ _ _ _ (tail_is _ _ _ _ e))))
