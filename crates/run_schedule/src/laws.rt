@@ -1,6 +1,8 @@
 //! The laws, functions that do nothing.
 
+ghost use Rattle.run_schedule.specs.Parts.{PartsRunsAreMet};
 ghost use Rattle.run_schedule.specs.Runs.{JournalsShowSent, RunsAreScheduled, RunsKeepSchedule};
+ghost use Rattle.run_schedule.specs.Witness.{WholeRunIsMet};
 
 use world_laws::{Command, Reading};
 
@@ -16,4 +18,6 @@ pub fn journals_show_sent<R: Reading>()
 pub fn runs_keep_schedule<C: Command>()
     ensures tasks { RunsKeepSchedule C.shows }
     ensures whole { RunsAreScheduled C.shows C.plans }
+    ensures met { WholeRunIsMet }
+    ensures met_in_parts { PartsRunsAreMet }
 {}
