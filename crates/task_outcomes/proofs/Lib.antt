@@ -4,3 +4,4 @@ pub mod JobCauses
 pub mod Outcomes
 pub mod Reasons
 pub mod Settling
+pub mod Witness

@@ -1,6 +1,7 @@
 //! The law, a function that does nothing.
 
 ghost use Rattle.task_outcomes.specs.Causes.{OutcomesHaveCauses};
+ghost use Rattle.task_outcomes.specs.Witness.{ToldIsMet};
 
 use world_laws::Command;
 
@@ -8,5 +9,6 @@ use world_laws::Command;
 /// calls on files and its cancel show: Done, Copied, Unknown and Failed, for every kind of task, whatever came back and
 /// wherever the run was cancelled.
 pub fn outcomes_have_causes<C: Command>()
-    ensures { OutcomesHaveCauses C.shows C.has_status C.call_failed }
+    ensures causes { OutcomesHaveCauses C.shows C.has_status C.call_failed }
+    ensures met { ToldIsMet }
 {}
