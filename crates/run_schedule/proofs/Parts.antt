@@ -283,10 +283,44 @@ module _ (to_create to_first to_second to_complete : What) (cell : Holder) (part
 
   noted : (lane : ℕ) → (unused : ℕ) × (unused ≤ count_by (λ (c : Dispatched). setting.wanted_memory c.dispatch.job.task) (in_lane lane jobs))
       × AreNoted ShowsReply no_text [] 0 unused (flat_map (λ (c : Dispatched). numbered_from c 0 c.dispatch.attempts) (in_lane lane jobs)) (notes lane)
-  noted zero = (0, omega arith, ([], 0, _, [], refl, quiet_before, refl, inl refl, said _ refl,
-      ([], 0, _, [], refl, quiet_before, refl, inl refl, said _ refl,
-      ([], 0, _, [], refl, quiet_before, refl, inl refl, said _ refl,
-      ([], 0, [], [], refl, quiet_before, refl, inl refl, said _ refl, (quiet_before, inl refl))))))
+  noted zero = (
+    0,
+    omega arith,
+    (
+      [],
+      0,
+      _,
+      [],
+      refl,
+      quiet_before,
+      refl,
+      inl refl,
+      said _ refl,
+      (
+        [],
+        0,
+        _,
+        [],
+        refl,
+        quiet_before,
+        refl,
+        inl refl,
+        said _ refl,
+        (
+          [],
+          0,
+          _,
+          [],
+          refl,
+          quiet_before,
+          refl,
+          inl refl,
+          said _ refl,
+          ([], 0, [], [], refl, quiet_before, refl, inl refl, said _ refl, (quiet_before, inl refl)),
+        ),
+      ),
+    ),
+  )
   noted (suc lane) = (0, omega arith, nothing_noted _ _ (ap (λ (ds : List Dispatched). flat_map (λ (c : Dispatched). numbered_from c 0 c.dispatch.attempts) ds) (no_jobs lane)) (nothing _ lane))
 
   -- no job is given again

@@ -173,8 +173,16 @@ module _ (Shows : Ask → ℕ → Talk → Class → List ℕ → Type 0) (HasSt
   sends_so c e = sends op.Delete 0 c (subst (λ (a : Act). is_act (act.Send op.Delete 0) a ≡ true) (sym e) (act_itself op.Delete 0))
 
   deleted_by : ((carried : SeenCarried) × Contains (share w n events) (Came carried) × (sent carried ≡ act.Send op.Delete 0) × (said : Reply) × (carried.ending ≡ ending.Gained said)) → Deleted
-  deleted_by d = (d.3, gained_is (job_of n op.Delete 0) d.3 (d.0, d.1, job_is d.0.job.id (job_of n op.Delete 0) (of_its_task Shows s setting planned events dispatched coming r n w of_plan events d.0 d.1)
-      (sends_so d.0 d.2).0 (sends_so d.0 d.2).1, d.4))
+  deleted_by d = (
+    d.3,
+    gained_is (job_of n op.Delete 0) d.3 (
+      d.0,
+      d.1,
+      job_is d.0.job.id (job_of n op.Delete 0) (of_its_task Shows s setting planned events dispatched coming r n w of_plan events d.0 d.1)
+          (sends_so d.0 d.2).0 (sends_so d.0 d.2).1,
+      d.4,
+    ),
+  )
 
   gone_deleted : task.moves ≡ true → (k : Kind) → task.kind ≡ k → HasGone (share w n events) k → IsObjectPlace task.source → Deleted
   gone_deleted moves kind.Upload so gone object = absurd (file_or_object task.source (subst (MovesSource task) so (told.moves n task is_task moves)) object)

@@ -415,9 +415,9 @@ module _ (Shows : Ask → ℕ → Talk → Class → List ℕ → Type 0) (HasSt
           in_later : Has t.later (Came back_d.carried)
           in_later = elim (has-append_cases ends.later t.later (Came back_d.carried) (subst (λ (h : History). Has h (Came back_d.carried)) stands.since_is
               (since_came w n stands.newer (Back stands.lane t.carried ∷ stands.rest) back_d.lane back_d.carried there (ap (λ (j : JobId). j.task) same_id ∙ stands.task)))) [
-            | inl late ↦ absurd (ends.idle (Came back_d.carried) late)
-            | inr here ↦ here
-          ]
+                | inl late ↦ absurd (ends.idle (Came back_d.carried) late)
+                | inr here ↦ here
+              ]
 
           tried : has_tries back_d.carried ≡ false
           tried = t.none back_d.carried in_later

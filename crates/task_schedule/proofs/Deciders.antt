@@ -1,5 +1,5 @@
 -- The act that decides a task: once it was given, each act before it has done what it was to do.
-use Rattle.std.proofs.Common.{append_assoc, ◌≡◌, ◌≢◌, ◌∙◌, ◌==◌, ◌&&◌, ◌||◌, ◌⊎◌, ◌+◌, ◌++◌, ◌<◌, ◌≤◌, ℕ, Bool, true, false, [], ◌∷◌, Option, Some, None, refl, sym, subst, ap, inl, inr, arith, not}
+use Rattle.std.proofs.Common.{append_assoc, ◌≡◌, ◌∙◌, ◌==◌, ◌&&◌, ◌⊎◌, ◌+◌, ◌++◌, ◌<◌, ◌≤◌, ℕ, Bool, true, false, [], ◌∷◌, refl, sym, subst, ap, inl, inr, arith, not}
 use Rattle.std.proofs.lemmas.Bool.{and_parts, eqb-true, ltb-true}
 use Rattle.std.specs.Prelude.{if◌then◌else◌, is_some, nat_lt}
 use Rattle.jobs.specs.Endings.{SeenCarried}
@@ -15,17 +15,17 @@ use Rattle.task_acts.specs.declared.acts.FileCame.TheVariants as file
 use Rattle.task_acts.specs.declared.acts.Stage.{Stage}
 use Rattle.task_acts.specs.declared.acts.Stage.TheVariants as at
 use Rattle.task_acts.specs.declared.work.Work.{Work}
-use Rattle.task_acts.specs.Failures.{carried_cause, file_cause, is_cut_short, is_fine, is_stopped}
+use Rattle.task_acts.specs.Failures.{carried_cause, file_cause, is_cut_short, is_stopped}
 use Rattle.task_acts.specs.Histories.{Came, Gave, History, Returned, is_act, sent}
 use Rattle.task_acts.specs.Kept.{IsHistory}
 use Rattle.task_acts.specs.Laws.{IsTidying}
 use Rattle.task_acts.specs.Rule.{is_decided, is_decided_by, is_due, is_each_done, is_named, is_ready_in}
-use Rattle.task_acts.specs.Stages.{carried_stage, file_stage, has_done, has_ended, is_out, may_be_given, stage}
+use Rattle.task_acts.specs.Stages.{carried_stage, file_stage, has_done, has_ended, may_be_given, stage}
 use Rattle.task_acts.specs.Work.{deciding_op, first_number, is_piece, numbers}
 use Rattle.shared_lemmas.proofs.Members.{Has, split_of}
 use Rattle.task_progress.specs.Progress.{HasPiece}
-use Rattle.task_progress.proofs.Begun.{has_begun, has_number, is_false, out_has_begun, same_act}
-use Rattle.task_progress.proofs.Endings.{chosen, no, skipped}
+use Rattle.task_progress.proofs.Begun.{has_begun, has_number, is_false, out_has_begun}
+use Rattle.task_progress.proofs.Endings.{chosen, no}
 use Rattle.task_progress.proofs.Progress.{IsCounted, all_has, both, in_range, less_is}
 use Rattle.task_progress.proofs.Quiet.{done_has_begun}
 use Rattle.task_schedule.proofs.Givings.{stopped_is_abort}
@@ -395,7 +395,7 @@ module _ (w : Work) where
   same_number : (n : ℕ) → (n == n) ≡ true
   same_number n = grind arith
 
-  itself : (a : Act) → is_act a a ≡ true
+  pub itself : (a : Act) → is_act a a ≡ true
   itself (act.Send o k) = act_itself o k
   itself (act.Read n) = same_number n
   itself act.Assemble = refl

@@ -1,5 +1,5 @@
 -- The marks of the deciding request of a task, in its history and in the dispatches of its run.
-use Rattle.std.proofs.Common.{◌≡◌, ◌∙◌, ◌==◌, ◌&&◌, ◌++◌, ℕ, zero, suc, true, false, List, [], ◌∷◌, Some, refl, sym, subst, ap, inl, inr, arith, slice_get, map}
+use Rattle.std.proofs.Common.{◌≡◌, ◌∙◌, ◌==◌, ◌&&◌, ◌++◌, ℕ, zero, suc, true, List, [], ◌∷◌, Some, refl, sym, subst, ap, arith, slice_get, map}
 use Rattle.std.proofs.lemmas.Bool.{and_parts, eqb-true}
 use Rattle.jobs.specs.Endings.{SeenCarried}
 use Rattle.run_promise.specs.Dispatches.{Attempt, Dispatched, is_op, op_number}

@@ -348,7 +348,7 @@ module _ (Shows : Ask → ℕ → Talk → Class → List ℕ → Type 0) (s : S
             (
               tt,
               no_abort_of job.0.job.id.op job.0.job.id.number (λ e. false_true (sym stop.going ∙ abort_stopped w (share w n (stop.between ++ Back back.lane back.carried ∷ rest)) job.0.job.id.number then_holds.1
-                (subst (λ (p : Op). is_out (stage w (share w n (stop.between ++ Back back.lane back.carried ∷ rest)) (act.Send p job.0.job.id.number)) ≡ true) e then_holds.0.0))),
+                  (subst (λ (p : Op). is_out (stage w (share w n (stop.between ++ Back back.lane back.carried ∷ rest)) (act.Send p job.0.job.id.number)) ≡ true) e then_holds.0.0))),
               job_failed w (share w n events) holds_all job.0 (has_newest (Came job.0) (share w n (stop.between ++ Back back.lane back.carried ∷ rest)) job.1) job.2 (memory_some (carried_cause w job.0) job.3),
             ),
           )

@@ -1,6 +1,5 @@
 -- A task of which a job was kept to its end, and of which something else had failed, ended as failed.
-use Rattle.std.proofs.Common.{◌≡◌, ◌≢◌, ◌∙◌, ◌⊎◌, ℕ, Bool, true, false, Option, Some, Contains, refl, sym, subst, ap, inl, inr}
-use Rattle.jobs.specs.Endings.{SeenCarried}
+use Rattle.std.proofs.Common.{◌≡◌, ◌≢◌, ◌∙◌, ◌⊎◌, ℕ, true, false, Some, refl, sym, subst, ap, inl, inr}
 use Rattle.s3_model.specs.declared.outcomes.Cause.{Cause}
 use Rattle.s3_model.specs.declared.outcomes.Outcome.{Outcome}
 use Rattle.s3_model.specs.declared.outcomes.Outcome.TheVariants as outcome

@@ -11,6 +11,7 @@ pub mod Joined
 pub mod KeptJobs
 pub mod Marks
 pub mod Places
+pub mod Removals
 pub mod Returned
 pub mod SentJobs
 pub mod Shares

@@ -222,7 +222,7 @@ module _ (w : Work) where
           contains_of c.tries mark.Success (gained_success c came.said ended),
         )
 
-    happened_by : (k : Kind) → w.of_kind ≡ k → is_decided_by w (stage w h) (is_stopped w h) k ≡ true → HasHappened w h k
+    pub happened_by : (k : Kind) → w.of_kind ≡ k → is_decided_by w (stage w h) (is_stopped w h) k ≡ true → HasHappened w h k
     happened_by kind.Upload k e = done_mark (ap is_by_request k) e
     happened_by kind.Download k e = contains_of h (Returned act.Rename file.Fine) (returned_fine h is act.Rename refl e)
     happened_by kind.Copy k e = done_mark (ap is_by_request k) e

@@ -1,5 +1,5 @@
 -- What the outcome of a task shows of its history: of its deciding request, and of the source of a move.
-use Rattle.std.specs.Prelude.{◌≡◌, ℕ, true, List, Contains, Some, slice_get}
+use Rattle.std.specs.Prelude.{◌≡◌, ◌≢◌, ◌++◌, ◌∷◌, ℕ, true, List, Contains, Some, slice_get}
 use Rattle.manager_moves.specs.Runs.{Events, Shared, share}
 use Rattle.run_promise.specs.Dispatches.{Dispatched}
 use Rattle.run_promise.specs.Outcomes.{HasDeciding}
@@ -20,7 +20,7 @@ use Rattle.s3_model.specs.declared.tasks.Kind.{Kind}
 use Rattle.s3_model.specs.declared.tasks.Kind.TheVariants as kind
 use Rattle.s3_model.specs.declared.tries.Mark.{Mark}
 use Rattle.s3_model.specs.declared.tries.Mark.TheVariants as mark
-use Rattle.task_acts.specs.Ends.{decides, outcome_of}
+use Rattle.task_acts.specs.Ends.{decides, outcome_of, removal}
 use Rattle.task_acts.specs.Histories.{Came, Gave, History, Returned, sent}
 use Rattle.task_acts.specs.Kept.{IsHistory}
 use Rattle.task_acts.specs.declared.acts.Act.{Act}
@@ -72,6 +72,12 @@ IsShownBy w history how = ⊥
 abbrev pub OutcomesShow : Type 0
 OutcomesShow = (w : Work) (history : History) (how : Outcome) → HasPiece w → IsHistory w history
     → outcome_of w history ≡ Some how → IsShownBy w history how
+
+-- The source of a move goes only once what the task is for has happened.
+abbrev pub SourcesGoOnceDecided : Type 0
+SourcesGoOnceDecided = (w : Work) (history later before : History) → IsHistory w history
+    → w.of_kind ≢ kind.RemoveObject → w.of_kind ≢ kind.RemoveFile
+    → history ≡ later ++ Gave (removal w.of_kind) ∷ before → HasHappened w before w.of_kind
 
 -- `Shows ask limit talk class bytes`: the talk has that class for the ask, and its answer that body;
 -- `HasStatus ask limit talk status`: its answer has that HTTP status;

@@ -11,7 +11,7 @@ ghost use Rattle.task_schedule.specs.Givings.{
   StopsGivings,
 };
 ghost use Rattle.task_schedule.specs.Journals.{SharesKeepSchedule};
-ghost use Rattle.task_schedule.specs.Outcomes.{MarksAreOfDispatches, OutcomesShow};
+ghost use Rattle.task_schedule.specs.Outcomes.{MarksAreOfDispatches, OutcomesShow, SourcesGoOnceDecided};
 ghost use Rattle.task_schedule.specs.Witness.{RunIsMet};
 
 use world_laws::{Command, Reading};
@@ -44,8 +44,10 @@ pub fn shares_keep_schedule<R: Reading>()
 
 /// The outcome of a task shows what became of its deciding request and of the source of a move: Done and Copied that
 /// it came with success, Failed that no attempt of it succeeded or was uncertain, Unknown that one was uncertain and
-/// none a success. The marks of that request in the history of the task are those that the dispatches of the run show.
+/// none a success. The source of a move is removed only once what the task is for has happened. The marks of that
+/// request in the history of the task are those that the dispatches of the run show.
 pub fn outcomes_show<C: Command>()
     ensures show { OutcomesShow }
+    ensures sources { SourcesGoOnceDecided }
     ensures marks { MarksAreOfDispatches C.shows C.has_status C.call_failed }
 {}
