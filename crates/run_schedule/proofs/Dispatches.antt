@@ -1,8 +1,8 @@
 -- The dispatches of a journal: what stood before each of them, and where it came.
-use Rattle.std.proofs.Common.{append_assoc, append-nil, ◌≡◌, ◌∙◌, ◌⊎◌, ◌+◌, ◌++◌, ◌<◌, ◌≤◌, ℕ, zero, suc, Bool, true, false, List, [], ◌∷◌, Option, Some, None, refl, sym, subst, ap, inl, inr, arith, length, map, slice_get}
+use Rattle.std.proofs.Common.{append_assoc, append-nil, ◌≡◌, ◌∙◌, ◌+◌, ◌++◌, ◌<◌, ◌≤◌, ℕ, zero, suc, Bool, true, false, List, [], ◌∷◌, Some, refl, sym, subst, ap, inl, inr, arith, length, map, slice_get}
 use Rattle.std.proofs.lemmas.Grind.{reverse_onto}
 use Rattle.std.proofs.lemmas.List.{length-append}
-use Rattle.std.specs.Prelude.{drop, filter, nat_lt, reverse, sum_by, if◌then◌else◌}
+use Rattle.std.specs.Prelude.{nat_lt, reverse, sum_by, if◌then◌else◌}
 use Rattle.run_promise.specs.Dispatches.{Attempt, Dispatch, dispatches_from, earlier_dispatches, is_job, next_came, next_marks, paired, place_of}
 use Rattle.s3_model.specs.Talks.{Talk}
 use Rattle.s3_model.specs.declared.outcomes.Event.{Event as Entry}
@@ -10,7 +10,7 @@ use Rattle.s3_model.specs.declared.outcomes.Event.TheVariants as entry
 use Rattle.s3_model.specs.declared.outcomes.JobId.{JobId}
 use Rattle.s3_model.specs.declared.tries.Mark.{Mark}
 use Rattle.shared_lemmas.proofs.Clashes.{none_is_some, some_is}
-use Rattle.shared_lemmas.proofs.Members.{Has, has-append_cases, has-append_left, has-append_right, has-filter, has_at, has_middle, kept, passes, reversed}
+use Rattle.shared_lemmas.proofs.Members.{Has, has-append_cases, has-append_left, has-filter, has_at, has_middle, kept, passes, reversed}
 use Rattle.task_progress.proofs.Endings.{no}
 use Rattle.task_progress.proofs.Progress.{less_is}
 use Rattle.world_laws.proofs.Jobs.{job_itself, job_same}

@@ -1,5 +1,5 @@
 -- The events of a run and their entries in its journal.
-use Rattle.std.proofs.Common.{append_assoc, append-nil, ◌≡◌, ◌∙◌, ◌⊎◌, ◌++◌, ℕ, List, [], ◌∷◌, Option, Some, None, refl, sym, subst, ap, inl, inr}
+use Rattle.std.proofs.Common.{append_assoc, append-nil, ◌≡◌, ◌∙◌, ◌++◌, ℕ, List, [], ◌∷◌, Option, Some, None, refl, sym, subst, ap, inl, inr}
 use Rattle.jobs.specs.Endings.{SeenCarried}
 use Rattle.manager_moves.specs.Runs.{Back, Called, Event, Events, Lined, Made, Sent, Stopped, journal_of}
 use Rattle.run_promise.specs.Schedule.{job_of}

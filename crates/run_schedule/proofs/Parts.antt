@@ -1,26 +1,22 @@
 -- A whole run of one upload in two parts meets what the laws take.
-use Rattle.std.proofs.Common.{rules, ◌≡◌, ◌∙◌, ◌==◌, ◌+◌, ◌++◌, ◌<◌, ◌≤◌, ℕ, zero, suc, Bool, true, false, List, [], ◌∷◌, Option, Some, None, AllPairs, Contains, refl, sym, subst, ap, inl, inr, arith, slice_get, length, if◌then◌else◌}
+use Rattle.std.proofs.Common.{rules, ◌≡◌, ◌∙◌, ◌==◌, ◌+◌, ◌++◌, ◌<◌, ◌≤◌, ℕ, zero, suc, Bool, true, false, List, [], ◌∷◌, Some, None, AllPairs, Contains, refl, sym, subst, ap, inl, inr, arith, slice_get, length, if◌then◌else◌}
 use Rattle.std.proofs.lemmas.List.Sorted.{IsPermutation-refl}
-use Rattle.std.specs.List.{list_all}
-use Rattle.std.specs.Prelude.{IsSome, count_by, flat_map, not}
+use Rattle.std.specs.Prelude.{count_by, flat_map, not}
 use Rattle.jobs.specs.Endings.{HaveNoSuccess, SeenCarried}
 use Rattle.jobs.specs.Holders.{Holder}
-use Rattle.jobs.specs.Jobs.{IsAskOf}
-use Rattle.jobs.specs.declared.ending.Ending.{Ending}
 use Rattle.jobs.specs.declared.ending.Ending.TheVariants as ending
 use Rattle.jobs.specs.declared.what.What.{What}
-use Rattle.manager_moves.specs.Examples.{back, shared}
+use Rattle.manager_moves.specs.Examples.{shared}
 use Rattle.manager_moves.specs.Laws.{IsRun}
-use Rattle.manager_moves.specs.Runs.{Back, Called, Event, Events, Lined, Made, Sent, Shared, Stopped, journal_of, share}
+use Rattle.manager_moves.specs.Runs.{Back, Called, Event, Events, Lined, Sent, Stopped, journal_of, share}
 use Rattle.run_progress.specs.RunProgress.{HasMeans}
 use Rattle.run_promise.specs.Buffers.{holds_buffer}
 use Rattle.run_promise.specs.Carried.{AreNoted, IsCarried, IsSaid, IsWanting, Numbered, SaysAll, WouldGoOn, in_lane, mark_of, numbered_from, talks_of}
 use Rattle.run_promise.specs.Dispatches.{Attempt, Dispatched, last_of}
 use Rattle.run_promise.specs.Schedule.{IsBefore, IsBeforeAny, job_of}
 use Rattle.s3_model.specs.Classes.{is_tried_again}
-use Rattle.s3_model.specs.Parts.{HasPieces}
 use Rattle.s3_model.specs.Replies.{IsSameClass}
-use Rattle.s3_model.specs.Talks.{Began, Moment, Note, Talk}
+use Rattle.s3_model.specs.Talks.{Began, Note, Talk}
 use Rattle.s3_model.specs.declared.answers.Class.{Class}
 use Rattle.s3_model.specs.declared.answers.Class.TheVariants as class
 use Rattle.s3_model.specs.declared.answers.Reply.{Reply}
@@ -28,7 +24,6 @@ use Rattle.s3_model.specs.declared.answers.Reply.TheVariants as reply
 use Rattle.s3_model.specs.declared.answers.Why.TheVariants as why
 use Rattle.s3_model.specs.declared.bytes.Part.{Part}
 use Rattle.s3_model.specs.declared.outcomes.Cause.{Cause}
-use Rattle.s3_model.specs.declared.outcomes.Event.{Event as Entry}
 use Rattle.s3_model.specs.declared.outcomes.Event.TheVariants as entry
 use Rattle.s3_model.specs.declared.outcomes.JobId.{JobId}
 use Rattle.s3_model.specs.declared.outcomes.Outcome.TheVariants as outcome
@@ -54,7 +49,6 @@ use Rattle.task_progress.proofs.Endings.{no, skipped}
 use Rattle.task_progress.proofs.Progress.{all_has}
 use Rattle.task_schedule.proofs.Failures.{all_pairs}
 use Rattle.task_schedule.proofs.Places.{filled, same_place}
-use Rattle.task_schedule.specs.Asks.{IsStepOf}
 use Rattle.task_schedule.specs.Journals.{AreWorks, EndsAs, IsAsked, ShowOne, fails_otherwise, place_after}
 use Rattle.task_schedule.specs.Witness.{no_talk}
 use Rattle.run_schedule.proofs.Entries.{given_came}

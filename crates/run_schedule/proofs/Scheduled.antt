@@ -1,26 +1,23 @@
 -- A run with its planning keeps to the whole schedule.
-use Rattle.std.proofs.Common.{◌≡◌, ◌≢◌, ◌∙◌, ◌⊎◌, ◌+◌, ◌<◌, ℕ, zero, suc, Bool, true, false, List, [], ◌∷◌, Option, Some, None, Contains, AllPairs, refl, sym, subst, ap, inl, inr, arith, filter, slice_get}
+use Rattle.std.proofs.Common.{◌≡◌, ◌≢◌, ◌∙◌, ◌⊎◌, ◌<◌, ℕ, zero, suc, Bool, true, false, List, [], ◌∷◌, Option, Some, None, Contains, refl, sym, ap, inl, inr, arith, filter, slice_get}
 use Rattle.std.specs.Prelude.{IsPermutation, IsSome, if◌then◌else◌, is_some, not}
-use Rattle.manager_moves.specs.Runs.{Events, Shared}
 use Rattle.run_promise.specs.Dispatches.{Dispatched, IsSuccessLast, last_of}
 use Rattle.run_promise.specs.Planning.{IsPlanning}
 use Rattle.run_promise.specs.Schedule.{IsBefore, IsBeforeAny, IsFailed, IsSchedule, Setting, is_planning, op_of, planning_of}
-use Rattle.s3_model.specs.Talks.{Note, Talk}
+use Rattle.s3_model.specs.Talks.{Talk}
 use Rattle.s3_model.specs.declared.answers.Class.{Class}
-use Rattle.s3_model.specs.declared.outcomes.Event.{Event as Entry}
 use Rattle.s3_model.specs.declared.outcomes.JobId.{JobId}
 use Rattle.s3_model.specs.declared.requests.Ask.{Ask}
 use Rattle.s3_model.specs.declared.requests.Ask.TheVariants as ask
-use Rattle.s3_model.specs.declared.requests.Op.{Op}
 use Rattle.s3_model.specs.declared.requests.Op.TheVariants as op
 use Rattle.shared_lemmas.proofs.Clashes.{none_is_some, some_is}
-use Rattle.shared_lemmas.proofs.Members.{Has, contains_of, has, has-filter, has_at}
+use Rattle.shared_lemmas.proofs.Members.{contains_of, has, has-filter, has_at}
 use Rattle.task_progress.proofs.Endings.{no}
 use Rattle.task_schedule.proofs.Failures.{all_pairs}
 use Rattle.task_schedule.proofs.Marks.{index_of, pair_of}
 use Rattle.task_schedule.specs.Journals.{ComeInOrder, KeepsSchedule}
 use Rattle.run_schedule.proofs.Whole.{runs_keep_schedule}
-use Rattle.run_schedule.specs.Runs.{IsWholeRun, KeepsPlanning, RunsAreScheduled}
+use Rattle.run_schedule.specs.Runs.{KeepsPlanning, RunsAreScheduled}
 
 -- ---- a pair of a list that passes a test
 

@@ -1,10 +1,9 @@
 -- The jobs that a run sent are those that its journal and its logs show.
-use Rattle.std.proofs.Common.{append_assoc, ◌≡◌, ◌∙◌, ◌⊎◌, ◌+◌, ◌++◌, ◌<◌, ℕ, Bool, true, false, List, [], ◌∷◌, Option, Some, None, Contains, refl, sym, subst, ap, inl, inr, arith, length, map, slice_get}
+use Rattle.std.proofs.Common.{append_assoc, ◌≡◌, ◌∙◌, ◌⊎◌, ◌+◌, ◌++◌, ◌<◌, ℕ, Bool, true, false, List, ◌∷◌, Option, Some, None, Contains, refl, sym, subst, ap, inl, inr, arith, length, map, slice_get}
 use Rattle.std.proofs.lemmas.List.{length-append}
 use Rattle.jobs.specs.Endings.{SeenCarried}
 use Rattle.manager_moves.specs.Runs.{Back, Event, Events, Sent, journal_of}
-use Rattle.run_promise.specs.Carried.{IsCarried}
-use Rattle.run_promise.specs.Dispatches.{Attempt, Dispatch, Dispatched, dispatches, next_came, next_marks, paired, place_of}
+use Rattle.run_promise.specs.Dispatches.{Attempt, Dispatch, Dispatched, next_came, next_marks, paired, place_of}
 use Rattle.run_promise.specs.Schedule.{Setting, job_of}
 use Rattle.s3_model.specs.Talks.{Note, Talk}
 use Rattle.s3_model.specs.declared.answers.Class.{Class}
@@ -18,12 +17,12 @@ use Rattle.shared_lemmas.proofs.Clashes.{none_is_some, some_is}
 use Rattle.shared_lemmas.proofs.Members.{Has, contains_of, has, has-append_cases, has-append_right, has-map, has_middle, place_middle, split_of}
 use Rattle.task_schedule.proofs.Deciding.{makes}
 use Rattle.task_schedule.proofs.Failures.{all_pairs}
-use Rattle.task_schedule.specs.Journals.{AreSent, IsBack, IsFirst, IsOf, IsSecond, IsSent, place_after}
-use Rattle.world_laws.proofs.Carried.{are_given, has_come}
+use Rattle.task_schedule.specs.Journals.{AreSent, IsBack, IsFirst, IsSecond, IsSent, place_after}
+use Rattle.world_laws.proofs.Carried.{are_given}
 use Rattle.world_laws.proofs.Jobs.{job_is}
 use Rattle.run_schedule.proofs.Dispatches.{ComesNext, StandsAt, comes_next, given_in_turn, marks_of, stands_in}
-use Rattle.run_schedule.proofs.Entries.{EventAt, back_entry, behind, entry_of, event_at, is_back, is_sent, journal_around, journal_parts, sent_entry}
-use Rattle.run_schedule.specs.Runs.{IsJournaled, IsOfPlanning, JournalsShowSent}
+use Rattle.run_schedule.proofs.Entries.{EventAt, back_entry, behind, entry_of, event_at, is_back, is_sent, journal_around, sent_entry}
+use Rattle.run_schedule.specs.Runs.{IsJournaled, JournalsShowSent}
 
 -- it comes so, where it comes
 came_with : (x : Option (ℕ × List Mark)) (place : ℕ) → place_of x ≡ Some place → (marks : List Mark) × (x ≡ Some (place, marks))

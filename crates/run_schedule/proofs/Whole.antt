@@ -1,7 +1,7 @@
 -- A run that came to its end keeps to the schedule.
-use Rattle.std.proofs.Common.{◌≡◌, ◌∙◌, ◌==◌, ◌∷◌, ℕ, Bool, true, false, List, Option, Some, Contains, refl, sym, subst, ap, slice_get, length}
+use Rattle.std.proofs.Common.{◌≡◌, ℕ, Bool, true, false, List, Option, Some, Contains, refl, sym, slice_get, length}
 use Rattle.std.specs.Prelude.{IsSome, is_some, nat_lt, if◌then◌else◌, None}
-use Rattle.manager_moves.specs.Runs.{Events, Sent, Shared, lacks_memory, made_count, outcome_in, share}
+use Rattle.manager_moves.specs.Runs.{Events, Sent, Shared, lacks_memory, made_count, share}
 use Rattle.run_progress.proofs.Progress.{tasks_have_ended}
 use Rattle.run_progress.proofs.Waiting.{is_waiting, memory_waits}
 use Rattle.run_promise.specs.Dispatches.{Dispatched}

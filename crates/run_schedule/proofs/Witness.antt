@@ -1,17 +1,16 @@
 -- A whole run of one small upload meets what the laws take.
-use Rattle.std.proofs.Common.{◌≡◌, ◌∙◌, ◌==◌, ◌+◌, ◌++◌, ◌<◌, ◌≤◌, ℕ, zero, suc, Bool, true, false, List, [], ◌∷◌, Some, Contains, refl, sym, subst, ap, inl, inr, arith, slice_get, length, if◌then◌else◌}
+use Rattle.std.proofs.Common.{◌≡◌, ◌∙◌, ◌==◌, ◌+◌, ◌++◌, ◌<◌, ◌≤◌, ℕ, zero, suc, Bool, false, List, [], ◌∷◌, Some, Contains, refl, sym, subst, ap, inl, arith, slice_get, length, if◌then◌else◌}
 use Rattle.std.specs.Prelude.{count_by, flat_map}
 use Rattle.jobs.specs.Endings.{SeenCarried}
 use Rattle.jobs.specs.Holders.{Holder}
 use Rattle.jobs.specs.Jobs.{IsAskOf}
 use Rattle.jobs.specs.declared.ending.Ending.{Ending}
-use Rattle.jobs.specs.declared.ending.Ending.TheVariants as ending
 use Rattle.jobs.specs.declared.what.What.{What}
-use Rattle.manager_moves.specs.Examples.{shared, stored, upload}
+use Rattle.manager_moves.specs.Examples.{shared, upload}
 use Rattle.manager_moves.specs.Runs.{Back, Events, journal_of, share}
 use Rattle.run_progress.specs.RunProgress.{HasMeans}
-use Rattle.run_promise.specs.Carried.{AreNoted, IsCarried, IsSaid, MayStop, IsWanting, Numbered, SaysAll, WouldGoOn, in_lane, mark_of, numbered_from, talks_of}
-use Rattle.run_promise.specs.Dispatches.{Attempt, Dispatched, last_of}
+use Rattle.run_promise.specs.Carried.{AreNoted, IsCarried, IsSaid, IsWanting, Numbered, SaysAll, WouldGoOn, in_lane, mark_of, numbered_from, talks_of}
+use Rattle.run_promise.specs.Dispatches.{Attempt, Dispatched}
 use Rattle.run_promise.specs.Schedule.{job_of}
 use Rattle.s3_model.specs.Classes.{is_tried_again}
 use Rattle.s3_model.specs.Talks.{Began, Moment, Note, Talk}
@@ -20,7 +19,6 @@ use Rattle.s3_model.specs.declared.answers.Class.TheVariants as class
 use Rattle.s3_model.specs.declared.answers.Reply.TheVariants as reply
 use Rattle.s3_model.specs.declared.answers.Why.TheVariants as why
 use Rattle.s3_model.specs.declared.bytes.Part.{Part}
-use Rattle.s3_model.specs.declared.outcomes.Event.{Event as Entry}
 use Rattle.s3_model.specs.declared.outcomes.Event.TheVariants as entry
 use Rattle.s3_model.specs.declared.outcomes.JobId.{JobId}
 use Rattle.s3_model.specs.declared.requests.Op.TheVariants as op
@@ -28,7 +26,7 @@ use Rattle.s3_model.specs.declared.tries.Mark.{Mark}
 use Rattle.s3_model.specs.declared.tries.Mark.TheVariants as mark
 use Rattle.shared_lemmas.proofs.Clashes.{none_is_some, some_is}
 use Rattle.shared_lemmas.proofs.Lists.{no_cons}
-use Rattle.shared_lemmas.proofs.Members.{Has, contains_of, has}
+use Rattle.shared_lemmas.proofs.Members.{contains_of, has}
 use Rattle.task_progress.proofs.Endings.{no, skipped}
 use Rattle.task_schedule.proofs.Witness.{back_same, came_at, only, run_is_met}
 use Rattle.task_schedule.specs.Asks.{IsStepOf}

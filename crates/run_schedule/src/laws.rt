@@ -6,9 +6,9 @@ ghost use Rattle.run_schedule.specs.Witness.{WholeRunIsMet};
 
 use world_laws::{Command, Reading};
 
-/// The jobs that a run of many tasks sent are those that its journal and its logs show: each has its dispatch, in order,
-/// with the marks that it came back with, and was given before or was not. The journal is that of the planning, and
-/// behind it that of the run; and what came back ended as its last talk shows.
+/// The jobs that a run of many tasks sent are those that its journal and its logs show: each has its dispatch, in
+/// order, with the marks that it came back with, and was given before or was not. The journal is that of the planning,
+/// and behind it that of the run; and what came back ended as its last talk shows.
 pub fn journals_show_sent<R: Reading>()
     ensures { JournalsShowSent R.shows }
 {}

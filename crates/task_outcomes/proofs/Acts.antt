@@ -1,13 +1,11 @@
 -- Which acts of a task can fail, by its kind and by whether it was decided.
-use Rattle.std.proofs.Common.{◌≡◌, ◌≢◌, ◌∙◌, ◌==◌, ◌&&◌, ◌⊎◌, ℕ, Bool, true, false, Option, Some, None, Contains, refl, sym, subst, ap, inl, inr, not}
+use Rattle.std.proofs.Common.{◌≡◌, ◌≢◌, ◌∙◌, ◌==◌, ◌&&◌, ◌⊎◌, ℕ, true, false, refl, sym, subst, ap, inl, inr, not}
 use Rattle.std.proofs.lemmas.Bool.{and_parts}
-use Rattle.std.specs.Prelude.{is_some}
-use Rattle.jobs.specs.Endings.{SeenCarried}
 use Rattle.run_promise.specs.Outcomes.{deciding}
 use Rattle.s3_model.specs.declared.requests.Op.TheVariants as op
 use Rattle.s3_model.specs.declared.tasks.Kind.{Kind}
 use Rattle.s3_model.specs.declared.tasks.Kind.TheVariants as kind
-use Rattle.shared_lemmas.proofs.Members.{Has, contains_of}
+use Rattle.shared_lemmas.proofs.Members.{contains_of}
 use Rattle.task_acts.specs.declared.acts.Act.{Act}
 use Rattle.task_acts.specs.declared.acts.Act.TheVariants as act
 use Rattle.task_acts.specs.declared.acts.Stage.{Stage}
@@ -15,12 +13,11 @@ use Rattle.task_acts.specs.declared.acts.Stage.TheVariants as at
 use Rattle.task_acts.specs.declared.work.Work.{Work}
 use Rattle.task_acts.specs.Ends.{removal}
 use Rattle.task_acts.specs.Failures.{is_stopped}
-use Rattle.task_acts.specs.Histories.{Came, Gave, History, sent}
+use Rattle.task_acts.specs.Histories.{Came, Gave, History}
 use Rattle.task_acts.specs.Kept.{IsHistory, is_file_act}
 use Rattle.task_acts.specs.Laws.{IsTidying}
-use Rattle.task_acts.specs.Rule.{is_decided_by, is_decided_in, is_due, is_named}
+use Rattle.task_acts.specs.Rule.{is_decided_by, is_decided_in, is_due}
 use Rattle.task_acts.specs.Stages.{has_done, may_be_given, stage}
-use Rattle.task_acts.specs.Work.{deciding_op}
 use Rattle.task_acts.proofs.RuleLaws.{aborts_are_last}
 use Rattle.task_progress.specs.Progress.{HasPiece}
 use Rattle.task_progress.proofs.Begun.{has_begun, is_false}
@@ -29,8 +26,8 @@ use Rattle.task_progress.proofs.Progress.{IsCounted}
 use Rattle.task_progress.proofs.Quiet.{done_has_begun}
 use Rattle.task_progress.proofs.Tags.{came_fine}
 use Rattle.task_schedule.proofs.Deciders.{Follows, IsNoAbort, decider, decider_of, failed_late, named_is}
-use Rattle.task_schedule.proofs.Givings.{aborted_is_not_completed, stopped_is_abort}
-use Rattle.task_schedule.proofs.Standing.{begun_given, done_stays, was_given}
+use Rattle.task_schedule.proofs.Givings.{aborted_is_not_completed}
+use Rattle.task_schedule.proofs.Standing.{begun_given, was_given}
 
 -- ---- calls on files, by the kind
 

@@ -1,12 +1,12 @@
 -- The first failure of a task: the dispatch of a run that failed first.
-use Rattle.std.proofs.Common.{append_assoc, ◌≡◌, ◌∙◌, ◌⊎◌, ◌+◌, ◌++◌, ◌<◌, ◌≤◌, ℕ, Bool, true, false, List, [], ◌∷◌, Option, Some, None, Contains, refl, sym, subst, ap, inl, inr, arith, slice_get}
+use Rattle.std.proofs.Common.{◌≡◌, ◌∙◌, ◌⊎◌, ◌+◌, ◌++◌, ◌<◌, ℕ, Bool, true, false, List, ◌∷◌, Option, Some, None, Contains, refl, sym, subst, ap, inl, inr, arith, slice_get}
 use Rattle.std.proofs.lemmas.Bool.{ltb-true}
 use Rattle.std.proofs.lemmas.List.Sorted.{Contains-permutation}
 use Rattle.std.specs.Prelude.{is_some, nat_lt}
 use Rattle.jobs.specs.Endings.{SeenCarried}
-use Rattle.manager_moves.specs.Runs.{Back, Event, Events, Sent, Shared, share}
-use Rattle.run_promise.specs.Dispatches.{Dispatch, Dispatched}
-use Rattle.run_promise.specs.Outcomes.{FailsFirstBy, HasNoFailure, IsFailureOf, IsFirstFailure, IsLastCause}
+use Rattle.manager_moves.specs.Runs.{Back, Events, Sent, Shared, share}
+use Rattle.run_promise.specs.Dispatches.{Dispatched}
+use Rattle.run_promise.specs.Outcomes.{FailsFirstBy, HasNoFailure, IsFailureOf, IsLastCause}
 use Rattle.run_promise.specs.Schedule.{IsBeforePlace, IsFailed, Setting, job_of}
 use Rattle.s3_model.specs.Talks.{Talk}
 use Rattle.s3_model.specs.declared.answers.Class.{Class}
@@ -26,7 +26,7 @@ use Rattle.task_schedule.proofs.Failing.{came_after, given_once, in_dispatched, 
 use Rattle.task_schedule.proofs.Failures.{failed_fails}
 use Rattle.task_schedule.proofs.Joined as joined
 use Rattle.task_schedule.proofs.Joined.{IsReturn, its_id, return_of}
-use Rattle.task_schedule.proofs.Places.{fills, happened_before, same_place}
+use Rattle.task_schedule.proofs.Places.{happened_before, same_place}
 use Rattle.task_schedule.proofs.Returned.{has_come_back}
 use Rattle.task_schedule.proofs.SentJobs.{IsAt, at_of, twice}
 use Rattle.task_schedule.proofs.Shares.{BackAt, back_at, since, since_is}

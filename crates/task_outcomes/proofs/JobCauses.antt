@@ -1,17 +1,16 @@
 -- The cause that a job shows is that of its last talk.
-use Rattle.std.proofs.Common.{◌≡◌, ◌≢◌, ◌∙◌, ◌==◌, ◌&&◌, ◌||◌, ◌⊎◌, ◌++◌, ◌∷◌, ℕ, Bool, true, false, List, [], Option, Some, None, Contains, codes, length, refl, sym, subst, ap, inl, inr, arith, slice_get}
+use Rattle.std.proofs.Common.{◌≡◌, ◌≢◌, ◌∙◌, ◌==◌, ◌||◌, ◌⊎◌, ◌++◌, ◌∷◌, ℕ, Bool, true, false, List, Option, Some, None, Contains, codes, length, refl, sym, subst, ap, inl, inr, arith, slice_get}
 use Rattle.std.proofs.lemmas.Bool.{and_parts, eqb-true}
 use Rattle.std.proofs.lemmas.Slice.Eq.{bytes_eq-Decides}
-use Rattle.std.specs.Prelude.{if◌then◌else◌, is_some, IsSome}
+use Rattle.std.specs.Prelude.{if◌then◌else◌, is_some}
 use Rattle.std.specs.Str.{bytes_eq}
-use Rattle.jobs.specs.Endings.{IsEnded, IsReplyTo, SeenCarried}
+use Rattle.jobs.specs.Endings.{IsEnded, SeenCarried}
 use Rattle.jobs.specs.declared.ending.Ending.{Ending}
 use Rattle.jobs.specs.declared.ending.Ending.TheVariants as ending
 use Rattle.manager_moves.specs.Runs.{Events, Sent, Shared}
-use Rattle.run_promise.specs.Dispatches.{Attempt, Dispatched, FitsAsk, last_of}
+use Rattle.run_promise.specs.Dispatches.{Attempt, Dispatched, FitsAsk}
 use Rattle.run_promise.specs.Outcomes.{IsCauseOf, IsLastCause, ReadsSource, SaysChanged}
 use Rattle.run_promise.specs.Schedule.{Setting}
-use Rattle.s3_model.specs.Replies.{IsSameClass}
 use Rattle.s3_model.specs.Talks.{Talk}
 use Rattle.s3_model.specs.declared.answers.Class.{Class}
 use Rattle.s3_model.specs.declared.answers.Class.TheVariants as class
@@ -28,12 +27,12 @@ use Rattle.s3_model.specs.declared.requests.Op.TheVariants as op
 use Rattle.shared_lemmas.proofs.Clashes.{none_is_some, some_is}
 use Rattle.task_acts.specs.declared.work.Work.{Work}
 use Rattle.task_acts.specs.Failures.{carried_cause, ended_cause, is_asked_for, is_cut_short, is_memory, is_unfinished, lost_cause, reads_source, refused_cause, says_changed}
-use Rattle.task_progress.proofs.Endings.{chosen, no, skipped}
+use Rattle.task_progress.proofs.Endings.{no}
 use Rattle.task_progress.proofs.Progress.{both}
 use Rattle.task_schedule.specs.Journals.{EndsAs, IsBack, IsRunOf, ShowOne, ShowsLast}
 use Rattle.task_schedule.proofs.Joined.{back_at, is_ended}
 use Rattle.task_schedule.proofs.SentJobs.{IsAt}
-use Rattle.task_schedule.proofs.Wellness.{asked_as, asked_for, number_is, op_is, replies}
+use Rattle.task_schedule.proofs.Wellness.{asked_as, asked_for, number_is, replies}
 use Rattle.task_outcomes.specs.Causes.{HaveOneStatus, StatusesAreShown}
 
 -- ---- tests

@@ -1,17 +1,15 @@
 -- The outcome of a task is the one that the promise of a run says.
-use Rattle.std.proofs.Common.{append_assoc, ◌≡◌, ◌≢◌, ◌∙◌, ◌==◌, ◌&&◌, ◌||◌, ◌⊎◌, ◌++◌, ℕ, Bool, true, false, List, [], ◌∷◌, Option, Some, None, Contains, refl, sym, subst, ap, inl, inr, not, slice_get}
-use Rattle.std.proofs.lemmas.Bool.{and_parts}
-use Rattle.std.specs.Prelude.{IsSome, if◌then◌else◌, is_some, nat_lt}
+use Rattle.std.proofs.Common.{◌≡◌, ◌≢◌, ◌∙◌, ◌&&◌, ◌||◌, ◌⊎◌, ◌++◌, ℕ, Bool, true, false, List, [], ◌∷◌, Option, Some, None, Contains, refl, sym, subst, ap, inl, inr, not, slice_get}
+use Rattle.std.specs.Prelude.{if◌then◌else◌, is_some, nat_lt}
 use Rattle.jobs.specs.Endings.{SeenCarried}
 use Rattle.jobs.specs.declared.ending.Ending.TheVariants as ending
 use Rattle.manager_moves.specs.Runs.{Events, Sent, Shared, lacks_memory, made_count, outcome_in, share, with_taken}
 use Rattle.run_progress.proofs.Waiting.{is_waiting, memory_waits}
-use Rattle.run_promise.specs.Dispatches.{Dispatched, last_of}
+use Rattle.run_promise.specs.Dispatches.{Dispatched}
 use Rattle.run_promise.specs.Outcomes.{HasDeciding, HasOutcome, IsDecidedAt, IsFilePlace, IsObjectPlace, IsSourceDeleted, came_with, deciding}
-use Rattle.run_promise.specs.Schedule.{HasReply, IsDecidedBy, Setting, gained_before, is_small, job_of}
+use Rattle.run_promise.specs.Schedule.{IsDecidedBy, Setting, is_small, job_of}
 use Rattle.run_promise.specs.Settled.{cause_of}
 use Rattle.run_promise.specs.Settled as promised
-use Rattle.s3_model.specs.Parts.{HasPieces}
 use Rattle.s3_model.specs.Talks.{Talk}
 use Rattle.s3_model.specs.declared.answers.Class.{Class}
 use Rattle.s3_model.specs.declared.answers.Reply.{Reply}
@@ -30,7 +28,7 @@ use Rattle.s3_model.specs.declared.tasks.Kind.TheVariants as kind
 use Rattle.s3_model.specs.declared.tasks.Task.{Task}
 use Rattle.s3_model.specs.declared.tries.Mark.{Mark}
 use Rattle.s3_model.specs.declared.tries.Mark.TheVariants as mark
-use Rattle.shared_lemmas.proofs.Clashes.{false_true, none_is_some, some_is}
+use Rattle.shared_lemmas.proofs.Clashes.{none_is_some, some_is}
 use Rattle.shared_lemmas.proofs.Members.{Has, contains_of, has, has_middle}
 use Rattle.task_acts.specs.declared.acts.Act.{Act}
 use Rattle.task_acts.specs.declared.acts.Act.TheVariants as act
@@ -39,7 +37,7 @@ use Rattle.task_acts.specs.declared.acts.Stage.{Stage}
 use Rattle.task_acts.specs.declared.acts.Stage.TheVariants as at
 use Rattle.task_acts.specs.declared.work.Work.{Work}
 use Rattle.task_acts.specs.Ends.{copied_for, failed_for, has_uncertain, how_ended, is_by_request, open_cause, outcome_of, removal, stop_cause, unknown_for}
-use Rattle.task_acts.specs.Failures.{carried_cause, first_failure, is_cut_short, is_stopped}
+use Rattle.task_acts.specs.Failures.{first_failure, is_stopped}
 use Rattle.task_acts.specs.Histories.{Came, Gave, Happening, History, Returned, is_act, sent}
 use Rattle.task_acts.specs.Laws.{MayLoseSource}
 use Rattle.task_acts.specs.Kept.{IsHistory}
@@ -51,10 +49,9 @@ use Rattle.task_progress.specs.Progress.{HasPiece}
 use Rattle.task_progress.proofs.Begun.{has_begun}
 use Rattle.task_progress.proofs.Endings.{no}
 use Rattle.task_progress.proofs.Progress.{IsCounted}
-use Rattle.task_progress.proofs.Quiet.{done_has_begun}
-use Rattle.task_progress.proofs.Tags.{CameFine, came_fine}
+use Rattle.task_progress.proofs.Tags.{came_fine}
 use Rattle.task_schedule.specs.Asks.{gained_in}
-use Rattle.task_schedule.specs.Journals.{IsBack, IsRunOf, ShowOne, place_after}
+use Rattle.task_schedule.specs.Journals.{IsRunOf, ShowOne}
 use Rattle.task_schedule.specs.Outcomes.{HasDecidingMark, HasGone, HasHappened, IsShownBy}
 use Rattle.task_schedule.proofs.Deciders.{call_failed, gets_done, job_failed}
 use Rattle.task_schedule.proofs.Deciding.{marks_are_of_dispatches}
@@ -62,7 +59,7 @@ use Rattle.task_schedule.proofs.Failing.{counted_call}
 use Rattle.task_schedule.proofs.Growth.{decided_grows}
 use Rattle.task_schedule.proofs.Joined.{came_in_all, given_at_is, of_its_task, sent_as, shown_gained, success_shown}
 use Rattle.task_schedule.proofs.Returned.{has_come_back}
-use Rattle.task_schedule.proofs.SentJobs.{IsAt, at_of, sent_begun}
+use Rattle.task_schedule.proofs.SentJobs.{at_of, sent_begun}
 use Rattle.task_schedule.proofs.Shares.{since}
 use Rattle.task_schedule.proofs.Shown.{decides_is, outcomes_show}
 use Rattle.task_schedule.proofs.Sources.{download_decided}

@@ -1,15 +1,14 @@
 -- Why a task failed, why its source stayed, and why nobody can know how it ended.
-use Rattle.std.proofs.Common.{append_assoc, ◌≡◌, ◌≢◌, ◌∙◌, ◌==◌, ◌&&◌, ◌⊎◌, ◌+◌, ◌++◌, ◌<◌, ◌≤◌, ℕ, suc, Bool, true, false, List, [], ◌∷◌, Option, Some, None, Contains, length, map, refl, sym, subst, ap, inl, inr, arith, slice_get}
-use Rattle.std.proofs.lemmas.Bool.{and_parts, eqb-true, ltb-true}
+use Rattle.std.proofs.Common.{append_assoc, ◌≡◌, ◌≢◌, ◌∙◌, ◌==◌, ◌&&◌, ◌⊎◌, ◌++◌, ◌<◌, ℕ, suc, Bool, true, false, List, [], ◌∷◌, Option, Some, None, Contains, length, map, refl, sym, subst, ap, inl, inr, arith, slice_get}
 use Rattle.std.specs.Option.{option_or}
-use Rattle.std.specs.Prelude.{IsSome, if◌then◌else◌, is_some, nat_lt}
+use Rattle.std.specs.Prelude.{if◌then◌else◌, is_some, nat_lt}
 use Rattle.jobs.specs.Endings.{IsEnded, SeenCarried}
 use Rattle.jobs.specs.declared.ending.Ending.{Ending}
 use Rattle.jobs.specs.declared.ending.Ending.TheVariants as ending
-use Rattle.manager_moves.specs.Runs.{Back, Called, Events, Sent, Shared, Stopped, outcome_in, share}
-use Rattle.run_promise.specs.Dispatches.{Attempt, Dispatched, is_op, op_number}
-use Rattle.run_promise.specs.Outcomes.{FailsFirstBy, FailsFor, IsCallOf, IsDecidingJob, IsFilePlace, IsLastCause, IsLastTried, IsOpenFor, StaysFor, deciding}
-use Rattle.run_promise.specs.Schedule.{IsBefore, Setting, is_small, job_of}
+use Rattle.manager_moves.specs.Runs.{Back, Called, Events, Sent, Shared, Stopped, share}
+use Rattle.run_promise.specs.Dispatches.{Attempt, Dispatched, is_op}
+use Rattle.run_promise.specs.Outcomes.{FailsFirstBy, FailsFor, IsCallOf, IsDecidingJob, IsFilePlace, IsLastCause, IsLastTried, IsOpenFor, StaysFor}
+use Rattle.run_promise.specs.Schedule.{Setting, job_of}
 use Rattle.s3_model.specs.Talks.{Talk}
 use Rattle.s3_model.specs.declared.answers.Class.{Class}
 use Rattle.s3_model.specs.declared.outcomes.Cause.{Cause}
@@ -32,30 +31,25 @@ use Rattle.task_acts.specs.declared.acts.Act.{Act}
 use Rattle.task_acts.specs.declared.acts.Act.TheVariants as act
 use Rattle.task_acts.specs.declared.acts.FileCame.{FileCame}
 use Rattle.task_acts.specs.declared.acts.FileCame.TheVariants as file
-use Rattle.task_acts.specs.declared.acts.Stage.{Stage}
-use Rattle.task_acts.specs.declared.acts.Stage.TheVariants as at
 use Rattle.task_acts.specs.declared.work.Work.{Work}
-use Rattle.task_acts.specs.Ends.{cancel_cause, decides, has_tries, is_by_request, last_cause, open_cause, removal, stop_cause}
-use Rattle.task_acts.specs.Failures.{call_of, carried_cause, ended_cause, failure_by, file_cause, first_failure, first_reason, is_cut_short, is_memory, reads_source, result_cause, wanted_memory}
+use Rattle.task_acts.specs.Ends.{cancel_cause, has_tries, is_by_request, last_cause, open_cause, removal, stop_cause}
+use Rattle.task_acts.specs.Failures.{call_of, carried_cause, failure_by, file_cause, first_failure, first_reason, is_cut_short, is_memory, reads_source, result_cause, wanted_memory}
 use Rattle.task_acts.specs.Histories.{Came, Cancelled, Gave, Happening, History, Returned, Taken, sent}
 use Rattle.task_acts.specs.Kept.{IsHistory, MayCome, is_file_act}
 use Rattle.task_acts.specs.Rule.{is_decided_in}
-use Rattle.task_acts.specs.Stages.{has_done, stage}
 use Rattle.task_acts.specs.Work.{IsWorkOf, deciding_op}
 use Rattle.task_progress.specs.Progress.{HasPiece}
-use Rattle.task_progress.proofs.Begun.{has_begun}
-use Rattle.task_progress.proofs.Endings.{no, skipped}
-use Rattle.task_progress.proofs.Progress.{IsCounted}
+use Rattle.task_progress.proofs.Endings.{no}
 use Rattle.task_schedule.specs.Journals.{IsBack, IsRunOf, ShowOne, place_after}
 use Rattle.task_schedule.proofs.Deciders.{call_failed, follows_done, job_failed, returned_begun}
 use Rattle.task_schedule.proofs.Deciding.{by_request, op_is}
-use Rattle.task_schedule.proofs.Failing.{came_after, counted_call}
+use Rattle.task_schedule.proofs.Failing.{counted_call}
 use Rattle.task_schedule.proofs.Joined as joined
 use Rattle.task_schedule.proofs.Joined.{IsReturn, all_holds, return_of}
 use Rattle.task_schedule.proofs.Places.{between_of, entry_fills, filled, fills}
 use Rattle.task_schedule.proofs.Returned.{has_come_back}
 use Rattle.task_schedule.proofs.SentJobs.{IsAt, at_of, twice}
-use Rattle.task_schedule.proofs.Shares.{BackAt, back_at, share_called, share_stopped, since, since_came}
+use Rattle.task_schedule.proofs.Shares.{BackAt, back_at, share_called, share_stopped, since_came}
 use Rattle.task_schedule.proofs.Shown.{decides_is}
 use Rattle.task_schedule.proofs.Standing.{earlier}
 use Rattle.task_schedule.proofs.Stopping.{reason_there}
@@ -63,7 +57,7 @@ use Rattle.task_outcomes.specs.Causes.{HaveOneStatus, IsTold, MovesSource}
 use Rattle.task_outcomes.proofs.Acts.{IsCallFor, call_for, decided_by_request, failed_removal}
 use Rattle.task_outcomes.proofs.FirstFailures.{fails_first_by, none_failed, return}
 use Rattle.task_outcomes.proofs.JobCauses.{IsOfJob, cause_shown, changed_reads, not_cancelled}
-use Rattle.task_outcomes.proofs.Settling.{Ended, FailsFirst, TriedLast, back_then, failure_then, fails_first, none_forgotten, tried_last}
+use Rattle.task_outcomes.proofs.Settling.{Ended, FailsFirst, TriedLast, failure_then, fails_first, none_forgotten, tried_last}
 
 -- ---- what a failure is by
 

@@ -1,5 +1,5 @@
 -- When a task has ended, and what first failed in it.
-use Rattle.std.proofs.Common.{append_assoc, ◌≡◌, ◌∙◌, ◌&&◌, ◌||◌, ◌⊎◌, ◌++◌, ℕ, Bool, true, false, [], ◌∷◌, Option, Some, None, refl, sym, subst, ap, inl, inr}
+use Rattle.std.proofs.Common.{◌≡◌, ◌∙◌, ◌&&◌, ◌||◌, ◌++◌, ℕ, Bool, true, false, [], ◌∷◌, Option, Some, None, refl, sym, subst, ap, inl, inr}
 use Rattle.std.specs.Option.{option_or}
 use Rattle.std.specs.Prelude.{is_some, if◌then◌else◌}
 use Rattle.jobs.specs.Endings.{SeenCarried}

@@ -1,23 +1,19 @@
 -- A run of one small upload meets what the law takes beside it.
-use Rattle.std.proofs.Common.{◌≡◌, ◌∙◌, ◌++◌, ℕ, zero, suc, Bool, true, false, List, [], ◌∷◌, Option, Some, None, Contains, refl, sym, subst, ap, inl, inr, slice_get}
+use Rattle.std.proofs.Common.{◌≡◌, ◌∙◌, ℕ, zero, suc, Bool, true, false, List, [], ◌∷◌, Some, None, sym, subst, ap, inl, inr, slice_get}
 use Rattle.jobs.specs.Endings.{SeenCarried}
 use Rattle.jobs.specs.Holders.{Holder}
-use Rattle.jobs.specs.declared.ending.Ending.{Ending}
 use Rattle.jobs.specs.declared.ending.Ending.TheVariants as ending
 use Rattle.jobs.specs.declared.what.What.{What}
-use Rattle.manager_moves.specs.Examples.{stored, upload}
-use Rattle.manager_moves.specs.Runs.{Back, Called, Event, Events, Lined, Made, Sent, outcome_in}
-use Rattle.run_promise.specs.Dispatches.{Attempt, Dispatched, last_of}
+use Rattle.manager_moves.specs.Examples.{upload}
+use Rattle.manager_moves.specs.Runs.{Back, Called, Events, Lined, Made, Sent, outcome_in}
 use Rattle.run_promise.specs.Settled.{cause_of, is_memory}
-use Rattle.s3_model.specs.declared.answers.Reply.{Reply}
 use Rattle.s3_model.specs.declared.answers.Reply.TheVariants as reply
 use Rattle.s3_model.specs.declared.bytes.Part.{Part}
-use Rattle.s3_model.specs.declared.outcomes.Cause.{Cause}
 use Rattle.s3_model.specs.declared.outcomes.Outcome.{Outcome}
 use Rattle.s3_model.specs.declared.outcomes.Outcome.TheVariants as outcome
 use Rattle.s3_model.specs.declared.requests.Op.{Op}
 use Rattle.s3_model.specs.declared.tasks.Task.{Task}
-use Rattle.shared_lemmas.proofs.Clashes.{none_is_some, some_is, true_is_false}
+use Rattle.shared_lemmas.proofs.Clashes.{none_is_some, some_is}
 use Rattle.shared_lemmas.proofs.Members.{Has, has}
 use Rattle.task_acts.specs.declared.acts.Act.{Act}
 use Rattle.task_acts.specs.declared.acts.Act.TheVariants as act
@@ -27,9 +23,9 @@ use Rattle.task_acts.specs.declared.work.Work.{Work}
 use Rattle.task_acts.specs.Failures.{file_cause}
 use Rattle.task_progress.proofs.Endings.{no}
 use Rattle.task_schedule.proofs.Witness.{back_same, came_at}
-use Rattle.task_schedule.specs.Witness.{put_run, small_put, small_setting, small_task}
+use Rattle.task_schedule.specs.Witness.{put_run, small_setting, small_task}
 use Rattle.task_outcomes.specs.Causes.{MovesSource}
-use Rattle.task_outcomes.specs.Witness.{IsOk, NoneFailed, ToldIsMet}
+use Rattle.task_outcomes.specs.Witness.{ToldIsMet}
 
 gained_refused : (status : ℕ) (code message : List ℕ) → ending.Gained reply.Stored ≡ ending.Refused status code message → ⊥
 gained_refused status code message e = cc

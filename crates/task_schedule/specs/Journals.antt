@@ -91,8 +91,9 @@ abbrev pub TellsCancels : Setting → Events → Type 0
 TellsCancels setting events = (reason : Reason) → Contains events (Stopped reason) → IsSome setting.cancelled_at
 
 abbrev pub TellsWhere : Setting → (planned : ℕ) → Events → Type 0
-TellsWhere setting planned events = (place : ℕ) → setting.cancelled_at ≡ Some place → (later : Events) × (before : Events)
-    × (reason : Reason) × (events ≡ later ++ Stopped reason ∷ before) × (place ≡ place_after planned before)
+TellsWhere setting planned events = (place : ℕ) → setting.cancelled_at ≡ Some place
+    → (later : Events) × (before : Events) × (reason : Reason) × (events ≡ later ++ Stopped reason ∷ before)
+    × (place ≡ place_after planned before)
 
 -- a call on files failed, or memory ran out
 abbrev pub is_otherwise : Work → Happening → Bool
