@@ -1,2 +1,2 @@
-pub mod Served
+pub mod Fates
 pub mod Holdings

@@ -5,7 +5,6 @@ mod gate_wire;
 mod mem_table;
 mod mem_wire;
 mod script;
-mod serve;
 
 pub use gate_wire::{Gate, GateWire};
 pub use mem_table::{Coming, ForeignWrite, MemTable, SharedTable};

@@ -1,14 +1,14 @@
 //! An S3 service in memory.
 
-ghost use Rattle.std.specs.Prelude.{◌≡◌, OnOk, OnErr, false};
+ghost use Rattle.std.specs.Prelude.{◌≡◌, None, IfOk, IsErr, IsSome, OnOk, OnErr, false, true};
 ghost use Rattle.std.specs.Option.{option_copied};
 ghost use Rattle.std.specs.FinMap.{empty, insert};
 ghost use Rattle.s3_service.specs.ServiceState.{object_at};
 ghost use Rattle.s3_service.specs.Serves.{Puts};
-ghost use Rattle.s3_fakes.specs.Holdings.{Follows};
+ghost use Rattle.s3_fakes.specs.Fates.{IsToBeServed};
+ghost use Rattle.s3_fakes.specs.Holdings.{Follows, IsAnswered};
 
 use crate::script::{Ending, Fate, Refused, Script, Turn};
-use crate::serve::{Manner, serve};
 use object_table::{MemObject, ObjectTable, TableFault};
 use s3_model::{Ask, Limits, OutOfMemory, Text};
 use service_answers::{
@@ -18,6 +18,7 @@ use std::alloc::Global;
 use std::collections::BTreeMap;
 use std::marker::Model;
 use std::sync::{Arc, Mutex};
+use table_service::{Manner, serve};
 
 const MICROS_PER_SECOND: u64 = 1_000_000;
 
@@ -56,6 +57,7 @@ pub struct MemTable {
     requests: u64,
     wires: u32,
     manner: Manner,
+    is_scripted: bool,
     alloc: Global,
 }
 
@@ -66,7 +68,7 @@ impl Model for MemTable {
 
     ghost coded = { holdings_code };
 
-    ghost view = { λ t. record { limits = t.manner.limits; state = t.objects } };
+    ghost view = { λ t. record { limits = t.manner.limits; state = t.objects; is_scripted = t.is_scripted } };
 }
 
 /// A service that many wires share.
@@ -91,6 +93,16 @@ fn scripted(alloc: Global, refused: &Refused) -> Result<Answer, OutOfMemory> {
     Ok(Answer::document(alloc, refused.status, document))
 }
 
+/// What is answered where nothing was served.
+fn unserved(alloc: Global, fault: TableFault) -> Result<Answer, OutOfMemory>
+    ensures { fault ≡ TableFault.Memory → IsErr result }
+{
+    match fault {
+        TableFault::Refused(why) => refusal(alloc, why),
+        TableFault::Memory => Err(OutOfMemory),
+    }
+}
+
 /// The head and the body of a whole request; None where it is none.
 fn parts_of(request: &[u8]) -> Option<(RequestHead<'_>, &[u8])> {
     let length = head_length(request)?;
@@ -113,6 +125,7 @@ impl MemTable {
         ensures { result ≡ record {
           limits = limits;
           state = record { objects = empty; uploads = empty; ended = empty; tokens = empty };
+          is_scripted = false;
         } }
     {
         MemTable {
@@ -127,6 +140,7 @@ impl MemTable {
                 page: PAGE,
                 micros: moment.saturating_mul(MICROS_PER_SECOND),
             },
+            is_scripted: false,
             alloc,
         }
     }
@@ -145,6 +159,7 @@ impl MemTable {
         ensures added { OnOk result (self.new.state ≡
             record self.old.state { objects = insert self.old.state.objects bucket.now empty }) }
         ensures limits { self.new.limits ≡ self.old.limits }
+        ensures scripted { self.new.is_scripted ≡ self.old.is_scripted }
         ensures same { OnErr result (self.new ≡ self.old) }
     {
         self.objects.add_bucket(self.alloc, bucket)
@@ -160,6 +175,7 @@ impl MemTable {
     ) -> Result<(), TableFault>
         ensures put { OnOk result (Puts self.old.state bucket.now key.now false bytes.items self.new.state) }
         ensures limits { self.new.limits ≡ self.old.limits }
+        ensures scripted { self.new.is_scripted ≡ self.old.is_scripted }
         ensures same { OnErr result (self.new ≡ self.old) }
     {
         self.objects
@@ -202,15 +218,17 @@ impl MemTable {
         number: Option<u64>,
         turn: Turn,
     ) -> Result<(), OutOfMemory>
-        ensures { self.new ≡ self.old }
+        ensures { self.new ≡ record self.old { is_scripted = true } }
     {
+        self.is_scripted = true;
         self.script.add(beginning.as_bytes(), number, turn)
     }
 
     /// Somebody else writes before the nth request of all is served, counted from 1.
     pub fn write_before(&mut self, number: u64, write: ForeignWrite) -> Result<(), OutOfMemory>
-        ensures { self.new ≡ self.old }
+        ensures { self.new ≡ record self.old { is_scripted = true } }
     {
+        self.is_scripted = true;
         self.foreign.entry(number)?.or_default().push(write)?;
         Ok(())
     }
@@ -288,19 +306,22 @@ impl MemTable {
 
     /// Serves what is asked.
     fn serve_ask(&mut self, ask: &Ask, body: &[u8]) -> Result<Answer, OutOfMemory>
-        ensures { Follows self.old self.new }
+        ensures follows { Follows self.old self.new }
+        ensures answered { OnOk result (IsAnswered self.old self.new) }
     {
         let alloc = self.alloc;
-        match serve(alloc, &mut self.objects, &self.manner, ask, body) {
-            Ok(gained) => answer_of(alloc, &self.objects, self.manner.micros, ask, &gained),
-            Err(TableFault::Refused(why)) => refusal(alloc, why),
-            Err(TableFault::Memory) => Err(OutOfMemory),
-        }
+        let gained = match serve(alloc, &mut self.objects, &self.manner, ask, body) {
+            Ok(gained) => gained,
+            Err(fault) => return unserved(alloc, fault),
+        };
+        answer_of(alloc, &self.objects, self.manner.micros, ask, &gained)
     }
 
     /// Serves a whole request.
+    #[tactic(auto, using(crate::proofs::Following::misread_ok))]
     fn serve_bytes(&mut self, request: &[u8]) -> Result<Answer, OutOfMemory>
-        ensures { Follows self.old self.new }
+        ensures follows { Follows self.old self.new }
+        ensures answered { OnOk result (IsAnswered self.old self.new) }
     {
         let alloc = self.alloc;
         let Some((head, body)) = parts_of(request) else {
@@ -312,17 +333,31 @@ impl MemTable {
         }
     }
 
-    fn answer_by(&mut self, fate: &Fate, request: &[u8]) -> Result<Answer, OutOfMemory>
-        ensures { Follows self.old self.new }
+    // What is answered to a request: by the script where it refuses, and else by the service.
+    fn decide(&mut self, fate: &Fate, request: &[u8]) -> Result<Answer, OutOfMemory>
+        ensures follows { Follows self.old self.new }
+        ensures answered { fate.now.refused ≡ None → OnOk result (IsAnswered self.old self.new) }
+        ensures unserved { IsSome fate.now.refused → self.new ≡ self.old }
     {
-        let answer = match &fate.refused {
-            Some(refused) => scripted(self.alloc, refused)?,
-            None => self.serve_bytes(request)?,
-        };
+        match &fate.refused {
+            Some(refused) => scripted(self.alloc, refused),
+            None => self.serve_bytes(request),
+        }
+    }
+
+    // What comes for a request, where its answer comes whole.
+    fn hear(&mut self, fate: &Fate, request: &[u8]) -> Result<Vec<u8>, OutOfMemory>
+        ensures follows { Follows self.old self.new }
+        ensures answered { fate.now.refused ≡ None → OnOk result (IsAnswered self.old self.new) }
+        ensures unserved { IsSome fate.now.refused → self.new ≡ self.old }
+    {
+        let answer = self.decide(fate, request)?;
         if is_head(request) {
-            Ok(answer.without_body(self.alloc))
+            answer
+                .without_body(self.alloc)
+                .to_bytes(self.alloc, fate.form)
         } else {
-            Ok(answer)
+            answer.to_bytes(self.alloc, fate.form)
         }
     }
 
@@ -335,42 +370,79 @@ impl MemTable {
         Ok(())
     }
 
-    /// The bytes that come for a whole request from that wire. Whatever comes, only served requests and writes of
-    /// somebody else change what the service holds.
+    // What is done before that request: late requests are served, and somebody else writes.
+    fn step_in(&mut self, number: u64) -> Result<(), OutOfMemory>
+        ensures follows { Follows self.old self.new }
+        ensures plain { self.old.is_scripted ≡ false → self.new ≡ self.old }
+    {
+        if !self.is_scripted {
+            return Ok(());
+        }
+        self.serve_late(number)?;
+        self.write_all_foreign(number)
+    }
+
+    // What becomes of a request with this first line; it is served and heard where there is no script.
+    fn fate_of(&mut self, line: &[u8], wire: u32) -> Result<Fate, OutOfMemory>
+        ensures same { self.new ≡ self.old }
+        ensures plain { self.old.is_scripted ≡ false → IfOk result (λ fate. IsToBeServed fate) }
+    {
+        let fate = self.script.meet(line, wire)?;
+        if self.is_scripted {
+            Ok(fate)
+        } else {
+            Ok(Fate::plain())
+        }
+    }
+
+    /// The bytes that come for a whole request from that wire. Whatever comes, only requests and writes of somebody
+    /// else change what the service holds. Where there is no script, and nobody else writes, the request is answered,
+    /// and nothing else happens.
     pub fn answer(&mut self, wire: u32, request: &[u8]) -> Result<Coming, OutOfMemory>
-        ensures { Follows self.old self.new }
+        ensures follows { Follows self.old self.new }
+        ensures answered { self.old.is_scripted ≡ false → OnOk result (IsAnswered self.old self.new) }
     {
         self.requests = self.requests.saturating_add(1);
         let number = self.requests;
-        self.serve_late(number)?;
-        self.write_all_foreign(number)?;
-        let fate = self.script.meet(line_of(request), wire)?;
+        self.step_in(number)?;
+        let fate = self.fate_of(line_of(request), wire)?;
         self.answer_as(&fate, request)
     }
 
-    fn answer_as(&mut self, fate: &Fate, request: &[u8]) -> Result<Coming, OutOfMemory>
-        ensures { Follows self.old self.new }
+    // The bytes that come for a request, as its answer ends.
+    fn bytes_for(&mut self, fate: &Fate, request: &[u8]) -> Result<Vec<u8>, OutOfMemory>
+        ensures follows { Follows self.old self.new }
+        ensures answered { IsToBeServed fate.now → OnOk result (IsAnswered self.old self.new) }
+        ensures unserved { (IsToBeServed fate.now → ⊥) → self.new ≡ self.old }
     {
-        let mut coming = Coming {
-            bytes: Vec::new(self.alloc),
-            most: most_at_once(fate.form),
-        };
         match fate.ending {
-            Ending::LostBefore => {}
-            Ending::Late(by) => self.put_off(request, by)?,
+            Ending::LostBefore => Ok(Vec::new(self.alloc)),
+            Ending::Late(by) => {
+                self.put_off(request, by)?;
+                Ok(Vec::new(self.alloc))
+            }
             Ending::LostAfter => {
-                self.answer_by(fate, request)?;
+                self.hear(fate, request)?;
+                Ok(Vec::new(self.alloc))
             }
-            Ending::Heard => {
-                let answer = self.answer_by(fate, request)?;
-                coming.bytes = answer.to_bytes(self.alloc, fate.form)?;
-            }
+            Ending::Heard => self.hear(fate, request),
             Ending::Cut(count) => {
-                let answer = self.answer_by(fate, request)?;
-                coming.bytes = answer.to_bytes(self.alloc, fate.form)?;
-                coming.bytes.truncate(count);
+                let mut bytes = self.hear(fate, request)?;
+                bytes.truncate(count);
+                Ok(bytes)
             }
         }
-        Ok(coming)
+    }
+
+    fn answer_as(&mut self, fate: &Fate, request: &[u8]) -> Result<Coming, OutOfMemory>
+        ensures follows { Follows self.old self.new }
+        ensures answered { IsToBeServed fate.now → OnOk result (IsAnswered self.old self.new) }
+        ensures unserved { (IsToBeServed fate.now → ⊥) → self.new ≡ self.old }
+    {
+        let bytes = self.bytes_for(fate, request)?;
+        Ok(Coming {
+            bytes,
+            most: most_at_once(fate.form),
+        })
     }
 }

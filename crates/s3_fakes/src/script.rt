@@ -1,5 +1,7 @@
 //! What a script does to requests and their answers.
 
+ghost use Rattle.s3_fakes.specs.Fates.{IsToBeServed};
+
 use s3_model::{OutOfMemory, Text};
 use service_answers::Form;
 use std::alloc::Global;
@@ -44,7 +46,10 @@ pub(crate) struct Fate {
 }
 
 impl Fate {
-    pub(crate) fn plain() -> Fate {
+    /// The request is served, and its answer comes.
+    pub(crate) fn plain() -> Fate
+        ensures { IsToBeServed result }
+    {
         Fate {
             refused: None,
             ending: Ending::Heard,

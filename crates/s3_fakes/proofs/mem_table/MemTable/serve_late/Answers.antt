@@ -3,8 +3,8 @@ use Rattle.s3_fakes.proofs.mem_table.MemTable.serve_late.Goals as goal
 
 pub loop-request-preserved : goal.loop-request-preserved
 loop-request-preserved c =
-    follows_both c.args.self.now c.loop-request.self c.serve_bytes.new.self c.loop-request.invariant c.serve_bytes.ensures
+    follows_both c.args.self.now c.loop-request.self c.serve_bytes.new.self c.loop-request.invariant c.serve_bytes.ensures.follows
 
 pub returns-in_err-serve_bytes : goal.returns-in_err-serve_bytes
 returns-in_err-serve_bytes c =
-    follows_both c.args.self.now c.loop-request.self c.serve_bytes.new.self c.loop-request.invariant c.serve_bytes.ensures
+    follows_both c.args.self.now c.loop-request.self c.serve_bytes.new.self c.loop-request.invariant c.serve_bytes.ensures.follows

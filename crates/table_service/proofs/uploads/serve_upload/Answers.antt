@@ -1,8 +1,10 @@
-use Rattle.std.proofs.Common.{◌⊎◌, ℕ, List, rules, subst}
+use Rattle.std.proofs.Common.{◌⊎◌, ℕ, List, inl, inr, rules, subst, sym}
 use Rattle.s3_model.specs.declared.requests.Ask.TheVariants as ask
 use Rattle.s3_service.specs.Serves.{Joins, JoinsAgain, StoresPart}
-use Rattle.s3_fakes.proofs.Rows.{served_as}
-use Rattle.s3_fakes.proofs.serve.serve_upload.Goals as goal
+use Rattle.std.proofs.lemmas.Result.{err_from_is_err_and}
+use Rattle.shared_lemmas.proofs.Clashes.{false_true}
+use Rattle.table_service.proofs.Rows.{complete_row, part_copy_row, served_as}
+use Rattle.table_service.proofs.uploads.serve_upload.Goals as goal
 
 pub returns-in_ok-id-in-Create-clause-served : goal.returns-in_ok-id-in-Create-clause-served
 returns-in_ok-id-in-Create-clause-served c =
@@ -30,3 +32,22 @@ returns-in_ok-complete-in-Complete-clause-served c =
 pub returns-in_ok-abort-in-Abort-clause-served : goal.returns-in_ok-abort-in-Abort-clause-served
 returns-in_ok-abort-in-Abort-clause-served c =
     served_as c.args.manner.now.limits c.args.table.now c.args.ask.now (ask.Abort c.as_str-in-Abort.result.now c.as_str-in-Abort-2.result.now c.as_str-in-Abort-3.result.now) _ _ _ (search rules) c.in_ok-abort-in-Abort.ensures.aborted
+
+pub returns-in_err-etag-in-PartCopy-clause-willing :
+    goal.returns-in_err-etag-in-PartCopy-clause-willing
+returns-in_err-etag-in-PartCopy-clause-willing c = λ answered bytes new may.
+    let row = part_copy_row c.args.manner.now.limits c.args.table.now c.args.ask.now c.args.body.now answered bytes new c.as_str-bucket-in-PartCopy.result.now c.as_str-key-in-PartCopy.result.now c.as_str-id-in-PartCopy.result.now c.in-PartCopy.number c.as_str-in-PartCopy.result.now c.as_str-in-PartCopy-2.result.now c.as_str-in-PartCopy-3.result.now c.in-PartCopy.range (search rules) may in
+    let p = err_from_is_err_and c.from_residual-in_err-etag-in-PartCopy.result c.from_residual-in_err-etag-in-PartCopy.ensures.1 in
+    rw (p.1, p.2) (c.in_err-etag-in-PartCopy.ensures.willing row.0 new row.1)
+
+pub returns-in_err-complete-in-Complete-clause-willing :
+    goal.returns-in_err-complete-in-Complete-clause-willing
+returns-in_err-complete-in-Complete-clause-willing c = λ answered bytes new may.
+    let row = complete_row c.args.manner.now.limits c.args.table.now c.args.ask.now c.args.body.now answered bytes new c.as_str-in-Complete.result.now c.as_str-in-Complete-2.result.now c.as_str-in-Complete-3.result.now c.in-Complete.etags c.in-Complete.fresh (search rules) may in
+    let same = subst (λ (etags : List (List ℕ)). Joins c.args.manner.now.limits c.args.table.now c.as_str-in-Complete.result.now c.as_str-in-Complete-2.result.now c.as_str-in-Complete-3.result.now etags c.in-Complete.fresh new
+    ⊎ JoinsAgain c.args.table.now c.as_str-in-Complete-3.result.now etags new) (sym c.as_slice.ensures) row in
+    let p = err_from_is_err_and c.from_residual-in_err-complete-in-Complete.result c.from_residual-in_err-complete-in-Complete.ensures.1 in
+    rw (p.1, p.2) (elim same [
+      | inl joins ↦ c.in_err-complete-in-Complete.ensures.willing new joins
+      | inr again ↦ absurd (false_true (c.in_err-complete-in-Complete.ensures.again new again))
+    ])

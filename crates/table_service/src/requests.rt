@@ -1,12 +1,18 @@
 //! What a service in memory does for what is asked.
 
-ghost use Rattle.std.specs.Prelude.{◌≡◌, IfOk, OnErr, Err, length, map};
+ghost use Rattle.std.specs.Prelude.{◌≡◌, ℕ, List, Option, IfOk, OnErr, Err, length, map};
 ghost use Rattle.std.specs.FinMap.{keys};
+ghost use Rattle.std.specs.Option.{is_some};
+ghost use Rattle.object_table.specs.Refused.{IsNotRefused};
+ghost use Rattle.run_promise.specs.Traces.{HasRange, IsWholeObject, SaysIfThere};
+ghost use Rattle.s3_model.specs.declared.answers.Reply.{Reply};
 ghost use Rattle.s3_model.specs.declared.places.Entry.{Entry};
-ghost use Rattle.s3_service.specs.Serves.{Finds, Gets, MayRefuse};
+ghost use Rattle.s3_service.specs.ServiceState.{State};
+ghost use Rattle.s3_service.specs.Serves.{Finds, Gets, MayRefuse, Succeeds};
 ghost use Rattle.service_answers.specs.Statuses.{got_status, refusal_code};
-ghost use Rattle.s3_fakes.specs.Served.{IsServed};
+ghost use Rattle.table_service.specs.Served.{IsServed, reply_of};
 
+use crate::uploads::serve_upload;
 use object_table::{ObjectTable, Query, Refusal, Source, TableFault};
 use s3_model::{Ask, Entries, Entry, Limits, OutOfMemory, Text};
 use service_answers::{FoundObject, Gained, GotObject};
@@ -17,7 +23,7 @@ const MICROS_PER_SECOND: u64 = 1_000_000;
 /// How a service serves: its limits, the most names of a page, and the time of what is written, in microseconds since
 /// 1970.
 #[derive(Clone, Copy, Debug)]
-pub(crate) struct Manner {
+pub struct Manner {
     pub limits: Limits,
     pub page: usize,
     pub micros: u64,
@@ -30,8 +36,10 @@ fn find(
     bucket: &str,
     key: &str,
 ) -> Result<FoundObject, TableFault>
-    ensures { IfOk result (λ found.
+    ensures found { IfOk result (λ found.
         Finds table.now bucket.now key.now found.size found.etag found.micros table.now) }
+    ensures willing { (size : ℕ) (etag : List ℕ) (micros : ℕ) (new : State) →
+        Finds table.now bucket.now key.now size etag micros new → IsNotRefused result }
 {
     let Some(object) = table.object(bucket, key) else {
         return Err(TableFault::Refused(Refusal::NoSuchKey));
@@ -52,8 +60,11 @@ fn get(
     etag: &str,
     range: Option<(u64, u64)>,
 ) -> Result<GotObject, TableFault>
-    ensures { IfOk result (λ got. Gets table.now bucket.now key.now etag.now range (got_status got.range) got.range
+    ensures got { IfOk result (λ got. Gets table.now bucket.now key.now etag.now range (got_status got.range) got.range
         (length got.bytes.items) got.bytes.items table.now) }
+    ensures ranged { IfOk result (λ got. is_some got.range ≡ is_some range) }
+    ensures willing { (status : ℕ) (given : Option (ℕ × ℕ × ℕ)) (size : ℕ) (bytes : List ℕ) (new : State) →
+        Gets table.now bucket.now key.now etag.now range status given size bytes new → IsNotRefused result }
 {
     let object = table.find(bucket, key, etag)?;
     let etag = Text::of(alloc, etag)?;
@@ -96,8 +107,9 @@ fn buckets(alloc: Global, table: &ObjectTable, micros: u64) -> Result<Entries, O
     Ok(entries)
 }
 
-// Serves a request for an upload in parts.
-fn serve_upload(
+/// Serves what is asked, where it can be: a request that could succeed is not refused. Where it is refused nothing
+/// changes, and what is not to be replaced is refused with a code that says so exactly where it is there.
+pub fn serve(
     alloc: Global,
     table: &mut ObjectTable,
     manner: &Manner,
@@ -109,87 +121,11 @@ fn serve_upload(
     ensures same { OnErr result (table.new ≡ table.old) }
     ensures taken { result ≡ Err (TableFault.Refused Refusal.PreconditionFailed) →
         MayRefuse table.old ask.now (refusal_code Refusal.PreconditionFailed) }
-{
-    match ask {
-        Ask::Create { bucket, key, .. } => {
-            let id = table.create(alloc, bucket.as_str(), key.as_str())?;
-            Ok(Gained::Created(id))
-        }
-        Ask::Part {
-            bucket,
-            key,
-            upload,
-            number,
-        } => {
-            let bytes = body.to_vec(alloc)?;
-            let (bucket, key, id) = (bucket.as_str(), key.as_str(), upload.as_str());
-            let etag = table.put_part(alloc, bucket, key, id, *number, bytes)?;
-            Ok(Gained::PartStored(etag))
-        }
-        Ask::PartCopy {
-            bucket,
-            key,
-            upload,
-            number,
-            from_bucket,
-            from_key,
-            etag,
-            range,
-        } => {
-            let source = Source {
-                bucket: from_bucket.as_str(),
-                key: from_key.as_str(),
-                etag: etag.as_str(),
-            };
-            let (bucket, key, id) = (bucket.as_str(), key.as_str(), upload.as_str());
-            let etag = table.copy_part(alloc, bucket, key, id, *number, source, *range)?;
-            Ok(Gained::PartCopied(etag))
-        }
-        Ask::Complete {
-            bucket,
-            key,
-            upload,
-            etags,
-            fresh,
-        } => {
-            table.complete(
-                alloc,
-                &manner.limits,
-                bucket.as_str(),
-                key.as_str(),
-                upload.as_str(),
-                etags.as_slice(),
-                *fresh,
-                manner.micros,
-            )?;
-            Ok(Gained::Completed)
-        }
-        Ask::Abort {
-            bucket,
-            key,
-            upload,
-        } => {
-            table.abort(alloc, bucket.as_str(), key.as_str(), upload.as_str())?;
-            Ok(Gained::Gone)
-        }
-        _ => Err(TableFault::Refused(Refusal::InvalidArgument)),
-    }
-}
-
-/// Serves what is asked. Where it is refused nothing changes, and what is not to be replaced is refused only where it
-/// is there.
-pub(crate) fn serve(
-    alloc: Global,
-    table: &mut ObjectTable,
-    manner: &Manner,
-    ask: &Ask,
-    body: &[u8],
-) -> Result<Gained, TableFault>
-    ensures served { IfOk result (λ gained.
-        IsServed manner.now.limits table.old ask.now body.now gained table.new) }
-    ensures same { OnErr result (table.new ≡ table.old) }
-    ensures taken { result ≡ Err (TableFault.Refused Refusal.PreconditionFailed) →
-        MayRefuse table.old ask.now (refusal_code Refusal.PreconditionFailed) }
+    ensures willing { (answered : Reply) (bytes : List ℕ) (new : State) →
+        Succeeds manner.now.limits table.old ask.now body.now answered bytes new → IsNotRefused result }
+    ensures says { (why : Refusal) → result ≡ Err (TableFault.Refused why) →
+        SaysIfThere table.old ask.now (refusal_code why) }
+    ensures ranged { IfOk result (λ gained. HasRange ask.now → ¬ (IsWholeObject (reply_of gained))) }
 {
     match ask {
         Ask::Head { bucket, key } => {

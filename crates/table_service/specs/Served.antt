@@ -36,3 +36,12 @@ abbrev pub IsServed : Limits → State → Ask → List ℕ → Gained → State
 IsServed limits old (ask.List bucket prefix delimited token) body got new =
     HasBucket old bucket × (new.objects ≡ old.objects) × (new.uploads ≡ old.uploads) × (new.ended ≡ old.ended)
 IsServed limits old asked body got new = Succeeds limits old asked body (reply_of got) (bytes_of got) new
+
+-- a request for an upload in parts
+abbrev pub IsForUpload : Ask → Type 0
+IsForUpload (ask.Create bucket key content) = Unit {0}
+IsForUpload (ask.Part bucket key id number) = Unit {0}
+IsForUpload (ask.PartCopy bucket key id number from_bucket from_key etag range) = Unit {0}
+IsForUpload (ask.Complete bucket key id etags fresh) = Unit {0}
+IsForUpload (ask.Abort bucket key id) = Unit {0}
+IsForUpload asked = ⊥

@@ -1,0 +1,7 @@
+//! What a service in memory does for each request, on its table of objects and uploads.
+#![tactic(auto)]
+
+mod requests;
+mod uploads;
+
+pub use requests::{Manner, serve};
