@@ -1,0 +1,4 @@
+pub mod Calling
+pub mod Changing
+pub mod Pieces
+pub mod Returning
