@@ -2,7 +2,5 @@
 #![tactic(auto)]
 
 mod act_queues;
-#[cfg(test)]
-mod tests;
 
 pub use act_queues::{ActQueues, ActSort};

@@ -4,8 +4,6 @@
 mod chunks;
 mod cover;
 mod pool;
-#[cfg(test)]
-mod tests;
 
 pub use chunks::{adjust, part_count, part_range};
 pub use cover::pieces_cover_the_object;

@@ -11,29 +11,3 @@ use world_laws::Command;
 pub fn complete<C: Command>()
     ensures done { WillingFilesAreDone C.shows C.has_status C.plans C.call_failed }
 {}
-
-#[cfg(test)]
-mod tests {
-    use super::*;
-    use world_laws::Reading;
-
-    // The reading of talks over which the law is called.
-    struct Plain;
-
-    impl Reading for Plain {
-        ghost shows = { Told };
-    }
-
-    impl Command for Plain {
-        ghost has_status = { ToldStatus };
-
-        ghost plans = { AreNone };
-
-        ghost call_failed = { NeverFailed };
-    }
-
-    #[test]
-    fn the_law_stands() {
-        complete::<Plain>();
-    }
-}

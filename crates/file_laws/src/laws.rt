@@ -65,33 +65,3 @@ pub fn plan<C: Command>()
     ensures met { PlanIsMet }
     ensures refused { UncountedIsRefused }
 {}
-
-#[cfg(test)]
-mod tests {
-    use super::*;
-
-    // The reading of talks over which each law has a run.
-    struct Plain;
-
-    impl Reading for Plain {
-        ghost shows = { Told };
-    }
-
-    impl Command for Plain {
-        ghost has_status = { ToldStatus };
-
-        ghost plans = { AreNone };
-
-        ghost call_failed = { NeverFailed };
-    }
-
-    #[test]
-    fn each_law_stands() {
-        other_files::<Plain>();
-        file_removal::<Plain>();
-        download::<Plain>();
-        moved_file::<Plain>();
-        file_task::<Plain>();
-        plan::<Plain>();
-    }
-}

@@ -2,7 +2,5 @@
 #![tactic(auto)]
 
 mod held;
-#[cfg(test)]
-mod tests;
 
 pub use held::{Held, HeldParts};

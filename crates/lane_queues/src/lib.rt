@@ -3,7 +3,5 @@
 
 mod job_queue;
 mod lane_queues;
-#[cfg(test)]
-mod tests;
 
 pub use lane_queues::LaneQueues;

@@ -1,8 +1,6 @@
 //! Numbers in a row, of which the first least one is found in a logarithmic number of steps.
 #![tactic(auto)]
 
-#[cfg(test)]
-mod tests;
 mod tree;
 
 pub use tree::MinimumTree;

@@ -14,8 +14,6 @@ mod places;
 mod requests;
 mod settings;
 mod tasks;
-#[cfg(test)]
-mod tests;
 mod text;
 mod tries;
 mod upload_id;

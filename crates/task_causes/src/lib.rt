@@ -5,8 +5,6 @@ mod causes;
 mod endings;
 mod replies;
 mod stages;
-#[cfg(test)]
-mod tests;
 
 pub use causes::{ended_cause, file_cause};
 pub use endings::is_cut_short;

@@ -1,8 +1,6 @@
 //! What a task is to do, by its settings and by the limits of a service.
 #![tactic(auto)]
 
-#[cfg(test)]
-mod tests;
 mod works;
 
 pub use works::work_of;

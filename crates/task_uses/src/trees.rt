@@ -1,6 +1,6 @@
 //! Each call once.
 
-use crate::MinimumTree;
+use minimum_tree::MinimumTree;
 use std::alloc::AllocError;
 
 #[test]

@@ -2,7 +2,7 @@
 
 ghost use Rattle.std.specs.Prelude.{◌≤◌};
 
-use crate::work_of;
+use task_works::work_of;
 use s3_model::{Config, Kind, Limits, Place, Task, Text};
 use std::alloc::Global;
 use std::test::Fail;

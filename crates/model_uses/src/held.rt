@@ -1,6 +1,6 @@
 //! Each call once.
 
-use crate::HeldParts;
+use held_parts::HeldParts;
 use s3_model::OutOfMemory;
 
 #[test]

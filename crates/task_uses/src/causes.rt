@@ -1,6 +1,6 @@
 //! Causes and stages, run.
 
-use crate::{ended_cause, file_cause, file_stage, given_stage};
+use task_causes::{ended_cause, file_cause, file_stage, given_stage};
 use jobs::Ending;
 use s3_model::{Cause, FileCall, Kind, Op, Reply, Text, Why};
 use s3_outside::FileFault;

@@ -2,7 +2,7 @@
 
 ghost use Rattle.std.specs.Prelude.{◌≡◌, length};
 
-use crate::LaneQueues;
+use lane_queues::LaneQueues;
 use s3_model::{JobId, Op};
 use std::test::Fail;
 

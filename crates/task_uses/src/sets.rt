@@ -1,6 +1,6 @@
 //! A set, run.
 
-use crate::NumberSet;
+use number_sets::NumberSet;
 use std::test::Fail;
 
 /// Two words of one word of the summary, and the last number, of another.

@@ -1,6 +1,6 @@
 //! Four tasks, run.
 
-use crate::{ActQueues, ActSort};
+use act_queues::{ActQueues, ActSort};
 use std::test::Fail;
 
 #[test]

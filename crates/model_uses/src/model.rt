@@ -1,6 +1,6 @@
 //! Texts, lists and tables, with ample memory.
 
-use crate::{Bytes, Cases, List, Mark, Text, Tries, UploadId, content_of};
+use s3_model::{Bytes, Cases, List, Mark, Text, Tries, UploadId, content_of};
 use std::test::Fail;
 
 #[test]

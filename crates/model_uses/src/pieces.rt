@@ -2,7 +2,7 @@
 
 ghost use Rattle.s3_model.specs.Validity.{IsValidLimits};
 
-use crate::{PartPool, adjust, part_count, part_range, pieces_cover_the_object};
+use chunk_plan::{PartPool, adjust, part_count, part_range, pieces_cover_the_object};
 use s3_model::Limits;
 use std::test::Fail;
 
