@@ -1,8 +1,10 @@
 pub mod CutLemmas
 pub mod NumberLemmas
+pub mod PlainBytes
 pub mod ReferenceLemmas
 pub mod SpellingLemmas
 pub mod TimeLemmas
 pub mod TimeValues
 pub mod UnescapeLemmas
+pub mod UrlPieces
 pub mod UrlTextLemmas

@@ -1,9 +1,10 @@
 //! Texts that are written as in a URL.
 
-ghost use Rattle.std.specs.Prelude.{◌≡◌, ◌<◌, ◌∷◌, [], ℕ, List, length, IfOk, IfSome, IfNone};
+ghost use Rattle.std.specs.Prelude.{◌≡◌, ◌<◌, ◌≤◌, ◌++◌, ◌∷◌, [], ℕ, List, length, IfOk, IfSome, IfNone};
 ghost use Rattle.reply_values.specs.Spelling.{Spells, StartsPiece, StartsNoPiece};
 ghost use Rattle.reply_values.specs.UrlText.{IsEscape, StandsForByte, SpellsUrlText};
 
+use memchr::memchr2;
 use s3_model::Text;
 use std::alloc::Global;
 
@@ -19,6 +20,7 @@ pub enum UrlFault {
 fn hex_byte(digits: &[u8]) -> Option<(u8, &[u8])>
     ensures value { IfSome result (λ read. StartsPiece IsEscape (37 ∷ digits.now) (read.0 ∷ []) read.1.now) }
     ensures refused { IfNone result (StartsNoPiece IsEscape (37 ∷ digits.now)) }
+    ensures shorter { IfSome result (λ read. length read.1.now ≤ length digits.now) }
 {
     if digits.len() < 2 {
         return None;
@@ -33,11 +35,24 @@ fn first_byte(text: &[u8]) -> Option<(u8, &[u8])>
     requires { 0 < length text.now }
     ensures value { IfSome result (λ read. StartsPiece StandsForByte text.now (read.0 ∷ []) read.1.now) }
     ensures refused { IfNone result (StartsNoPiece StandsForByte text.now) }
+    ensures shorter { IfSome result (λ read. length read.1.now < length text.now) }
 {
     match text[0] {
         b'%' => hex_byte(&text[1..]),
         b'+' => Some((b' ', &text[1..])),
         byte => Some((byte, &text[1..])),
+    }
+}
+
+/// The bytes in front of the first `%` or `+`, which stand for themselves, and what follows.
+fn split_plain(text: &[u8]) -> (&[u8], &[u8])
+    ensures split { text.now ≡ result.0.now ++ result.1.now }
+    ensures plain { Spells StandsForByte result.0.now result.0.now }
+    ensures shorter { length result.1.now ≤ length text.now }
+{
+    match memchr2(b'%', b'+', text) {
+        Some(place) => text.split_at(place),
+        None => (text, &[]),
     }
 }
 
@@ -50,8 +65,15 @@ fn decoded_bytes(alloc: Global, text: &[u8]) -> Result<Vec<u8>, UrlFault>
         return Err(UrlFault::Memory);
     };
     let mut rest = text;
-    while !rest.is_empty() {
-        let Some((byte, next)) = first_byte(rest) else {
+    'pieces: loop {
+        let (plain, behind) = split_plain(rest);
+        if bytes.extend_from_slice(plain).is_err() {
+            return Err(UrlFault::Memory);
+        }
+        if behind.is_empty() {
+            return Ok(bytes);
+        }
+        let Some((byte, next)) = first_byte(behind) else {
             return Err(UrlFault::Bad);
         };
         if bytes.push(byte).is_err() {
@@ -59,7 +81,6 @@ fn decoded_bytes(alloc: Global, text: &[u8]) -> Result<Vec<u8>, UrlFault>
         }
         rest = next;
     }
-    Ok(bytes)
 }
 
 /// The text that the S3 API's `encoding-type=url` writes so: `+` is a space, `%` with two hexadecimal digits of
