@@ -1,6 +1,6 @@
 -- Bytes that stand for themselves in URL text.
-use Rattle.std.proofs.Common.{◌≡◌, ◌≢◌, ◌+◌, ◌<◌, ◌≤◌, ◌++◌, ◌∷◌, ◌∙◌, ◌==◌, ◌||◌, ℕ, Bool, true, false, suc, List, []}
-use Rattle.std.proofs.Common.{length, get_or, take, inr, sym, ap, refl, arith, subst}
+use Rattle.std.proofs.Common.{◌≡◌, ◌≢◌, ◌<◌, ◌≤◌, ◌∷◌, ◌∙◌, ◌==◌, ◌||◌, ℕ, Bool, true, false, suc, List, []}
+use Rattle.std.proofs.Common.{length, get_or, take, inr, sym, refl, arith}
 use Rattle.std.proofs.lemmas.Bool.{eq-eqb}
 use Rattle.std.proofs.lemmas.List.{get_or-take, length-take-le}
 use Rattle.memchr.specs.Find.{Nowhere, Passes, is_byte2}
