@@ -1,5 +1,6 @@
 -- What a call on files changes of the pieces that hold a part.
-use Rattle.std.proofs.Common.{◌≡◌, ◌∙◌, ◌==◌, ◌||◌, ℕ, Bool, true, false, Option, Some, None, refl, sym, subst, ap, is_some, if◌then◌else◌}
+use Rattle.std.proofs.Common.{◌≡◌, ◌∙◌, ◌==◌, ◌||◌, ℕ, Bool, true, false, Option, Some, None, refl, sym, subst, ap}
+use Rattle.std.proofs.Common.{is_some, if◌then◌else◌}
 use Rattle.std.proofs.lemmas.Bool.{eqb-true}
 use Rattle.std.specs.Option.{option_or}
 use Rattle.s3_model.specs.declared.outcomes.Cause.{Cause}
@@ -23,13 +24,10 @@ use Rattle.task_acts.specs.Work.{piece_op}
 use Rattle.manager_moves.proofs.CountLemmas.{no}
 use Rattle.manager_moves.proofs.HoldLemmas.{skip}
 use Rattle.manager_moves.specs.Parts.{has_part, holds_part}
-use Rattle.part_changes.proofs.Changing.{alike, away_by, flip, part_by, piece_takes, stopped_alike, stopped_holds, stops_alike}
+use Rattle.part_changes.proofs.Changing.{alike, away_by, fail_stops, flip, part_by, piece_takes, stopped_alike}
+use Rattle.part_changes.proofs.Changing.{stopped_holds, stops_alike}
 use Rattle.part_changes.proofs.Pieces.{fine_is_not_given, given_piece, goes_up, may_be, placing, reading, was_given}
 use Rattle.part_changes.specs.Changes.{CallChangesPart, CallMovesNoPart, after_call, called_in, is_away, moves_bytes}
-
-fail_stops : (a : Option Cause) (c : Cause) (b : Bool) → (is_some (option_or a (Some c)) || b) ≡ true
-fail_stops None c b = refl
-fail_stops (Some d) c b = refl
 
 not_given : (how : Stage) → was_given how ≡ false → how ≡ at.Waiting
 not_given at.Waiting e = refl
@@ -39,7 +37,8 @@ not_given at.Again e = no (sym e)
 not_given at.Fine e = no (sym e)
 not_given at.Failed e = no (sym e)
 
-upload_moves : (k : Kind) (small : Bool) → k ≡ kind.Upload → (moves_bytes k ≡ true) × (goes_up (piece_op k small) ≡ true)
+upload_moves : (k : Kind) (small : Bool) → k ≡ kind.Upload
+    → (moves_bytes k ≡ true) × (goes_up (piece_op k small) ≡ true)
 upload_moves k true e = (rw e refl, rw e refl)
 upload_moves k false e = (rw e refl, rw e refl)
 
@@ -97,15 +96,19 @@ module _ (w : Work) (h : History) (r : FileCame) (n : ℕ) where
       ∙ stops_alike (option_or (first_failure w h) None) (option_or (first_reason h) None)
       ∙ stopped_alike w h a
 
-  failed : (a : Act) (c : Cause) → is_file_act a ≡ true → file_cause a r ≡ Some c → has_part w (next a) n ≡ is_away w h n
+  failed : (a : Act) (c : Cause) → is_file_act a ≡ true → file_cause a r ≡ Some c
+      → has_part w (next a) n ≡ is_away w h n
   failed a c of_file e =
-      ap (λ (t : Bool). part_by w t (stage w (next a) (act.Read n)) (stage w (next a) (act.Place n)) (stage w (next a) job)) (stops a c e)
-      ∙ stopped_holds w.of_kind (has_done (stage w (next a) (act.Read n))) (has_done (stage w (next a) (act.Place n))) (stage w (next a) job)
+      ap (λ (t : Bool). part_by w t (stage w (next a) (act.Read n)) (stage w (next a) (act.Place n))
+      (stage w (next a) job)) (stops a c e)
+      ∙ stopped_holds w.of_kind (has_done (stage w (next a) (act.Read n))) (has_done (stage w (next a) (act.Place n)))
+      (stage w (next a) job)
       ∙ ap (λ (x : Stage). away_by w x) (same_job_stage a of_file)
 
   -- the same acts of this piece are done as before
   untouched : (a : Act) → is_file_act a ≡ true → file_cause a r ≡ None
-      → stage w (next a) (act.Read n) ≡ stage w h (act.Read n) → stage w (next a) (act.Place n) ≡ stage w h (act.Place n)
+      → stage w (next a) (act.Read n) ≡ stage w h (act.Read n)
+      → stage w (next a) (act.Place n) ≡ stage w h (act.Place n)
       → has_part w (next a) n ≡ has_part w h n
   untouched a of_file e read place =
       alike w (is_stopped w (next a)) (is_stopped w h) (stage w (next a) (act.Read n)) (stage w h (act.Read n))
@@ -114,14 +117,15 @@ module _ (w : Work) (h : History) (r : FileCame) (n : ℕ) where
 
   passed : (m : ℕ) (c : Bool) (new old before : Stage) → (m == n) ≡ c → c ≡ false
       → (if n == m then new else (if n == m then old else before)) ≡ before
-  passed m c new old before e f = let other = flip m n false (e ∙ f) in skip (n == m) _ _ other ∙ skip (n == m) _ _ other
+  passed m c new old before e f =
+      let other = flip m n false (e ∙ f) in skip (n == m) _ _ other ∙ skip (n == m) _ _ other
 
   reached : (m : ℕ) (new old : Stage) → (m == n) ≡ true → (if n == m then new else old) ≡ new
   reached m new old e = ap (λ (b : Bool). if b then new else old) (flip m n true e)
 
   module _ (m : ℕ) (is : IsHistory w h) where
     -- no job of a piece was given before its read
-    waits : is_ready_in w h (act.Read m) ≡ true → (m == n) ≡ true → (b : Bool) → was_given (stage w h job) ≡ b
+    pub waits : is_ready_in w h (act.Read m) ≡ true → (m == n) ≡ true → (b : Bool) → was_given (stage w h job) ≡ b
         → stage w h job ≡ at.Waiting
     waits ready same false e = not_given _ e
     waits ready same true e =
@@ -137,7 +141,8 @@ module _ (w : Work) (h : History) (r : FileCame) (n : ℕ) where
         let is_next = reading w h m ready in
         alike w (is_stopped w (next (act.Read m))) false (stage w (next (act.Read m)) (act.Read n)) at.Fine
         (stage w h (act.Place n)) (stage w h (act.Place n)) (stage w h job) at.Waiting
-        (same_stop (act.Read m) e ∙ is_next.0) (reached m _ _ same ∙ read_fine m r e) refl (waits ready same (was_given (stage w h job)) refl)
+        (same_stop (act.Read m) e ∙ is_next.0) (reached m _ _ same ∙ read_fine m r e) refl
+        (waits ready same (was_given (stage w h job)) refl)
         ∙ read_holds w.of_kind (has_done (stage w h (act.Place n))) is_next.1
 
     read_by : (c : Bool) → is_ready_in w h (act.Read m) ≡ true → file_cause (act.Read m) r ≡ None → (m == n) ≡ c
@@ -145,16 +150,20 @@ module _ (w : Work) (h : History) (r : FileCame) (n : ℕ) where
     read_by true ready e same = read_here ready e same
     read_by false ready e same = untouched (act.Read m) refl e (passed m false _ _ _ same refl) refl
 
+    -- a piece that is placed came
+    pub came_fine : is_ready_in w h (act.Place m) ≡ true → (m == n) ≡ true → stage w h job ≡ at.Fine
+    came_fine ready same =
+        let is_next = placing w h m ready in
+        subst (λ (k : Kind). stage w h (act.Send (piece_op k w.small) n) ≡ at.Fine) (sym is_next.1)
+        (subst (λ (x : ℕ). stage w h (act.Send op.Get x) ≡ at.Fine) (eqb-true m n same) is_next.3)
+
     place_here : is_ready_in w h (act.Place m) ≡ true → file_cause (act.Place m) r ≡ None → (m == n) ≡ true
         → has_part w (next (act.Place m)) n ≡ false
     place_here ready e same =
         let is_next = placing w h m ready in
-        let its : stage w h job ≡ at.Fine =
-        subst (λ (k : Kind). stage w h (act.Send (piece_op k w.small) n) ≡ at.Fine) (sym is_next.1)
-        (subst (λ (x : ℕ). stage w h (act.Send op.Get x) ≡ at.Fine) (eqb-true m n same) is_next.3) in
         alike w (is_stopped w (next (act.Place m))) false (stage w h (act.Read n)) (stage w h (act.Read n))
         (stage w (next (act.Place m)) (act.Place n)) at.Fine (stage w h job) at.Fine
-        (same_stop (act.Place m) e ∙ is_next.0) refl (reached m _ _ same ∙ place_fine m r e) its
+        (same_stop (act.Place m) e ∙ is_next.0) refl (reached m _ _ same ∙ place_fine m r e) (came_fine ready same)
         ∙ placed_holds_none w.of_kind (has_done (stage w h (act.Read n))) is_next.1
 
     place_by : (c : Bool) → is_ready_in w h (act.Place m) ≡ true → file_cause (act.Place m) r ≡ None → (m == n) ≡ c
@@ -162,7 +171,8 @@ module _ (w : Work) (h : History) (r : FileCame) (n : ℕ) where
     place_by true ready e same = place_here ready e same
     place_by false ready e same = untouched (act.Place m) refl e refl (passed m false _ _ _ same refl)
 
-  done : (a : Act) → IsHistory w (next a) → file_cause a r ≡ None → has_part w (next a) n ≡ after_call a n (has_part w h n)
+  done : (a : Act) → IsHistory w (next a) → file_cause a r ≡ None
+      → has_part w (next a) n ≡ after_call a n (has_part w h n)
   done (act.Send o k) is e = no is.0.0
   done (act.Read m) is e = read_by m is.1.1 (m == n) is.1.0 e refl
   done act.Assemble is e = untouched act.Assemble refl e refl refl

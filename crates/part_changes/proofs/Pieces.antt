@@ -1,5 +1,6 @@
 -- What is known of a piece whose job was given, or that was placed.
-use Rattle.std.proofs.Common.{◌≡◌, ◌∙◌, ◌==◌, ◌&&◌, ℕ, Bool, true, false, [], ◌∷◌, not, refl, sym, subst, ap, if◌then◌else◌}
+use Rattle.std.proofs.Common.{◌≡◌, ◌∙◌, ◌==◌, ◌&&◌, ℕ, Bool, true, false, [], ◌∷◌, not, refl, sym, subst, ap}
+use Rattle.std.proofs.Common.{if◌then◌else◌}
 use Rattle.std.proofs.lemmas.Bool.{and_parts, eqb-true}
 use Rattle.jobs.specs.Endings.{SeenCarried}
 use Rattle.run_promise.specs.Buffers.{holds_buffer}
@@ -51,6 +52,12 @@ fine_is_not_out how e out = no (sym (ap is_out e) ∙ out)
 pub fine_is_not_given : {P : Type 0} (how : Stage) → how ≡ at.Fine → may_be_given how ≡ true → P
 fine_is_not_given how e may = no (sym (ap may_be_given e) ∙ may)
 
+-- the act is another one, or it cannot be
+still_fine : (c : Bool) (new old : Stage) → (c ≡ true → old ≡ at.Fine → new ≡ at.Fine) → old ≡ at.Fine
+    → (if c then new else old) ≡ at.Fine
+still_fine true new old h e = h refl e
+still_fine false new old h e = e
+
 not_true : (b : Bool) → not b ≡ true → b ≡ false
 not_true true e = no e
 not_true false e = refl
@@ -80,7 +87,12 @@ module _ (w : Work) (f : Act → Stage) (t : Bool) (n : ℕ) where
   due_put e =
       let each = and_parts (w.small && is_piece w n) (has_done (f (act.Read n))) e in
       let front = and_parts w.small (is_piece w n) each.0 in
-      record { moves = refl; of_piece = ap (piece_op kind.Upload) front.0; piece = front.1; was_read = λ u. fine _ each.1 }
+      record {
+        moves = refl;
+        of_piece = ap (piece_op kind.Upload) front.0;
+        piece = front.1;
+        was_read = λ u. fine _ each.1;
+      }
 
   due_part : IsDue kind.Upload op.Part → Named kind.Upload op.Part
   due_part e =
@@ -139,7 +151,8 @@ module _ (w : Work) (f : Act → Stage) (t : Bool) (n : ℕ) where
   left_none op.Buckets b e = b
 
 module _ (w : Work) where
-  named_by : (f : Act → Stage) (t : Bool) (o : Op) (n : ℕ) → holds_buffer o ≡ true → is_named w f t (act.Send o n) ≡ true
+  named_by : (f : Act → Stage) (t : Bool) (o : Op) (n : ℕ) → holds_buffer o ≡ true
+      → is_named w f t (act.Send o n) ≡ true
       → (t ≡ false) × IsPieceJob w w.of_kind o n (f (act.Read n))
   named_by f true o n b e = no (left_none w f true n o b e)
   named_by f false o n b e = (refl, due w f false n w.of_kind o b e)
@@ -166,7 +179,8 @@ module _ (w : Work) where
     abbrev Known : History → Type 0
     Known h = IsPieceJob w w.of_kind o k (stage w h (act.Read k))
 
-    with_read : (read now : Stage) → IsPieceJob w w.of_kind o k read → (goes_up o ≡ true → read ≡ at.Fine → now ≡ at.Fine)
+    with_read : (read now : Stage) → IsPieceJob w w.of_kind o k read
+        → (goes_up o ≡ true → read ≡ at.Fine → now ≡ at.Fine)
         → IsPieceJob w w.of_kind o k now
     with_read read now known h = record {
       moves = known.moves;
@@ -175,22 +189,21 @@ module _ (w : Work) where
       was_read = λ u. h u (known.was_read u);
     }
 
-    -- the act is another one, or it cannot be
-    read_stays : (c : Bool) (new old : Stage) → (c ≡ true → old ≡ at.Fine → new ≡ at.Fine) → old ≡ at.Fine → (if c then new else old) ≡ at.Fine
-    read_stays true new old h e = h refl e
-    read_stays false new old h e = e
-
-    given_now : (h : History) (p : Op) (m : ℕ) (c : Bool) (new : Stage) → (is_op o p && (k == m)) ≡ c → is_ready_in w h (act.Send p m) ≡ true
-        → (was_given (stage w h (act.Send o k)) ≡ true → Known h) → was_given (if c then new else stage w h (act.Send o k)) ≡ true → Known h
+    given_now : (h : History) (p : Op) (m : ℕ) (c : Bool) (new : Stage) → (is_op o p && (k == m)) ≡ c
+        → is_ready_in w h (act.Send p m) ≡ true
+        → (was_given (stage w h (act.Send o k)) ≡ true → Known h)
+        → was_given (if c then new else stage w h (act.Send o k)) ≡ true → Known h
     given_now h p m true new e ready before g =
         (named h o k b (subst (λ (a : Act). is_ready_in w h a ≡ true) (sym (same_job o p k m e)) ready)).1
     given_now h p m false new e ready before g = before g
 
-    came_now : (h : History) (c : SeenCarried) (d : Bool) (new : Stage) → (is_op o c.job.id.op && (k == c.job.id.number)) ≡ d
+    came_now : (h : History) (c : SeenCarried) (d : Bool) (new : Stage)
+        → (is_op o c.job.id.op && (k == c.job.id.number)) ≡ d
         → is_out (stage w h (sent c)) ≡ true → (was_given (stage w h (act.Send o k)) ≡ true → Known h)
         → was_given (if d then new else stage w h (act.Send o k)) ≡ true → Known h
     came_now h c true new e out before g =
-        before (out_was_given _ (subst (λ (a : Act). is_out (stage w h a) ≡ true) (sym (same_job o c.job.id.op k c.job.id.number e)) out))
+        before (out_was_given _
+        (subst (λ (a : Act). is_out (stage w h a) ≡ true) (sym (same_job o c.job.id.op k c.job.id.number e)) out))
     came_now h c false new e out before g = before g
 
     number_is : (m : ℕ) → (k == m) ≡ true → act.Read k ≡ act.Read m
@@ -205,8 +218,9 @@ module _ (w : Work) where
         given_now h p m (is_op o p && (k == m)) _ refl is.0 (given_piece h is.1) g
     given_piece (Gave (act.Read m) ∷ h) is g =
         with_read (stage w h (act.Read k)) _ (given_piece h is.1 g)
-        (λ u e. read_stays (k == m) _ (stage w h (act.Read k))
-        (λ same old. fine_is_not_given (stage w h (act.Read m)) (ap (stage w h) (sym (number_is m same)) ∙ old) (may_be h (act.Read m) is.0)) e)
+        (λ u e. still_fine (k == m) _ (stage w h (act.Read k))
+        (λ same old. fine_is_not_given (stage w h (act.Read m)) (ap (stage w h) (sym (number_is m same)) ∙ old)
+        (may_be h (act.Read m) is.0)) e)
     given_piece (Gave act.Assemble ∷ h) is g = given_piece h is.1 g
     given_piece (Gave (act.Place m) ∷ h) is g = given_piece h is.1 g
     given_piece (Gave act.Rename ∷ h) is g = given_piece h is.1 g
@@ -218,7 +232,7 @@ module _ (w : Work) where
     given_piece (Returned (act.Send p m) r ∷ h) is g = no is.0.0
     given_piece (Returned (act.Read m) r ∷ h) is g =
         with_read (stage w h (act.Read k)) _ (given_piece h is.1 g)
-        (λ u e. read_stays (k == m) _ (stage w h (act.Read k))
+        (λ u e. still_fine (k == m) _ (stage w h (act.Read k))
         (λ same old. fine_is_not_out (stage w h (act.Read m)) (ap (stage w h) (sym (number_is m same)) ∙ old) is.0.1) e)
     given_piece (Returned act.Assemble r ∷ h) is g = given_piece h is.1 g
     given_piece (Returned (act.Place m) r ∷ h) is g = given_piece h is.1 g
@@ -284,17 +298,13 @@ module _ (w : Work) where
         subst (λ (n : ℕ). stage w h (act.Send op.Get n) ≡ at.Fine) (sym (eqb-true k m e)) (placing h m ready).3
     gives_place h m false new e ready before g = before g
 
-    comes_place : (h : History) (m : ℕ) (c : Bool) (new : Stage) → (k == m) ≡ c → is_out (stage w h (act.Place m)) ≡ true
+    comes_place : (h : History) (m : ℕ) (c : Bool) (new : Stage) → (k == m) ≡ c
+        → is_out (stage w h (act.Place m)) ≡ true
         → (was_given (stage w h (act.Place k)) ≡ true → get_fine h)
         → was_given (if c then new else stage w h (act.Place k)) ≡ true → get_fine h
     comes_place h m true new e out before g =
         before (out_was_given _ (subst (λ (n : ℕ). is_out (stage w h (act.Place n)) ≡ true) (sym (eqb-true k m e)) out))
     comes_place h m false new e out before g = before g
-
-    still_fine : (c : Bool) (new old : Stage) → (c ≡ true → old ≡ at.Fine → new ≡ at.Fine) → old ≡ at.Fine
-        → (if c then new else old) ≡ at.Fine
-    still_fine true new old h e = h refl e
-    still_fine false new old h e = e
 
     -- only a piece that came is placed
     pub placed_came : (h : History) → IsHistory w h → was_given (stage w h (act.Place k)) ≡ true → get_fine h
@@ -303,7 +313,8 @@ module _ (w : Work) where
     placed_came (Taken of_op number ∷ h) is g = placed_came h is.1 g
     placed_came (Gave (act.Send p m) ∷ h) is g =
         still_fine (is_op op.Get p && (k == m)) _ (stage w h (act.Send op.Get k))
-        (λ same old. fine_is_not_given (stage w h (act.Send p m)) (ap (stage w h) (sym (same_job op.Get p k m same)) ∙ old)
+        (λ same old. fine_is_not_given (stage w h (act.Send p m)) (ap (stage w h) (sym (same_job op.Get p k m same))
+        ∙ old)
         (may_be h (act.Send p m) is.0)) (placed_came h is.1 g)
     placed_came (Gave (act.Place m) ∷ h) is g = gives_place h m (k == m) _ refl is.0 (placed_came h is.1) g
     placed_came (Gave (act.Read m) ∷ h) is g = placed_came h is.1 g

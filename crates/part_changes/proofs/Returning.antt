@@ -1,5 +1,6 @@
 -- What a job that comes back changes of the pieces that hold a part.
-use Rattle.std.proofs.Common.{◌≡◌, ◌∙◌, ◌==◌, ◌&&◌, ◌||◌, ℕ, Bool, true, false, ◌∷◌, not, Option, Some, None, refl, sym, subst, ap, is_some, if◌then◌else◌}
+use Rattle.std.proofs.Common.{◌≡◌, ◌∙◌, ◌==◌, ◌&&◌, ◌||◌, ℕ, Bool, true, false, ◌∷◌, not, Option, Some, None, refl}
+use Rattle.std.proofs.Common.{sym, subst, ap, is_some, if◌then◌else◌}
 use Rattle.std.proofs.lemmas.Bool.{eqb-true}
 use Rattle.std.specs.Option.{option_or}
 use Rattle.jobs.specs.Endings.{SeenCarried}
@@ -23,17 +24,18 @@ use Rattle.task_acts.specs.Work.{piece_op}
 use Rattle.manager_moves.proofs.CountLemmas.{no}
 use Rattle.manager_moves.proofs.HoldLemmas.{same_number, same_op, skip}
 use Rattle.manager_moves.specs.Parts.{has_part, holds_part}
-use Rattle.part_changes.proofs.Changing.{alike, away_by, both_false, both_true, first_false, flip, none_holds, part_by, piece_takes, stopped_holds, stops_alike}
-use Rattle.part_changes.proofs.Pieces.{IsPieceJob, fine_is_not_out, given_piece, goes_up, out_was_given, placed_came, was_given}
-use Rattle.part_changes.specs.Changes.{ReturnBringsPart, ReturnChangesPart, comes_down, is_away, is_its_piece, moves_bytes, stays_here}
-
-fail_stops : (a : Option Cause) (c : Cause) (b : Bool) → (is_some (option_or a (Some c)) || b) ≡ true
-fail_stops None c b = refl
-fail_stops (Some d) c b = refl
+use Rattle.part_changes.proofs.Changing.{alike, away_by, away_by_op, both_false, fail_stops, first_false, flip}
+use Rattle.part_changes.proofs.Changing.{is_job, its_job}
+use Rattle.part_changes.proofs.Changing.{no_mover, none_holds, part_by, stopped_holds, stops_alike}
+use Rattle.part_changes.proofs.Pieces.{IsPieceJob, fine_is_not_out, given_piece, goes_up, out_was_given, placed_came}
+use Rattle.part_changes.proofs.Pieces.{was_given}
+use Rattle.part_changes.specs.Changes.{ReturnBringsPart, ReturnChangesPart, comes_down, is_away, is_its_piece}
+use Rattle.part_changes.specs.Changes.{moves_bytes, stays_here}
 
 -- how far a job is that came
 abbrev how_by : (cut stopped : Bool) → Option Cause → Stage
-how_by cut stopped cause = if cut then (if stopped then at.Failed else at.Kept) else if is_some cause then at.Failed else at.Fine
+how_by cut stopped cause = if cut then (if stopped then at.Failed else at.Kept)
+    else if is_some cause then at.Failed else at.Fine
 
 not_out : (cut stopped : Bool) (cause : Option Cause) → is_out (how_by cut stopped cause) ≡ false
 not_out true true cause = refl
@@ -103,22 +105,13 @@ module _ (w : Work) (h : History) (c : SeenCarried) (is : IsHistory w (Came c �
   job n = act.Send (piece_op w.of_kind w.small) n
 
   abbrev is_its : ℕ → Bool
-  is_its n = is_op (piece_op w.of_kind w.small) o && (n == k)
+  is_its n = is_job w o k n
 
   known : holds_buffer o ≡ true → IsPieceJob w w.of_kind o k (stage w h (act.Read k))
   known b = given_piece w o k b h is.1 (out_was_given _ is.0.0)
 
   its : (n : ℕ) → holds_buffer o ≡ true → (k == n) ≡ true → is_its n ≡ true
-  its n b e =
-      let same : is_op (piece_op w.of_kind w.small) o ≡ true =
-      subst (λ (x : Op). is_op (piece_op w.of_kind w.small) x ≡ true) (known b).of_piece
-      (same_number (op_number (piece_op w.of_kind w.small))) in
-      both_true _ _ same (flip k n true e)
-
-  no_mover : holds_buffer o ≡ false → is_op (piece_op w.of_kind w.small) o ≡ true → (m : Bool) → moves_bytes w.of_kind ≡ m
-      → m ≡ false
-  no_mover b e false m = refl
-  no_mover b e true m = sym (piece_takes w.of_kind w.small m) ∙ ap holds_buffer (same_op _ _ e) ∙ b
+  its n b e = its_job w o k n (known b).of_piece e
 
   came_stage : (n : ℕ) → is_its n ≡ true → stage w next (job n) ≡ carried_stage w (is_stopped w h) c
   came_stage n e = ap (λ (b : Bool). if b then carried_stage w (is_stopped w h) c else stage w h (job n)) e
@@ -128,13 +121,6 @@ module _ (w : Work) (h : History) (c : SeenCarried) (is : IsHistory w (Came c �
 
   -- ---- parts that are away
 
-  away_by_op : (n : ℕ) → holds_buffer o ≡ false → (d : Bool) → is_op (piece_op w.of_kind w.small) o ≡ d
-      → is_away w next n ≡ is_away w h n
-  away_by_op n b false e = ap (λ (x : Stage). away_by w x) (other_stage n (first_false _ (n == k) e))
-  away_by_op n b true e =
-      let none = no_mover b e (moves_bytes w.of_kind) refl in
-      first_false _ (is_out (stage w next (job n))) none ∙ sym (first_false _ (is_out (stage w h (job n))) none)
-
   away_now : (n : ℕ) (b d : Bool) → holds_buffer o ≡ b → (k == n) ≡ d
       → is_away w next n ≡ (if b && d then false else is_away w h n)
   away_now n true true b e =
@@ -142,7 +128,9 @@ module _ (w : Work) (h : History) (c : SeenCarried) (is : IsHistory w (Came c �
       ∙ both_false (moves_bytes w.of_kind) _ (not_out (is_cut_short w c) (is_stopped w h) (carried_cause w c))
   away_now n true false b e =
       ap (λ (x : Stage). away_by w x) (other_stage n (both_false _ (n == k) (flip k n false e)))
-  away_now n false d b e = away_by_op n b (is_op (piece_op w.of_kind w.small) o) refl
+  away_now n false d b e =
+      away_by_op w o (stage w next (job n)) (stage w h (job n)) b (is_op (piece_op w.of_kind w.small) o) refl
+      (λ other. other_stage n (first_false _ (n == k) other))
 
   -- ---- parts that are held
 
@@ -153,7 +141,8 @@ module _ (w : Work) (h : History) (c : SeenCarried) (is : IsHistory w (Came c �
   failed n why e =
       ap (λ (t : Bool). part_by w t (stage w h (act.Read n)) (stage w h (act.Place n)) (stage w next (job n)))
       (ap (λ (x : Option Cause). stop_by x) e ∙ fail_stops (first_failure w h) why _)
-      ∙ stopped_holds w.of_kind (has_done (stage w h (act.Read n))) (has_done (stage w h (act.Place n))) (stage w next (job n))
+      ∙ stopped_holds w.of_kind (has_done (stage w h (act.Read n))) (has_done (stage w h (act.Place n)))
+      (stage w next (job n))
 
   module _ (fine : failure_by w (Came c) ≡ None) (n : ℕ) where
     same_stop : is_stopped w next ≡ is_stopped w h
@@ -166,10 +155,11 @@ module _ (w : Work) (h : History) (c : SeenCarried) (is : IsHistory w (Came c �
         alike w (is_stopped w next) (is_stopped w h) (stage w h (act.Read n)) (stage w h (act.Read n))
         (stage w h (act.Place n)) (stage w h (act.Place n)) (stage w next (job n)) how same_stop refl refl e
 
-    part_by_op : holds_buffer o ≡ false → (d : Bool) → is_op (piece_op w.of_kind w.small) o ≡ d → has_part w next n ≡ has_part w h n
+    part_by_op : holds_buffer o ≡ false → (d : Bool) → is_op (piece_op w.of_kind w.small) o ≡ d
+        → has_part w next n ≡ has_part w h n
     part_by_op b false e = with_job (stage w h (job n)) (other_stage n (first_false _ (n == k) e))
     part_by_op b true e =
-        let none = no_mover b e (moves_bytes w.of_kind) refl in
+        let none = no_mover w o b e (moves_bytes w.of_kind) refl in
         let read = has_done (stage w h (act.Read n)) in
         let placed = has_done (stage w h (act.Place n)) in
         none_holds w.of_kind (is_stopped w next) read placed (stage w next (job n)) none
@@ -193,12 +183,15 @@ module _ (w : Work) (h : History) (c : SeenCarried) (is : IsHistory w (Came c �
           → part_by w t (stage w h (act.Read n)) (stage w h (act.Place n)) (how_by cut t cause)
           ≡ (not t && (cut || comes_down o))
       by_ending cut true cause e =
-          stopped_holds w.of_kind (has_done (stage w h (act.Read n))) (has_done (stage w h (act.Place n))) (how_by cut true cause)
+          stopped_holds w.of_kind (has_done (stage w h (act.Read n))) (has_done (stage w h (act.Place n)))
+          (how_by cut true cause)
           ∙ both_false (moves_bytes w.of_kind) _ (not_out cut true cause)
       by_ending true false cause e =
-          kept_holds w.of_kind w.small (has_done (stage w h (act.Read n))) (has_done (stage w h (act.Place n))) (known b).moves was_read
+          kept_holds w.of_kind w.small (has_done (stage w h (act.Read n))) (has_done (stage w h (act.Place n)))
+          (known b).moves was_read
       by_ending false false None e =
-          fine_holds w.of_kind w.small (has_done (stage w h (act.Read n))) (has_done (stage w h (act.Place n))) (known b).moves not_placed
+          fine_holds w.of_kind w.small (has_done (stage w h (act.Read n))) (has_done (stage w h (act.Place n)))
+          (known b).moves not_placed
           ∙ ap comes_down (known b).of_piece
       by_ending false false (Some why) e = no (sym (ap is_some e))
 
@@ -214,7 +207,8 @@ module _ (w : Work) (h : History) (c : SeenCarried) (is : IsHistory w (Came c �
     part_now false d b e = part_by_op b (is_op (piece_op w.of_kind w.small) o) refl
 
   changes : (n : ℕ) (x : Option Cause) → failure_by w (Came c) ≡ x
-      → has_part w next n ≡ (if is_some x then is_away w next n else if is_its_piece c n then stays_here w h c else has_part w h n)
+      → has_part w next n
+      ≡ (if is_some x then is_away w next n else if is_its_piece c n then stays_here w h c else has_part w h n)
   changes n (Some why) e = failed n why e
   changes n None e = part_now e n (holds_buffer o) (k == n) refl refl
 
