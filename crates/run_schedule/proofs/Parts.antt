@@ -170,7 +170,7 @@ is_work = record {
 }
 
 are_works : AreWorks setting (work ∷ [])
-are_works = record { each = at }
+are_works = record { as_many = refl; each = at }
   where
     at : (n : ℕ) (w : Work) → slice_get (work ∷ []) n ≡ Some w → (task : Task) × (slice_get setting.tasks n ≡ Some task) × IsWorkOf task setting.config setting.limits w × HasPiece w
         × (task.kind ≡ kind.RemoveObject → task.moves ≡ false)

@@ -21,7 +21,8 @@ use Rattle.shared_lemmas.proofs.Lists.{tail_is}
 use Rattle.shared_lemmas.proofs.Members.{Has, contains_of, found_or_not, has-append_right, has_at, has_middle}
 use Rattle.task_progress.proofs.Endings.{no, skipped}
 use Rattle.manager_moves.specs.Runs.{Back, Events, Sent, Shared, Stopped, share}
-use Rattle.task_schedule.specs.Journals.{IsBack, IsRunOf, KeepsSchedule, SharesKeepSchedule, ShowOne, place_after}
+use Rattle.task_schedule.specs.Journals.{IsBack, IsFirstCancel, IsRunOf, KeepsSchedule, SharesKeepSchedule, ShowOne, place_after}
+use Rattle.task_schedule.proofs.Cancels.{after_cancel}
 use Rattle.task_schedule.proofs.Cutting.{cut_first, cut_no_abort, cut_unfinished}
 use Rattle.task_schedule.proofs.EventStops.{ahead_goes_on}
 use Rattle.task_schedule.proofs.Failing.{in_dispatched, is_cut_in}
@@ -153,20 +154,23 @@ module _ (Shows : Ask → ℕ → Talk → Class → List ℕ → Type 0) (s : S
               omega arith
 
           at_place : (place : ℕ) → setting.cancelled_at ≡ Some place → y.dispatch.given_at < place
-          at_place place e = which (ends found.0 (Stopped found.2 ∷ found.1) b.later (Sent n o k b.lane ∷ b.before) (sym found.3 ∙ b.is))
+          at_place place e = which (ends cancel.later (Stopped cancel.reason ∷ found.0) b.later (Sent n o k b.lane ∷ b.before) (sym cancel.is ∙ b.is))
             where
-              found : (later : Events) × (before : Events) × (reason : Reason) × (events ≡ later ++ Stopped reason ∷ before) × (place ≡ place_after planned before)
+              found : (before : Events) × IsFirstCancel events before × (place ≡ place_after planned before)
               found = r.cancelled_at place e
 
-              first : (r1 : Events) → Stopped found.2 ∷ found.1 ≡ r1 ++ Sent n o k b.lane ∷ b.before → y.dispatch.given_at < place
-              first [] f = absurd (no_sent found.2 b.lane found.1 b.before f)
-              first (z ∷ r1) f = after place found.1 r1 found.4 b.given_at (tail_is (Stopped found.2) z found.1 (r1 ++ Sent n o k b.lane ∷ b.before) f)
+              cancel : IsFirstCancel events found.0
+              cancel = found.1
 
-              second : (r1 : Events) → Sent n o k b.lane ∷ b.before ≡ r1 ++ Stopped found.2 ∷ found.1 → y.dispatch.given_at < place
-              second [] f = absurd (no_sent found.2 b.lane found.1 b.before (sym f))
-              second (z ∷ r1) f = absurd (cancelled r1 found.1 found.2 (tail_is (Sent n o k b.lane) z b.before (r1 ++ Stopped found.2 ∷ found.1) f))
+              first : (r1 : Events) → Stopped cancel.reason ∷ found.0 ≡ r1 ++ Sent n o k b.lane ∷ b.before → y.dispatch.given_at < place
+              first [] f = absurd (no_sent cancel.reason b.lane found.0 b.before f)
+              first (z ∷ r1) f = after place found.0 r1 found.2 b.given_at (tail_is (Stopped cancel.reason) z found.0 (r1 ++ Sent n o k b.lane ∷ b.before) f)
 
-              which : ((r1 : Events) × (Stopped found.2 ∷ found.1 ≡ r1 ++ Sent n o k b.lane ∷ b.before)) ⊎ ((r1 : Events) × (Sent n o k b.lane ∷ b.before ≡ r1 ++ Stopped found.2 ∷ found.1)) → y.dispatch.given_at < place
+              second : (r1 : Events) → Sent n o k b.lane ∷ b.before ≡ r1 ++ Stopped cancel.reason ∷ found.0 → y.dispatch.given_at < place
+              second [] f = absurd (no_sent cancel.reason b.lane found.0 b.before (sym f))
+              second (z ∷ r1) f = absurd (cancelled r1 found.0 cancel.reason (tail_is (Sent n o k b.lane) z b.before (r1 ++ Stopped cancel.reason ∷ found.0) f))
+
+              which : ((r1 : Events) × (Stopped cancel.reason ∷ found.0 ≡ r1 ++ Sent n o k b.lane ∷ b.before)) ⊎ ((r1 : Events) × (Sent n o k b.lane ∷ b.before ≡ r1 ++ Stopped cancel.reason ∷ found.0)) → y.dispatch.given_at < place
               which (inl f) = first f.0 f.1
               which (inr f) = second f.0 f.1
 
@@ -251,6 +255,7 @@ module _ (Shows : Ask → ℕ → Talk → Class → List ℕ → Type 0) (s : S
     twice = all_pairs GivenAgain dispatched one_pair;
     no_third = none_thrice Shows s setting planned events dispatched coming r;
     stops = after_failure;
+    cancels = after_cancel Shows s setting planned events dispatched coming r;
     abort_last = aborts_last Shows s setting planned events dispatched coming r;
     aborts = uploads_end Shows s setting planned events dispatched coming r;
     completed_stays = completed_stay Shows s setting planned events dispatched coming r;

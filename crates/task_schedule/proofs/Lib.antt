@@ -2,6 +2,7 @@ pub mod AskRows
 pub mod Deciders
 pub mod Deciding
 pub mod EventStops
+pub mod Cancels
 pub mod Cutting
 pub mod Failing
 pub mod Failures

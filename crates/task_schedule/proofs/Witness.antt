@@ -181,7 +181,7 @@ module _ (for : What) (cell : Holder) (part : Part) where
   no_removal e = refl
 
   are_works : AreWorks small_setting (upload ∷ [])
-  are_works = record { each = each }
+  are_works = record { as_many = refl; each = each }
     where
       each : (n : ℕ) (w : Work) → slice_get (upload ∷ []) n ≡ Some w → (task : Task) × (slice_get small_setting.tasks n ≡ Some task) × IsWorkOf task small_setting.config small_setting.limits w × HasPiece w
           × (task.kind ≡ kind.RemoveObject → task.moves ≡ false)

@@ -1,5 +1,5 @@
 -- How the dispatches of a run show what happened in it, and what the schedule says of the jobs of its tasks.
-use Rattle.std.specs.Prelude.{◌≡◌, ◌≢◌, ◌+◌, ◌<◌, ◌++◌, ◌⊎◌, ◌∷◌, ◌&&◌, ◌||◌, [], ℕ, Bool, true, false, List}
+use Rattle.std.specs.Prelude.{◌≡◌, ◌≢◌, ◌+◌, ◌<◌, ◌≤◌, ◌++◌, ◌⊎◌, ◌∷◌, ◌&&◌, ◌||◌, [], ℕ, Bool, true, false, List}
 use Rattle.std.specs.Prelude.{AllPairs, Contains, IsPermutation, IsSome, None, Some, is_some, length, map, not}
 use Rattle.std.specs.Prelude.{slice_get}
 use Rattle.jobs.specs.Endings.{SeenCarried}
@@ -50,8 +50,9 @@ NoneBack events job = (lane : ℕ) (carried : SeenCarried) → Contains events (
 
 -- ---- tasks
 
--- each work is that of the task with its number; a removal moves nothing
+-- there is one work for each task, that of the task with its number; a removal moves nothing
 pub record AreWorks (setting : Setting) (works : List Work) : Type 0 where
+  pub as_many : length works ≡ length setting.tasks
   pub each : (n : ℕ) (w : Work) → slice_get works n ≡ Some w → (task : Task) × (slice_get setting.tasks n ≡ Some task)
       × IsWorkOf task setting.config setting.limits w × HasPiece w
       × (task.kind ≡ kind.RemoveObject → task.moves ≡ false)
@@ -90,10 +91,16 @@ ComeInOrder coming = AllPairs (λ (a b : Dispatched). IsBeforeAny a.dispatch.cam
 abbrev pub TellsCancels : Setting → Events → Type 0
 TellsCancels setting events = (reason : Reason) → Contains events (Stopped reason) → IsSome setting.cancelled_at
 
+-- the run was cancelled behind these events, for the first time
+pub record IsFirstCancel (events before : Events) : Type 0 where
+  pub later : Events
+  pub reason : Reason
+  pub is : events ≡ later ++ Stopped reason ∷ before
+  pub none : (other : Reason) → ¬ (Contains before (Stopped other))
+
 abbrev pub TellsWhere : Setting → (planned : ℕ) → Events → Type 0
 TellsWhere setting planned events = (place : ℕ) → setting.cancelled_at ≡ Some place
-    → (later : Events) × (before : Events) × (reason : Reason) × (events ≡ later ++ Stopped reason ∷ before)
-    × (place ≡ place_after planned before)
+    → (before : Events) × IsFirstCancel events before × (place ≡ place_after planned before)
 
 -- a call on files failed, or memory ran out
 abbrev pub is_otherwise : Work → Happening → Bool
@@ -235,6 +242,9 @@ module _ (Shows : Ask → ℕ → Talk → Class → List ℕ → Type 0) where
     pub stops : (failed c : Dispatched) → IsFailed Shows setting coming failed → IsSome failed.dispatch.job.task
         → Contains dispatched c → c.dispatch.job.task ≡ failed.dispatch.job.task
         → IsBefore failed.dispatch.came_at c.dispatch.given_at → c.dispatch.job.op ≡ op.Abort
+    -- after a cancel no job of a task is given but Abort
+    pub cancels : (c : Dispatched) (n place : ℕ) → Contains dispatched c → c.dispatch.job.task ≡ Some n
+        → setting.cancelled_at ≡ Some place → place ≤ c.dispatch.given_at → c.dispatch.job.op ≡ op.Abort
     pub abort_last : (a c : Dispatched) → Contains dispatched a → Contains dispatched c
         → IsSome a.dispatch.job.task → a.dispatch.job.op ≡ op.Abort
         → c.dispatch.job.task ≡ a.dispatch.job.task → c.dispatch.job.op ≢ op.Abort
