@@ -1,11 +1,11 @@
 //! Causes and stages, run.
 
-use task_causes::{ended_cause, file_cause, file_stage, given_stage};
 use jobs::Ending;
 use s3_model::{Cause, FileCall, Kind, Op, Reply, Text, Why};
 use s3_outside::FileFault;
 use std::test::Fail;
 use task_acts::{Act, FileCame, Stage, Work};
+use task_causes::{ended_cause, file_cause, file_stage, given_stage};
 
 /// A download of 5 bytes in one piece.
 const WHOLE: Work = Work {

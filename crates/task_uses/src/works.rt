@@ -2,11 +2,11 @@
 
 ghost use Rattle.std.specs.Prelude.{◌≤◌};
 
-use task_works::work_of;
 use s3_model::{Config, Kind, Limits, Place, Task, Text};
 use std::alloc::Global;
 use std::test::Fail;
 use task_acts::Work;
+use task_works::work_of;
 
 const MIB: u64 = 1_048_576;
 
