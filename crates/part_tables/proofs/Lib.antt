@@ -1,0 +1,5 @@
+mod Tables
+mod Following
+mod Freeing
+mod Unmade
+mod Finding
