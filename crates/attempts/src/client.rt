@@ -4,15 +4,17 @@ ghost use Rattle.std.specs.Prelude.{◌≡◌, IfOk};
 
 use http_exchange::AnswerRoom;
 use s3_model::{Endpoint, Keys, OutOfMemory};
-use s3_requests::Signer;
+use s3_requests::{HeadRoom, Signer};
 use std::alloc::Global;
 
-/// Where the requests to a service go, what signs them, and the room in which their answers are read. One client serves
-/// one request after the other; the signing key of a day is made once.
+/// Where the requests to a service go, what signs them, and the rooms in which their heads are written and their answers
+/// are read. One client serves one request after the other; the signing key of a day is made once, and the rooms are
+/// used anew.
 #[derive(Drop)]
 pub struct Client {
     pub endpoint: Endpoint,
     pub signer: Signer,
+    pub heads: HeadRoom,
     pub room: AnswerRoom,
 }
 
@@ -25,6 +27,7 @@ impl Client {
         Ok(Client {
             endpoint,
             signer: Signer::new(keys),
+            heads: HeadRoom::new(alloc),
             room: AnswerRoom::make(alloc)?,
         })
     }

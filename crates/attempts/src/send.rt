@@ -1,6 +1,6 @@
 //! A request is signed and sent, in one talk, and its answer is judged.
 
-ghost use Rattle.std.specs.Prelude.{◌≡◌, ◌≢◌, ◌≤◌, false, true, Some, None, IfSome, IfOk, OnErr};
+ghost use Rattle.std.specs.Prelude.{◌≡◌, ◌≢◌, ◌≤◌, false, true, Some, None, IfSome, OnErr, OnOk};
 ghost use Rattle.s3_model.specs.Counts.{Rose};
 ghost use Rattle.answer_dates.specs.Dates.{HasDates};
 ghost use Rattle.attempts.specs.Attempts.{
@@ -20,7 +20,7 @@ use crate::client::Client;
 use crate::payload::Payload;
 use answer_classes::classify;
 use http_exchange::exchange;
-use s3_model::{Ask, Bytes, Class, OutOfMemory, Talked, Text, Why};
+use s3_model::{Ask, Bytes, Class, OutOfMemory, Talked, Why};
 use s3_outside::Wire;
 use std::alloc::Global;
 
@@ -42,24 +42,25 @@ pub enum Attempted {
     Made(Judged),
 }
 
-/// The head of a request, signed at the wire's moment.
+/// Writes the head of a request, signed at the wire's moment.
 fn sign<W: Wire>(
     alloc: Global,
     wire: &mut W,
     client: &mut Client,
     ask: &Ask,
     payload: &Payload<'_>,
-) -> Result<Text, OutOfMemory>
-    ensures signed { IfOk result (λ head. Gains (W.seen wire.old) (W.seen wire.new)
-        (IsSigned client.old.endpoint client.old.signer ask.now payload.now head)) }
+) -> Result<(), OutOfMemory>
+    ensures signed { OnOk result (Gains (W.seen wire.old) (W.seen wire.new)
+        (IsSigned client.old.endpoint client.old.signer ask.now payload.now client.new.heads)) }
     ensures silent { OnErr result (Gains (W.seen wire.old) (W.seen wire.new) IsSilent) }
     ensures later { W.faults wire.old ≤ W.faults wire.new }
     ensures endpoint { client.new.endpoint ≡ client.old.endpoint }
     ensures keys { client.new.signer ≡ client.old.signer }
 {
     let moment = wire.moment();
-    client.signer.head_text(
+    client.signer.write_head(
         alloc,
+        &mut client.heads,
         ask,
         &client.endpoint,
         moment,
@@ -85,13 +86,12 @@ fn status_of(talked: &Talked) -> Option<u16>
     }
 }
 
-/// Sends a request whose head is signed, and judges the answer.
+/// Sends the request whose head was written last, and judges the answer.
 fn send<W: Wire>(
     alloc: Global,
     wire: &mut W,
     client: &mut Client,
     ask: &Ask,
-    head: &Text,
     payload: &Payload<'_>,
     limit: Option<u64>,
     into: &mut Bytes,
@@ -99,7 +99,7 @@ fn send<W: Wire>(
 ) -> Judged
     requires limit { IfSome limit (λ most. IsGet ask.now × (most ≤ into.old.room)) }
     ensures answered { IsAnsweredBy (signed_request client.old.endpoint client.old.signer ask.now payload.now limit)
-        keep head.now (W.seen wire.old) (W.seen wire.new) (W.alive wire.new) (W.faults wire.old) (W.faults wire.new)
+        keep client.old.heads (W.seen wire.old) (W.seen wire.new) (W.alive wire.new) (W.faults wire.old) (W.faults wire.new)
         into.old into.new result }
     ensures dated { HasDates result.class }
     ensures refused { HasStatusIfRefused result }
@@ -115,7 +115,7 @@ fn send<W: Wire>(
         wire,
         &mut client.room,
         &client.endpoint,
-        head.as_str().as_bytes(),
+        client.heads.as_str().as_bytes(),
         payload.as_slice(),
         is_head(ask),
         keep,
@@ -166,9 +166,7 @@ pub fn attempt<W: Wire>(
     ensures room { into.new.room ≡ into.old.room }
 {
     match sign(alloc, wire, client, ask, payload) {
-        Ok(head) => Attempted::Made(send(
-            alloc, wire, client, ask, &head, payload, limit, into, keep,
-        )),
+        Ok(()) => Attempted::Made(send(alloc, wire, client, ask, payload, limit, into, keep)),
         Err(_) => Attempted::Memory,
     }
 }

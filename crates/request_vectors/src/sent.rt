@@ -3,7 +3,7 @@
 use crate::asks::ask_named;
 use crate::fixtures::{MOMENT, endpoint, keys, value};
 use s3_model::{Ask, Bytes, OutOfMemory, Text};
-use s3_requests::{Signer, body_text, head_text, payload_hash};
+use s3_requests::{HeadRoom, Signer, body_text, head_text, payload_hash};
 use std::alloc::{AllocError, Global};
 
 /// The SHA-256 and the length of a body.
@@ -45,8 +45,19 @@ fn second_head(alloc: Global, ask: &Ask, values: &str) -> Result<Text, OutOfMemo
     let endpoint = endpoint(alloc)?;
     let mut signer = Signer::new(keys(alloc, values)?);
     let hash = payload.hash.as_str();
-    let _ = signer.head_text(alloc, ask, &endpoint, MOMENT, hash, payload.length)?;
-    signer.head_text(alloc, ask, &endpoint, MOMENT, hash, payload.length)
+    let mut room = HeadRoom::new(alloc);
+    for _ in 0..2 {
+        signer.write_head(
+            alloc,
+            &mut room,
+            ask,
+            &endpoint,
+            MOMENT,
+            hash,
+            payload.length,
+        )?;
+    }
+    Text::of(alloc, room.as_str())
 }
 
 fn text_shown(alloc: Global, text: &Text) -> Result<String, OutOfMemory> {

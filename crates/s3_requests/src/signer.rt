@@ -1,10 +1,10 @@
 //! Heads of requests, and a signer that keeps the key of a day.
-ghost use Rattle.std.specs.Prelude.{◌≡◌, ◌<◌, IfOk, string_bytes};
+ghost use Rattle.std.specs.Prelude.{◌≡◌, ◌<◌, IfOk, OnOk, string_bytes};
 ghost use Rattle.s3_requests.specs.Requests as spec;
 ghost use Rattle.s3_signing.specs.Signing.{signing_key};
 ghost use Rattle.s3_signing.specs.Times.{basic_date};
 
-use crate::head::{Key, head_under};
+use crate::head::{HeadRoom, Key};
 use s3_model::{Ask, Endpoint, Keys, OutOfMemory, Text};
 use s3_signing::key_at;
 use std::alloc::{AllocError, Global};
@@ -68,18 +68,22 @@ impl Signer {
         Ok(key)
     }
 
-    /// The head as [`Signer::head_text`] gives it.
-    fn sign_head(
+    /// Writes the head of a request into `room`: the request line, the headers with the signature, and an empty line.
+    ///
+    /// `payload_hash` and `length` are those of the body; the moment is in seconds since 1970, before the year 10000.
+    /// Where memory runs out `room` has any text.
+    pub fn write_head(
         &mut self,
         alloc: Global,
+        room: &mut HeadRoom,
         ask: &Ask,
         endpoint: &Endpoint,
         moment: u64,
         payload_hash: &str,
         length: u64,
-    ) -> Result<String, AllocError>
+    ) -> Result<(), OutOfMemory>
         requires { moment < 253402300800 }
-        ensures text { IfOk result (λ text. string_bytes text
+        ensures head { OnOk result (room.new
             ≡ spec.request_head ask.now endpoint.now self.old moment payload_hash.now length) }
         ensures keys { self.new ≡ self.old }
     {
@@ -89,28 +93,8 @@ impl Signer {
             moment,
             key: &key,
         };
-        head_under(alloc, ask, endpoint, &with, payload_hash, length)
-    }
-
-    /// The head of a request: the request line, the headers with the signature, and an empty line.
-    ///
-    /// `payload_hash` and `length` are those of the body; the moment is in seconds since 1970, before the year 10000.
-    pub fn head_text(
-        &mut self,
-        alloc: Global,
-        ask: &Ask,
-        endpoint: &Endpoint,
-        moment: u64,
-        payload_hash: &str,
-        length: u64,
-    ) -> Result<Text, OutOfMemory>
-        requires { moment < 253402300800 }
-        ensures text { IfOk result (λ text. text
-            ≡ spec.request_head ask.now endpoint.now self.old moment payload_hash.now length) }
-        ensures keys { self.new ≡ self.old }
-    {
-        let text = self.sign_head(alloc, ask, endpoint, moment, payload_hash, length)?;
-        Ok(Text::from(text))
+        room.write(alloc, ask, endpoint, &with, payload_hash, length)?;
+        Ok(())
     }
 }
 
@@ -134,10 +118,12 @@ fn sign_one_head(
         moment,
         key: &key,
     };
-    head_under(alloc, ask, endpoint, &with, payload_hash, length)
+    let mut room = HeadRoom::new(alloc);
+    room.write(alloc, ask, endpoint, &with, payload_hash, length)?;
+    Ok(room.into_string())
 }
 
-/// The head of a request, as [`Signer::head_text`] makes it, with a signing key that is made for it alone.
+/// The head of a request, as [`Signer::write_head`] writes it, with a signing key that is made for it alone.
 pub fn head_text(
     alloc: Global,
     ask: &Ask,

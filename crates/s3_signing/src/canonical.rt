@@ -45,15 +45,23 @@ fn push_header_block(out: &mut String, headers: &[Header<'_>]) -> Result<(), All
     out.push_str("\n")
 }
 
-/// The text that is hashed for a signature.
+/// Writes the text that is hashed for a signature, in place of what stands there.
 #[tactic(auto, using(crate::proofs::JoinLemmas::lines_joined))]
+pub fn write_canonical(out: &mut String, parts: &SignedParts<'_>) -> Result<(), AllocError>
+    ensures { OnOk result (string_bytes out.new ≡ canonical_with parts.now) }
+{
+    out.clear();
+    push_target_lines(out, parts)?;
+    push_header_block(out, parts.headers)?;
+    out.push_str(parts.payload_hash)
+}
+
+/// The text that is hashed for a signature.
 pub fn canonical_text(alloc: Global, parts: &SignedParts<'_>) -> Result<String, AllocError>
     ensures { IfOk result (λ text. string_bytes text ≡ canonical_with parts.now) }
 {
     let mut out = String::with_capacity(alloc, 512)?;
-    push_target_lines(&mut out, parts)?;
-    push_header_block(&mut out, parts.headers)?;
-    out.push_str(parts.payload_hash)?;
+    write_canonical(&mut out, parts)?;
     Ok(out)
 }
 

@@ -2,13 +2,13 @@
 ghost use Rattle.std.specs.Prelude.{◌≡◌, ◌++◌, OnOk, IfOk, map, string_bytes};
 ghost use Rattle.std.specs.List.{flat_map};
 ghost use Rattle.s3_signing.specs.Signing as spec;
-ghost use Rattle.s3_signing.specs.Headers.{pairs_of, next_piece, text_pairs};
+ghost use Rattle.s3_signing.specs.Headers.{pairs_of, next_piece};
 
 use s3_model::Pairs;
 use std::alloc::{AllocError, Global};
 
 /// A header that is lent: its name in lower case, and its value.
-#[derive(Clone, Copy)]
+#[derive(Clone, Copy, Default)]
 pub struct Header<'a> {
     pub name: &'a str,
     pub value: &'a str,
@@ -20,23 +20,6 @@ pub fn lend<'a>(alloc: Global, pairs: &'a Pairs) -> Result<Vec<Header<'a>>, Allo
 {
     let mut headers = Vec::with_capacity(alloc, pairs.len())?;
     for pair in pairs.as_slice() {
-        headers.push(Header {
-            name: pair.0.as_str(),
-            value: pair.1.as_str(),
-        })?;
-    }
-    Ok(headers)
-}
-
-/// Lends written headers.
-pub fn lend_texts<'a>(
-    alloc: Global,
-    texts: &'a [(String, String)],
-) -> Result<Vec<Header<'a>>, AllocError>
-    ensures { IfOk result (λ headers. pairs_of headers.items ≡ text_pairs texts.now) }
-{
-    let mut headers = Vec::with_capacity(alloc, texts.len())?;
-    for pair in texts {
         headers.push(Header {
             name: pair.0.as_str(),
             value: pair.1.as_str(),

@@ -33,7 +33,7 @@ fn escape_all(alloc: Global, query: &Pairs) -> Result<Vec<(String, String)>, All
 }
 
 /// Sorts pairs by name and then by value.
-pub fn sort(pairs: &mut Vec<(String, String)>) -> Result<(), AllocError>
+fn sort(pairs: &mut Vec<(String, String)>) -> Result<(), AllocError>
     ensures { OnOk result (text_pairs pairs.new.items ≡ sort_pairs (text_pairs pairs.old.items)) }
 {
     pairs.sort()

@@ -1,5 +1,6 @@
 //! Signatures.
 ghost use Rattle.std.specs.Prelude.{◌≡◌, ◌++◌, ◌<◌, OnOk, IfOk, string_bytes};
+ghost use Rattle.hex.specs.Hex.{encode_lower};
 ghost use Rattle.s3_signing.specs.Signing as spec;
 ghost use Rattle.s3_signing.specs.Times.{basic_date};
 
@@ -8,6 +9,17 @@ use crate::times::{push_basic_date, push_basic_time};
 use s3_model::{Keys, OutOfMemory, Text};
 use sha2::{Digest, Sha256};
 use std::alloc::{AllocError, Global};
+
+/// Adds a hash in 64 lower-case hexadecimal digits.
+fn push_hex(out: &mut String, hash: [u8; 32]) -> Result<(), AllocError>
+    ensures { OnOk result (string_bytes out.new ≡ string_bytes out.old ++ encode_lower hash) }
+{
+    let mut digits = [0; 64];
+    match hex::encode_to_slice(hash, &mut digits) {
+        Ok(()) => out.push_str(unsafe { str::from_utf8_unchecked(&digits) }),
+        Err(_) => unreachable!(),
+    }
+}
 
 /// The SHA-256 of some bytes in 64 lower-case hexadecimal digits.
 #[tactic(auto, unfolding(crate::specs::Signing::hex_sha256))]
@@ -48,7 +60,26 @@ pub fn push_credential(out: &mut String, keys: &Keys, moment: u64) -> Result<(),
     push_scope(out, moment, keys.region.as_str())
 }
 
-#[tactic(auto, unfolding(crate::specs::Signing::string_to_sign))]
+/// Writes the string to sign, in place of what stands there.
+#[tactic(auto, unfolding(crate::specs::Signing::string_to_sign, crate::specs::Signing::hex_sha256))]
+fn write_text_to_sign(
+    out: &mut String,
+    moment: u64,
+    region: &str,
+    canonical: &str,
+) -> Result<(), AllocError>
+    requires { moment < 253402300800 }
+    ensures { OnOk result (string_bytes out.new ≡ spec.string_to_sign moment region.now canonical.now) }
+{
+    out.clear();
+    out.push_str("AWS4-HMAC-SHA256\n")?;
+    push_basic_time(out, moment)?;
+    out.push_str("\n")?;
+    push_scope(out, moment, region)?;
+    out.push_str("\n")?;
+    push_hex(out, Sha256::digest(canonical.as_bytes()))
+}
+
 fn text_to_sign(
     alloc: Global,
     moment: u64,
@@ -59,12 +90,7 @@ fn text_to_sign(
     ensures { IfOk result (λ text. string_bytes text ≡ spec.string_to_sign moment region.now canonical.now) }
 {
     let mut out = String::with_capacity(alloc, 192)?;
-    out.push_str("AWS4-HMAC-SHA256\n")?;
-    push_basic_time(&mut out, moment)?;
-    out.push_str("\n")?;
-    push_scope(&mut out, moment, region)?;
-    out.push_str("\n")?;
-    out.push_str(hex_sha256(alloc, canonical.as_bytes())?.as_str())?;
+    write_text_to_sign(&mut out, moment, region, canonical)?;
     Ok(out)
 }
 
@@ -121,8 +147,26 @@ pub fn key_at(
     key_of(alloc, secret, date.as_str(), region)
 }
 
-/// The signature of a canonical request under a signing key.
+/// Adds the signature of a canonical request under a signing key. What is signed is written in `room`, in place of what
+/// stands there.
 #[tactic(auto, unfolding(crate::specs::Signing::signature_under))]
+pub fn push_signature(
+    out: &mut String,
+    room: &mut String,
+    key: &[u8; 32],
+    moment: u64,
+    region: &str,
+    canonical: &str,
+) -> Result<(), AllocError>
+    requires { moment < 253402300800 }
+    ensures { OnOk result (string_bytes out.new
+        ≡ string_bytes out.old ++ spec.signature_under key.now moment region.now canonical.now) }
+{
+    write_text_to_sign(room, moment, region, canonical)?;
+    push_hex(out, hmac_sha256(key, room.as_bytes()))
+}
+
+/// The signature of a canonical request under a signing key.
 pub fn signature_under(
     alloc: Global,
     key: &[u8; 32],
@@ -133,8 +177,10 @@ pub fn signature_under(
     requires { moment < 253402300800 }
     ensures { IfOk result (λ text. string_bytes text ≡ spec.signature_under key.now moment region.now canonical.now) }
 {
-    let text = text_to_sign(alloc, moment, region, canonical)?;
-    hex::encode(alloc, hmac_sha256(key, text.as_bytes()))
+    let mut room = String::with_capacity(alloc, 192)?;
+    let mut out = String::with_capacity(alloc, 64)?;
+    push_signature(&mut out, &mut room, key, moment, region, canonical)?;
+    Ok(out)
 }
 
 fn signed(alloc: Global, keys: &Keys, moment: u64, canonical: &str) -> Result<String, AllocError>
