@@ -1,12 +1,12 @@
 //! Works, computed.
 
-ghost use Rattle.std.specs.Prelude.{◌≤◌};
+ghost use Rattle.std.specs.Prelude.{◌≡◌, ◌≤◌, false, IfOk};
 
-use s3_model::{Config, Kind, Limits, Place, Task, Text};
+use s3_model::{Config, Kind, Limits, Op, Place, Task, Text};
 use std::alloc::Global;
 use std::test::Fail;
-use task_acts::Work;
-use task_works::work_of;
+use task_acts::{Act, Work};
+use task_works::{begin, work_of};
 
 const MIB: u64 = 1_048_576;
 
@@ -27,11 +27,13 @@ const CONFIG: Config = Config {
     attempts: 3,
 };
 
-/// The work of a task of that many MiB.
-fn work(alloc: Global, kind: Kind, mebibytes: u64) -> Result<Work, Fail>
-    requires { mebibytes ≤ 1000000 }
+/// A task of that many MiB.
+fn task(alloc: Global, kind: Kind, mebibytes: u64) -> Result<Task, Fail>
+    requires few { mebibytes ≤ 1000000 }
+    ensures size { IfOk result (λ task. task.size ≤ 1099511627776) }
+    ensures replaces { IfOk result (λ task. task.fresh ≡ false) }
 {
-    let task = Task {
+    Ok(Task {
         kind,
         moves: true,
         source: None,
@@ -43,7 +45,14 @@ fn work(alloc: Global, kind: Kind, mebibytes: u64) -> Result<Work, Fail>
         micros: 0,
         content: None,
         fresh: false,
-    };
+    })
+}
+
+/// The work of a task of that many MiB.
+fn work(alloc: Global, kind: Kind, mebibytes: u64) -> Result<Work, Fail>
+    requires { mebibytes ≤ 1000000 }
+{
+    let task = task(alloc, kind, mebibytes)?;
     Ok(work_of(&task, &CONFIG, &LIMITS))
 }
 
@@ -65,5 +74,25 @@ fn small_and_large_tasks(rt: HostRuntime) -> Result<(), Fail> {
     );
     let removal = work(rt.alloc(), Kind::RemoveObject, 20)?;
     assert_eq!(rt; (removal.piece, removal.count, removal.moves), (0, 1, true));
+    Ok(())
+}
+
+#[test]
+fn the_first_act_of_a_task(rt: HostRuntime) -> Result<(), Fail> {
+    let small = task(rt.alloc(), Kind::Upload, 7)?;
+    let upload = begin(rt.alloc(), &small, &CONFIG, &LIMITS)?;
+    assert_eq!(rt; upload.ready(), Some(Act::Read { number: 0 }));
+    let large = task(rt.alloc(), Kind::Upload, 20)?;
+    let in_parts = begin(rt.alloc(), &large, &CONFIG, &LIMITS)?;
+    assert_eq!(rt;
+        in_parts.ready(),
+        Some(Act::Send {
+            op: Op::Create,
+            number: 0
+        })
+    );
+    let removal = task(rt.alloc(), Kind::RemoveFile, 20)?;
+    let gone = begin(rt.alloc(), &removal, &CONFIG, &LIMITS)?;
+    assert_eq!(rt; gone.ready(), Some(Act::Remove));
     Ok(())
 }
