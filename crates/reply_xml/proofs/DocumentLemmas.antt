@@ -1,16 +1,14 @@
 -- Bytes begin with one document's root.
-use Rattle.std.proofs.Common.{◌≡◌, ◌<◌, ◌+◌, ◌∙◌, ℕ, Bool, List, ◌∷◌, ◌-◌, ◌≤◌, suc, length, refl, sym, subst, ap, drop}
+use Rattle.std.proofs.Common.{◌≡◌, ◌<◌, ◌+◌, ◌∙◌, ℕ, Bool, List, ◌-◌, ◌≤◌, length, sym, subst, ap, drop}
 use Rattle.std.proofs.Common.{codes, inl, inr, ⊎_elim, arith}
-use Rattle.std.proofs.lemmas.List.{append_cancel_left}
+use Rattle.std.proofs.lemmas.List.{append_cancel_left, length-append, length-drop}
 use Rattle.reply_xml.specs.declared.runs.Sort.TheVariants as sort
 use Rattle.reply_xml.specs.Documents.{EndsAt, ReadsDeclaration, MayDeclare, BeginsDocument, NamesRoot}
 use Rattle.reply_xml.specs.Places.{BeginsOtherwise, HasOtherRoot, LacksName, LacksRoot, ReachesRoot}
 use Rattle.reply_xml.specs.Runs.{ReadsRun}
 use Rattle.reply_xml.specs.Tags.{NamesTag, ReadsTag, ReadsTagEnd}
-use Rattle.reply_xml.proofs.RunLemmas.{ReadsRun-same, no_run, parts_same}
-use Rattle.std.proofs.lemmas.Bool.{false≢true}
-use Rattle.std.proofs.lemmas.List.{length-append, length-drop}
-use Rattle.reply_xml.proofs.TagLemmas.{ReadsName-first, ReadsTag-same, tag_end_of}
+use Rattle.reply_xml.proofs.RunLemmas.{ReadsRun-same}
+use Rattle.reply_xml.proofs.TagLemmas.{ReadsTag-same, tag_end_of}
 
 place_same : (bytes : List ℕ) (i j : ℕ) → EndsAt bytes i → ((k : ℕ) → k < i → ¬ (EndsAt bytes k)) → EndsAt bytes j
     → ((k : ℕ) → k < j → ¬ (EndsAt bytes k)) → j ≡ i
@@ -30,8 +28,8 @@ declaration_same bytes rest left r s =
 pub MayDeclare-same : (bytes rest left : List ℕ) → MayDeclare bytes rest → MayDeclare bytes left → left ≡ rest
 MayDeclare-same bytes rest left r s =
     ⊎_elim
-    (λ a. ⊎_elim (λ b. declaration_same bytes rest left a b) (λ b. absurd (b.1 a.after a.opens)) s)
-    (λ a. ⊎_elim (λ b. absurd (a.1 b.after b.opens)) (λ b. b.0 ∙ sym a.0) s)
+    (λ a. ⊎_elim (λ b. declaration_same bytes rest left a b) (λ b. absurd (b.1 _ a.opens)) s)
+    (λ a. ⊎_elim (λ b. absurd (a.1 _ b.opens)) (λ b. b.0 ∙ sym a.0) s)
     r
 
 -- the declaration of a document stands behind the white space in front
@@ -106,13 +104,6 @@ NamesRoot-tag name bytes space at at_space between at_root rest run declared gap
     (subst (λ (t : List ℕ). ReadsRun sort.Space n.between.0 t n.at_root) there n.between.1) in
     subst (λ (t : List ℕ). NamesTag name t rest) root_is.1 n.names
 
--- where no declaration opens, none is read
-pub undeclared : (at rest : List ℕ) → ((more : List ℕ) → ¬ (at ≡ 60 ∷ 63 ∷ more)) → MayDeclare at rest → rest ≡ at
-undeclared at rest none d = ⊎_elim (λ r. absurd (none _ r.opens)) (λ r. r.0) d
-
-pub may_be_undeclared : (at : List ℕ) → ((more : List ℕ) → ¬ (at ≡ 60 ∷ 63 ∷ more)) → MayDeclare at at
-may_be_undeclared at none = inr (refl, λ after e. none _ e)
-
 -- where the root has to begin
 pub reached_declared : (bytes space at rest : List ℕ) → ReadsRun sort.Space space bytes at
     → (r : ReachesRoot bytes rest) → MayDeclare at r.at_space
@@ -141,13 +132,6 @@ reaches bytes space at at_space between at_root run declared gap =
           (between, gap);
     }
 
--- without a declaration it begins where one could
-pub root_there : (at at_space space bytes between at_root : List ℕ) → ReadsRun sort.Space space bytes at → at_space ≡ at
-    → ReadsRun sort.Space between at_space at_root → at_root ≡ at
-root_there at at_space space bytes between at_root run same gap =
-    (no_run sort.Space at between at_root run.ends
-    (subst (λ (b : List ℕ). ReadsRun sort.Space between b at_root) same gap)).1
-
 -- behind a declaration it stands behind `<?xml`
 pub root_left : (at at_space between at_root : List ℕ) → ReadsDeclaration at at_space
     → ReadsRun sort.Space between at_space at_root → length at_root + 5 ≤ length at
@@ -166,26 +150,3 @@ pub otherwise_at : (root doc : List ℕ) (place left : ℕ) → BeginsOtherwise 
 otherwise_at root doc place left (inl o) f g h = ap (λ n. length doc - n) (f o) ∙ sym o.at
 otherwise_at root doc place left (inr (inl l)) f g h = ap (λ n. length doc - n) (g l) ∙ sym l.at
 otherwise_at root doc place left (inr (inr l)) f g h = ap (λ n. length doc - n) (h l) ∙ sym l.at
-
--- a root behind a declaration stands behind `<?xml`
-pub declared_left : (at at_space between at_root name rest : List ℕ) → ReadsDeclaration at at_space
-    → ReadsRun sort.Space between at_space at_root → NamesTag name at_root rest → length rest + 5 ≤ length at
-declared_left at at_space between at_root name rest d gap tag =
-    let opens : length at ≡ 5 + length d.after = ap length d.opens ∙ length-append (codes "<?xml") d.after in
-    let behind : length at_space ≡ length d.after - (d.place + 2) = ap length d.behind ∙ length-drop
-    (d.place + 2) d.after in
-    let space : length at_space ≡ length between + length at_root = ap length gap.split
-    ∙ length-append between at_root in
-    let root : length at_root ≡ suc (length tag.at_name) = ap length tag.opens in
-    let named : length tag.at_name ≡ length name + length rest = ap length tag.named.run.split
-    ∙ length-append name rest in
-    omega (arith, opens, behind, space, root, named)
-
--- and no `?` follows its `<`
-pub no_question : (bytes space at between at_root name rest : List ℕ) → ReadsRun sort.Space space bytes at
-    → ReadsRun sort.Space between at at_root → NamesTag name at_root rest
-    → (more : List ℕ) → ¬ (at ≡ 60 ∷ 63 ∷ more)
-no_question bytes space at between at_root name rest run gap tag more e =
-    let there = (no_run sort.Space at between at_root run.ends gap).1 in
-    let inside = (parts_same 60 60 tag.at_name (63 ∷ more) (sym tag.opens ∙ there ∙ e)).1 in
-    false≢true (ReadsName-first name tag.at_name rest more 63 tag.named inside)

@@ -1,5 +1,5 @@
 -- What a fault says, through what it implies.
-use Rattle.std.proofs.Common.{◌≡◌, ◌≢◌, ◌∙◌, ap, ℕ, IfOk, Result, Ok, Err, refl, subst, sym}
+use Rattle.std.proofs.Common.{◌≡◌, ◌≢◌, ◌∙◌, ℕ, IfOk, Result, Ok, Err, ap, refl, subst, sym}
 use Rattle.std.specs.Result.{IsErrAnd, OnOk}
 use Rattle.reply_xml.specs.declared.faults.DocFault.{DocFault}
 use Rattle.reply_xml.specs.declared.faults.DocFault.TheVariants as fault

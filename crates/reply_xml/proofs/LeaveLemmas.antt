@@ -1,6 +1,9 @@
 -- Where bytes leave a production, from its parts.
 use Rattle.std.proofs.Common.{◌≡◌, ◌≢◌, ◌≤◌, ℕ, suc, List, [], Result, Ok, Err, IfErr, subst, sym, ap, ◌∙◌, length}
-use Rattle.std.proofs.Common.{arith}
+use Rattle.std.proofs.Common.{arith, ◌-◌, ⊎_elim, refl}
+use Rattle.std.specs.Str.{IsUtf8, is_utf8}
+use Rattle.std.proofs.lemmas.Bool.{cases_Bool, false≢true}
+use Rattle.std.proofs.lemmas.Str.{IsUtf8-from_is_utf8, is_utf8-from_IsUtf8}
 use Rattle.std.proofs.lemmas.List.{append-nil, length-append}
 use Rattle.std.specs.Result.{IsErrAnd}
 use Rattle.reply_values.specs.References.{GoesOn, IsUnescaped}
@@ -8,7 +11,7 @@ use Rattle.reply_xml.specs.declared.runs.Sort.TheVariants as sort
 use Rattle.reply_xml.specs.declared.texts.TextFault.{TextFault}
 use Rattle.reply_xml.specs.declared.texts.TextFault.TheVariants as text_fault
 use Rattle.reply_xml.specs.Faults.{OnBad, OnEnds}
-use Rattle.reply_xml.specs.Leaves.{LeavesTagEnd}
+use Rattle.reply_xml.specs.Leaves.{IsAtFault, IsSound, LeavesTagEnd, LeavesText, NoTagBehind, NotUtf8}
 use Rattle.reply_xml.specs.Runs.{ReadsRun}
 use Rattle.reply_xml.specs.Tags.{ReadsAttribute, ReadsName}
 
@@ -67,3 +70,21 @@ same_name found name bytes rest same named = subst (λ (n : List ℕ). ReadsName
 -- a text whose references are sound goes on, with nothing behind it
 pub sound_goes_on : (raw text : List ℕ) → IsUnescaped raw text → GoesOn raw
 sound_goes_on raw text h = ([], text, subst (λ (t : List ℕ). IsUnescaped t text) (sym (append-nil raw)) h)
+
+-- the text at the end of the bytes goes on, or is not UTF-8
+pub last_text_leaves : (text bytes : List ℕ) (size : ℕ) → ReadsRun sort.Text text bytes []
+    → (IsUtf8 text → (size ≡ length text) × GoesOn text)
+    → (¬ (IsUtf8 text) → IsSound text × IsAtFault text size) → LeavesText bytes (length bytes - size)
+last_text_leaves text bytes size run whole other =
+    ⊎_elim
+    (
+    λ yes. let utf8 = IsUtf8-from_is_utf8 text yes in
+    let at = (whole utf8).0 in
+    let all : length bytes ≡ length text = ap length (run.split ∙ append-nil text) in
+    NoTagBehind text run utf8 (whole utf8).1 (omega (arith, at, all))
+    )
+    (
+    λ no. let bad : ¬ (IsUtf8 text) = λ utf8. false≢true (sym no ∙ is_utf8-from_IsUtf8 text utf8) in
+    NotUtf8 size text [] run bad (other bad).0 (other bad).1 refl
+    )
+    (cases_Bool (is_utf8 text))

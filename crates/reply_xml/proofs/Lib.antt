@@ -4,6 +4,7 @@ pub mod ContentLemmas
 pub mod DocumentLemmas
 pub mod FaultLemmas
 pub mod FrontLemmas
+pub mod FrontOfText
 pub mod LeafLemmas
 pub mod KeyLemmas
 pub mod LeaveLemmas

@@ -26,10 +26,10 @@ pub record ReadsDeclaration (bytes rest : List ℕ) : Type 0 where
   pub characters : IsUtf8 (take place after)
   pub behind : rest ≡ drop (place + 2) after
 
--- a declaration, or none
+-- a declaration, or none where no `<?` stands
 abbrev pub MayDeclare : List ℕ → List ℕ → Type 0
 MayDeclare bytes rest =
-    ReadsDeclaration bytes rest ⊎ ((rest ≡ bytes) × ((after : List ℕ) → ¬ (bytes ≡ codes "<?xml" ++ after)))
+    ReadsDeclaration bytes rest ⊎ ((rest ≡ bytes) × ((more : List ℕ) → ¬ (bytes ≡ codes "<?" ++ more)))
 
 -- the bytes up to the content of the root
 pub record BeginsDocument (root bytes : List ℕ) (closed : Bool) (rest : List ℕ) : Type 0 where

@@ -1,9 +1,13 @@
 -- Where bytes leave a production: they read as its parts up to a place, and the next part does not stand there. The
 -- place is told by the number of bytes that are left.
-use Rattle.std.specs.Prelude.{◌≡◌, ◌≢◌, ◌≤◌, ◌<◌, ◌+◌, ◌-◌, ◌⊎◌, ℕ, List, [], ◌∷◌, length, slice_index, take}
+use Rattle.std.specs.Prelude.{◌≡◌, ◌≢◌, ◌≤◌, ◌<◌, ◌+◌, ◌-◌, ◌⊎◌, ◌++◌, ℕ, List, [], ◌∷◌, length, slice_index, take}
+use Rattle.std.specs.Prelude.{codes, drop, if◌then◌else◌}
+use Rattle.std.specs.Int.{is_in_range}
 use Rattle.std.specs.Str.{IsUtf8, IsValidUpTo}
+use Rattle.std.specs.Str.Lossy.{utf8_invalid_len, utf8_valid_len}
 use Rattle.reply_values.specs.References.{GoesOn, IsBadReference, IsUnescaped}
 use Rattle.reply_xml.specs.declared.runs.Sort.TheVariants as sort
+use Rattle.reply_xml.specs.Documents.{EndsAt}
 use Rattle.reply_xml.specs.Runs.{BeginsOutside, ReadsRun, is_name_byte}
 use Rattle.reply_xml.specs.Tags.{NameEnds, NamesTag, ReadsAttributes, ReadsName}
 
@@ -16,10 +20,15 @@ pub record LeavesName (bytes : List ℕ) (left : ℕ) : Type 0 where
   pub outside : BeginsOutside is_name_byte bytes
   pub at : left ≡ length bytes
 
--- a place in the first bytes of a text that are not UTF-8: at the first of them, or at most three behind it
+-- Where no character begins, so many bytes may be the front of one: none where the first byte begins no character, else
+-- those that are replaced together (Unicode, section 3.9, U+FFFD substitution of maximal subparts).
+abbrev pub begun_len : List ℕ → ℕ
+begun_len bytes = if is_in_range 0xC2 0xF4 (slice_index bytes 0) then utf8_invalid_len bytes else 0
+
+-- so many bytes of a text are the longest front with which one that is UTF-8 begins: its characters, and the front of
+-- one more
 abbrev pub IsAtFault : List ℕ → ℕ → Type 0
-IsAtFault text size =
-    (place : ℕ) × IsValidUpTo text place × (place ≤ size) × (size < place + 4) × (size ≤ length text)
+IsAtFault text size = size ≡ utf8_valid_len text + begun_len (drop (utf8_valid_len text) text)
 
 -- one of the two quotes
 abbrev pub IsQuote : ℕ → Type 0
@@ -98,8 +107,20 @@ IsSound text = (front : List ℕ) × IsFront front text × ((meaning : List ℕ)
 -- A text does not stand here: no tag follows it, or some of its bytes are not UTF-8. No reference is bad before the
 -- first of these, but the end of the bytes may cut one short.
 pub data LeavesText (bytes : List ℕ) (left : ℕ) : Type 0 where
-  NoTagBehind : (size : ℕ) (text : List ℕ) → ReadsRun sort.Text text bytes [] → size ≤ length text
-      → (IsUtf8 text → (size ≡ length text) × GoesOn text) → (¬ (IsUtf8 text) → IsSound text × IsAtFault text size)
-      → left ≡ length bytes - size → LeavesText bytes left
+  NoTagBehind : (text : List ℕ) → ReadsRun sort.Text text bytes [] → IsUtf8 text → GoesOn text → left ≡ 0
+      → LeavesText bytes left
   NotUtf8 : (size : ℕ) (text at : List ℕ) → ReadsRun sort.Text text bytes at → ¬ (IsUtf8 text) → IsSound text
       → IsAtFault text size → left ≡ length bytes - size → LeavesText bytes left
+
+-- A declaration that begins here is not read: it does not open with `<?xml`, its end does not stand in the bytes, or what
+-- stands before its end is not UTF-8.
+pub data LeavesDeclaration (bytes : List ℕ) (left : ℕ) : Type 0 where
+  NoOpening : (size : ℕ) (more : List ℕ) → bytes ≡ codes "<?" ++ more
+      → ((after : List ℕ) → ¬ (bytes ≡ codes "<?xml" ++ after)) → IsCommonFront bytes (codes "<?xml") size
+      → left ≡ length bytes - size → LeavesDeclaration bytes left
+  NoClose : (size : ℕ) (after : List ℕ) → bytes ≡ codes "<?xml" ++ after → ((place : ℕ) → ¬ (EndsAt after place))
+      → (IsUtf8 after → size ≡ length after) → (¬ (IsUtf8 after) → IsAtFault after size)
+      → left ≡ length after - size → LeavesDeclaration bytes left
+  NoCharacters : (size place : ℕ) (after : List ℕ) → bytes ≡ codes "<?xml" ++ after → EndsAt after place
+      → ((k : ℕ) → k < place → ¬ (EndsAt after k)) → ¬ (IsUtf8 (take place after)) → IsAtFault (take place after) size
+      → left ≡ length after - size → LeavesDeclaration bytes left

@@ -1,7 +1,8 @@
 -- Where the first fault of bytes stands.
-use Rattle.std.specs.Prelude.{◌≡◌, ◌≢◌, ◌≤◌, ◌-◌, ◌⊎◌, ℕ, Bool, List, [], ◌∷◌, length}
+use Rattle.std.specs.Prelude.{◌≡◌, ◌≢◌, ◌-◌, ◌⊎◌, ℕ, Bool, List, [], ◌∷◌, length}
 use Rattle.reply_xml.specs.Contents.{Content, ReadsInner}
-use Rattle.reply_xml.specs.Documents.{BeginsDocument, MayDeclare, NamesRoot, ReadsDeclaration, ReadsSpace}
+use Rattle.reply_xml.specs.Documents.{BeginsDocument, MayDeclare, NamesRoot, ReadsSpace}
+use Rattle.reply_xml.specs.Leaves.{LeavesDeclaration}
 use Rattle.reply_xml.specs.Runs.{BeginsOutside, is_name_byte}
 use Rattle.reply_xml.specs.Tags.{NameEnds}
 
@@ -29,22 +30,20 @@ pub record LacksRoot (bytes : List ℕ) (place : ℕ) : Type 0 where
   pub none : (more : List ℕ) → ¬ (rest ≡ 60 ∷ more)
   pub at : place ≡ length bytes - length rest
 
--- Where the root has to begin stands `<` with no name behind it, nor, where no declaration stands in front, a `?`. The
--- fault stands behind the `<`.
+-- Where the root has to begin stands `<` with no name behind it. The fault stands behind the `<`.
 pub record LacksName (bytes : List ℕ) (place : ℕ) : Type 0 where
   pub rest : List ℕ
   pub reaches : ReachesRoot bytes (60 ∷ rest)
   pub unnamed : BeginsOutside is_name_byte rest
-  pub undeclared : (more : List ℕ) → rest ≡ 63 ∷ more → ReadsDeclaration reaches.at_declaration reaches.at_space
   pub at : place ≡ length bytes - length rest
 
--- A declaration begins behind white space in front, and none is read there. The fault stands behind its `<?`.
+-- A declaration begins behind white space in front, and is not read. The fault stands where it leaves the grammar.
 pub record LacksDeclaration (bytes : List ℕ) (place : ℕ) : Type 0 where
-  pub more : List ℕ
-  pub before : ReadsSpace bytes (60 ∷ 63 ∷ more)
-  pub none : (rest : List ℕ) → ¬ (ReadsDeclaration (60 ∷ 63 ∷ more) rest)
-  pub behind : length bytes - length more ≤ place
-  pub within : place ≤ length bytes
+  pub rest : List ℕ
+  pub before : ReadsSpace bytes rest
+  pub left : ℕ
+  pub leaves : LeavesDeclaration rest left
+  pub at : place ≡ length bytes - left
 
 -- the bytes begin with another root than this one, or with none
 abbrev pub BeginsOtherwise : (root bytes : List ℕ) → ℕ → Type 0

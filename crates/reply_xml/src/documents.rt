@@ -2,17 +2,19 @@
 
 ghost use Rattle.std.specs.Prelude.{◌≡◌, ◌≢◌, ◌++◌, ◌<◌, ◌≤◌, ◌+◌, ◌-◌, ◌∷◌, ◌⊎◌, ℕ, Bool, List, []};
 ghost use Rattle.std.specs.Prelude.{Err, IfOk, OnOk, IfErr, OnErr, MatchOption, codes, length, drop, take};
+ghost use Rattle.std.specs.Bool.{MatchBool};
 ghost use Rattle.reply_xml.specs.Contents.{Content};
 ghost use Rattle.reply_xml.specs.Documents.{BeginsDocument, EndsAt, IsDocument, MayDeclare, NamesRoot, ReadsSpace};
 ghost use Rattle.reply_xml.specs.Breaks.{Breaks, IfBroken, Stands};
 ghost use Rattle.reply_xml.specs.Faults.{IfRefused};
+ghost use Rattle.reply_xml.specs.Leaves.{LeavesDeclaration};
 ghost use Rattle.reply_xml.specs.Places.{BeginsOtherwise, HasOtherRoot, LacksDeclaration, LacksName, LacksRoot};
 ghost use Rattle.reply_xml.specs.Tables.{Table};
 ghost use Rattle.reply_xml.specs.Tags.{NameEnds, ReadsTag};
 
 use crate::elements::element_named;
 use crate::faults::DocFault;
-use crate::places::{is_same, is_utf8, utf8_front};
+use crate::places::{common_front, is_same, is_utf8, utf8_front};
 use crate::reader::{Reader, Tag};
 use crate::runs::{Sort, split_run};
 use crate::tags::{after_tag_end, split_start};
@@ -34,6 +36,17 @@ fn declaration_end(bytes: &[u8]) -> Option<usize>
     None
 }
 
+/// Whether a declaration begins here.
+fn at_declaration(bytes: &[u8]) -> bool
+    ensures { MatchBool result ((more : List ℕ) × (bytes.now ≡ codes "<?" ++ more))
+        ((more : List ℕ) → ¬ (bytes.now ≡ codes "<?" ++ more)) }
+{
+    match bytes {
+        [b'<', b'?', ..] => true,
+        _ => false,
+    }
+}
+
 /// What follows `<?xml`, if that stands at the front.
 fn after_opening(bytes: &[u8]) -> Option<&[u8]>
     ensures { MatchOption result ((after : List ℕ) → ¬ (bytes.now ≡ codes "<?xml" ++ after))
@@ -52,11 +65,13 @@ fn after_declaration(bytes: &[u8]) -> Result<&[u8], usize>
     ensures shorter { IfOk result (λ rest. length rest.now ≤ length bytes.now) }
     ensures left { IfErr result (λ left. left ≤ length bytes.now) }
     ensures refused { OnErr result ((rest : List ℕ) → ¬ (MayDeclare bytes.now rest)) }
-    ensures opens { IfErr result (λ left. (after : List ℕ) × (bytes.now ≡ codes "<?xml" ++ after)
-        × (left ≤ length after)) }
+    ensures leaves { IfErr result (λ left. LeavesDeclaration bytes.now left) }
 {
-    let Some(after) = after_opening(bytes) else {
+    if !at_declaration(bytes) {
         return Ok(bytes);
+    }
+    let Some(after) = after_opening(bytes) else {
+        return Err(bytes.len() - common_front(bytes, b"<?xml"));
     };
     let Some(end) = declaration_end(after) else {
         return Err(after.len() - utf8_front(after));
@@ -65,23 +80,6 @@ fn after_declaration(bytes: &[u8]) -> Result<&[u8], usize>
         return Err(after.len() - utf8_front(&after[..end]));
     };
     Ok(&after[end + 2..])
-}
-
-/// How many bytes are left where no root begins, if so many are left of its tag: those behind `<?`, `<?x`, `<?xm` or
-/// `<?xml` may be more of a declaration.
-fn root_left(at_declaration: &[u8], left: usize) -> usize
-    ensures most { result ≤ left }
-    ensures undeclared { ((more : List ℕ) → ¬ (at_declaration.now ≡ 60 ∷ 63 ∷ more)) → result ≡ left }
-    ensures behind { left + 5 ≤ length at_declaration.now → result ≡ left }
-    ensures opening { (more : List ℕ) → at_declaration.now ≡ 60 ∷ 63 ∷ more → result ≤ length more }
-{
-    match at_declaration {
-        [b'<', b'?', b'x', b'm', b'l', ..] => left.min(at_declaration.len() - 5),
-        [b'<', b'?', b'x', b'm', ..] => left.min(at_declaration.len() - 4),
-        [b'<', b'?', b'x', ..] => left.min(at_declaration.len() - 3),
-        [b'<', b'?', ..] => left.min(at_declaration.len() - 2),
-        _ => left,
-    }
 }
 
 /// The name of the root and what follows it. An error is the number of bytes that are left where the grammar fails.
@@ -97,13 +95,10 @@ fn split_root<'a>(doc: &'a [u8], root: &str) -> Result<(&'a [u8], &'a [u8]), usi
     ensures bare { (place : ℕ) → (l : LacksRoot doc.now place) → result ≡ Err (length l.rest) }
     ensures nameless { (place : ℕ) → (l : LacksName doc.now place) → result ≡ Err (length l.rest) }
 {
-    let (_, at_declaration) = split_run(Sort::Space, doc);
-    let at_space = after_declaration(at_declaration)?;
+    let (_, start) = split_run(Sort::Space, doc);
+    let at_space = after_declaration(start)?;
     let (_, at_root) = split_run(Sort::Space, at_space);
-    let (name, rest) = match split_start(at_root) {
-        Ok(parts) => parts,
-        Err(left) => return Err(root_left(at_declaration, left)),
-    };
+    let (name, rest) = split_start(at_root)?;
     if !is_same(name, root.as_bytes()) {
         return Err(rest.len());
     }

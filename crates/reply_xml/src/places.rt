@@ -1,6 +1,7 @@
 //! Where bytes leave the grammar.
 
 ghost use Rattle.std.specs.Prelude.{◌≡◌, ◌≢◌, ◌≤◌, length, true};
+ghost use Rattle.std.specs.Int.{is_in_range};
 ghost use Rattle.std.specs.Bool.{MatchBool};
 ghost use Rattle.std.specs.Str.{IsUtf8};
 ghost use Rattle.reply_xml.specs.Leaves.{IsAtFault, IsCommonFront};
@@ -35,7 +36,9 @@ pub(crate) fn common_front(name: &[u8], other: &[u8]) -> usize
 }
 
 /// Whether a character of several bytes begins with this one (RFC 3629, section 4).
-fn is_lead(byte: u8) -> bool {
+fn is_lead(byte: u8) -> bool
+    ensures { result ≡ is_in_range 0xC2 0xF4 byte }
+{
     matches!(byte, 0xC2..=0xF4)
 }
 
@@ -49,9 +52,14 @@ pub(crate) fn utf8_front(bytes: &[u8]) -> usize
         return bytes.len();
     };
     let valid = fault.valid_up_to();
-    match (bytes.get(valid), fault.error_len()) {
-        (Some(byte), Some(length)) if is_lead(*byte) => valid + length,
-        (_, Some(_)) => valid,
-        (_, None) => bytes.len(),
+    match fault.error_len() {
+        None => bytes.len(),
+        Some(length) => {
+            if is_lead(bytes[valid]) {
+                valid + length
+            } else {
+                valid
+            }
+        }
     }
 }
