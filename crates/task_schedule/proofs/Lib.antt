@@ -1,4 +1,5 @@
 pub mod AskRows
+pub mod Breaks
 pub mod Deciders
 pub mod Deciding
 pub mod EventStops

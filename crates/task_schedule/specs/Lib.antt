@@ -1,4 +1,5 @@
 pub mod Asks
+pub mod Breaks
 pub mod Givings
 pub mod Journals
 pub mod Outcomes

@@ -76,14 +76,26 @@ small_put = record {
   size = 5;
 }
 
+-- with another size of its source
+abbrev pub sized_put : ℕ → Dispatched
+sized_put size = record small_put { size = size }
+
+-- before it comes back
+abbrev pub open_put : Dispatched
+open_put = record small_put { dispatch = record small_put.dispatch { came_at = None; attempts = [] } }
+
 -- the file was read
 abbrev pub read_run : Events
 read_run = Called 0 (act.Read 0) file.Fine ∷ Made true ∷ []
 
 module _ (for : What) (cell : Holder) (part : Part) where
   -- its Put was sent, and came back with success
+  abbrev pub put_back : Events
+  put_back = stored for cell part 0 0 ∷ put_out for cell part 0 0 (Made true ∷ [])
+
+  -- and its line was due
   abbrev pub put_run : Events
-  put_run = Lined ∷ stored for cell part 0 0 ∷ put_out for cell part 0 0 (Made true ∷ [])
+  put_run = Lined ∷ put_back
 
 -- Whatever a job keeps of its task, its cell and its part.
 abbrev pub RunIsMet : Type 0

@@ -1,6 +1,7 @@
 //! The laws, functions that do nothing.
 
 ghost use Rattle.task_schedule.specs.Asks.{AsksAreOfSchedule};
+ghost use Rattle.task_schedule.specs.Breaks.{EachBreaksAlone};
 ghost use Rattle.task_schedule.specs.Givings.{
   AbortedIsNotCompleted,
   AbortsComeLast,
@@ -36,10 +37,11 @@ pub fn jobs_are_given_as_scheduled()
 {}
 
 /// In a run of many tasks whose dispatches show what was sent and what came back, the jobs of its tasks keep to the
-/// schedule.
+/// schedule. Some run meets what this takes, and for each premise but one some run breaks it alone.
 pub fn shares_keep_schedule<R: Reading>()
     ensures keep { SharesKeepSchedule R.shows }
     ensures met { RunIsMet }
+    ensures breaks { EachBreaksAlone }
 {}
 
 /// The outcome of a task shows what became of its deciding request and of the source of a move: Done and Copied that
