@@ -1,2 +1,2 @@
-mod Told
-mod Alike
+pub mod Told
+pub mod Alike

@@ -1,5 +1,5 @@
-mod Tables
-mod Following
-mod Freeing
+pub mod Tables
+pub mod Following
+pub mod Freeing
 mod Unmade
-mod Finding
+pub mod Finding
