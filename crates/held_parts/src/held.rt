@@ -136,7 +136,8 @@ impl HeldParts {
 
     /// Whether a part is free.
     pub fn has_free(&self) -> bool
-        ensures { result ≡ nat_lt (lent_in self.now.slots) self.now.pool.count }
+        ensures free { result ≡ nat_lt (lent_in self.now.slots) self.now.pool.count }
+        ensures table { IsTable self.now.pool self.now.slots }
     {
         self.pool.free() > 0
     }

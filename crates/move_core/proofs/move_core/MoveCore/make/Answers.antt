@@ -1,0 +1,23 @@
+use Rattle.std.proofs.Common.{ap, refl}
+use Rattle.chunk_plan.specs.Pool.{Pool}
+use Rattle.move_core.proofs.Start.{sound, starts}
+use Rattle.move_core.proofs.move_core.MoveCore.make.Goals as goal
+
+pub invariant_of-result : goal.invariant_of-result
+invariant_of-result c = sound c.args.count 0 _ _ _ c.in_ok-make-2.ensures c.in_ok-empty_slots.ensures
+    c.in_ok-no_outcomes.ensures refl c.ranges.count.fits
+
+pub returns : goal.returns
+returns c s shared = starts c.args.count c.args.means _ (record {
+  queue = refl;
+  lanes = c.in_ok-make.ensures;
+  acts = c.in_ok-make-2.ensures;
+  slots = c.in_ok-empty_slots.ensures;
+  outcomes = c.in_ok-no_outcomes.ensures;
+  parts_slots = c.in_ok-make-3.ensures.slots;
+  parts_count = ap (λ (p : Pool). p.count) c.in_ok-make-3.ensures.pool;
+  made = refl;
+  lined = refl;
+  unfinished = refl;
+  reason = refl;
+}) s shared
