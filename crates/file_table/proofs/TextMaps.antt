@@ -1,5 +1,5 @@
 -- What is found in a map from texts, and what an insertion makes of it.
-use Rattle.std.proofs.Common.{◌≡◌, ◌∙◌, ℕ, Bool, cond, ◌||◌, List, [], ◌∷◌, Option, Some, None, refl, sym, ap, arith, length, map, String, string_bytes}
+use Rattle.std.proofs.Common.{◌≡◌, ◌∙◌, ℕ, Bool, true, false, not, cond, ◌&&◌, ◌||◌, List, [], ◌∷◌, Option, Some, None, refl, sym, ap, arith, length, map, filter, String, string_bytes}
 use Rattle.std.specs.String.{string_cmp}
 use Rattle.std.specs.Ordering.{nat_cmp, eq_by_cmp, is_eq}
 use Rattle.std.specs.Cmp.{eq_by_cmp_equiv}
@@ -7,14 +7,16 @@ use Rattle.std.specs.Cmp.Lexicographic.{slice_cmp, nat_list_cmp_total}
 use Rattle.std.specs.Map.{lookup}
 use Rattle.std.specs.Str.{bytes_eq}
 use Rattle.std.specs.BTreeMap as tree
+use Rattle.std.specs.BTreeMap.Range.{range_contains}
 use Rattle.std.specs.declared.cmp.Ordering.TheVariants.{Less}
+use Rattle.std.specs.declared.ops.Bound.TheVariants.{Included, Unbounded}
 use Rattle.std.specs.List.{AllByRecursion, list_any}
 use Rattle.std.specs.List.Sorted.{IsStrictlySortedBy}
 use Rattle.std.specs.FinMap.Entries.{put, by_order}
 use Rattle.std.specs.FinMap.{empty, len-empty, len-entries, keys, entries, from_entries, entries-insert, get, insert, remove, find, get-from_entries, get-insert, get-remove, same_map, slice_cmp-IsAntisymmetric, nat_cmp-IsAntisymmetric}
 use Rattle.std.proofs.lemmas.List.{length-map}
 use Rattle.std.proofs.lemmas.Map.Text.{btree_map_updates_text, is_eq-slice_cmp}
-use Rattle.file_table.specs.TextMap.{text_entries, text_map}
+use Rattle.file_table.specs.TextMap.{is_from, text_entries, text_map}
 
 find_entries : {Y V : Type 0} (es : List (String Y × V)) (q : List ℕ) → find (slice_cmp nat_cmp) q (text_entries es) ≡ lookup (λ k. is_eq (slice_cmp nat_cmp q (string_bytes k))) es
 find_entries [] q = refl
@@ -99,3 +101,29 @@ list_any-map p f (x ∷ xs) = ap (λ b. p (f x) || b) (list_any-map p f xs)
 
 pub any_key : {Y V : Type 0} (m : tree.BTreeMap (String Y) V) (p : List ℕ → Bool) → tree.IsOrdered string_cmp m → list_any (λ k. p (string_bytes k)) (tree.keys m) ≡ list_any p (keys (text_map m.entries))
 any_key m p ordered = sym (ap (list_any p) (keys-text_map m ordered) ∙ list_any-map p string_bytes (tree.keys m))
+
+-- ---- the entries from a text on
+
+kept_texts : {Y V : Type 0} (p : String Y → Bool) (q : List ℕ → Bool) → ((k : String Y) → p k ≡ q (string_bytes k)) → (es : List (String Y × V)) → text_entries (filter (λ e. p e.0) es) ≡ filter (λ e. q e.0) (text_entries es)
+kept_texts p q same [] = refl
+kept_texts {Y} {V} p q same (e ∷ es) = by (p e.0) refl (kept_texts p q same es)
+  where
+    by : (b : Bool) → p e.0 ≡ b → text_entries (filter (λ e. p e.0) es) ≡ filter (λ e. q e.0) (text_entries es)
+        → text_entries (cond b (e ∷ filter (λ e. p e.0) es) (filter (λ e. p e.0) es)) ≡ cond (q (string_bytes e.0)) ((string_bytes e.0, e.1) ∷ filter (λ e. q e.0) (text_entries es)) (filter (λ e. q e.0) (text_entries es))
+    by true is rest =
+        ap (λ (kept : List (List ℕ × V)). (string_bytes e.0, e.1) ∷ kept) rest
+        ∙ ap (λ (b : Bool). cond b ((string_bytes e.0, e.1) ∷ filter (λ e. q e.0) (text_entries es)) (filter (λ e. q e.0) (text_entries es))) (sym is ∙ same e.0)
+    by false is rest =
+        rest
+        ∙ ap (λ (b : Bool). cond b ((string_bytes e.0, e.1) ∷ filter (λ e. q e.0) (text_entries es)) (filter (λ e. q e.0) (text_entries es))) (sym is ∙ same e.0)
+
+open_end : (b : Bool) → (b && not false) ≡ b
+open_end true = refl
+open_end false = refl
+
+pub entries_from_text : {Y V : Type 0} (m : tree.BTreeMap (String Y) V) (start : String Y) (rest : List (String Y × V)) → tree.IsOrdered string_cmp m → rest ≡ filter (λ e. range_contains string_cmp (Included start) Unbounded e.0) m.entries
+    → text_entries rest ≡ filter (λ e. is_from (string_bytes start) e.0) (entries (text_map m.entries))
+entries_from_text {Y} {V} m start rest ordered is =
+    ap text_entries is
+    ∙ kept_texts (λ k. range_contains string_cmp (Included start) Unbounded k) (is_from (string_bytes start)) (λ k. open_end (is_from (string_bytes start) (string_bytes k))) m.entries
+    ∙ sym (ap (filter (λ (e : List ℕ × V). is_from (string_bytes start) e.0)) (entries-from_sorted_entries (text_entries m.entries) (texts_sorted m.entries ordered)))

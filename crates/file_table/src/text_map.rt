@@ -17,12 +17,13 @@ ghost use Rattle.std.specs.Prelude.{
   IfNone,
   Some,
   length,
+  string_bytes,
 };
 ghost use Rattle.std.specs.Option.{is_some, option_copied};
-ghost use Rattle.std.specs.List.{list_any};
-ghost use Rattle.std.specs.FinMap.{get, insert, remove, empty, keys};
+ghost use Rattle.std.specs.List.{list_any, filter};
+ghost use Rattle.std.specs.FinMap.{get, insert, remove, empty, keys, entries};
 ghost use Rattle.file_table.specs.Names.{IsNamedIn};
-ghost use Rattle.file_table.specs.TextMap.{text_map};
+ghost use Rattle.file_table.specs.TextMap.{text_map, text_entries, is_from};
 ghost use Rattle.local_files.specs.Names.{IsName};
 ghost use Rattle.s3_model.specs.Files.{folder_path, is_below};
 
@@ -31,6 +32,7 @@ use crate::names::{NameSet, add_last, add_name};
 use s3_model::{OutOfMemory, Text, Texts};
 use std::alloc::Global;
 use std::collections::BTreeMap;
+use std::collections::btree_map::Range;
 use std::marker::Model;
 use std::mem;
 
@@ -142,6 +144,13 @@ impl<V: Drop> TextMap<V> {
             add_last(alloc, folder, key.as_str(), found)?;
         }
         Ok(())
+    }
+
+    /// The entries whose keys are not before a text, in byte order. The first of them is looked up.
+    pub fn range_from(&self, start: &String) -> Range<'_, String, V>
+        ensures { text_entries result ≡ filter (λ e. is_from (string_bytes start.now) e.0) (entries self.now) }
+    {
+        self.inner.range(start..)
     }
 
     /// How many keys there are.

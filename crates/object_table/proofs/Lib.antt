@@ -3,3 +3,4 @@ pub mod Swaps
 pub mod Changes
 pub mod Assembled
 pub mod Sound
+pub mod Pages

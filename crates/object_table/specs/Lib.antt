@@ -1,5 +1,6 @@
 pub mod Codes
 pub mod Endings
+pub mod Pages
 pub mod Parts
 pub mod Refused
 pub mod Assembly

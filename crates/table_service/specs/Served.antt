@@ -1,10 +1,12 @@
 -- What a request does to a service in memory and what it gains, as the definition of the request has it.
-use Rattle.std.specs.Prelude.{◌≡◌, ℕ, List, [], length}
+use Rattle.std.specs.Prelude.{◌≡◌, ℕ, List, [], Option, length}
+use Rattle.object_table.specs.Pages.{IsBehind}
 use Rattle.s3_model.specs.declared.requests.Ask.{Ask}
 use Rattle.s3_model.specs.declared.requests.Ask.TheVariants as ask
 use Rattle.s3_model.specs.declared.answers.Reply.{Reply}
 use Rattle.s3_model.specs.declared.answers.Reply.TheVariants as reply
 use Rattle.s3_model.specs.declared.settings.Limits.{Limits}
+use Rattle.s3_service.specs.Listing.{GoesOnAfter}
 use Rattle.s3_service.specs.ServiceState.{State, HasBucket}
 use Rattle.s3_service.specs.Serves.{Succeeds}
 use Rattle.service_answers.specs.declared.gained.Gained.{Gained}
@@ -30,11 +32,17 @@ abbrev pub bytes_of : Gained → List ℕ
 bytes_of (gained.Got object) = object.bytes.items
 bytes_of got = []
 
--- The request did what its definition says. Of a page only this is said: its bucket is there, and nothing but tokens
--- changes.
+-- A page was gained whose names come behind the place of the token.
+abbrev pub IsPageBehind : State → (token : Option (List ℕ)) → Gained → Type 0
+IsPageBehind old token (gained.Listed page) = (last : Option (List ℕ)) × GoesOnAfter old token last × IsBehind last page
+IsPageBehind old token got = ⊥
+
+-- The request did what its definition says. Of a page only this is said: its bucket is there, its names come behind the
+-- place of the token, and nothing but tokens changes.
 abbrev pub IsServed : Limits → State → Ask → List ℕ → Gained → State → Type 0
 IsServed limits old (ask.List bucket prefix delimited token) body got new =
-    HasBucket old bucket × (new.objects ≡ old.objects) × (new.uploads ≡ old.uploads) × (new.ended ≡ old.ended)
+    HasBucket old bucket × IsPageBehind old token got
+    × (new.objects ≡ old.objects) × (new.uploads ≡ old.uploads) × (new.ended ≡ old.ended)
 IsServed limits old asked body got new = Succeeds limits old asked body (reply_of got) (bytes_of got) new
 
 -- a request for an upload in parts

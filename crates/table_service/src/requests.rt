@@ -1,20 +1,22 @@
 //! What a service in memory does for what is asked.
 
-ghost use Rattle.std.specs.Prelude.{◌≡◌, ℕ, List, Option, IfOk, OnErr, Err, length, map};
+ghost use Rattle.std.specs.Prelude.{◌≡◌, ℕ, List, Option, IfOk, OnOk, OnErr, Err, length, map};
 ghost use Rattle.std.specs.FinMap.{keys};
 ghost use Rattle.std.specs.Option.{is_some};
+ghost use Rattle.object_table.specs.Pages.{IsBehind};
 ghost use Rattle.object_table.specs.Refused.{IsNotRefused};
 ghost use Rattle.run_promise.specs.Traces.{HasRange, IsWholeObject, SaysIfThere};
 ghost use Rattle.s3_model.specs.declared.answers.Reply.{Reply};
 ghost use Rattle.s3_model.specs.declared.places.Entry.{Entry};
-ghost use Rattle.s3_service.specs.ServiceState.{State};
+ghost use Rattle.s3_service.specs.Listing.{GoesOnAfter};
+ghost use Rattle.s3_service.specs.ServiceState.{HasBucket, State};
 ghost use Rattle.s3_service.specs.Serves.{Finds, Gets, MayRefuse, Succeeds};
 ghost use Rattle.service_answers.specs.Statuses.{got_status, refusal_code};
 ghost use Rattle.table_service.specs.Served.{IsServed, reply_of};
 
 use crate::uploads::serve_upload;
 use object_table::{ObjectTable, Query, Refusal, Source, TableFault};
-use s3_model::{Ask, Entries, Entry, Limits, OutOfMemory, Text};
+use s3_model::{Ask, Entries, Entry, Limits, Listed, OutOfMemory, Text};
 use service_answers::{FoundObject, Gained, GotObject};
 use std::alloc::Global;
 
@@ -107,6 +109,31 @@ fn buckets(alloc: Global, table: &ObjectTable, micros: u64) -> Result<Entries, O
     Ok(entries)
 }
 
+// The next names of a listing, at most so many.
+fn list(
+    alloc: Global,
+    table: &mut ObjectTable,
+    bucket: &str,
+    query: Query<'_>,
+    token: &Option<Text>,
+    most: usize,
+) -> Result<Listed, TableFault>
+    ensures bucket { OnOk result (HasBucket table.old bucket.now) }
+    ensures behind { IfOk result (λ page. (last : Option (List ℕ)) × GoesOnAfter table.old token.now last ×
+        IsBehind last page) }
+    ensures objects { table.new.objects ≡ table.old.objects }
+    ensures uploads { table.new.uploads ≡ table.old.uploads }
+    ensures ended { table.new.ended ≡ table.old.ended }
+    ensures same { OnErr result (table.new ≡ table.old) }
+    ensures willing { (last : Option (List ℕ)) → GoesOnAfter table.old token.now last →
+        HasBucket table.old bucket.now → IsNotRefused result }
+{
+    match token {
+        Some(token) => table.list(alloc, bucket, query, Some(token.as_str()), most),
+        None => table.list(alloc, bucket, query, None, most),
+    }
+}
+
 /// Serves what is asked, where it can be: a request that could succeed is not refused. Where it is refused nothing
 /// changes, and what is not to be replaced is refused with a code that says so exactly where it is there.
 pub fn serve(
@@ -182,8 +209,7 @@ pub fn serve(
                 prefix: prefix.as_str(),
                 delimited: *delimited,
             };
-            let token = token.as_ref().map(|token| token.as_str());
-            let page = table.list(alloc, bucket.as_str(), query, token, manner.page)?;
+            let page = list(alloc, table, bucket.as_str(), query, token, manner.page)?;
             Ok(Gained::Listed(page))
         }
         Ask::Buckets => Ok(Gained::Buckets(buckets(alloc, table, manner.micros)?)),
