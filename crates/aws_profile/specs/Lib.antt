@@ -8,4 +8,5 @@ pub mod ShownKeys
 pub mod ShownLimits
 pub mod ShownValues
 pub mod Slots
+pub mod Taken
 pub mod Values

@@ -4,6 +4,7 @@ ghost use Rattle.std.specs.Prelude.{◌≡◌, ◌≢◌, ◌≤◌, ◌||◌, E
 ghost use Rattle.std.specs.Str.{bytes_eq};
 ghost use Rattle.s3_model.specs.Validity.{IsValidConfig};
 ghost use Rattle.aws_profile.specs.Answers.{answer, profile_of};
+ghost use Rattle.aws_profile.specs.Taken.{KeepsWords};
 ghost use Rattle.aws_profile.specs.ShownAnswers.{IsWithoutText, choice_shown, decided_shown, refusal_shown};
 
 use crate::keys::{AccessKey, key_from, keys_of, region_from};
@@ -95,6 +96,7 @@ pub fn decide<'a>(
     requires config { length config.now ≤ 1048576 }
     requires credentials { length credentials.now ≤ 1048576 }
     ensures answer { decided_shown result ≡ answer words.now config.now credentials.now }
+    ensures words { IfOk result (KeepsWords words.now) }
     ensures valid { IfOk result (λ choice. IsValidConfig choice.config) }
 {
     let profile = profile_of(words);
@@ -163,7 +165,7 @@ pub fn settings(
     }
 }
 
-fn owned(alloc: Global, refusal: Refusal<'_>) -> ProfileFault
+pub(crate) fn owned(alloc: Global, refusal: Refusal<'_>) -> ProfileFault
     ensures fault { result ≢ ProfileFault.Memory → result ≡ refusal_shown refusal.entry }
     ensures plain { IsWithoutText (refusal_shown refusal.entry) → result ≡ refusal_shown refusal.entry }
 {

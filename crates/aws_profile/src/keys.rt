@@ -1,6 +1,6 @@
 //! The access key and the region.
 
-ghost use Rattle.std.specs.Prelude.{◌≡◌, Some, IfOk, option_copied, option_map};
+ghost use Rattle.std.specs.Prelude.{◌≡◌, Some, IfOk, is_some, option_copied, option_map};
 ghost use Rattle.std.specs.List.{list_all};
 ghost use Rattle.std.specs.Option.{option_or};
 ghost use Rattle.aws_profile.specs.Answers.{
@@ -103,6 +103,20 @@ fn key_of_words(words: &EnvWords) -> Option<AccessKey<'_>>
     )
 }
 
+/// Whether the variables have a key that is used.
+pub(crate) fn has_key(words: &EnvWords) -> bool
+    ensures { result ≡ is_some (key_of_words words.now) }
+{
+    key_of_words(words).is_some()
+}
+
+/// Whether the words have a region that can be used.
+pub(crate) fn has_region(words: &EnvWords) -> bool
+    ensures { result ≡ is_some (usable words.now.region) }
+{
+    usable_word(&words.region).is_some()
+}
+
 fn key_of_values<'a>(values: &KeyValues<'a>) -> Option<AccessKey<'a>>
     ensures { option_map key_shown result ≡ key_of_values (keys_shown values.now) }
 {
@@ -132,7 +146,7 @@ pub(crate) fn region_from<'a>(words: &'a EnvWords, values: &ConfigValues<'a>) ->
     }
 }
 
-fn token_of(alloc: Global, token: Option<&str>) -> Result<Option<Text>, OutOfMemory>
+pub(crate) fn token_of(alloc: Global, token: Option<&str>) -> Result<Option<Text>, OutOfMemory>
     ensures { IfOk result (λ copy. copy ≡ option_copied token.entry) }
 {
     match token {

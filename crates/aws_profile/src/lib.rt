@@ -10,9 +10,11 @@ mod limits;
 mod lines;
 mod reader;
 mod slots;
+mod taken;
 mod texts;
 mod values;
 
 pub use answers::{Choice, Refusal, decide, settings};
 pub use keys::{AccessKey, is_visible};
 pub use s3_model::{Config, EnvWords, Keys, ProfileFault, Settings};
+pub use taken::take_settings;

@@ -11,24 +11,24 @@ ghost use Rattle.env_settings.specs.Settings.{settings_of};
 use crate::fault::SettingsFault;
 use crate::files::{SettingsFiles, read_files};
 use crate::variables::{read_paths, read_words};
-use aws_profile::settings;
+use aws_profile::take_settings;
 use s3_model::{EnvWords, ProfileFault, Settings, Text};
 use s3_outside::Env;
 use std::alloc::Global;
 
 fn settings_from(
     alloc: Global,
-    words: &EnvWords,
+    words: EnvWords,
     files: &SettingsFiles,
 ) -> Result<Settings, SettingsFault>
     requires config { length files.now.config.items ≤ 1048576 }
     requires credentials { length files.now.credentials.items ≤ 1048576 }
-    ensures settings { AnswersAs (answer words.now files.now.config.items files.now.credentials.items) result }
+    ensures settings { AnswersAs (answer words files.now.config.items files.now.credentials.items) result }
     ensures profile { result ≢ Err (SettingsFault.Profile ProfileFault.Memory) }
     ensures read { result ≢ Err SettingsFault.EnvRead }
     ensures valid { IfOk result (λ settings. IsValidConfig settings.config) }
 {
-    match settings(alloc, words, &files.config, &files.credentials) {
+    match take_settings(alloc, words, &files.config, &files.credentials) {
         Ok(settings) => Ok(settings),
         Err(ProfileFault::Memory) => Err(SettingsFault::Memory),
         Err(fault) => Err(SettingsFault::Profile(fault)),
@@ -61,5 +61,5 @@ pub fn read_settings<E: Env>(
     let paths = read_paths(alloc, env)?;
     let words = read_words(alloc, env, region, profile)?;
     let files = read_files(alloc, env, &paths)?;
-    settings_from(alloc, &words, &files)
+    settings_from(alloc, words, &files)
 }
