@@ -90,8 +90,8 @@ fn piece_slot(work: &Work, op: Op, number: u32) -> usize
     }
 }
 
-/// The place of a job.
-fn slot(work: &Work, op: Op, number: u32) -> usize
+/// The place of a job among those of a task of that work: `4 + count` places, and a place behind them for one that it has not.
+pub fn slot(work: &Work, op: Op, number: u32) -> usize
     ensures { result ≡ slot work.now op number }
 {
     let rank = rank(op);

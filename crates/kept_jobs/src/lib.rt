@@ -4,5 +4,5 @@
 mod kept;
 mod tags;
 
-pub use kept::KeptJobs;
+pub use kept::{KeptJobs, slot};
 pub use tags::PartTags;

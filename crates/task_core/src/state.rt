@@ -251,6 +251,15 @@ impl TaskState {
         Ok(state)
     }
 
+    /// The work of the task.
+    pub fn work(&self) -> Work
+        ensures by { result ≡ self.now.stages.work }
+        ensures stands { (w : Work) (history : History) → Stands w history self.now → result ≡ w }
+        ensures few { result.count + 1 < 2 ^ 32 }
+    {
+        self.stages.work()
+    }
+
     /// The first act that is ready, None where none is.
     pub fn ready(&self) -> Option<Act>
         ensures by { result ≡ ready_by self.now }
@@ -316,6 +325,7 @@ impl TaskState {
         ensures stands { (w : Work) (history : History) → Stands w history self.old
             → Stands w (Cancelled reason ∷ history) self.new }
         ensures stages { self.new.stages ≡ self.old.stages }
+        ensures kept { self.new.kept ≡ self.old.kept }
         ensures tags { self.new.tags ≡ self.old.tags }
     {
         self.mark_cancelled(reason);
@@ -345,6 +355,9 @@ impl TaskState {
 
     /// The job that is kept under that op and number, without its cell and behind its attempts.
     pub fn kept(&mut self, op: Op, number: u32) -> Option<Job>
+        ensures by { result ≡ job_at self.old.kept op number }
+        ensures others { (other : Op) (at : ℕ) → job_at self.new.kept other at
+            ≡ (if is_act (act_of.Send other at) (act_of.Send op number) then None else job_at self.old.kept other at) }
         ensures job { (w : Work) (history : History) → Stands w history self.old
             → result ≡ kept_job w history (act_of.Send op number) }
         ensures taken { is_some result ≡ true → (w : Work) (history : History) → Stands w history self.old

@@ -10,3 +10,6 @@ returns-clause-stages c = c.settle.ensures.stages ∙ c.mark_cancelled.ensures.s
 
 pub returns-clause-tags : goal.returns-clause-tags
 returns-clause-tags c = c.settle.ensures.tags ∙ c.mark_cancelled.ensures.tags
+
+pub returns-clause-kept : goal.returns-clause-kept
+returns-clause-kept c = c.settle.ensures.kept ∙ c.mark_cancelled.ensures.kept

@@ -1,6 +1,11 @@
-use Rattle.std.proofs.Common.{◌∙◌}
+use Rattle.std.proofs.Common.{◌∙◌, ap}
+use Rattle.kept_jobs.specs.Slots.{SeenKept, job_at}
 use Rattle.task_core.proofs.Standing.{taken}
 use Rattle.task_core.proofs.state.TaskState.kept.Goals as goal
+
+pub returns-in-Some-clause-others : goal.returns-in-Some-clause-others
+returns-in-Some-clause-others c other at =
+    ap (λ (kept : SeenKept). job_at kept other at) c.settle.ensures.kept ∙ c.mark_taken.ensures.taken.kept other at
 
 pub returns-in-Some-clause-job : goal.returns-in-Some-clause-job
 returns-in-Some-clause-job c w history s = c.in-Some.ensures.job ∙ s.kept_are c.args.op c.args.number
