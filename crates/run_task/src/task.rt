@@ -10,7 +10,6 @@ ghost use Rattle.run_report.specs.Texts.{HasTexts, IsLineOf, err_lines, mode_in,
 ghost use Rattle.run_task.specs.Rooms.{HasRoom};
 ghost use Rattle.run_task.specs.Uploaded.{HasOneOutcome, HasUploaded, IsUpload, MayUpload, MayWant, path_of};
 
-use crate::copies::share;
 use lane_jobs::Carrier;
 use result_lines::line_of;
 use run_report::{Executed, Fatal, Run, end_early, list_of};
@@ -20,6 +19,7 @@ use s3_outside::{Files, Wire};
 use small_uploads::upload;
 use std::alloc::Global;
 use std::sync::Arc;
+use task_copies::share;
 
 /// The lists that a run fills.
 #[derive(Drop)]

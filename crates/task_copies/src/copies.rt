@@ -1,4 +1,4 @@
-//! The copy of a task that its jobs share.
+//! A copy of a task, and one that its jobs share.
 
 ghost use Rattle.std.specs.Prelude.{◌≡◌, IfOk};
 ghost use Rattle.std.specs.Arc.{arc_value};
@@ -37,7 +37,8 @@ fn copy_source(source: &Option<Place>) -> Result<Option<Place>, OutOfMemory>
     }
 }
 
-fn copy_task(task: &Task) -> Result<Task, OutOfMemory>
+/// A copy of a task. It takes memory for its texts.
+pub fn copy_task(task: &Task) -> Result<Task, OutOfMemory>
     ensures { IfOk result (λ copy. copy ≡ task.now) }
 {
     Ok(Task {
@@ -54,7 +55,7 @@ fn copy_task(task: &Task) -> Result<Task, OutOfMemory>
 }
 
 /// A copy of a task that its jobs share.
-pub(crate) fn share(alloc: Global, task: &Task) -> Result<Arc<Task, Global>, OutOfMemory>
+pub fn share(alloc: Global, task: &Task) -> Result<Arc<Task, Global>, OutOfMemory>
     ensures { IfOk result (λ shared. arc_value shared ≡ task.now) }
 {
     match Arc::new(alloc, copy_task(task)?) {

@@ -1,0 +1,6 @@
+//! Copies of tasks.
+#![tactic(auto)]
+
+mod copies;
+
+pub use copies::{copy_task, share};
