@@ -1,0 +1,3 @@
+pub mod Formed
+pub mod Requests
+pub mod Shares
