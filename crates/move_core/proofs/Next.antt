@@ -142,8 +142,8 @@ module _ (s : Shared) (events : Events) (m : SeenMoves) (follows : Follows s eve
       → act_in o ≡ Some a
   act_of room w h None a holds e = absurd (nothing (sym holds.waits ∙ e))
   act_of room w h (Some t) a holds e =
-      standing.ready w holds.heard t holds.stands
-      ∙ (alike_says_the_same w holds.heard h holds.alike.told_are).ready ∙ e
+      standing.ready w holds.0.heard t holds.0.stands
+      ∙ (alike_says_the_same w holds.0.heard h holds.0.alike.told_are).ready ∙ e
 
   act_is : (n : ℕ) (w : Work) (a : Act) → slice_get (made s events) n ≡ Some w → ready s events n w ≡ Some a
       → act_at m n ≡ Some a

@@ -1,6 +1,6 @@
 -- A run of which nothing happened.
 use Rattle.std.proofs.Common.{◌≡◌, ◌∙◌, ℕ, zero, suc, Bool, List, [], Option, Some, None, refl, sym, subst, ap, arith}
-use Rattle.std.proofs.Common.{◌<◌, ◌^◌, get_or, length, slice_get, if◌then◌else◌}
+use Rattle.std.proofs.Common.{◌<◌, ◌≤◌, ◌^◌, get_or, length, slice_get, if◌then◌else◌}
 use Rattle.std.proofs.lemmas.Bool.{le-ltb}
 use Rattle.std.specs.Prelude.{replicate}
 use Rattle.std.proofs.lemmas.List.{length-replicate}
@@ -48,7 +48,7 @@ pub record IsEmpty (count : ℕ) (means : Means) (m : SeenMoves) : Type 0 where
   pub reason : m.reason ≡ None
 
 module _ (count : ℕ) (means : Means) (m : SeenMoves) (empty : IsEmpty count means m) (s : Shared)
-    (shared : IsSharedBy count means s) where
+    (shared : IsSharedBy count means s) (some : 1 ≤ means.lanes) where
   no_sort : (n : ℕ) → None ≡ sort_at s [] n (slice_get (made s []) n)
   no_sort n = refl
 
@@ -63,6 +63,7 @@ module _ (count : ℕ) (means : Means) (m : SeenMoves) (empty : IsEmpty count me
         ∙ sym shared.count_is;
     queue = empty.queue ∙ sym shared.queue_is;
     buffers = empty.parts_count ∙ sym shared.buffers_are;
+    some_lane = omega (arith, some, shared.lanes_are);
     lanes = subst (λ (l : SeenLanes). HoldLanes s [] l)
         (ap (λ (d : ℕ). lanes_of d s.lanes) shared.depth_is ∙ ap (λ (n : ℕ). lanes_of means.depth n) shared.lanes_are
         ∙ sym empty.lanes) (lanes_begin s);
@@ -76,6 +77,7 @@ module _ (count : ℕ) (means : Means) (m : SeenMoves) (empty : IsEmpty count me
     outcomes = λ n. ap (λ (xs : List (Option Outcome)). get_or xs n None) empty.outcomes ∙ none_at None count n
         ∙ no_outcome n (slice_get s.works n);
     tasks = λ n w there memory. absurd (nothing there);
+    lost = λ n e. ap (λ (xs : List (Option SeenTask)). get_or xs n None) empty.slots ∙ none_at None count n;
   }
 
 pub sound : (count made : ℕ) (acts : List (Option ActSort)) (slots : List (Option SeenTask))

@@ -61,7 +61,7 @@ module _ (s : Shared) (events after : Events) (same : (w : Work) (n : ℕ) → o
 
 -- ---- a line
 
-within : {X : Type 0} (xs : List (Option X)) (n : ℕ) → is_some (get_or xs n None) ≡ true → n < length xs
+pub within : {X : Type 0} (xs : List (Option X)) (n : ℕ) → is_some (get_or xs n None) ≡ true → n < length xs
 within [] n e = no e
 within (x ∷ xs) zero e = omega arith
 within (x ∷ xs) (suc n) e = let below = within xs n e in omega (arith, below)
@@ -83,6 +83,7 @@ module _ (s : Shared) (events : Events) (m new : SeenMoves) (follows : Follows s
     count = follows.count;
     queue = follows.queue;
     buffers = follows.buffers;
+    some_lane = follows.some_lane;
     lanes = others_stay s events m.lanes Lined refl follows.lanes;
     acts = λ n. follows.acts n
         ∙ sym (sort_same s events after n refl refl (λ w. refl) (slice_get (made s events) n));
@@ -96,6 +97,7 @@ module _ (s : Shared) (events : Events) (m new : SeenMoves) (follows : Follows s
     outcomes = λ n. follows.outcomes n
         ∙ sym (outcome_at_same s events after n refl refl (λ w. refl) (slice_get s.works n));
     tasks = λ n w there memory. follows.tasks n w there memory;
+    lost = λ n e. follows.lost n e;
   }
 
   pub line_follows : Follows s after new

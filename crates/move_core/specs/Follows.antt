@@ -1,6 +1,7 @@
 -- What a run keeps is what its events say.
 use Rattle.std.specs.Option.{option_or}
-use Rattle.std.specs.Prelude.{◌≡◌, ◌≤◌, [], ◌∷◌, ℕ, false, Option, Some, None, IfSome, IsSome, get_or, length}
+use Rattle.std.specs.Prelude.{◌≡◌, ◌≤◌, [], ◌∷◌, ℕ, true, false, Option, Some, None, IfSome, IsSome, get_or, is_some}
+use Rattle.std.specs.Prelude.{length}
 use Rattle.std.specs.Prelude.{slice_get}
 use Rattle.jobs.specs.Jobs.{SeenJob}
 use Rattle.kept_jobs.specs.Slots.{job_at}
@@ -9,6 +10,7 @@ use Rattle.manager_moves.specs.Runs.{Events, Shared, Stopped, lacks_memory, line
 use Rattle.part_tables.specs.Tables.{IsTableOf}
 use Rattle.queue_laws.specs.Holding.{HoldLanes}
 use Rattle.queue_laws.specs.ReadyActs.{HoldActs}
+use Rattle.run_promise.specs.Buffers.{holds_buffer}
 use Rattle.s3_model.specs.declared.outcomes.Outcome.{Outcome}
 use Rattle.s3_model.specs.declared.outcomes.Reason.{Reason}
 use Rattle.s3_model.specs.declared.requests.Op.{Op}
@@ -27,10 +29,11 @@ cancel_of [] = None
 cancel_of (Stopped reason ∷ before) = option_or (cancel_of before) (Some reason)
 cancel_of (event ∷ before) = cancel_of before
 
--- a part that is with a kept job has that room
-abbrev pub HasRoom : ℕ → Option SeenJob → Type 0
-HasRoom room None = Unit {0}
-HasRoom room (Some job) = IfSome job.part (λ part. room ≤ part.bytes.room)
+-- a job that is kept holds a part, with that room, where its op takes one
+abbrev pub HasItsPart : (room : ℕ) → Op → Option SeenJob → Type 0
+HasItsPart room of_op None = Unit {0}
+HasItsPart room of_op (Some job) =
+    (is_some job.part ≡ holds_buffer of_op) × IfSome job.part (λ part. room ≤ part.bytes.room)
 
 -- It is the task of that work in that history, but for jobs that may have been taken from it once it had stopped, and
 -- for cancels behind the first.
@@ -38,16 +41,17 @@ pub record IsTaskIn (room : ℕ) (w : Work) (h : History) (t : SeenTask) : Type 
   pub heard : History
   pub stands : Stands w heard t
   pub alike : AreAlike w heard h
-  pub rooms : (of_op : Op) (number : ℕ) → HasRoom room (job_at t.kept of_op number)
+  pub parts : (of_op : Op) (number : ℕ) → HasItsPart room of_op (job_at t.kept of_op number)
 
 -- A task whose state is not there has ended, and is ready for nothing.
 pub record HasEnded (w : Work) (h : History) : Type 0 where
   pub ended : IsSome (outcome_of w h)
   pub waits : first_ready_in w h ≡ None
 
+-- the state of a task is kept until the task has ended
 abbrev pub HoldsTask : (room : ℕ) → Work → History → Option SeenTask → Type 0
 HoldsTask room w h None = HasEnded w h
-HoldsTask room w h (Some t) = IsTaskIn room w h t
+HoldsTask room w h (Some t) = IsTaskIn room w h t × (t.outcome ≡ None)
 
 abbrev pub outcome_at : ℕ → Option Work → Events → Option Outcome
 outcome_at n None events = None
@@ -57,6 +61,7 @@ pub record Follows (s : Shared) (events : Events) (m : SeenMoves) : Type 0 where
   pub count : length m.slots ≡ length s.works
   pub queue : m.queue ≡ s.queue
   pub buffers : m.parts.pool.count ≡ s.buffers
+  pub some_lane : 1 ≤ s.lanes
   pub lanes : HoldLanes s events m.lanes
   pub acts : HoldActs s events m.acts
   pub parts : IsTableOf s.works events m.parts.slots
@@ -68,6 +73,7 @@ pub record Follows (s : Shared) (events : Events) (m : SeenMoves) : Type 0 where
   -- the state of each task that is made, if memory was found for it
   pub tasks : (n : ℕ) (w : Work) → slice_get (made s events) n ≡ Some w → lacks_memory n events ≡ false
       → HoldsTask m.parts.pool.room w (share w n events) (get_or m.slots n None)
+  pub lost : (n : ℕ) → lacks_memory n events ≡ true → get_or m.slots n None ≡ None
 
 -- what the tasks of a run share is this
 pub record IsSharedBy (count : ℕ) (means : Means) (s : Shared) : Type 0 where

@@ -6,6 +6,7 @@ ghost use Rattle.lane_queues.specs.Lanes.{IsFreest};
 ghost use Rattle.manager_moves.specs.Moves.{next_move};
 ghost use Rattle.manager_moves.specs.Runs.{Events, Lined, Shared};
 ghost use Rattle.move_core.specs.Follows.{Follows, IsSharedBy};
+ghost use Rattle.move_core.specs.Steady.{IsSteady};
 ghost use Rattle.move_core.specs.Kept.{act_at, call_by, giver, giving_by, has_free, has_outcome, line_by, make_by, rest_by};
 
 use crate::forms::{call_move, giving_move};
@@ -24,16 +25,16 @@ use task_acts::Act;
 /// first cancel. No call goes over the tasks but `make` and `cancel_all`.
 #[derive(Drop)]
 pub struct MoveCore {
-    queue: u32,
-    lanes: LaneQueues,
-    acts: ActQueues,
-    slots: Vec<TaskSlot>,
-    outcomes: Vec<Option<Outcome>>,
-    parts: HeldParts,
-    made: u32,
-    lined: u32,
-    unfinished: u32,
-    reason: Option<Reason>,
+    pub(crate) queue: u32,
+    pub(crate) lanes: LaneQueues,
+    pub(crate) acts: ActQueues,
+    pub(crate) slots: Vec<TaskSlot>,
+    pub(crate) outcomes: Vec<Option<Outcome>>,
+    pub(crate) parts: HeldParts,
+    pub(crate) made: u32,
+    pub(crate) lined: u32,
+    pub(crate) unfinished: u32,
+    pub(crate) reason: Option<Reason>,
 }
 
 impl Model for MoveCore {
@@ -99,7 +100,8 @@ impl MoveCore {
         requires some { 1 ≤ means.lanes }
         requires few { means.lanes ≤ 65535 }
         requires shallow { means.depth ≤ 64 }
-        ensures { IfOk result (λ core. (s : Shared) → IsSharedBy count means s → Follows s [] core) }
+        ensures follows { IfOk result (λ core. (s : Shared) → IsSharedBy count means s → Follows s [] core) }
+        ensures room { IfOk result (λ core. core.parts.pool.room ≡ means.room) }
     {
         Ok(MoveCore {
             queue: means.queue,
@@ -147,7 +149,7 @@ impl MoveCore {
     }
 
     /// Whether a part is free.
-    fn has_free(&self) -> bool
+    pub(crate) fn has_free(&self) -> bool
         ensures free { result ≡ has_free self.now }
         ensures single { AreSingle self.now.parts.slots }
     {
@@ -235,7 +237,9 @@ impl MoveCore {
     /// The line of the first task that had none was due.
     pub fn lined(&mut self)
         requires { has_outcome self.old self.old.lined ≡ true }
-        ensures { (s : Shared) (events : Events) → Follows s events self.old → Follows s (Lined ∷ events) self.new }
+        ensures follows { (s : Shared) (events : Events) → Follows s events self.old
+            → Follows s (Lined ∷ events) self.new }
+        ensures steady { IsSteady self.old self.new }
     {
         self.lined += 1;
     }

@@ -1,5 +1,5 @@
 pub mod Tables
 pub mod Following
 pub mod Freeing
-mod Unmade
+pub mod Unmade
 pub mod Finding

@@ -7,8 +7,8 @@ pub invariant_of-result : goal.invariant_of-result
 invariant_of-result c = sound c.args.count 0 _ _ _ c.in_ok-make-2.ensures c.in_ok-empty_slots.ensures
     c.in_ok-no_outcomes.ensures refl c.ranges.count.fits
 
-pub returns : goal.returns
-returns c s shared = starts c.args.count c.args.means _ (record {
+pub returns-clause-follows : goal.returns-clause-follows
+returns-clause-follows c s shared = starts c.args.count c.args.means _ (record {
   queue = refl;
   lanes = c.in_ok-make.ensures;
   acts = c.in_ok-make-2.ensures;
@@ -20,4 +20,7 @@ returns c s shared = starts c.args.count c.args.means _ (record {
   lined = refl;
   unfinished = refl;
   reason = refl;
-}) s shared
+}) s shared c.requires.some
+
+pub returns-clause-room : goal.returns-clause-room
+returns-clause-room c = ap (λ (p : Pool). p.room) c.in_ok-make-3.ensures.pool
