@@ -1,0 +1,4 @@
+pub mod Giving
+pub mod Growth
+pub mod Making
+pub mod Settling
