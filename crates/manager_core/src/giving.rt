@@ -1,0 +1,117 @@
+//! Jobs that are given to lanes.
+
+ghost use Rattle.std.specs.Prelude.{◌≡◌, ◌==◌, ◌&&◌, ◌^◌, ◌<◌, ◌∷◌, ℕ, false, List, IsSome};
+ghost use Rattle.manager_moves.specs.Runs.{Events, Sent, Shared, share};
+ghost use Rattle.move_core.specs.Follows.{Follows};
+ghost use Rattle.move_core.specs.Kept.{state_at};
+ghost use Rattle.move_core.specs.Lending.{IsGoing, tags_in};
+ghost use Rattle.run_promise.specs.Dispatches.{is_op};
+ghost use Rattle.run_promise.specs.Schedule.{job_of};
+ghost use Rattle.manager_core.specs.Answers.{IsDue, IsJobDue};
+ghost use Rattle.manager_core.specs.Formed.{IsJobFor};
+ghost use Rattle.manager_core.specs.Running.{IsRunning};
+ghost use Rattle.s3_model.specs.declared.outcomes.Event.{Event as Entry};
+ghost use Rattle.s3_model.specs.declared.requests.Op.{Op as OneOp};
+ghost use Rattle.task_acts.specs.declared.work.Work.{Work};
+ghost use Rattle.task_schedule.specs.Asks.{HasTags};
+
+use crate::due::{Due, due_lane};
+use crate::manager::Manager;
+use jobs::Job;
+use manager_moves::Move;
+use move_core::{Given, MoveCore};
+use s3_model::{Event, JobId, Op, Task, Texts};
+
+fn id_of(task: u32, op: Op, number: u32) -> JobId
+    ensures { result ≡ job_of task op number }
+{
+    JobId {
+        task: Some(task),
+        op,
+        number,
+    }
+}
+
+/// The size of a task fits its type.
+fn see_size(task: &Task)
+    ensures { task.now.size < 2 ^ 64 }
+{
+    let _size = task.size;
+}
+
+/// The entity tags that a job joins, if it joins parts.
+fn tags_for(moves: &mut MoveCore, task: u32, op: Op) -> Option<Texts>
+    requires { op ≡ Op.Complete → IsSome (tags_in (state_at moves.old task)) }
+    ensures tags { (s : Shared) (events : Events) (w : Work) → Follows s events moves.old
+        → IsGoing s events moves.old task w → HasTags w (share w task events) op result }
+    ensures follows { (s : Shared) (events : Events) → Follows s events moves.old → Follows s events moves.new }
+    ensures parts { moves.new.parts ≡ moves.old.parts }
+    ensures others { (n : ℕ) → (is_op op Op.Complete && (task == n)) ≡ false
+        → state_at moves.new n ≡ state_at moves.old n }
+{
+    if matches!(op, Op::Complete) {
+        Some(moves.etags(task))
+    } else {
+        None
+    }
+}
+
+impl Manager {
+    /// The job that is to be given, as the next move was: the one that was kept of a first giving, or a new one, with
+    /// the part that it takes.
+    pub fn job(&mut self, task: u32, op: Op, number: u32) -> Job
+        requires { (lane : ℕ) × IsDue (Move.Give task op number lane) self.old }
+        ensures running { (planning : List Entry) (s : Shared) (events : Events) → IsRunning planning s events self.old
+            → IsRunning planning s events self.new }
+        ensures job { (planning : List Entry) (s : Shared) (events : Events) → IsRunning planning s events self.old
+            → IsJobFor s events task op number self.old result }
+        ensures due { (lane : ℕ) → self.old.due ≡ Due.Next (Move.Give task op number lane)
+            → self.new.due ≡ Due.Job task op number lane }
+    {
+        let lane = due_lane(self.due);
+        see_size(self.task(task));
+        let given = self.moves.sent(task, op, number, lane);
+        self.due = Due::Job {
+            task,
+            op,
+            number,
+            lane,
+        };
+        match given {
+            Given::Again(job) => job,
+            Given::First(part) => {
+                let id = id_of(task, op, number);
+                let upload = self.moves.upload(task);
+                let etags = tags_for(&mut self.moves, task, op);
+                self.steps[task as usize].form(step_jobs::Given {
+                    id,
+                    part,
+                    upload,
+                    etags,
+                })
+            }
+        }
+    }
+
+    /// The job that was formed was given to that lane.
+    pub fn gave(&mut self, lane: u32)
+        requires { IsJobDue lane self.old }
+        ensures running { (planning : List Entry) (s : Shared) (events : Events) (task number : ℕ) (of_op : OneOp)
+            → IsRunning planning s events self.old → self.old.due ≡ Due.Job task of_op number lane
+            → IsRunning planning s (Sent task of_op number lane ∷ events) self.new }
+        ensures free { self.new.due ≡ Due.Free }
+    {
+        let Due::Job {
+            task,
+            op,
+            number,
+            ..
+        } = self.due
+        else {
+            unreachable!()
+        };
+        self.due = Due::Free;
+        let job = id_of(task, op, number);
+        self.journal.push(Event::Given { job, lane });
+    }
+}
