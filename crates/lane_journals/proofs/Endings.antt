@@ -1,5 +1,5 @@
 -- What the dispatch of a job shows of its ending.
-use Rattle.std.proofs.Common.{◌≡◌, ◌∙◌, ◌==◌, ◌+◌, ◌<◌, ℕ, zero, suc, true, List, [], ◌∷◌, Option, Some, refl, sym, ap, subst, inl, inr, map, length, slice_get, arith}
+use Rattle.std.proofs.Common.{◌≡◌, ◌∙◌, ◌==◌, ◌<◌, ℕ, zero, suc, true, List, [], ◌∷◌, Some, refl, sym, ap, subst, inl, inr, map, length, slice_get, arith}
 use Rattle.std.specs.Prelude.{unwrap_or}
 use Rattle.answer_classes.specs.Showing.{HasStatus, Shows}
 use Rattle.attempts.specs.Attempts.{HasClass, SignedRequest, TellsStatus}

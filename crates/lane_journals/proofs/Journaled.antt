@@ -76,9 +76,9 @@ lanes_tell_statuses CallFailed endpoint keys attempts planned events logs notes 
     tell_statuses endpoint keys attempts planned events logs notes givings lanes handed
 
 pub lanes_are_journaled : LanesAreJournaled
-lanes_are_journaled endpoint keys setting planning events logs notes givings coming of_planning journal lanes causes handed =
+lanes_are_journaled endpoint keys setting planning events logs notes givings coming of =
     record {
-      of_planning = of_planning;
-      carried = jobs_are_carried endpoint keys setting _ logs notes givings coming journal lanes causes;
-      shown = end_as_shown endpoint keys setting.config.attempts (length planning) events logs notes givings lanes handed;
+      of_planning = of.of_planning;
+      carried = jobs_are_carried endpoint keys setting _ logs notes givings coming of.journal of.lanes of.causes;
+      shown = end_as_shown endpoint keys setting.config.attempts (length planning) events logs notes givings of.lanes of.handed;
     }

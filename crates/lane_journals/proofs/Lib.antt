@@ -1,2 +1,4 @@
 pub mod Endings
 pub mod Journaled
+pub mod Ranges
+pub mod Witness

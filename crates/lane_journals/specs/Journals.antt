@@ -41,13 +41,20 @@ LanesTellStatuses CallFailed = (endpoint : Endpoint) (keys : Keys) (attempts pla
     → AreOfLanes endpoint keys attempts givings logs notes → AreHandedBack planned events givings
     → StatusesAreShown Shows HasStatus CallFailed planned events (dispatched_of givings)
 
+-- What is taken of a run whose jobs lanes carried: its journal is that of the planning and behind it that of the run,
+-- with the talks of the wires, and what stopped its jobs is told.
+pub record IsOfLanes (endpoint : Endpoint) (keys : Keys) (setting : Setting) (planning : List Entry) (events : Events)
+    (logs : ℕ → List Talk) (notes : ℕ → List Note) (givings : List Giving) (coming : List Dispatched) : Type 0 where
+  pub of_planning : (event : Entry) → Contains planning event → IsOfPlanning event
+  pub journal : IsJournal setting (planning ++ journal_of events) logs notes (dispatched_of givings)
+  pub lanes : AreOfLanes endpoint keys setting.config.attempts givings logs notes
+  pub causes : HaveCauses endpoint keys setting givings coming
+  pub handed : AreHandedBack (length planning) events givings
+
 -- So the journal of a run whose jobs lanes carried is one that whole runs take.
 abbrev pub LanesAreJournaled : Type 0
 LanesAreJournaled = (endpoint : Endpoint) (keys : Keys) (setting : Setting) (planning : List Entry) (events : Events)
     (logs : ℕ → List Talk) (notes : ℕ → List Note) (givings : List Giving) (coming : List Dispatched)
-    → ((event : Entry) → Contains planning event → IsOfPlanning event)
-    → IsJournal setting (planning ++ journal_of events) logs notes (dispatched_of givings)
-    → AreOfLanes endpoint keys setting.config.attempts givings logs notes
-    → HaveCauses endpoint keys setting givings coming → AreHandedBack (length planning) events givings
+    → IsOfLanes endpoint keys setting planning events logs notes givings coming
     → IsJournaled Shows (text_of endpoint keys) endpoint.host endpoint.port setting planning events logs notes
     (dispatched_of givings) coming

@@ -1,1 +1,3 @@
 pub mod Journals
+pub mod Ranges
+pub mod Witness

@@ -1,6 +1,8 @@
 //! The laws, functions that do nothing.
 
 ghost use Rattle.lane_journals.specs.Journals.{LanesAreJournaled, LanesEndAsShown, LanesTellStatuses};
+ghost use Rattle.lane_journals.specs.Ranges.{RangesRunsAreOfLanes};
+ghost use Rattle.lane_journals.specs.Witness.{UploadIsOfLanes};
 
 use world_laws::Command;
 
@@ -12,7 +14,10 @@ pub fn lanes_end_as_shown<C: Command>()
     ensures statuses { LanesTellStatuses C.call_failed }
 {}
 
-/// So the journal of a run whose jobs lanes carried is one that whole runs take.
+/// So the journal of a run whose jobs lanes carried is one that whole runs take. Among such runs are a small upload
+/// over one lane, and a download over two in which a job is cut short and given again.
 pub fn lanes_are_journaled()
-    ensures { LanesAreJournaled }
+    ensures journaled { LanesAreJournaled }
+    ensures met { UploadIsOfLanes }
+    ensures met_again { RangesRunsAreOfLanes }
 {}

@@ -71,19 +71,19 @@ module _ (w : Work) (m : ℕ) where
       let above = ltb-true (first_number w) (m + 1) two.1 in
       (omega arith, below)
 
-  only_piece : w.small ≡ true → w.count ≡ 1 → is_piece w m ≡ true → m ≡ 0
+  pub only_piece : w.small ≡ true → w.count ≡ 1 → is_piece w m ≡ true → m ≡ 0
   only_piece small one e =
       let range = inside e in
       let first : first_number w ≡ 0 = chosen w.small 0 1 small in
       omega arith
 
-  of_part : w.small ≡ false → is_piece w m ≡ true → (1 ≤ m) × (m ≤ w.count)
+  pub of_part : w.small ≡ false → is_piece w m ≡ true → (1 ≤ m) × (m ≤ w.count)
   of_part large e =
       let range = inside e in
       let first : first_number w ≡ 1 = skipped w.small 0 1 large in
       (omega arith, omega arith)
 
-is_zero : (m : ℕ) → (m == 0) ≡ true → m ≡ 0
+pub is_zero : (m : ℕ) → (m == 0) ≡ true → m ≡ 0
 is_zero m e = eqb-true m 0 e
 
 not_zero : (m : ℕ) → 1 ≤ m → (m == 0) ≡ false
@@ -296,7 +296,7 @@ one_transfer : (config : Config) (limits : Limits) (size piece count : ℕ) → 
 one_transfer config limits size piece count (inl small) e = small.2
 one_transfer config limits size piece count (inr large) e = let below = ltb-true size config.threshold e in let above = large.0 in absurd (omega arith)
 
-one_piece : (config : Config) (limits : Limits) (k : Kind) (size piece count : ℕ) → HasPieces config limits k size piece count → nat_lt size config.threshold ≡ true → count ≡ 1
+pub one_piece : (config : Config) (limits : Limits) (k : Kind) (size piece count : ℕ) → HasPieces config limits k size piece count → nat_lt size config.threshold ≡ true → count ≡ 1
 one_piece config limits kind.Upload size piece count has e = one_transfer config limits size piece count has e
 one_piece config limits kind.Download size piece count has e = one_transfer config limits size piece count has e
 one_piece config limits kind.Copy size piece count has e = one_transfer config limits size piece count has e
