@@ -5,7 +5,7 @@ ghost use Rattle.std.specs.Option.{option_copied};
 ghost use Rattle.std.specs.FinMap.{empty, insert};
 ghost use Rattle.s3_service.specs.ServiceState.{object_at};
 ghost use Rattle.s3_service.specs.Serves.{Puts};
-ghost use Rattle.s3_fakes.specs.Fates.{IsToBeServed};
+ghost use Rattle.s3_fakes.specs.Fates.{AreBytesFor, IsToBeServed};
 ghost use Rattle.s3_fakes.specs.Holdings.{Follows, IsAnswered};
 
 use crate::script::{Ending, Fate, Refused, Script, Turn};
@@ -411,6 +411,7 @@ impl MemTable {
 
     // The bytes that come for a request, as its answer ends.
     fn bytes_for(&mut self, fate: &Fate, request: &[u8]) -> Result<Vec<u8>, OutOfMemory>
+        ensures within { IfOk result (λ bytes. AreBytesFor fate.now.ending bytes.items) }
         ensures follows { Follows self.old self.new }
         ensures answered { IsToBeServed fate.now → OnOk result (IsAnswered self.old self.new) }
         ensures unserved { (IsToBeServed fate.now → ⊥) → self.new ≡ self.old }
@@ -435,6 +436,7 @@ impl MemTable {
     }
 
     fn answer_as(&mut self, fate: &Fate, request: &[u8]) -> Result<Coming, OutOfMemory>
+        ensures within { IfOk result (λ coming. AreBytesFor fate.now.ending coming.bytes.items) }
         ensures follows { Follows self.old self.new }
         ensures answered { IsToBeServed fate.now → OnOk result (IsAnswered self.old self.new) }
         ensures unserved { (IsToBeServed fate.now → ⊥) → self.new ≡ self.old }

@@ -1,6 +1,8 @@
 //! What a script does to requests and their answers.
 
-ghost use Rattle.s3_fakes.specs.Fates.{IsToBeServed};
+ghost use Rattle.std.specs.Prelude.{◌≡◌, OnOk};
+ghost use Rattle.std.specs.List.{fold};
+ghost use Rattle.s3_fakes.specs.Fates.{IsToBeServed, by_turn};
 
 use s3_model::{OutOfMemory, Text};
 use service_answers::Form;
@@ -57,7 +59,9 @@ impl Fate {
         }
     }
 
-    fn take_turn(&mut self, turn: &Turn) -> Result<(), OutOfMemory> {
+    fn take_turn(&mut self, turn: &Turn) -> Result<(), OutOfMemory>
+        ensures { OnOk result (self.new ≡ by_turn self.old turn.now) }
+    {
         match turn {
             Turn::Refuse { status, document } => {
                 self.refused = Some(Refused {
@@ -71,7 +75,11 @@ impl Fate {
         Ok(())
     }
 
-    fn take_turns(&mut self, turns: &[Turn]) -> Result<(), OutOfMemory> {
+    // Takes turns in their order: of two of a kind the last one counts.
+    #[tactic(auto, using(std::proofs::lemmas::List::Sums::fold_more))]
+    fn take_turns(&mut self, turns: &[Turn]) -> Result<(), OutOfMemory>
+        ensures { OnOk result (self.new ≡ fold by_turn self.old turns.now) }
+    {
         for turn in turns {
             self.take_turn(turn)?;
         }
