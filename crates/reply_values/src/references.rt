@@ -1,11 +1,14 @@
 //! References to characters, and the text that character data spells.
 
-ghost use Rattle.std.specs.Prelude.{◌≡◌, ◌≤◌, ◌∷◌, ◌↔◌, ℕ, List, IfOk, IfSome, IfNone, IsTrue, encode_utf8};
+ghost use Rattle.std.specs.Prelude.{◌≡◌, ◌≤◌, ◌<◌, ◌++◌, ◌∷◌, ◌↔◌, ◌==◌, ℕ, List, IfOk, IfSome, IfNone, IsTrue};
+ghost use Rattle.std.specs.Prelude.{encode_utf8, length, not};
+ghost use Rattle.std.specs.List.{AllPass};
 ghost use Rattle.reply_values.specs.References.{BeginsNumber, GoesOn, IsBadReference, IsCutShort, IsNumbered};
 ghost use Rattle.reply_values.specs.References.{IsReference, IsUnescaped, Names, begins_entity};
 ghost use Rattle.reply_values.specs.Spelling.{StartsPiece, StartsNoPiece};
 
 use crate::numbers::unsigned;
+use memchr::memchr;
 use s3_model::Text;
 use std::alloc::Global;
 
@@ -45,12 +48,27 @@ fn named(name: &str) -> Option<char>
     }
 }
 
+/// What stands in front of the first such byte, and what follows it.
+fn split_at_byte(text: &str, byte: u8) -> Option<(&str, &str)>
+    requires { byte < 128 }
+    ensures value { IfSome result (λ parts. text.now ≡ parts.0.now ++ (byte ∷ parts.1.now)) }
+    ensures first { IfSome result (λ parts. AllPass (λ b. not (b == byte)) parts.0.now) }
+    ensures shorter { IfSome result (λ parts. length parts.1.now < length text.now) }
+    ensures none { IfNone result (AllPass (λ b. not (b == byte)) text.now) }
+{
+    match memchr(byte, text.as_bytes()) {
+        Some(place) => Some((&text[..place], &text[place + 1..])),
+        None => None,
+    }
+}
+
 /// The character of the reference whose `&` stands in front of the text, and what follows its `;`.
 fn reference(text: &str) -> Option<(char, &str)>
     ensures value { IfSome result (λ read. StartsPiece IsReference (38 ∷ text.now) (encode_utf8 read.0) read.1.now) }
     ensures refused { IfNone result (StartsNoPiece IsReference (38 ∷ text.now)) }
+    ensures shorter { IfSome result (λ read. length read.1.now ≤ length text.now) }
 {
-    let (name, rest) = text.split_once(';')?;
+    let (name, rest) = split_at_byte(text, b';')?;
     Some((named(name)?, rest))
 }
 
@@ -69,7 +87,7 @@ pub fn unescape(alloc: Global, raw: &str) -> Result<Text, ReferenceFault>
         return Err(ReferenceFault::Memory);
     };
     let mut rest = raw;
-    while let Some((plain, behind)) = rest.split_once('&') {
+    while let Some((plain, behind)) = split_at_byte(rest, b'&') {
         let Some((char, next)) = reference(behind) else {
             return Err(ReferenceFault::Bad(raw.len() - behind.len() - 1));
         };
@@ -100,7 +118,7 @@ pub fn bad_reference(raw: &str) -> Option<BadReference>
     ensures good { IfNone result ((text : List ℕ) × IsUnescaped raw.now text) }
 {
     let mut rest = raw;
-    while let Some((_plain, behind)) = rest.split_once('&') {
+    while let Some((_plain, behind)) = split_at_byte(rest, b'&') {
         let Some((_char, next)) = reference(behind) else {
             return Some(BadReference {
                 place: raw.len() - behind.len() - 1,

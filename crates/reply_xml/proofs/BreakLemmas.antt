@@ -4,8 +4,8 @@ use Rattle.std.proofs.Common.{Err, List, [], ◌∷◌, inl, inr, refl, subst, s
 use Rattle.std.specs.Result.{IsErrAnd}
 use Rattle.reply_xml.specs.declared.faults.DocFault.{DocFault}
 use Rattle.reply_xml.specs.declared.faults.DocFault.TheVariants as fault
-use Rattle.reply_xml.specs.declared.reader.Child.{Child}
-use Rattle.reply_xml.specs.declared.reader.Tag.{Tag}
+use Rattle.reply_xml.specs.declared.tags.Child.{Child}
+use Rattle.reply_xml.specs.declared.tags.Tag.{Tag}
 use Rattle.reply_xml.specs.Breaks.{Again, AtEndTag, AtStart, AtText, BreaksElement, BreaksIn, BehindLeafTag, BehindName}
 use Rattle.reply_xml.specs.Breaks.{BehindOtherTag, BehindTag, Behind, IfBroken, InLeaf, InOther, InTag, Inside}
 use Rattle.reply_xml.specs.Breaks.{IsMissing, BreaksText, Lacks, OnBroken, StandsAgain, TooLow}

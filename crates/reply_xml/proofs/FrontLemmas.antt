@@ -4,8 +4,8 @@ use Rattle.std.proofs.Common.{None, refl, subst, sym, ap}
 use Rattle.std.specs.Option.{IsSome, is_some}
 use Rattle.std.proofs.lemmas.Bool.{eqb-true, false≢true}
 use Rattle.reply_xml.specs.declared.elements.Element.{Element}
-use Rattle.reply_xml.specs.declared.reader.Child.{Child}
-use Rattle.reply_xml.specs.declared.reader.Tag.{Tag}
+use Rattle.reply_xml.specs.declared.tags.Child.{Child}
+use Rattle.reply_xml.specs.declared.tags.Tag.{Tag}
 use Rattle.reply_xml.specs.Contents.{Content, Only, Then, is_the, row_of}
 use Rattle.reply_xml.specs.Fits.{FitsChild, GoesOnWell, Passed, ReadsWell}
 use Rattle.reply_xml.specs.Reading.{EndsContent, NamesChild}

@@ -1,8 +1,8 @@
 -- A leaf has one text.
 use Rattle.std.proofs.Common.{◌≡◌, ◌∷◌, ℕ, Bool, true, false, List, [], refl, subst}
 use Rattle.std.proofs.lemmas.Bool.{false≢true}
-use Rattle.reply_xml.specs.declared.reader.Child.{Child}
-use Rattle.reply_xml.specs.declared.reader.Tag.{Tag}
+use Rattle.reply_xml.specs.declared.tags.Child.{Child}
+use Rattle.reply_xml.specs.declared.tags.Tag.{Tag}
 use Rattle.reply_xml.specs.Contents.{Content, Only, Then, ReadsText, ReadsContent, ReadsInner}
 use Rattle.reply_xml.specs.Children.{IsLeaf, IsLeafOf}
 use Rattle.reply_xml.specs.Reading.{HoldsAs, IsTagOf, ReadsAs, ReadsNone}

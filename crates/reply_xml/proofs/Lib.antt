@@ -11,6 +11,7 @@ pub mod LeaveLemmas
 pub mod OpenLemmas
 pub mod Rows
 pub mod RunLemmas
+pub mod Sorts
 pub mod TagLemmas
 pub mod TakeLemmas
 pub mod Utf8Lemmas

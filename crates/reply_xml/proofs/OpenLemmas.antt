@@ -2,8 +2,8 @@
 use Rattle.std.proofs.Common.{◌≡◌, ◌+◌, ◌-◌, ◌++◌, ◌∙◌, ◌↔◌, ℕ, Bool, true, false, List, [], ◌∷◌, Option, refl, sym, ap}
 use Rattle.std.proofs.Common.{subst, arith}
 use Rattle.reply_xml.specs.declared.elements.Element.{Element}
-use Rattle.reply_xml.specs.declared.reader.Child.{Child}
-use Rattle.reply_xml.specs.declared.reader.Tag.{Tag}
+use Rattle.reply_xml.specs.declared.tags.Child.{Child}
+use Rattle.reply_xml.specs.declared.tags.Tag.{Tag}
 use Rattle.reply_xml.specs.Contents.{Content, Only, Then, ReadsText, ReadsContent, ReadsInner}
 use Rattle.reply_xml.specs.Elements.{element_named}
 use Rattle.reply_xml.specs.Tags.{ReadsName, ReadsTag, ReadsTagEnd, ReadsEndTag}
@@ -135,7 +135,13 @@ ReadsInner-same false c d room name bytes rest left r s = let same =
 
 -- an element by its name, and by its whole tag
 abbrev pub tag_of : Child → Bool → Tag
-tag_of child closed = record { name = child.name; element = child.element; closed = closed; room = child.room }
+tag_of child closed = record {
+  name = child.name;
+  element = child.element;
+  closed = closed;
+  room = child.room;
+  named = child.named;
+}
 
 abbrev pub child_begins : (room : ℕ) (bytes from at : List ℕ) (child : Child) (tag : Tag)
     → NamesChild room bytes child from → IsTagOf child tag from at → BeginsChild room bytes tag at

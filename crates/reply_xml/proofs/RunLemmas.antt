@@ -1,13 +1,12 @@
 -- Bytes begin with one run of a sort.
 use Rattle.std.proofs.Common.{◌≡◌, ◌<◌, ◌≤◌, ◌++◌, ◌∙◌, ℕ, Bool, true, false, List, [], ◌∷◌, refl, sym, ap, subst}
-use Rattle.std.proofs.Common.{length, get_or, drop, take, drop-cons, arith, ◌==◌, not, Option, Some, None}
+use Rattle.std.proofs.Common.{length, get_or, drop, take, drop-cons, arith, ◌==◌, not}
 use Rattle.std.specs.List.{AllPass}
 use Rattle.std.proofs.lemmas.Bool.{false≢true}
 use Rattle.std.proofs.lemmas.List.{take-append-drop, append-nil, take_all}
 use Rattle.std.proofs.lemmas.List.Elements.{All-from_get_or, All-head, All-tail}
 use Rattle.std.proofs.lemmas.List.{get_or-take, length-take-le}
-use Rattle.memchr.specs.Find.{IsFirst, Nowhere, Passes, is_byte}
-use Rattle.std.specs.Option.{is_some}
+use Rattle.memchr.specs.Find.{Nowhere, Passes, is_byte}
 use Rattle.reply_xml.specs.declared.runs.Sort.TheVariants as sort
 use Rattle.reply_xml.specs.declared.runs.Sort.{Sort}
 use Rattle.reply_xml.specs.Runs.{is_of, BeginsOutside, ReadsRun}
@@ -108,8 +107,3 @@ pub text_whole : (bytes : List ℕ) → Nowhere (Passes (is_byte 60) bytes) 0 (l
     → ReadsRun sort.Text bytes bytes []
 text_whole bytes none =
     ReadsRun-whole sort.Text bytes (length bytes) (omega arith) (text_before bytes (length bytes) (omega arith) none)
-
--- no byte was found
-pub no_byte : (P : ℕ → Type 0) (i j : ℕ) (r : Option ℕ) → is_some r ≡ false → IsFirst P i j r → Nowhere P i j
-no_byte P i j None e h = h
-no_byte P i j (Some k) e h = absurd (false≢true (sym e))

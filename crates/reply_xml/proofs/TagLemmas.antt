@@ -1,16 +1,17 @@
 -- Bytes begin with one tag, and in one way.
 use Rattle.std.proofs.Common.{◌≡◌, ◌≢◌, ◌==◌, ◌||◌, ◌++◌, ◌∙◌, ◌⊎◌, ℕ, zero, suc, Bool, true, false, List, [], ◌∷◌}
 use Rattle.std.proofs.Common.{refl, sym, ap, subst, length, inl, inr, ⊎_elim, Result, Ok, Err, IfErr, Some, None}
-use Rattle.std.proofs.Common.{slice_get}
+use Rattle.std.proofs.Common.{slice_get, take, drop}
 use Rattle.reply_xml.specs.declared.runs.Sort.TheVariants as sort
 use Rattle.std.specs.Result.{IsErrAnd, OnErr}
 use Rattle.std.proofs.lemmas.List.{nil_from_length}
 use Rattle.std.specs.List.{AllPass}
 use Rattle.std.proofs.lemmas.Bool.{eqb-false, eqb-true, eq-eqb, false≢true}
-use Rattle.std.proofs.lemmas.List.Elements.{All-head}
-use Rattle.reply_xml.specs.Runs.{is_name_byte, is_space, ReadsRun}
+use Rattle.std.proofs.lemmas.List.{take-append-drop}
+use Rattle.std.proofs.lemmas.List.Elements.{All-head, All-nil}
+use Rattle.reply_xml.specs.Runs.{BeginsOutside, is_name_byte, is_of, is_space, ReadsRun}
 use Rattle.reply_xml.specs.Tags.{NamesTag, ReadsName, ReadsValue, ReadsAttribute, ReadsAttributes, ReadsTagEnd}
-use Rattle.reply_xml.specs.Tags.{ReadsTag, ReadsEndTag, tag_close, ends_name, NameEnds}
+use Rattle.reply_xml.specs.Tags.{IsName, ReadsTag, ReadsEndTag, tag_close, ends_name, NameEnds}
 use Rattle.reply_xml.proofs.RunLemmas.{parts_same, ReadsRun-same}
 
 pub ReadsName-same : (name other bytes rest left : List ℕ) → ReadsName name bytes rest → ReadsName other bytes left
@@ -206,6 +207,33 @@ end_tag_name name bytes at_name found at_space rest e named r =
     (parts_same 47 47 r.at_name at_name (parts_same 60 60 (47 ∷ r.at_name) (47 ∷ at_name) (sym r.opens ∙ e)).1).1 in
     (ReadsName-same found name at_name at_space r.at_space named
     (subst (λ (b : List ℕ). ReadsName name b r.at_space) at r.named)).0
+
+-- an end tag without white space, by the place where its name ends
+pub plain_end_tag : (name bytes at_slash at_name front at_close rest : List ℕ) (size : ℕ) → IsName name
+    → bytes ≡ 60 ∷ at_slash → at_slash ≡ 47 ∷ at_name → front ≡ take size at_name → at_close ≡ drop size at_name
+    → front ≡ name → at_close ≡ 62 ∷ rest → ReadsEndTag name bytes rest
+plain_end_tag name bytes at_slash at_name front at_close rest size n opens slash before behind same closes = record {
+  at_name = at_name;
+  opens = opens ∙ ap (λ b. 60 ∷ b) slash;
+  at_space = at_close;
+  named = record {
+    run = record {
+      split = sym (take-append-drop size at_name) ∙ ap (λ t. t ++ drop size at_name) (sym before ∙ same)
+          ∙ ap (λ t. name ++ t) (sym behind);
+      inside = n.inside;
+      ends = subst (BeginsOutside (is_of sort.Name)) (sym closes) refl;
+    };
+    some = n.some;
+  };
+  space = [];
+  at_close = at_close;
+  run = record {
+    split = refl;
+    inside = All-nil (λ b. is_of sort.Space b ≡ true);
+    ends = subst (BeginsOutside (is_of sort.Space)) (sym closes) refl;
+  };
+  closes = closes;
+}
 
 close_same : (closed other : Bool) (rest left : List ℕ) → tag_close closed ++ rest ≡ tag_close other ++ left
     → (other ≡ closed) × (left ≡ rest)

@@ -4,8 +4,8 @@ use Rattle.std.proofs.Common.{sym, refl, subst, ap}
 use Rattle.std.specs.Option.{is_some, IsSome}
 use Rattle.std.proofs.lemmas.Bool.{false≢true}
 use Rattle.reply_xml.specs.declared.elements.Element.{Element}
-use Rattle.reply_xml.specs.declared.reader.Child.{Child}
-use Rattle.reply_xml.specs.declared.reader.Tag.{Tag}
+use Rattle.reply_xml.specs.declared.tags.Child.{Child}
+use Rattle.reply_xml.specs.declared.tags.Tag.{Tag}
 use Rattle.reply_xml.specs.Contents.{Content, Only, Then, ReadsContent, ReadsInner, is_the, named}
 use Rattle.reply_xml.specs.Children.{IsLeafOf}
 use Rattle.reply_xml.specs.Reading.{AtEnd, EndsContent, HoldsAs, NamesChild, ReadsAs, ReadsNone, ReadsSome, Advances}

@@ -4,10 +4,7 @@ use Rattle.std.proofs.Common.{List, [], ◌∷◌}
 use Rattle.std.proofs.Common.{refl, sym, subst, length, get_or, arith, inl, inr, codes}
 use Rattle.std.specs.List.{AllPass}
 use Rattle.std.specs.Str.{IsCharBoundary}
-use Rattle.std.proofs.lemmas.List.Sums.{AllPass-from_list_all, list_all-from_AllPass}
-use Rattle.reply_values.specs.References.{IsUnescaped}
-use Rattle.reply_values.proofs.UnescapeLemmas.{plain_run}
-use Rattle.reply_xml.specs.Contents.{ReadsText}
+use Rattle.std.proofs.lemmas.List.Sums.{AllPass-from_list_all}
 use Rattle.std.specs.Str.{IsAscii, IsUtf8, is_utf8}
 use Rattle.std.proofs.Math.Seq.{drop-append_seam, take-append_seam}
 use Rattle.std.proofs.lemmas.Bool.Decides.{nat_tests}
@@ -17,7 +14,7 @@ use Rattle.std.proofs.lemmas.Str.{IsCharBoundary-after_ascii, IsCharBoundary-bef
 use Rattle.std.proofs.lemmas.Str.{IsUtf8-drop, IsUtf8-from_ascii, IsUtf8-from_is_utf8, IsUtf8-take, is_utf8-from_IsUtf8}
 use Rattle.reply_xml.specs.declared.runs.Sort.TheVariants as sort
 use Rattle.reply_xml.specs.Documents.{BeginsDocument, MayDeclare, ReadsDeclaration}
-use Rattle.reply_xml.specs.Runs.{HasNoReference, ReadsRun, is_name_byte, is_space}
+use Rattle.reply_xml.specs.Runs.{ReadsRun, is_name_byte, is_space}
 use Rattle.reply_xml.specs.Tags.{NamesTag, ReadsAttribute, ReadsAttributes, ReadsEndTag, ReadsName, ReadsTag}
 use Rattle.reply_xml.specs.Tags.{ReadsTagEnd, ReadsValue, tag_close}
 
@@ -158,12 +155,6 @@ text_parts text bytes (byte ∷ more) r some u =
     at_seam : (xs : List ℕ) → get_or (xs ++ (byte ∷ more)) (length xs) 0 ≡ byte
     at_seam [] = refl
     at_seam (x ∷ xs) = at_seam xs
-
-pub plain_text : (text bytes rest : List ℕ) → ReadsRun sort.Text text bytes rest → HasNoReference text → IsUtf8 text
-    → ReadsText text bytes rest × IsUnescaped text text
-plain_text text bytes rest run none utf8 =
-    let plain = plain_run text (list_all-from_AllPass (λ b. not (b == 38)) text none) in
-    (record { run = run; characters = utf8; meaning = text; unescaped = plain }, plain)
 
 -- what is known of the bytes at one place of a document is known at a later one
 pub judged_on : (sound : Bool) (bytes rest : List ℕ) → (sound ≡ true → is_utf8 bytes ≡ true)

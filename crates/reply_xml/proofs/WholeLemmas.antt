@@ -1,6 +1,6 @@
 -- A document's value is that of what stands inside its root.
 use Rattle.std.proofs.Common.{◌≡◌, ℕ, Bool, List, [], sym, refl, subst}
-use Rattle.reply_xml.specs.declared.reader.Tag.{Tag}
+use Rattle.reply_xml.specs.declared.tags.Tag.{Tag}
 use Rattle.reply_xml.specs.Contents.{Content}
 use Rattle.reply_xml.specs.Documents.{IsOf, IsDocument, BeginsDocument, ReadsSpace}
 use Rattle.reply_xml.specs.Places.{HasBytesBehind}

@@ -6,8 +6,8 @@ use Rattle.reply_xml.specs.declared.elements.Element.{Element}
 use Rattle.reply_xml.specs.declared.runs.Sort.TheVariants as sort
 use Rattle.reply_xml.specs.declared.faults.DocFault.{DocFault}
 use Rattle.reply_xml.specs.declared.faults.DocFault.TheVariants as fault
-use Rattle.reply_xml.specs.declared.reader.Child.{Child}
-use Rattle.reply_xml.specs.declared.reader.Tag.{Tag}
+use Rattle.reply_xml.specs.declared.tags.Child.{Child}
+use Rattle.reply_xml.specs.declared.tags.Tag.{Tag}
 use Rattle.reply_xml.specs.Contents.{ReadsText}
 use Rattle.reply_xml.specs.Documents.{BeginsDocument, NamesRoot, ReadsSpace}
 use Rattle.reply_xml.specs.Reading.{AtEnd, IsTagOf, NamesChild}

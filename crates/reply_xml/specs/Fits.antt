@@ -1,8 +1,8 @@
 -- Elements and contents in which no fault stands: what the table has there stands in its form, and as often as it may.
 use Rattle.std.specs.Prelude.{◌≡◌, ℕ, List, [], ◌∷◌, Option, None}
 use Rattle.reply_xml.specs.declared.elements.Element.{Element}
-use Rattle.reply_xml.specs.declared.reader.Child.{Child}
-use Rattle.reply_xml.specs.declared.reader.Tag.{Tag}
+use Rattle.reply_xml.specs.declared.tags.Child.{Child}
+use Rattle.reply_xml.specs.declared.tags.Tag.{Tag}
 use Rattle.reply_xml.specs.Children.{IsLeaf}
 use Rattle.reply_xml.specs.Contents.{Content, Only, Then, ReadsInner}
 use Rattle.reply_xml.specs.Reading.{ReadsElement}

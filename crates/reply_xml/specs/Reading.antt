@@ -1,8 +1,8 @@
 -- What the reader finds at the front of what is left of a document.
 use Rattle.std.specs.Prelude.{◌≡◌, ◌+◌, ◌++◌, ◌↔◌, ℕ, Bool, List, [], ◌∷◌, Option, Some, None}
 use Rattle.std.specs.Bool.{MatchBool}
-use Rattle.reply_xml.specs.declared.reader.Child.{Child}
-use Rattle.reply_xml.specs.declared.reader.Tag.{Tag}
+use Rattle.reply_xml.specs.declared.tags.Child.{Child}
+use Rattle.reply_xml.specs.declared.tags.Tag.{Tag}
 use Rattle.reply_xml.specs.Contents.{Content, Only, Then, ReadsText, ReadsInner, named}
 use Rattle.reply_xml.specs.Children.{Once, AtMostOnce, Each, IsLeafOf}
 use Rattle.reply_xml.specs.declared.elements.Element.{Element}

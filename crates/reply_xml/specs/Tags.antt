@@ -1,8 +1,14 @@
 -- Tags (XML 1.0, productions 5, 10 and 40 to 44).
 use Rattle.std.specs.Prelude.{◌≡◌, ◌≢◌, ◌==◌, ◌||◌, ◌⊎◌, ℕ, zero, suc, Bool, true, false, List, [], ◌∷◌, ◌++◌}
+use Rattle.std.specs.List.{AllPass}
 use Rattle.std.specs.Str.{IsUtf8}
 use Rattle.reply_xml.specs.declared.runs.Sort.TheVariants as sort
-use Rattle.reply_xml.specs.Runs.{ReadsRun, is_space}
+use Rattle.reply_xml.specs.Runs.{ReadsRun, is_of, is_space}
+
+-- at least one byte, and each one of names
+pub record IsName (name : List ℕ) : Type 0 where
+  pub inside : AllPass (is_of sort.Name) name
+  pub some : name ≢ []
 
 -- at least one byte of names
 pub record ReadsName (name bytes rest : List ℕ) : Type 0 where

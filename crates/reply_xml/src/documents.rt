@@ -15,9 +15,9 @@ ghost use Rattle.reply_xml.specs.Tags.{NameEnds, ReadsTag};
 use crate::elements::element_named;
 use crate::faults::DocFault;
 use crate::places::{common_front, is_same, is_utf8, utf8_front};
-use crate::reader::{Reader, Tag};
+use crate::reader::Reader;
 use crate::runs::{Sort, split_run};
-use crate::tags::{after_tag_end, split_start};
+use crate::tags::{Tag, after_tag_end, split_start};
 use std::alloc::Global;
 
 /// Levels of elements below the root.

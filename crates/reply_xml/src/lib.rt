@@ -18,5 +18,6 @@ pub use faults::DocFault;
 pub use leaves::{FormedText, Leaf, Number, PlainText, Time, Truth};
 pub use only::{Only, is_the};
 pub use parts::{Parts, read_document};
-pub use reader::{Child, Reader, Tag};
+pub use reader::Reader;
+pub use tags::{Child, Tag};
 pub use texts::Meaning;

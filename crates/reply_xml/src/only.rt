@@ -14,7 +14,8 @@ use crate::elements::Element;
 use crate::faults::DocFault;
 use crate::leaves::Leaf;
 use crate::parts::Parts;
-use crate::reader::{Child, Reader};
+use crate::reader::Reader;
+use crate::tags::Child;
 use std::alloc::Global;
 
 /// Whether a tag is that of an element.

@@ -12,7 +12,8 @@ ghost use Rattle.reply_xml.specs.Reading.{Advances, HoldsAs, HoldsNone, ReadsAs,
 ghost use Rattle.reply_xml.specs.Tables.{IsFresh, IsParentOf, Table, first_missing};
 
 use crate::faults::DocFault;
-use crate::reader::{Child, Reader, Tag};
+use crate::reader::Reader;
+use crate::tags::{Child, Tag};
 use std::alloc::Global;
 
 /// The parts of an element that were found so far. A document is the list of the parts of its root.

@@ -12,7 +12,7 @@ ghost use Rattle.reply_xml.specs.Runs.{ReadsRun};
 ghost use Rattle.reply_xml.specs.declared.runs.Sort.TheVariants as sort;
 ghost use Rattle.reply_xml.specs.Tables.{Done, IsFresh, IsOutside, Table, first_missing, form_in};
 ghost use Rattle.std.specs.Str.{IsUtf8, is_utf8};
-ghost use Rattle.reply_xml.specs.declared.reader.Child.{Child};
+ghost use Rattle.reply_xml.specs.declared.tags.Child.{Child};
 ghost use Rattle.reply_xml.specs.Faults.{IfRefused};
 ghost use Rattle.reply_xml.specs.Unfit.{HasText};
 ghost use Rattle.reply_xml.specs.Tags.{ReadsTag, ReadsTagEnd, ReadsEndTag};
@@ -25,27 +25,9 @@ use crate::elements::{Element, element_named};
 use crate::faults::DocFault;
 use crate::leaves::Leaf;
 use crate::runs::split_text;
-use crate::tags::{after_end_tag, after_tag_end, split_start};
+use crate::tags::{Child, Tag, after_end_tag, after_tag_end, split_start};
 use crate::texts::{Meaning, TextFault, read_meaning, text_fault};
 use std::alloc::Global;
-
-/// An element that begins, up to the end of its name. On `room` levels elements may stand inside.
-#[derive(Clone, Copy)]
-pub struct Child<'a> {
-    pub name: &'a [u8],
-    pub element: Option<Element>,
-    pub room: usize,
-}
-
-/// The start tag of an element, or where it is closed its empty-element tag. On `room` levels elements may stand
-/// inside.
-#[derive(Clone, Copy)]
-pub struct Tag<'a> {
-    pub name: &'a [u8],
-    pub element: Option<Element>,
-    pub closed: bool,
-    pub room: usize,
-}
 
 /// A document that is read from its front, tag by tag.
 #[derive(Drop)]
@@ -106,6 +88,7 @@ impl<'a> Reader<'a> {
     }
 
     /// What the text up to the next `<` means.
+    #[inline(always)]
     fn text(&mut self) -> Result<Meaning<'a>, DocFault>
         ensures value { IfOk result (λ found. (raw : List ℕ) × ReadsText raw self.old.rest.now self.new.rest.now ×
             IsUnescaped raw (meaning_of found)) }
@@ -122,11 +105,7 @@ impl<'a> Reader<'a> {
         if rest.is_empty() {
             return Err(self.last_text_fault(text));
         }
-        if self.sound && !referenced {
-            self.rest = rest;
-            return Ok(Meaning::Itself(unsafe { std::str::from_utf8_unchecked(text) }));
-        }
-        match read_meaning(self.alloc, text) {
+        match read_meaning(self.alloc, text, self.sound, referenced) {
             Ok(found) => {
                 self.rest = rest;
                 Ok(found)
@@ -155,6 +134,7 @@ impl<'a> Reader<'a> {
     }
 
     /// The next element inside an element, or None where its end tag begins.
+    #[inline(always)]
     pub fn next_child(&mut self, parent: &Tag<'a>) -> Result<Option<Child<'a>>, DocFault>
         ensures child { IfOk result
             (λ found. IfSome found (λ child. NamesChild parent.now.room self.old.rest.now child self.new.rest.now)) }
@@ -193,6 +173,7 @@ impl<'a> Reader<'a> {
     }
 
     /// What stands in an element's tag behind its name.
+    #[inline(always)]
     pub fn tag(&mut self, child: &Child<'a>) -> Result<Tag<'a>, DocFault>
         ensures value { IfOk result (λ tag. IsTagOf child.now tag self.old.rest.now self.new.rest.now) }
         ensures no_longer { length self.new.rest.now ≤ length self.old.rest.now }
@@ -216,6 +197,7 @@ impl<'a> Reader<'a> {
     }
 
     /// The end tag of an element whose content ends here, or none where its tag is closed.
+    #[inline(always)]
     pub fn end(&mut self, parent: &Tag<'a>) -> Result<(), DocFault>
         ensures value { OnOk result ((before : List ℕ) → AtEnd parent.now before self.old.rest.now →
             EndsContent parent.now before self.new.rest.now) }

@@ -4,12 +4,33 @@ ghost use Rattle.std.specs.Prelude.{◌≡◌, ◌<◌, ◌≤◌, ◌∷◌, �
 ghost use Rattle.std.specs.Prelude.{length, IfOk, IfErr, OnErr, IfSome, MatchOption};
 ghost use Rattle.reply_xml.specs.Leaves.{LeavesAttribute, LeavesEndTag, LeavesName, LeavesStart};
 ghost use Rattle.reply_xml.specs.Leaves.{LeavesTagEnd, LeavesValue};
-ghost use Rattle.reply_xml.specs.Tags.{NameEnds, NamesTag, ReadsAttribute, ReadsEndTag, ReadsGap, ReadsName};
+ghost use Rattle.reply_xml.specs.Tags.{IsName, NameEnds, NamesTag, ReadsAttribute, ReadsEndTag, ReadsGap, ReadsName};
 ghost use Rattle.reply_xml.specs.Tags.{ReadsTag, ReadsTagEnd, ReadsValue, ends_name};
 ghost use Rattle.reply_xml.specs.Runs.{BeginsOutside, is_name_byte};
 
+use crate::elements::Element;
 use crate::places::{common_front, is_same, utf8_front};
 use crate::runs::{Sort, is_of, split_name_run, split_run};
+
+/// An element that begins, up to the end of its name. On `room` levels elements may stand inside.
+#[derive(Clone, Copy)]
+pub struct Child<'a> {
+    pub name: &'a [u8],
+    pub element: Option<Element>,
+    pub room: usize,
+    ghost named: { IsName name.now },
+}
+
+/// The start tag of an element, or where it is closed its empty-element tag. On `room` levels elements may stand
+/// inside.
+#[derive(Clone, Copy)]
+pub struct Tag<'a> {
+    pub name: &'a [u8],
+    pub element: Option<Element>,
+    pub closed: bool,
+    pub room: usize,
+    ghost named: { IsName name.now },
+}
 
 /// What follows the byte, where it stands at the front.
 pub(crate) fn after_byte(byte: u8, bytes: &[u8]) -> Option<&[u8]>
@@ -81,6 +102,7 @@ fn after_attribute(bytes: &[u8]) -> Result<&[u8], usize>
 
 /// What stands in a tag behind its name: attributes, white space, and the end. Also whether the end is that of an
 /// empty-element tag.
+#[inline(always)]
 pub(crate) fn after_tag_end(bytes: &[u8]) -> Result<(bool, &[u8]), usize>
     ensures value { IfOk result (λ parts. ReadsTagEnd parts.0 bytes.now parts.1.now) }
     ensures shorter { IfOk result (λ parts. length parts.1.now < length bytes.now) }
@@ -141,8 +163,25 @@ pub(crate) fn split_start(bytes: &[u8]) -> Result<(&[u8], &[u8]), usize>
     Ok((name, rest))
 }
 
-/// What follows the end tag of that name at the front.
-pub(crate) fn after_end_tag<'a>(name: &[u8], bytes: &'a [u8]) -> Result<&'a [u8], usize>
+/// What follows the end tag of that name at the front, where no white space stands in it. The bytes are compared with
+/// the name, and no name is looked for in them.
+#[inline(always)]
+fn after_plain_end_tag<'a>(name: &[u8], bytes: &'a [u8]) -> Option<&'a [u8]>
+    requires { IsName name.now }
+    ensures value { IfSome result (λ rest. ReadsEndTag name.now bytes.now rest.now) }
+    ensures shorter { IfSome result (λ rest. length rest.now < length bytes.now) }
+{
+    let at_slash = after_byte(b'<', bytes)?;
+    let at_name = after_byte(b'/', at_slash)?;
+    let (front, at_close) = at_name.split_at_checked(name.len())?;
+    if !is_same(front, name) {
+        return None;
+    }
+    after_byte(b'>', at_close)
+}
+
+/// What follows the end tag of that name at the front, in which white space may stand behind the name.
+fn after_spaced_end_tag<'a>(name: &[u8], bytes: &'a [u8]) -> Result<&'a [u8], usize>
     ensures value { IfOk result (λ rest. ReadsEndTag name.now bytes.now rest.now) }
     ensures shorter { IfOk result (λ rest. length rest.now < length bytes.now) }
     ensures left { IfErr result (λ left. left ≤ length bytes.now) }
@@ -163,5 +202,21 @@ pub(crate) fn after_end_tag<'a>(name: &[u8], bytes: &'a [u8]) -> Result<&'a [u8]
     match after_byte(b'>', at_close) {
         Some(rest) => Ok(rest),
         None => Err(at_close.len()),
+    }
+}
+
+/// What follows the end tag of that name at the front.
+#[inline(always)]
+pub(crate) fn after_end_tag<'a>(name: &[u8], bytes: &'a [u8]) -> Result<&'a [u8], usize>
+    requires { IsName name.now }
+    ensures value { IfOk result (λ rest. ReadsEndTag name.now bytes.now rest.now) }
+    ensures shorter { IfOk result (λ rest. length rest.now < length bytes.now) }
+    ensures left { IfErr result (λ left. left ≤ length bytes.now) }
+    ensures refused { OnErr result ((rest : List ℕ) → ¬ (ReadsEndTag name.now bytes.now rest)) }
+    ensures leaves { IfErr result (λ left. LeavesEndTag name.now bytes.now left) }
+{
+    match after_plain_end_tag(name, bytes) {
+        Some(rest) => Ok(rest),
+        None => after_spaced_end_tag(name, bytes),
     }
 }

@@ -1,14 +1,14 @@
 //! What the text between two tags means.
 
-ghost use Rattle.std.specs.Prelude.{◌≡◌, ℕ, List, IfOk, length, true};
+ghost use Rattle.std.specs.Prelude.{◌≡◌, ℕ, List, IfOk, MatchOption, false, length, true};
 ghost use Rattle.std.specs.Str.{IsUtf8};
 ghost use Rattle.reply_xml.specs.Faults.{EndsIn, EndsWithin, IfBad, IfEnds, OnBad, OnEnds, TellsText};
 ghost use Rattle.reply_xml.specs.Leaves.{HasBadReference, IsAtFault, IsSound};
 ghost use Rattle.reply_xml.specs.Meaning.{meaning_of};
+ghost use Rattle.reply_xml.specs.Runs.{HasNoReference};
 ghost use Rattle.reply_values.specs.References.{GoesOn, IsUnescaped};
 
 use crate::places::utf8_front;
-use memchr::memchr;
 use reply_values::{ReferenceFault, bad_reference, unescape};
 use s3_model::{OutOfMemory, Text};
 use std::alloc::Global;
@@ -49,8 +49,31 @@ impl Meaning<'_> {
     }
 }
 
-/// What a text means that `<` follows; without a reference nothing is allocated.
-pub(crate) fn read_meaning<'a>(alloc: Global, bytes: &'a [u8]) -> Result<Meaning<'a>, TextFault>
+/// The text of bytes, where they are UTF-8. Those of a `sound` document are.
+fn utf8_text(bytes: &[u8], sound: bool) -> Option<&str>
+    requires { sound ≡ true → IsUtf8 bytes.now }
+    ensures { MatchOption result (¬ (IsUtf8 bytes.now)) (λ text. (text.now ≡ bytes.now) × IsUtf8 bytes.now) }
+{
+    if sound {
+        return Some(unsafe { std::str::from_utf8_unchecked(bytes) });
+    }
+    match std::str::from_utf8(bytes) {
+        Ok(text) => Some(text),
+        Err(_) => None,
+    }
+}
+
+/// What a text means that `<` follows; without a reference nothing is allocated. A text of a `sound` document is UTF-8,
+/// and one that is not `referenced` has no `&`.
+#[inline(always)]
+pub(crate) fn read_meaning<'a>(
+    alloc: Global,
+    bytes: &'a [u8],
+    sound: bool,
+    referenced: bool,
+) -> Result<Meaning<'a>, TextFault>
+    requires sound { sound ≡ true → IsUtf8 bytes.now }
+    requires plain { referenced ≡ false → HasNoReference bytes.now }
     ensures value { IfOk result (λ found. IsUtf8 bytes.now × IsUnescaped bytes.now (meaning_of found)) }
     ensures refused { TellsText result (IsUtf8 bytes.now → (text : List ℕ) → ¬ (IsUnescaped bytes.now text)) }
     ensures place { EndsWithin result (length bytes.now) }
@@ -58,10 +81,10 @@ pub(crate) fn read_meaning<'a>(alloc: Global, bytes: &'a [u8]) -> Result<Meaning
     ensures sound { IfEnds result (λ place. IsSound bytes.now × IsAtFault bytes.now place) }
     ensures bad { IfBad result (HasBadReference bytes.now) }
 {
-    let Ok(raw) = std::str::from_utf8(bytes) else {
+    let Some(raw) = utf8_text(bytes, sound) else {
         return Err(text_fault(bytes, false));
     };
-    if memchr(b'&', bytes).is_none() {
+    if !referenced {
         return Ok(Meaning::Itself(raw));
     }
     match unescape(alloc, raw) {

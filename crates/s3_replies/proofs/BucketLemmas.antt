@@ -5,7 +5,7 @@ use Rattle.std.proofs.lemmas.Bool.{false≢true}
 use Rattle.s3_model.specs.Lists.{Reserved}
 use Rattle.s3_model.specs.declared.places.Entry.{Entry}
 use Rattle.reply_xml.specs.declared.elements.Element.TheVariants as element
-use Rattle.reply_xml.specs.declared.reader.Child.{Child}
+use Rattle.reply_xml.specs.declared.tags.Child.{Child}
 use Rattle.s3_replies.specs.Buckets.{BucketLeft, HasBucket, HasEachBucket, ListLeft}
 use Rattle.reply_xml.specs.Contents.{Content, Only, is_the, named}
 use Rattle.reply_xml.specs.Children.{IsFormed, IsLeafOf}

@@ -2,7 +2,7 @@
 use Rattle.std.proofs.Common.{◌≡◌, ◌++◌, ◌∙◌, ◌↔◌, ℕ, true, List, [], ◌∷◌, sym, refl, subst, ap}
 use Rattle.std.proofs.lemmas.List.{append_assoc, append-nil}
 use Rattle.reply_xml.specs.declared.elements.Element.{Element}
-use Rattle.reply_xml.specs.declared.reader.Child.{Child}
+use Rattle.reply_xml.specs.declared.tags.Child.{Child}
 use Rattle.reply_xml.specs.Contents.{Content, is_the, named}
 use Rattle.reply_xml.specs.Children.{Each}
 use Rattle.reply_xml.specs.Reading.{ReadsAs, ReadsNone, Advances, Stops, EachLeft}

@@ -9,8 +9,8 @@ use Rattle.reply_values.proofs.SpellingLemmas.{spells_nothing}
 use Rattle.reply_values.proofs.UnescapeLemmas.{IsUnescaped-same}
 use Rattle.reply_xml.specs.declared.elements.Element.{Element}
 use Rattle.reply_xml.specs.declared.elements.Element.TheVariants as element
-use Rattle.reply_xml.specs.declared.reader.Child.{Child}
-use Rattle.reply_xml.specs.declared.reader.Tag.{Tag}
+use Rattle.reply_xml.specs.declared.tags.Child.{Child}
+use Rattle.reply_xml.specs.declared.tags.Tag.{Tag}
 use Rattle.reply_xml.specs.Children.{IsLeaf}
 use Rattle.reply_xml.specs.Contents.{Content, Only, Then, ReadsContent, ReadsInner, ReadsText, is_the, named}
 use Rattle.reply_xml.specs.Documents.{BeginsDocument}

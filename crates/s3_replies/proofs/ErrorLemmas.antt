@@ -2,7 +2,7 @@
 use Rattle.std.proofs.Common.{◌≡◌, ℕ, true, false, List, [], Option, Some, None, sym, refl, subst, unwrap_or, codes}
 use Rattle.std.specs.Option.{IsSome}
 use Rattle.reply_xml.specs.declared.elements.Element.TheVariants as element
-use Rattle.reply_xml.specs.declared.reader.Child.{Child}
+use Rattle.reply_xml.specs.declared.tags.Child.{Child}
 use Rattle.reply_xml.specs.Contents.{Content, Only, is_the}
 use Rattle.reply_xml.specs.Documents.{IsOf}
 use Rattle.reply_xml.specs.Children.{IsFormed, IsLeafOf}

@@ -7,7 +7,7 @@ use Rattle.reply_xml.specs.declared.elements.Element.TheVariants as element
 use Rattle.std.specs.Result.{IsErrAnd, OnOk}
 use Rattle.reply_xml.specs.declared.faults.DocFault.{DocFault}
 use Rattle.reply_xml.specs.declared.faults.DocFault.TheVariants as fault
-use Rattle.reply_xml.specs.declared.reader.Tag.{Tag}
+use Rattle.reply_xml.specs.declared.tags.Tag.{Tag}
 use Rattle.reply_xml.specs.Breaks.{BehindRoot, BreaksIn, IfBroken, InRoot, OnBroken, Stands}
 use Rattle.reply_xml.specs.Documents.{BeginsDocument, ReadsSpace}
 use Rattle.reply_xml.specs.Faults.{IfRefused, IsFault, Tells}
@@ -26,7 +26,13 @@ use Rattle.s3_replies.proofs.ListingLemmas.{judged_page, page_judged, page_means
 
 -- the root of a page, on whatever level elements may stand in it
 abbrev pub deep : Tag → ℕ → Tag
-deep root room = record { name = root.name; element = root.element; closed = root.closed; room = room }
+deep root room = record {
+  name = root.name;
+  element = root.element;
+  closed = root.closed;
+  room = room;
+  named = root.named;
+}
 
 -- the encoding that is found first is that of the page
 abbrev pub TellsPage : Tag → List ℕ → Bool → Type 0

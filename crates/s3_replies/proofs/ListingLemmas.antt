@@ -18,7 +18,7 @@ use Rattle.reply_values.proofs.NumberLemmas.{SpellsTruth-same}
 use Rattle.s3_replies.proofs.ObjectLemmas.{HasObject-same}
 use Rattle.s3_replies.proofs.PageLemmas.{HasLeaf-same}
 use Rattle.s3_replies.proofs.PlainLemmas.{zip_parts}
-use Rattle.reply_xml.specs.declared.reader.Tag.{Tag}
+use Rattle.reply_xml.specs.declared.tags.Tag.{Tag}
 use Rattle.reply_xml.specs.Documents.{BeginsDocument}
 use Rattle.reply_xml.specs.Reading.{HoldsAs}
 use Rattle.reply_xml.proofs.LeafLemmas.{HoldsAs-same}

@@ -2,7 +2,7 @@
 use Rattle.std.proofs.Common.{◌≡◌, ℕ, true, false, List, [], Option, Some, None, sym, refl, subst}
 use Rattle.s3_model.specs.declared.places.Entry.{Entry}
 use Rattle.reply_xml.specs.declared.elements.Element.TheVariants as element
-use Rattle.reply_xml.specs.declared.reader.Child.{Child}
+use Rattle.reply_xml.specs.declared.tags.Child.{Child}
 use Rattle.reply_xml.specs.Contents.{Content, Only, is_the, named}
 use Rattle.reply_xml.specs.Children.{IsFormed, IsLeafOf}
 use Rattle.s3_replies.specs.Listing.{HasObjectBy, ObjectLeft}

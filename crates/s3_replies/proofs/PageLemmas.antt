@@ -5,8 +5,8 @@ use Rattle.std.proofs.lemmas.Bool.{false≢true}
 use Rattle.s3_model.specs.declared.places.Entry.{Entry}
 use Rattle.reply_xml.specs.declared.elements.Element.{Element}
 use Rattle.reply_xml.specs.declared.elements.Element.TheVariants as element
-use Rattle.reply_xml.specs.declared.reader.Child.{Child}
-use Rattle.reply_xml.specs.declared.reader.Tag.{Tag}
+use Rattle.reply_xml.specs.declared.tags.Child.{Child}
+use Rattle.reply_xml.specs.declared.tags.Tag.{Tag}
 use Rattle.reply_xml.specs.Contents.{Content, Only, Then, is_the, named}
 use Rattle.reply_xml.specs.Children.{HasLeaf, HasOnly, IsFormed, IsLeaf, IsLeafOf}
 use Rattle.s3_replies.specs.Listing.{EncodingLeft, HasEncoding, HasObjectBy, HasPageBy, ObjectsLeft, Page, PageLeft}

@@ -129,8 +129,10 @@ fn read_judged(alloc: Global, doc: &[u8]) -> Result<Listed, DocFault>
         Err(fault) => return Err(fault),
     };
     let deep = Tag {
+        name: root.name,
+        element: root.element,
+        closed: root.closed,
         room: doc.len(),
-        ..root
     };
     let url = names_url(&reader, &deep)?;
     let page = written_page(&mut reader, &root, keys_of(url))?;

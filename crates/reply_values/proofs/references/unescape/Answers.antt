@@ -1,10 +1,9 @@
-use Rattle.std.proofs.Common.{◌≡◌, ◌-◌, ℕ, length, Some, None, Result, Err, sym, lit<, rules}
+use Rattle.std.proofs.Common.{◌≡◌, ◌-◌, ℕ, length, Result, Err, not, ◌==◌, sym, rules}
 use Rattle.std.specs.Prelude.{encode_utf8}
 use Rattle.std.specs.String.{string_bytes}
-use Rattle.std.proofs.lemmas.Str.Pattern.{split_parts}
+use Rattle.std.proofs.lemmas.List.Sums.{list_all-from_AllPass}
 use Rattle.reply_values.specs.declared.references.ReferenceFault.{ReferenceFault}
 use Rattle.reply_values.specs.declared.references.ReferenceFault.TheVariants.{Bad}
-use Rattle.reply_values.proofs.ReferenceLemmas.{lacks_from}
 use Rattle.reply_values.proofs.UnescapeLemmas.{bad_at, bad_spells_none, unescaped_more, reference_more}
 use Rattle.reply_values.proofs.references.unescape.Goals as goal
 
@@ -16,11 +15,11 @@ returns-in_default-reference-clause-bad c = λ place e.
     let inv = c.loop-plain.invariant.1 in
     let plain = c.in-Some.plain in
     let behind = c.in-Some.behind in
-    let parts = split_parts 38 c.loop-plain.rest.now (Some (plain, behind)) c.in-Some.ensures.cases (lit< tt) in
+    let lacks = list_all-from_AllPass (λ b. not (b == 38)) plain.now c.in-Some.ensures.first in
     let at : place ≡ length c.args.raw.now - length behind.now - 1 = sym (same_place e) in
     bad_at c.args.raw.now inv.0 c.loop-plain.rest.now plain.now behind.now
-    (string_bytes c.loop-plain.text) place inv.1 parts.0
-    (lacks_from 38 plain.now parts.1) inv.2 c.in_default-reference.ensures.refused at
+    (string_bytes c.loop-plain.text) place inv.1 c.in-Some.ensures.value
+    lacks inv.2 c.in_default-reference.ensures.refused at
 
 pub returns-in_default-reference-clause-refused : goal.returns-in_default-reference-clause-refused
 returns-in_default-reference-clause-refused c = λ place e. bad_spells_none c.args.raw.now place
@@ -32,18 +31,18 @@ loop-plain-preserved c =
     let plain = c.in-Some.plain in
     let behind = c.in-Some.behind in
     let next = c.in-Some-reference.next.now in
-    let parts = split_parts 38 c.loop-plain.rest.now (Some (plain, behind)) c.in-Some.ensures.cases (lit< tt) in
+    let lacks = list_all-from_AllPass (λ b. not (b == 38)) plain.now c.in-Some.ensures.first in
     let before = rw c.if-is_err.ensures.negation at c.push_str.ensures.bytes in
     let bytes = rw c.if-is_err-2.ensures.negation at c.push.ensures.bytes in
     let step = reference_more c.args.raw.now inv.0 c.loop-plain.rest.now plain.now behind.now
-    (string_bytes c.loop-plain.text) (encode_utf8 c.in-Some-reference.char) next inv.1 parts.0
-    (lacks_from 38 plain.now parts.1) inv.2 c.in-Some-reference.ensures.value in
+    (string_bytes c.loop-plain.text) (encode_utf8 c.in-Some-reference.char) next inv.1 c.in-Some.ensures.value
+    lacks inv.2 c.in-Some-reference.ensures.value in
     (search rules, (step.0, step.1, rw (bytes, before) step.2))
 
 pub returns-clause-value : goal.returns-clause-value
 returns-clause-value c =
     let inv = c.loop-plain.invariant.1 in
     let rest = c.loop-plain.rest.now in
-    let lacks = lacks_from 38 rest (split_parts 38 rest None c.in_default-split_once.ensures.cases (lit< tt)) in
+    let lacks = list_all-from_AllPass (λ b. not (b == 38)) rest c.in_default-split_at_byte.ensures.none in
     let bytes = rw c.if-is_err-3.ensures.negation at c.push_str-2.ensures.bytes in
     rw (c.from.ensures, bytes, inv.1) (unescaped_more inv.0 rest (string_bytes c.loop-plain.text) inv.2 lacks)

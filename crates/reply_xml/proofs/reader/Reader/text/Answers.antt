@@ -1,5 +1,4 @@
-use Rattle.std.proofs.Common.{List, ℕ, sym, ◌∙◌, ap, refl, subst}
-use Rattle.reply_values.specs.References.{IsUnescaped}
+use Rattle.std.proofs.Common.{sym, ◌∙◌, ap, refl}
 use Rattle.reply_xml.proofs.FaultLemmas.{Tells-any, bad_told, ends_told}
 use Rattle.reply_xml.proofs.ContentLemmas.{no_meaning, no_text_at_end}
 use Rattle.reply_xml.proofs.TagLemmas.{none_from_test, some_from_test}
@@ -7,7 +6,7 @@ use Rattle.reply_xml.specs.declared.faults.DocFault.TheVariants as fault
 use Rattle.reply_xml.specs.Breaks.{BadReference, Leaves}
 use Rattle.reply_xml.specs.Leaves.{NotUtf8}
 use Rattle.reply_xml.proofs.LeaveLemmas.{bad_at, ends_at, run_within, text_ends}
-use Rattle.reply_xml.proofs.Utf8Lemmas.{judged, judged_on, plain_text, text_parts}
+use Rattle.reply_xml.proofs.Utf8Lemmas.{judged, judged_on, text_parts}
 use Rattle.reply_xml.proofs.reader.Reader.text.Goals as goal
 
 pub returns-then-is_empty-clause-refused : goal.returns-then-is_empty-clause-refused
@@ -50,35 +49,13 @@ returns-in-Err-BadReference-clause-broken c =
     BadReference _ _ c.split_text-referenced.ensures.value (bad_at _ bad.field-0 bad.field-0-is bad.ensures.bad)
     (λ none. absurd (some_from_test _ (sym c.is_empty.ensures ∙ c.if-is_empty.false) none)) refl
 
-pub invariant_of-self-in-Ok-clause-judged : goal.invariant_of-self-in-Ok-clause-judged
-invariant_of-self-in-Ok-clause-judged c =
-    let followed = some_from_test _ (sym c.is_empty.ensures ∙ c.if-is_empty.false) in
-    judged_on _ _ _ c.args.self.now.judged
-    (λ utf8. (text_parts _ _ _ c.split_text-referenced.ensures.value followed utf8).1)
-
 pub invariant_of-self-clause-judged : goal.invariant_of-self-clause-judged
 invariant_of-self-clause-judged c =
     let followed = some_from_test _ (sym c.is_empty.ensures ∙ c.if-is_empty.false) in
     judged_on _ _ _ c.args.self.now.judged
     (λ utf8. (text_parts _ _ _ c.split_text-referenced.ensures.value followed utf8).1)
 
-pub from_utf8_unchecked-requires : goal.from_utf8_unchecked-requires
-from_utf8_unchecked-requires c =
+pub read_meaning-requires-clause-sound : goal.read_meaning-requires-clause-sound
+read_meaning-requires-clause-sound c sound =
     let followed = some_from_test _ (sym c.is_empty.ensures ∙ c.if-is_empty.false) in
-    (text_parts _ _ _ c.split_text-referenced.ensures.value followed
-    (judged _ _ c.args.self.now.judged c.if-self.true)).0
-
-pub returns-then-not-referenced-clause-value : goal.returns-then-not-referenced-clause-value
-returns-then-not-referenced-clause-value c =
-    let followed = some_from_test _ (sym c.is_empty.ensures ∙ c.if-is_empty.false) in
-    let utf8 =
-    (text_parts _ _ _ c.split_text-referenced.ensures.value followed
-    (judged _ _ c.args.self.now.judged c.if-self.true)).0 in
-    let plain = plain_text _ _ _ c.split_text-referenced.ensures.value
-    (c.split_text-referenced.ensures.plain c.if-not-referenced.true) utf8 in (
-      c.split_text-referenced.result.0.now,
-      plain.0,
-      subst
-          (λ (t : List ℕ). IsUnescaped c.split_text-referenced.result.0.now t)
-          (sym c.from_utf8_unchecked.ensures) plain.1,
-    )
+    (text_parts _ _ _ c.split_text-referenced.ensures.value followed (judged _ _ c.args.self.now.judged sound)).0

@@ -2,7 +2,7 @@ use Rattle.std.proofs.Common.{◌∷◌, ap, sym, ◌∙◌, refl}
 use Rattle.reply_xml.proofs.TagLemmas.{end_tag_of, end_tag_name}
 use Rattle.reply_xml.specs.Leaves.{NoEnd, NoEndName, NoEndTag, NoSlash, OtherName}
 use Rattle.reply_xml.proofs.LeaveLemmas.{leaves_past, same_name}
-use Rattle.reply_xml.proofs.tags.after_end_tag.Goals as goal
+use Rattle.reply_xml.proofs.tags.after_spaced_end_tag.Goals as goal
 
 pub returns-then-not-is_same-clause-refused : goal.returns-then-not-is_same-clause-refused
 returns-then-not-is_same-clause-refused c rest r =
