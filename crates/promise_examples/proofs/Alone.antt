@@ -11,18 +11,20 @@ use Rattle.s3_model.specs.Talks.{Talk, Note, Ending, Failed, Closed, Finished, M
 use Rattle.run_promise.specs.Carried.{AreNoted, IsSaid, in_first, in_lane, numbered_from, talks_of}
 use Rattle.run_promise.specs.Dispatches.{Attempt, Dispatched, last_of, paired}
 use Rattle.shared_lemmas.proofs.Clashes.{false_true as never}
-use Rattle.promise_examples.specs.Alone.{Clause, Shown, Comes, Lanes, UnusedLanes, NothingElse, InTurn, Gained, Noted, Marks, Again, GivenAgain, AtMost, ToTheEnd, Silent, Says, Carries, IsExcused, GoesOn, ClausesAreAll, BreaksAlone, WiresBreakAlone, EachWireBreaksAlone}
+use Rattle.promise_examples.specs.Alone.{Clause, Shown, Comes, Lanes, UnusedLanes, NothingElse, InTurn, Gained, Noted, Marks, Again, GivenAgain, AtMost, ToTheEnd, Silent, Says, IsExcused, GoesOn, BreaksAlone, WiresBreakAlone, EachWireBreaksAlone}
 use Rattle.promise_examples.specs.GivenAgain.{bytes}
 use Rattle.promise_examples.specs.Reading.{Reads, body_by, signed_body}
 use Rattle.promise_examples.specs.Refused as refused
-use Rattle.promise_examples.specs.Refused.{a_talk, denied_at, lost_at, once, run, sent_at, setting, stored_at}
+use Rattle.promise_examples.specs.Refused.{IsRefused, WiresAreRefused, a_talk, denied_at, lost_at, once, run, sent_at, setting, stored_at}
 use Rattle.promise_examples.specs.Runs.{Example}
 use Rattle.promise_examples.proofs.Carrying as carrying
+use Rattle.promise_examples.proofs.Clauses.{breaks, clauses_are_all}
 use Rattle.promise_examples.proofs.Concrete.{Pairs, Slots, at, each, none_is_some, pairs, slot, some_is}
 use Rattle.promise_examples.proofs.Readings.{never_memory, reads, says_whole, shown_by}
+use Rattle.promise_examples.proofs.Refuted as refuted
 use Rattle.promise_examples.proofs.Repeats.{all_repeats}
 use Rattle.promise_examples.proofs.SmallPut.{put_with, scheduled}
-use Rattle.promise_examples.proofs.WireBreaks as breaks
+use Rattle.promise_examples.proofs.WireBreaks as by_jobs
 use Rattle.promise_examples.proofs.Noting.{only_pause}
 
 -- ---- lanes
@@ -38,45 +40,6 @@ by_lane P attempts here there (suc lane) = subst (P (suc lane)) (sym (carrying.n
 module _ (page_of : List ℕ → Listed) where
   abbrev Shows : Ask → ℕ → Talk → Class → List ℕ → Type 0
   Shows = Reads page_of
-
-  -- ---- the clauses are all
-
-  says_of : (e : Example) (dispatched coming : List Dispatched) → Carries page_of e dispatched coming → (clause : Clause) → Says page_of e dispatched coming clause
-  says_of e dispatched coming carried Shown = carried.shown
-  says_of e dispatched coming carried Comes = carried.comes
-  says_of e dispatched coming carried Lanes = carried.lanes
-  says_of e dispatched coming carried UnusedLanes = carried.unused_lanes
-  says_of e dispatched coming carried NothingElse = carried.nothing_else
-  says_of e dispatched coming carried InTurn = carried.in_turn
-  says_of e dispatched coming carried Gained = carried.gained
-  says_of e dispatched coming carried Noted = carried.noted
-  says_of e dispatched coming carried Marks = carried.marks
-  says_of e dispatched coming carried Again = carried.again
-  says_of e dispatched coming carried GivenAgain = carried.given_again
-  says_of e dispatched coming carried AtMost = carried.at_most
-  says_of e dispatched coming carried ToTheEnd = carried.to_the_end
-  says_of e dispatched coming carried Silent = carried.silent
-
-  carries_of : (e : Example) (dispatched coming : List Dispatched) → ((clause : Clause) → Says page_of e dispatched coming clause) → Carries page_of e dispatched coming
-  carries_of e dispatched coming all = record {
-    shown = all Shown;
-    comes = all Comes;
-    lanes = all Lanes;
-    unused_lanes = all UnusedLanes;
-    nothing_else = all NothingElse;
-    in_turn = all InTurn;
-    gained = all Gained;
-    noted = all Noted;
-    marks = all Marks;
-    again = all Again;
-    given_again = all GivenAgain;
-    at_most = all AtMost;
-    to_the_end = all ToTheEnd;
-    silent = all Silent;
-  }
-
-  clauses_are_all : ClausesAreAll page_of
-  clauses_are_all e dispatched coming = (carries_of e dispatched coming, says_of e dispatched coming)
 
   -- ---- one Put, by what is written out
 
@@ -151,8 +114,8 @@ module _ (page_of : List ℕ → Listed) where
         of_last c (last_of c.dispatch.attempts) attempt (each (λ (d : Dispatched). LastEnds d (last_of d.dispatch.attempts)) jobs (parts.ends other, tt) c known) last (carrying.goes_on page_of setting jobs c attempt goes)
     holds broken parts Silent other = λ c known none. of_none c c.dispatch.attempts (each (λ (d : Dispatched). IsSpoken d d.dispatch.attempts) jobs (parts.silent other, tt) c known) none
 
-    alone : (broken : Clause) → Parts broken → BreaksAlone page_of broken e
-    alone broken parts = (jobs, jobs, scheduled Shows attempts, holds broken parts)
+    alone : (broken : Clause) → IsRefused page_of e → Parts broken → BreaksAlone page_of broken e
+    alone broken refusal parts = breaks page_of broken e jobs jobs refusal (scheduled Shows attempts) (holds broken parts)
 
   -- ---- notes
 
@@ -324,29 +287,32 @@ module _ (page_of : List ℕ → Listed) where
           differs same = cc
   moment_beyond clause other = whole UnusedLanes clause other
 
+  abbrev refusals : WiresAreRefused page_of
+  refusals = refuted.wires page_of
+
   wires : WiresBreakAlone page_of
   wires = record {
-    all_clauses = clauses_are_all;
-    further_talk = alone _ _ _ Gained further_talk;
-    other_moment = alone _ _ _ Noted (stored_once [] (6 ∷ bytes) a_talk);
-    other_body = alone _ _ _ Noted (stored_once [] (5 ∷ 1 ∷ 3 ∷ []) a_talk);
-    partly_sent = alone _ _ _ Noted (stored_once [] (5 ∷ 1 ∷ []) a_talk);
-    other_host = alone _ _ _ Noted (stored_once (120 ∷ []) (5 ∷ bytes) a_talk);
-    untold_talk = alone _ _ _ Noted (stored_once [] (5 ∷ bytes) (Moment 5 ∷ Began ∷ Moment 6 ∷ Began ∷ []));
-    no_pause = alone _ _ _ Noted (stored_then (Moment 5 ∷ Began ∷ Moment 6 ∷ Began ∷ []));
-    longer_pause = alone _ _ _ Noted (stored_then (Moment 5 ∷ Began ∷ Pause 2 ∷ Moment 6 ∷ Began ∷ []));
-    other_mark = alone _ _ _ Marks other_mark;
-    denied_again = alone _ _ _ Again denied_again;
-    third_attempt = alone _ _ _ AtMost third_attempt;
-    given_up = alone _ _ _ ToTheEnd given_up;
-    never_tried = alone _ _ _ Silent never_tried;
-    came_twice = (the_put ∷ [], the_put ∷ [], scheduled Shows the_put.dispatch.attempts, came_twice);
-    moment_beyond = (the_put ∷ [], the_put ∷ [], scheduled Shows the_put.dispatch.attempts, moment_beyond);
-    never_came = breaks.never_came_alone page_of;
-    denied_given_again = breaks.denied_given_again_alone page_of;
-    silent_never_came = breaks.silent_never_came_alone page_of;
-    silent_other_lane = breaks.silent_other_lane_alone page_of;
-    silent_out_of_turn = breaks.silent_out_of_turn_alone page_of;
+    all_clauses = clauses_are_all page_of;
+    further_talk = alone _ _ _ Gained refusals.further_talk further_talk;
+    other_moment = alone _ _ _ Noted refusals.other_moment (stored_once [] (6 ∷ bytes) a_talk);
+    other_body = alone _ _ _ Noted refusals.other_body (stored_once [] (5 ∷ 1 ∷ 3 ∷ []) a_talk);
+    partly_sent = alone _ _ _ Noted refusals.partly_sent (stored_once [] (5 ∷ 1 ∷ []) a_talk);
+    other_host = alone _ _ _ Noted refusals.other_host (stored_once (120 ∷ []) (5 ∷ bytes) a_talk);
+    untold_talk = alone _ _ _ Noted refusals.untold_talk (stored_once [] (5 ∷ bytes) (Moment 5 ∷ Began ∷ Moment 6 ∷ Began ∷ []));
+    no_pause = alone _ _ _ Noted refusals.no_pause (stored_then (Moment 5 ∷ Began ∷ Moment 6 ∷ Began ∷ []));
+    longer_pause = alone _ _ _ Noted refusals.longer_pause (stored_then (Moment 5 ∷ Began ∷ Pause 2 ∷ Moment 6 ∷ Began ∷ []));
+    other_mark = alone _ _ _ Marks refusals.other_mark other_mark;
+    denied_again = alone _ _ _ Again refusals.denied_again denied_again;
+    third_attempt = alone _ _ _ AtMost refusals.third_attempt third_attempt;
+    given_up = alone _ _ _ ToTheEnd refusals.given_up given_up;
+    never_tried = alone _ _ _ Silent refusals.never_tried never_tried;
+    came_twice = breaks page_of NothingElse refused.came_twice (the_put ∷ []) (the_put ∷ []) refusals.came_twice (scheduled Shows the_put.dispatch.attempts) came_twice;
+    moment_beyond = breaks page_of UnusedLanes refused.moment_beyond (the_put ∷ []) (the_put ∷ []) refusals.moment_beyond (scheduled Shows the_put.dispatch.attempts) moment_beyond;
+    never_came = by_jobs.never_came_alone page_of;
+    denied_given_again = by_jobs.denied_given_again_alone page_of;
+    silent_never_came = by_jobs.silent_never_came_alone page_of;
+    silent_other_lane = by_jobs.silent_other_lane_alone page_of;
+    silent_out_of_turn = by_jobs.silent_out_of_turn_alone page_of;
   }
 
 pub each_wire_breaks_alone : EachWireBreaksAlone

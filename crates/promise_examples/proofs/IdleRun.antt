@@ -12,7 +12,7 @@ use Rattle.s3_service.specs.ServiceState.{State, HasBucket}
 use Rattle.run_promise.specs.Carried.{IsCarried}
 use Rattle.run_promise.specs.Dispatches.{Dispatched}
 use Rattle.run_promise.specs.Fits.{Fits}
-use Rattle.run_promise.specs.Schedule.{IsSchedule}
+use Rattle.run_promise.specs.Schedule.{Setting, IsSchedule}
 use Rattle.run_promise.specs.Traces.{External}
 use Rattle.run_promise.specs.Truthful.{IsDest, IsFinished, WasTaken}
 use Rattle.world_laws.specs.Promises.{run_of}
@@ -29,7 +29,7 @@ use Rattle.promise_examples.proofs.Scheduling as scheduling
 abbrev start : State
 start = one_bucket (98 ∷ [])
 
-abbrev Plans : List Dispatched → Type 0
+abbrev pub Plans : List Dispatched → Type 0
 Plans planning = planning ≡ []
 
 false_is_true : false ≡ true → ⊥
@@ -44,16 +44,17 @@ buckets b k dest =
     (each (λ (t : Task). t.dest ≡ place.Object b k → (98 ∷ []) ≡ b) (task ∷ []) (object_bucket (98 ∷ []) (117 ∷ []) b k, tt) dest.0 dest.1 dest.2)
     (has_bucket (record { objects = empty; uploads = empty; ended = empty; tokens = empty }) (98 ∷ []) empty)
 
-module _ (page_of : List ℕ → Listed) where
-  no_jobs : IsSchedule (Reads page_of) setting Plans [] []
-  no_jobs = scheduling.scheduled (Reads page_of) setting Plans [] [] (record {
+-- in a setting of which the plan is carried out
+module _ (page_of : List ℕ → Listed) (s : Setting) (carried_out : s.dryrun ≡ false) where
+  pub no_jobs : IsSchedule (Reads page_of) s Plans [] []
+  no_jobs = scheduling.scheduled (Reads page_of) s Plans [] [] (record {
     is_coming = IsPermutation-refl [];
     in_order = tt;
     asks = tt;
     plans = refl;
     numbered = tt;
     one_by_one = tt;
-    carried_out = refl;
+    carried_out = carried_out;
     twice = tt;
     seconds = tt;
     stops = λ failed c is_failed of_task no_abort known same late. absurd (has [] c known);
@@ -62,8 +63,8 @@ module _ (page_of : List ℕ → Listed) where
     moves_last = tt;
   })
 
-  nothing_carried : IsCarried (Reads page_of) signed_body [] 80 setting [] (λ lane. []) (λ lane. []) [] []
-  nothing_carried = carrying.carried page_of setting [] [] (λ lane. []) (λ lane. []) [] (record {
+  pub nothing_carried : IsCarried (Reads page_of) signed_body [] 80 s [] (λ lane. []) (λ lane. []) [] []
+  nothing_carried = carrying.carried page_of s [] [] (λ lane. []) (λ lane. []) [] (record {
     shown = refl;
     comes = tt;
     inside = tt;
@@ -77,6 +78,7 @@ module _ (page_of : List ℕ → Listed) where
     ends = tt;
   })
 
+module _ (page_of : List ℕ → Listed) where
   nothing_fits : Fits (Reads page_of) [] [] []
   nothing_fits = fitting.fits (Reads page_of) [] [] [] refl (λ lane. refl) tt tt tt tt tt
 
@@ -88,6 +90,6 @@ module _ (page_of : List ℕ → Listed) where
 pub idleness_is_refused : IdlenessIsRefused
 idleness_is_refused page_of why owed =
     idleness page_of why
-    (owed (run_of (idle_run why) [] start []) [] (no_jobs page_of) (nothing_carried page_of)
+    (owed (run_of (idle_run why) [] start []) [] (no_jobs page_of setting refl) (nothing_carried page_of setting refl)
     (record { of_journal = refl; fitting = record { runs = tt; honest = honest start [] (one_bucket_is_faithful (98 ∷ []), tt) tt (IsDest setting.tasks); fits = nothing_fits page_of } }) tt
     (λ c place attempt reason bytes known slot shows. has [] c known) (λ write happened. has [] (External write) happened) buckets refl 0 (outcome.Failed why) refl)

@@ -18,16 +18,18 @@ use Rattle.promise_examples.specs.GivenAgain.{bytes, put, put_job}
 use Rattle.promise_examples.specs.Misfits.{bucket, key}
 use Rattle.promise_examples.specs.Pages.{list_after, list_job, page_with, talk_of, token}
 use Rattle.promise_examples.specs.Plannings as plannings
-use Rattle.promise_examples.specs.Plannings.{both_notes, talk_with_body}
+use Rattle.promise_examples.specs.Plannings.{PlanningsAreRefused, both_notes, talk_with_body}
 use Rattle.promise_examples.specs.Reading.{Reads, signed_body}
 use Rattle.promise_examples.specs.Refused as refused
-use Rattle.promise_examples.specs.Refused.{a_talk, lost_at, once, path, setting, stored_at, task}
+use Rattle.promise_examples.specs.Refused.{JobsAreRefused, a_talk, lost_at, once, path, setting, stored_at, task}
 use Rattle.promise_examples.specs.Rules.{Rule, InOrder, Asks, Plans, Planned, Numbered, OneByOne, Dry, Twice, NoThird, MayRepeat, HasFailed, JobsBreakAlone, PlanningsBreakAlone, EachJobBreaksAlone, EachPlanningBreaksAlone, IsListing}
 use Rattle.promise_examples.specs.Runs.{Example}
 use Rattle.promise_examples.proofs.Carrying as carrying
 use Rattle.promise_examples.proofs.Concrete.{Each, Slots, at, some_is}
 use Rattle.promise_examples.proofs.Noting as noting
+use Rattle.promise_examples.proofs.Plannings.{each_planning}
 use Rattle.promise_examples.proofs.Readings.{reads, uncertain_success}
+use Rattle.promise_examples.proofs.Refuted as refuted
 use Rattle.promise_examples.proofs.Repeats.{Repeats, Seconds}
 use Rattle.promise_examples.proofs.Ruling as ruling
 use Rattle.promise_examples.proofs.Scheduling as scheduling
@@ -317,15 +319,18 @@ module _ (page_of : List ℕ → Listed) where
     moves_last = λ other. ruling.none_deletes page_of NoPlans refused.needless_list lists lists (refl, tt);
   }
 
+  abbrev refusals : JobsAreRefused page_of
+  refusals = refuted.jobs page_of
+
   job_breaks : JobsBreakAlone page_of
   job_breaks = record {
     all_rules = ruling.rules_are_all page_of NoPlans;
-    third_giving = ruling.alone page_of NoPlans refused.third_giving three three NoThird (carrying.carried page_of setting three _ _ _ three third_written) third_giving;
-    again_after_cancel = ruling.alone page_of NoPlans refused.again_after_cancel two two Twice (carrying.carried page_of refused.again_after_cancel.setting two _ _ _ two cancel_written) again_after_cancel;
-    dry_put = ruling.alone page_of NoPlans refused.dry_put jobs jobs Dry (carries refused.dry_put.setting refl refl) dry_put;
-    at_threshold = ruling.alone page_of NoPlans refused.at_threshold jobs jobs Asks (carries refused.at_threshold.setting refl refl) (unplanned refused.at_threshold.setting refl);
-    no_such_task = ruling.alone page_of NoPlans refused.no_such_task jobs jobs Asks (carries refused.no_such_task.setting refl refl) (unplanned refused.no_such_task.setting refl);
-    needless_list = ruling.alone page_of NoPlans refused.needless_list lists lists Plans (carrying.carried page_of setting lists _ _ _ lists needless_written) needless_list;
+    third_giving = ruling.alone page_of NoPlans refused.third_giving three three NoThird refusals.third_giving (carrying.carried page_of setting three _ _ _ three third_written) third_giving;
+    again_after_cancel = ruling.alone page_of NoPlans refused.again_after_cancel two two Twice refusals.again_after_cancel (carrying.carried page_of refused.again_after_cancel.setting two _ _ _ two cancel_written) again_after_cancel;
+    dry_put = ruling.alone page_of NoPlans refused.dry_put jobs jobs Dry refusals.dry_put (carries refused.dry_put.setting refl refl) dry_put;
+    at_threshold = ruling.alone page_of NoPlans refused.at_threshold jobs jobs Asks refusals.at_threshold (carries refused.at_threshold.setting refl refl) (unplanned refused.at_threshold.setting refl);
+    no_such_task = ruling.alone page_of NoPlans refused.no_such_task jobs jobs Asks refusals.no_such_task (carries refused.no_such_task.setting refl refl) (unplanned refused.no_such_task.setting refl);
+    needless_list = ruling.alone page_of NoPlans refused.needless_list lists lists Plans refusals.needless_list (carrying.carried page_of setting lists _ _ _ lists needless_written) needless_list;
   }
 
 -- ---- plannings in two pages
@@ -520,18 +525,25 @@ module _ (limits : Limits) (spare : ℕ) where
     ends = ((λ goes. absurd (never goes)), ((λ goes. absurd (never goes)), tt));
   }
 
+  abbrev planning_refusals : PlanningsAreRefused limits page_of
+  planning_refusals = each_planning limits page_of
+
+  -- the first page came before the last
+  not_turned : ¬ (ruling.Holds page_of Needed (plannings.both_pages limits) whole turned InOrder)
+  not_turned in_order = let before : 3 < 1 = in_order 0 1 (first 1) (omega arith) (omega arith) in omega arith
+
   planning_breaks : PlanningsBreakAlone limits spare
   planning_breaks = record {
     all_rules = ruling.rules_are_all page_of Needed;
-    early_page = ruling.alone page_of Needed (plannings.early_page limits) early early OneByOne (carrying.carried page_of s early _ _ _ early early_written)
+    early_page = ruling.alone page_of Needed (plannings.early_page limits) early early OneByOne (ruling.narrow page_of Needed (plannings.early_page limits) planning_refusals.early_page) (carrying.carried page_of s early _ _ _ early early_written)
         (parts (plannings.early_page limits) refl 2 1 0 1 (6 ∷ []) [] (omega arith) OneByOne (λ other. refl) (λ other. (refl, refl)) (λ other. absurd (other refl)) (tt, (tt, tt)) (omega arith, (omega arith, tt)));
-    skipped_number = ruling.alone page_of Needed (plannings.skipped_number limits) skipped skipped Numbered (carrying.carried page_of s skipped _ _ _ skipped skipped_written)
+    skipped_number = ruling.alone page_of Needed (plannings.skipped_number limits) skipped skipped Numbered (ruling.narrow page_of Needed (plannings.skipped_number limits) planning_refusals.skipped_number) (carrying.carried page_of s skipped _ _ _ skipped skipped_written)
         (parts (plannings.skipped_number limits) refl 1 2 0 2 (6 ∷ []) [] (omega arith) Numbered (λ other. refl) (λ other. absurd (other refl)) (λ other. omega arith) (tt, (tt, tt)) (omega arith, (omega arith, tt)));
-    second_lane = ruling.alone page_of Needed e_parted parted parted Numbered (carrying.carried page_of e_parted.setting parted _ _ _ parted parted_written)
+    second_lane = ruling.alone page_of Needed e_parted parted parted Numbered (ruling.narrow page_of Needed e_parted planning_refusals.second_lane) (carrying.carried page_of e_parted.setting parted _ _ _ parted parted_written)
         (parts e_parted refl 1 1 1 2 (6 ∷ []) [] (omega arith) Numbered (λ other. refl) (λ other. absurd (other refl)) (λ other. omega arith) (tt, (tt, tt)) (omega arith, (omega arith, tt)));
-    page_with_body = ruling.alone page_of Needed (plannings.page_with_body limits) bodied bodied Planned (carrying.carried page_of s bodied _ _ _ bodied bodied_written)
+    page_with_body = ruling.alone page_of Needed (plannings.page_with_body limits) bodied bodied Planned (ruling.narrow page_of Needed (plannings.page_with_body limits) planning_refusals.page_with_body) (carrying.carried page_of s bodied _ _ _ bodied bodied_written)
         (parts (plannings.page_with_body limits) refl 1 1 0 2 (6 ∷ 1 ∷ []) (1 ∷ []) (omega arith) Planned (λ other. absurd (other refl)) (λ other. (refl, refl)) (λ other. omega arith) (tt, (tt, tt)) (omega arith, (omega arith, tt)));
-    last_came_first = ruling.alone page_of Needed (plannings.both_pages limits) whole turned InOrder (carrying.carried page_of s turned _ _ _ whole turned_written) turned_parts;
+    last_came_first = ruling.breaks page_of Needed (plannings.both_pages limits) whole turned InOrder (carrying.carried page_of s turned _ _ _ whole turned_written) turned_parts not_turned;
   }
 
 pub each_job_breaks_alone : EachJobBreaksAlone

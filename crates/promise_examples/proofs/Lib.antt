@@ -4,7 +4,9 @@ pub mod BothKinds
 pub mod BothPlan
 pub mod BusyPut
 pub mod Carrying
+pub mod Clauses
 pub mod Concrete
+pub mod EarlyEnd
 pub mod EventfulJobs
 pub mod EventfulPlan
 pub mod EventfulTrace
@@ -16,6 +18,7 @@ pub mod Honest
 pub mod IdleRun
 pub mod JobBreaks
 pub mod Lies
+pub mod MadeRequests
 pub mod ManyCalls
 pub mod Misfits
 pub mod Noting

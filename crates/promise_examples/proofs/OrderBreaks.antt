@@ -23,6 +23,7 @@ use Rattle.promise_examples.proofs.Concrete.{Each, at, each, slot, some_is}
 use Rattle.promise_examples.proofs.EventfulJobs.{sent_as, well}
 use Rattle.promise_examples.proofs.EventfulPlan.{body_is, copy_pieces, from_copy, to_copy, to_upload, upload_pieces}
 use Rattle.promise_examples.proofs.Noting as noting
+use Rattle.promise_examples.proofs.Orders as refuted
 use Rattle.promise_examples.proofs.Ruling as ruling
 use Rattle.promise_examples.proofs.Scheduling.{failures, other_op}
 
@@ -495,15 +496,18 @@ module _ (page_of : List ℕ → Listed) where
     moves_last = λ other. ruling.none_deletes page_of NoPlans orders.early_complete early_complete_jobs early_complete_coming (refl, (refl, (refl, tt)));
   }
 
+  abbrev refusals : orders.OrdersAreRefused page_of
+  refusals = refuted.orders page_of
+
   order_breaks : OrdersBreakAlone page_of
   order_breaks = record {
-    no_abort = ruling.alone page_of NoPlans orders.no_abort no_abort_jobs no_abort_coming Aborts (carrying.carried page_of orders.no_abort.setting no_abort_coming _ _ _ no_abort_jobs no_abort_written) no_abort_parts;
-    early_abort = ruling.alone page_of NoPlans orders.early_abort early_abort_jobs early_abort_coming AbortLast (carrying.carried page_of orders.early_abort.setting early_abort_coming _ _ _ early_abort_jobs early_abort_written) early_abort_parts;
-    early_delete = ruling.alone page_of NoPlans orders.early_delete early_delete_jobs early_delete_coming MovesLast (carrying.carried page_of orders.early_delete.setting early_delete_coming _ _ _ early_delete_jobs early_delete_written) early_delete_parts;
-    after_failure = ruling.alone page_of NoPlans orders.after_failure after_failure_jobs after_failure_coming Stops (carrying.carried page_of orders.after_failure.setting after_failure_coming _ _ _ after_failure_jobs after_failure_written) after_failure_parts;
-    after_failure_unseen = ruling.alone page_of NoPlans orders.after_failure after_failure_jobs [] IsComing (carrying.carried page_of orders.after_failure.setting [] _ _ _ after_failure_jobs unseen_written) unseen_parts;
-    abort_after_complete = ruling.alone page_of NoPlans orders.abort_after_complete abort_after_complete_jobs abort_after_complete_coming CompletedStays (carrying.carried page_of orders.abort_after_complete.setting abort_after_complete_coming _ _ _ abort_after_complete_jobs abort_after_complete_written) abort_after_complete_parts;
-    early_complete = ruling.alone page_of NoPlans orders.early_complete early_complete_jobs early_complete_coming Asks (carrying.carried page_of orders.early_complete.setting early_complete_coming _ _ _ early_complete_jobs early_complete_written) early_complete_parts;
+    no_abort = ruling.alone page_of NoPlans orders.no_abort no_abort_jobs no_abort_coming Aborts refusals.no_abort (carrying.carried page_of orders.no_abort.setting no_abort_coming _ _ _ no_abort_jobs no_abort_written) no_abort_parts;
+    early_abort = ruling.alone page_of NoPlans orders.early_abort early_abort_jobs early_abort_coming AbortLast refusals.early_abort (carrying.carried page_of orders.early_abort.setting early_abort_coming _ _ _ early_abort_jobs early_abort_written) early_abort_parts;
+    early_delete = ruling.alone page_of NoPlans orders.early_delete early_delete_jobs early_delete_coming MovesLast refusals.early_delete (carrying.carried page_of orders.early_delete.setting early_delete_coming _ _ _ early_delete_jobs early_delete_written) early_delete_parts;
+    after_failure = ruling.alone page_of NoPlans orders.after_failure after_failure_jobs after_failure_coming Stops refusals.after_failure (carrying.carried page_of orders.after_failure.setting after_failure_coming _ _ _ after_failure_jobs after_failure_written) after_failure_parts;
+    after_failure_unseen = ruling.alone page_of NoPlans orders.after_failure after_failure_jobs [] IsComing refusals.after_failure (carrying.carried page_of orders.after_failure.setting [] _ _ _ after_failure_jobs unseen_written) unseen_parts;
+    abort_after_complete = ruling.alone page_of NoPlans orders.abort_after_complete abort_after_complete_jobs abort_after_complete_coming CompletedStays refusals.abort_after_complete (carrying.carried page_of orders.abort_after_complete.setting abort_after_complete_coming _ _ _ abort_after_complete_jobs abort_after_complete_written) abort_after_complete_parts;
+    early_complete = ruling.alone page_of NoPlans orders.early_complete early_complete_jobs early_complete_coming Asks refusals.early_complete (carrying.carried page_of orders.early_complete.setting early_complete_coming _ _ _ early_complete_jobs early_complete_written) early_complete_parts;
   }
 
 pub each_order_breaks_alone : EachOrderBreaksAlone

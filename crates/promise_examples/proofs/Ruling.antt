@@ -8,7 +8,9 @@ use Rattle.s3_model.specs.declared.requests.Op.TheVariants as op
 use Rattle.run_promise.specs.Dispatches.{Dispatched, is_op}
 use Rattle.run_promise.specs.Schedule.{IsBefore, IsBeforeAny, job_of, most_body, op_of, planning_of}
 use Rattle.promise_examples.specs.Rules.{Rule, IsComing, InOrder, Asks, Plans, Planned, Numbered, OneByOne, Dry, Twice, NoThird, Stops, AbortLast, Aborts, CompletedStays, MovesLast, Obeys, Keeps, Carries, AsksAsPlanned, HasFailed, MayRepeat, Shows, BreaksRule, RulesAreAll}
+use Rattle.promise_examples.specs.Refused.{IsRefusedWith}
 use Rattle.promise_examples.specs.Runs.{Example}
+use Rattle.promise_examples.proofs.Clauses.{every_rule}
 use Rattle.promise_examples.proofs.Concrete.{Each, each, Pairs, pairs, Slots, slot, Tails}
 use Rattle.promise_examples.proofs.Repeats.{Repeats, all_repeats, Seconds, no_third}
 use Rattle.promise_examples.proofs.Scheduling as scheduling
@@ -51,6 +53,26 @@ module _ (page_of : List ℕ → Listed) (AreNeeded : List Dispatched → Type 0
     completed_stays = all CompletedStays;
     moves_last = all MovesLast;
   }
+
+  -- what is refused where any planning is right is refused
+  pub narrow : (e : Example) → IsRefusedWith page_of (λ planning. Unit {0}) e → IsRefusedWith page_of AreNeeded e
+  narrow e refused dispatched coming keeps carried = refused dispatched coming (record {
+    is_coming = keeps.is_coming;
+    in_order = keeps.in_order;
+    asks = keeps.asks;
+    plans = tt;
+    planned = keeps.planned;
+    numbered = keeps.numbered;
+    one_by_one = keeps.one_by_one;
+    dry = keeps.dry;
+    twice = keeps.twice;
+    no_third = keeps.no_third;
+    stops = keeps.stops;
+    abort_last = keeps.abort_last;
+    aborts = keeps.aborts;
+    completed_stays = keeps.completed_stays;
+    moves_last = keeps.moves_last;
+  }) carried
 
   pub rules_are_all : RulesAreAll page_of AreNeeded
   rules_are_all e dispatched coming = (keeps_of e dispatched coming, obeys_of e dispatched coming)
@@ -116,8 +138,13 @@ module _ (page_of : List ℕ → Listed) (AreNeeded : List Dispatched → Type 0
     holds broken parts CompletedStays other = parts.completed_stays other
     holds broken parts MovesLast other = parts.moves_last other
 
-    pub alone : (broken : Rule) → Carries page_of AreNeeded e dispatched coming → Parts broken → BreaksRule page_of AreNeeded broken e
-    alone broken carried parts = (dispatched, coming, carried, holds broken parts)
+    pub breaks : (broken : Rule) → Carries page_of AreNeeded e dispatched coming → Parts broken → ¬ (Holds broken) → BreaksRule page_of AreNeeded broken e
+    breaks broken carried parts broke = (dispatched, coming, carried, holds broken parts, broke)
+
+    -- a run that is refused breaks the clause that is left
+    pub alone : (broken : Rule) → IsRefusedWith page_of AreNeeded e → Carries page_of AreNeeded e dispatched coming → Parts broken → BreaksRule page_of AreNeeded broken e
+    alone broken refused carried parts =
+        breaks broken carried parts (λ obeys. refused dispatched coming (keeps_of e dispatched coming (every_rule Holds broken (holds broken parts) obeys)) carried)
 
     -- ---- jobs of which none is of some op
 

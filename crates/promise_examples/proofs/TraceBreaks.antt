@@ -16,23 +16,26 @@ use Rattle.std.specs.FinMap.{insert}
 use Rattle.s3_service.specs.Serves.{Replied, Removes, Writes}
 use Rattle.run_promise.specs.Dispatches.{Attempt, Dispatched}
 use Rattle.run_promise.specs.Fits.{requests_of}
-use Rattle.run_promise.specs.Traces.{External, IsSameAttempt, Serve, Step, TraceEvent, Came, Given, begun_in, event_of, events_of, served_in, states}
+use Rattle.run_promise.specs.Schedule.{IsSchedule}
+use Rattle.run_promise.specs.Traces.{External, IsSameAttempt, Serve, Step, TraceEvent, Begin, Came, Given, begun_in, event_of, events_of, served_in, states}
 use Rattle.run_promise.specs.Truthful.{IsDest}
 use Rattle.shared_lemmas.proofs.Clashes.{false_true as never}
 use Rattle.shared_lemmas.proofs.Lists.{head_is}
-use Rattle.promise_examples.specs.GivenAgain.{bytes}
+use Rattle.promise_examples.specs.GivenAgain.{bytes, put_job}
 use Rattle.promise_examples.specs.Misfits as misfits
 use Rattle.promise_examples.specs.Misfits.{before, bucket, key, other_key, request, stored, written_again, with_byte, first_content}
 use Rattle.promise_examples.specs.Lies.{lost_twice}
 use Rattle.promise_examples.specs.Refused.{lost_at, run, setting, task, whole_run}
 use Rattle.promise_examples.specs.Runs.{Example}
 use Rattle.promise_examples.specs.Services.{object_of}
-use Rattle.promise_examples.specs.TraceBreaks.{TraceClause, Moves, Begins, SinceGiven, UntilCame, Once, Answers, Served, Runs, OneContent, NotWritten, NotRemoved, SaysOfTrace, Shows, IsFit, TraceClausesAreAll, BreaksTraceAlone, TracesBreakAlone, EachTraceBreaksAlone}
+use Rattle.promise_examples.specs.TraceBreaks.{TraceClause, Moves, Begins, SinceGiven, UntilCame, Once, Answers, Served, Runs, OneContent, NotWritten, NotRemoved, SaysOfTrace, Carries, Shows, IsFit, TraceClausesAreAll, BreaksTraceAlone, TracesBreakAlone, EachTraceBreaksAlone}
 use Rattle.promise_examples.proofs.Answers.{answers_follow}
 use Rattle.promise_examples.proofs.Carrying as carrying
+use Rattle.promise_examples.proofs.Clauses.{every_trace_clause}
 use Rattle.promise_examples.proofs.Concrete.{Each, each, each_passing, Slots, slot, Pairs, pairs, Cuts, cut, at}
 use Rattle.promise_examples.proofs.Fitting as fitting
 use Rattle.promise_examples.proofs.Honest.{has_bucket}
+use Rattle.promise_examples.proofs.Misfits as refuted
 use Rattle.promise_examples.proofs.Noting as noting
 use Rattle.promise_examples.proofs.SmallPut as small
 use Rattle.promise_examples.proofs.WholePut as whole
@@ -155,14 +158,23 @@ module _ (page_of : List ℕ → Listed) where
   abbrev Stored : List Step → TraceClause → Type 0
   Stored trace broken = Parts whole_run.journal whole_run.logs whole_run.notes jobs trace broken
 
-  alone : (trace : List Step) (broken : TraceClause) → Stored trace broken → BreaksTraceAlone page_of whole_run broken trace
-  alone trace broken parts = (
-    jobs,
-    jobs,
-    small.scheduled (Shows page_of) (whole.well page_of ∷ []),
-    carrying.carried page_of setting jobs _ _ _ jobs (whole.written page_of),
-    holds whole_run.journal whole_run.logs whole_run.notes jobs trace broken parts,
-  )
+  stored_carried : Carries page_of whole_run jobs jobs
+  stored_carried = carrying.carried page_of setting jobs _ _ _ jobs (whole.written page_of)
+
+  -- a trace that is refused breaks the clause that is left
+  alone : (trace : List Step) (broken : TraceClause) → misfits.IsUnfit page_of trace → Stored trace broken → BreaksTraceAlone page_of whole_run broken trace
+  alone trace broken unfit parts = (jobs, jobs, scheduled, stored_carried, others, broke)
+    where
+      scheduled : IsSchedule (Shows page_of) whole_run.setting (λ planning. planning ≡ []) jobs jobs
+      scheduled = small.scheduled (Shows page_of) (whole.well page_of ∷ [])
+
+      others : (rule : TraceClause) → rule ≢ broken → SaysOfTrace page_of whole_run jobs trace rule
+      others = holds whole_run.journal whole_run.logs whole_run.notes jobs trace broken parts
+
+      broke : ¬ (SaysOfTrace page_of whole_run jobs trace broken)
+      broke says =
+          let fit = fit_of whole_run jobs trace (every_trace_clause (λ rule. SaysOfTrace page_of whole_run jobs trace rule) broken others says) in
+          unfit jobs jobs scheduled stored_carried fit.runs fit.honest fit.fits
 
   -- ---- what is in each trace
 
@@ -391,6 +403,10 @@ module _ (page_of : List ℕ → Listed) where
     not_removed = λ other. (tt, (tt, (tt, (tt, tt))));
   }
 
+  -- one began, and two came
+  not_until : ¬ (SaysOfTrace page_of lost_twice lost_jobs misfits.begun_late UntilCame)
+  not_until says = let n : ◌≡◌ {A = ℕ} 1 2 = says (Given put_job 0 ∷ Begin 0 (request 1) ∷ []) (Begin 0 (request 2) ∷ []) put_job 0 (mark.Uncertain ∷ mark.Uncertain ∷ []) refl in omega arith
+
   late_alone : BreaksTraceAlone page_of lost_twice UntilCame misfits.begun_late
   late_alone = (
     lost_jobs,
@@ -398,23 +414,27 @@ module _ (page_of : List ℕ → Listed) where
     small.scheduled (Shows page_of) (lost 5 ∷ lost 6 ∷ []),
     carrying.carried page_of setting lost_jobs _ _ _ lost_jobs lost_written,
     holds lost_twice.journal lost_twice.logs lost_twice.notes lost_jobs misfits.begun_late UntilCame begun_late,
+    not_until,
   )
+
+  abbrev refusals : misfits.TracesAreRefused page_of
+  refusals = refuted.traces page_of
 
   pub trace_breaks : TracesBreakAlone page_of
   trace_breaks = record {
     all_clauses = all_clauses;
     answers_follow = answers_follow page_of;
     begun_late = late_alone;
-    never_given = alone misfits.never_given Moves never_given;
-    other_lane = alone misfits.other_lane Begins other_lane;
-    begun_before_given = alone misfits.begun_before_given SinceGiven begun_before_given;
-    served_twice = alone misfits.served_twice Once served_twice;
-    never_served = alone misfits.never_served Served never_served;
-    served_after_came = alone misfits.served_after_came Served served_after_came;
-    served_before_begun = alone misfits.served_before_begun Runs served_before_begun;
-    two_contents = alone misfits.two_contents OneContent two_contents;
-    overwritten = alone misfits.overwritten NotWritten overwritten;
-    removed = alone misfits.removed NotRemoved removed;
+    never_given = alone misfits.never_given Moves refusals.never_given never_given;
+    other_lane = alone misfits.other_lane Begins refusals.other_lane other_lane;
+    begun_before_given = alone misfits.begun_before_given SinceGiven refusals.begun_before_given begun_before_given;
+    served_twice = alone misfits.served_twice Once refusals.served_twice served_twice;
+    never_served = alone misfits.never_served Served refusals.never_served never_served;
+    served_after_came = alone misfits.served_after_came Served refusals.served_after_came served_after_came;
+    served_before_begun = alone misfits.served_before_begun Runs refusals.served_before_begun served_before_begun;
+    two_contents = alone misfits.two_contents OneContent refusals.two_contents two_contents;
+    overwritten = alone misfits.overwritten NotWritten refusals.overwritten overwritten;
+    removed = alone misfits.removed NotRemoved refusals.removed removed;
   }
 
 pub each_trace_breaks_alone : EachTraceBreaksAlone

@@ -22,8 +22,10 @@ use Rattle.promise_examples.specs.Refused as refused
 use Rattle.promise_examples.specs.Refused.{denied_at, path, second_put, second_task, setting, stored_at, task}
 use Rattle.promise_examples.specs.Runs.{Example}
 use Rattle.promise_examples.proofs.Carrying as carrying
+use Rattle.promise_examples.proofs.Clauses.{breaks}
 use Rattle.promise_examples.proofs.Concrete.{Each, Tails, at, each, has_middle, contains_of, some_is}
 use Rattle.promise_examples.proofs.Noting as noting
+use Rattle.promise_examples.proofs.Refuted as refuted
 use Rattle.promise_examples.proofs.Scheduling as scheduling
 use Rattle.promise_examples.proofs.SmallPut as small
 use Rattle.promise_examples.proofs.Wiring as wiring
@@ -308,16 +310,19 @@ module _ (page_of : List ℕ → Listed) where
   -- ---- each alone
 
   pub never_came_alone : BreaksAlone page_of Shown refused.never_came
-  never_came_alone = ([], [], none_scheduled, wiring.holds page_of refused.never_came [] [] Shown left_out)
+  never_came_alone = breaks page_of Shown refused.never_came [] [] (refuted.wires page_of).never_came none_scheduled (wiring.holds page_of refused.never_came [] [] Shown left_out)
 
   pub denied_given_again_alone : BreaksAlone page_of GivenAgain anew
-  denied_given_again_alone = (two, two, two_scheduled, wiring.holds page_of anew two two GivenAgain denied_given_again)
+  denied_given_again_alone = breaks page_of GivenAgain anew two two (refuted.wires page_of).denied_given_again two_scheduled (wiring.holds page_of anew two two GivenAgain denied_given_again)
 
   pub silent_never_came_alone : BreaksAlone page_of Comes refused.silent_never_came
-  silent_never_came_alone = (ones 0 None, ones 0 None, one_scheduled 0 None, wiring.holds page_of refused.silent_never_came (ones 0 None) (ones 0 None) Comes silent_never_came)
+  silent_never_came_alone =
+      breaks page_of Comes refused.silent_never_came (ones 0 None) (ones 0 None) (refuted.wires page_of).silent_never_came (one_scheduled 0 None) (wiring.holds page_of refused.silent_never_came (ones 0 None) (ones 0 None) Comes silent_never_came)
 
   pub silent_other_lane_alone : BreaksAlone page_of Lanes refused.silent_other_lane
-  silent_other_lane_alone = (ones 1 (Some 1), ones 1 (Some 1), one_scheduled 1 (Some 1), wiring.holds page_of refused.silent_other_lane (ones 1 (Some 1)) (ones 1 (Some 1)) Lanes silent_other_lane)
+  silent_other_lane_alone =
+      breaks page_of Lanes refused.silent_other_lane (ones 1 (Some 1)) (ones 1 (Some 1)) (refuted.wires page_of).silent_other_lane (one_scheduled 1 (Some 1))
+      (wiring.holds page_of refused.silent_other_lane (ones 1 (Some 1)) (ones 1 (Some 1)) Lanes silent_other_lane)
 
   pub silent_out_of_turn_alone : BreaksAlone page_of InTurn turned
-  silent_out_of_turn_alone = (pair, pair_coming, pair_scheduled, wiring.holds page_of turned pair pair_coming InTurn silent_out_of_turn)
+  silent_out_of_turn_alone = breaks page_of InTurn turned pair pair_coming (refuted.wires page_of).silent_out_of_turn pair_scheduled (wiring.holds page_of turned pair pair_coming InTurn silent_out_of_turn)

@@ -98,11 +98,12 @@ module _ (page_of : List ℕ → Listed) where
       → (((clause : Clause) → Says e dispatched coming clause) → Carries e dispatched coming)
       × (Carries e dispatched coming → (clause : Clause) → Says e dispatched coming clause)
 
-  -- With one reading of its jobs they keep to the schedule, and every clause holds but this one.
+  -- With one reading of its jobs they keep to the schedule, every clause holds but this one, and this one does not.
   abbrev pub BreaksAlone : Clause → Example → Type 0
   BreaksAlone broken e = (dispatched : List Dispatched) × (coming : List Dispatched)
       × IsSchedule Shows e.setting (λ planning. planning ≡ []) dispatched coming
       × ((clause : Clause) → clause ≢ broken → Says e dispatched coming clause)
+      × ¬ (Says e dispatched coming broken)
 
   pub record WiresBreakAlone : Type 0 where
     pub all_clauses : ClausesAreAll

@@ -1,10 +1,12 @@
 pub mod Alone
 pub mod BothKinds
+pub mod EarlyEnd
 pub mod Everything
 pub mod FailedUpload
 pub mod GivenAgain
 pub mod Idleness
 pub mod Lies
+pub mod MadeRequests
 pub mod Misfits
 pub mod Orders
 pub mod Pages

@@ -115,10 +115,10 @@ module _ (page_of : List ℕ → Listed) (AreNeeded : List Dispatched → Type 0
       → (((rule : Rule) → Obeys e dispatched coming rule) → Keeps e dispatched coming)
       × (Keeps e dispatched coming → (rule : Rule) → Obeys e dispatched coming rule)
 
-  -- With one reading of its jobs they are carried, and every clause holds but this one.
+  -- With one reading of its jobs they are carried, every clause holds but this one, and this one does not.
   abbrev pub BreaksRule : Rule → Example → Type 0
   BreaksRule broken e = (dispatched : List Dispatched) × (coming : List Dispatched) × Carries e dispatched coming
-      × ((rule : Rule) → rule ≢ broken → Obeys e dispatched coming rule)
+      × ((rule : Rule) → rule ≢ broken → Obeys e dispatched coming rule) × ¬ (Obeys e dispatched coming broken)
 
 -- ---- small uploads
 

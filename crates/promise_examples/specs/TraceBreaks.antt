@@ -98,11 +98,13 @@ module _ (page_of : List ℕ → Listed) where
       → Carries e dispatched coming → ((rule : TraceClause) → rule ≢ Answers → SaysOfTrace e dispatched trace rule)
       → SaysOfTrace e dispatched trace Answers
 
-  -- With one reading of the upload, whose jobs keep to the schedule and are carried, every clause holds but this one.
+  -- With one reading of the upload, whose jobs keep to the schedule and are carried, every clause holds but this one,
+  -- and this one does not.
   abbrev pub BreaksTraceAlone : Example → TraceClause → List Step → Type 0
   BreaksTraceAlone e broken trace = (dispatched : List Dispatched) × (coming : List Dispatched)
       × IsSchedule Shows e.setting (λ planning. planning ≡ []) dispatched coming × Carries e dispatched coming
       × ((rule : TraceClause) → rule ≢ broken → SaysOfTrace e dispatched trace rule)
+      × ¬ (SaysOfTrace e dispatched trace broken)
 
   pub record TracesBreakAlone : Type 0 where
     pub all_clauses : TraceClausesAreAll
