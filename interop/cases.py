@@ -4,6 +4,7 @@ import os
 from typing import NamedTuple
 
 import commands
+import fronts
 import listings
 from lines import STORED, WRONG_SIGNATURE, lost, refused
 from programs import LARGE, line_of
@@ -174,5 +175,6 @@ def try_service(checks, runs, service):
     refusals(checks, runs, service, client)
     unsent(checks, runs, service, client)
     full_output(checks, runs, service)
+    fronts.try_fronts(checks, runs, service, client, BUCKET)
     commands.try_commands(checks, runs, service, client)
     listings.try_listings(checks, runs, service, client)
