@@ -8,7 +8,7 @@ use Rattle.s3_model.specs.declared.settings.Limits.{Limits}
 use Rattle.s3_model.specs.Talks.{Talk}
 use Rattle.s3_service.specs.ServiceState.{State}
 use Rattle.s3_service.specs.Serves.{Answer}
-use Rattle.run_promise.specs.Dispatches.{Attempt, Dispatched}
+use Rattle.job_terms.specs.Dispatches.{Attempt, Dispatched}
 use Rattle.run_promise.specs.Fits.{Fits, IsCertain, Names, request_at}
 use Rattle.run_promise.specs.Traces.{Came, IsTrace, IsWilling, IsWillingAt, Serve, Step, Steps, TraceEvent, event_of, events_of, state_after}
 use Rattle.world_laws.specs.Premises.{HasCome}

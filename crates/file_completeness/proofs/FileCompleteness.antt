@@ -29,12 +29,15 @@ use Rattle.s3_model.specs.Parts.{HasPieces, piece_count, piece_of, piece_range}
 use Rattle.s3_model.specs.Talks.{Talk}
 use Rattle.s3_service.specs.ServiceState.{State, Object, HasBucket, object_at}
 use Rattle.s3_service.specs.Serves.{Answer, IsThere, LiesWithin, MayChange, Succeeds, bytes_within}
-use Rattle.run_promise.specs.Dispatches.{Attempt, Dispatched, FitsAsk, IsSuccessLast, last_of}
+use Rattle.run_promise.specs.Dispatches.{FitsAsk, IsSuccessLast}
+use Rattle.job_terms.specs.Dispatches.{Attempt, Dispatched, last_of}
 use Rattle.run_promise.specs.Outcomes.{FailsFirstBy, FailsFor, HasOutcome, IsCauseOf, IsDecidedByRequest, IsFilePlace, IsSkippedByFile, IsSkippedByRequest, StaysFor, StoodAt}
-use Rattle.run_promise.specs.Schedule.{Gained, IsBefore, IsDecidedBy, IsFailed, IsPart, IsSource, IsTaskAsk, Known, Origin, Setting, asked_range, gained_before, is_small, job_of, limit_of, source_bytes}
+use Rattle.run_promise.specs.Schedule.{Gained, IsBefore, IsDecidedBy, IsFailed, IsPart, IsTaskAsk, Known, Setting, asked_range, gained_before, is_small, limit_of, source_bytes}
+use Rattle.job_terms.specs.Jobs.{IsSource, Origin, job_of}
 use Rattle.run_promise.specs.Endings.{IsThereIn}
 use Rattle.run_promise.specs.Fits.{request_at}
-use Rattle.run_promise.specs.Traces.{HasRange, IsTrace, IsWholeObject, IsWilling, IsWillingAt, Serve, Step, Steps, state_after}
+use Rattle.run_promise.specs.Traces.{IsTrace, IsWilling, IsWillingAt, Serve, Step, Steps, state_after}
+use Rattle.s3_service.specs.Willing.{HasRange, IsWholeObject}
 use Rattle.run_promise.specs.Truthful.{AreCertain, IsAlone, IsFinished, MayBeFresh, Shown, WasTaken}
 use Rattle.run_promise.specs.Runs.{Run}
 use Rattle.shared_lemmas.proofs.Clashes.{some_is, true_is_false}
@@ -47,9 +50,10 @@ use Rattle.world_laws.specs.Tasks.{IsScheduled, IsTraceOf}
 use Rattle.world_laws.proofs.Buckets.{bucket_is_stable}
 use Rattle.world_laws.proofs.Early as early
 use Rattle.world_laws.proofs.Early.{reached}
-use Rattle.world_laws.proofs.Jobs.{either_way, job_is, op_same}
+use Rattle.job_terms.proofs.SameJobs.{either_way, job_is, op_same}
 use Rattle.world_laws.proofs.Marks as marks
-use Rattle.world_laws.proofs.Pieces.{begins_inside, piece_is_range, range_within}
+use Rattle.world_laws.proofs.Pieces.{piece_is_range, range_within}
+use Rattle.job_terms.proofs.PieceCounts.{begins_inside}
 use Rattle.world_laws.proofs.Possible as possible
 use Rattle.world_laws.proofs.Promises as promises
 use Rattle.world_laws.proofs.Requests.{may_change_decided, success_elsewhere}

@@ -9,8 +9,9 @@ use Rattle.s3_model.specs.declared.settings.Limits.{Limits}
 use Rattle.s3_model.specs.Replies.{IsSameReply}
 use Rattle.s3_service.specs.ServiceState.{State, Object}
 use Rattle.s3_service.specs.Serves.{IsThere, LiesWithin, Succeeds, bytes_within}
-use Rattle.run_promise.specs.Dispatches.{Dispatched, FitsAsk}
-use Rattle.run_promise.specs.Traces.{HasRange, IsWholeObject}
+use Rattle.run_promise.specs.Dispatches.{FitsAsk}
+use Rattle.job_terms.specs.Dispatches.{Dispatched}
+use Rattle.s3_service.specs.Willing.{HasRange, IsWholeObject}
 use Rattle.shared_lemmas.proofs.Clashes.{some_is}
 use Rattle.world_laws.proofs.Possible.{IsInVain}
 

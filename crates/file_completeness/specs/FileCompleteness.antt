@@ -10,9 +10,9 @@ use Rattle.s3_model.specs.declared.tasks.Task.{Task}
 use Rattle.s3_model.specs.Talks.{Talk}
 use Rattle.s3_service.specs.ServiceState.{State, Object}
 use Rattle.s3_service.specs.Serves.{IsThere}
-use Rattle.run_promise.specs.Dispatches.{Dispatched}
+use Rattle.job_terms.specs.Dispatches.{Dispatched}
 use Rattle.run_promise.specs.Runs.{Run}
-use Rattle.run_promise.specs.Schedule.{IsObject, IsSource}
+use Rattle.job_terms.specs.Jobs.{IsObject, IsSource}
 use Rattle.run_promise.specs.Traces.{IsWilling}
 use Rattle.run_promise.specs.Truthful.{AreCertain, FitsShown, IsAlone, Shown}
 use Rattle.world_laws.specs.Completeness.{AreCallsCounted, IsOwed}

@@ -28,10 +28,13 @@ use Rattle.s3_model.specs.Parts.{HasPieces, piece_range}
 use Rattle.s3_model.specs.Validity.{IsValidConfig}
 use Rattle.s3_service.specs.ServiceState.{State, with_object}
 use Rattle.s3_service.specs.Serves.{IsThere, LiesWithin}
-use Rattle.run_promise.specs.Dispatches.{Dispatched, FitsAsk, IsCompletedWell, IsCut, op_number}
+use Rattle.run_promise.specs.Dispatches.{FitsAsk, IsCompletedWell, IsCut}
+use Rattle.job_terms.specs.Dispatches.{Dispatched}
+use Rattle.job_terms.specs.Ops.{op_number}
 use Rattle.run_promise.specs.Endings.{Excused, IsLeftover}
 use Rattle.run_promise.specs.Outcomes.{HasOutcome, IsFirstFailure, SaysChanged, came_with}
-use Rattle.run_promise.specs.Schedule.{IsBefore, IsBeforeAny, IsDecided, IsFailed, IsSchedule, IsTaskAsk, Origin, Setting, asked_range, gained_before, is_small, job_of, limit_of, source_bytes}
+use Rattle.run_promise.specs.Schedule.{IsBefore, IsBeforeAny, IsDecided, IsFailed, IsSchedule, IsTaskAsk, Setting, asked_range, gained_before, is_small, limit_of, source_bytes}
+use Rattle.job_terms.specs.Jobs.{Origin, job_of}
 use Rattle.run_promise.specs.Traces.{Step, states}
 use Rattle.run_promise.specs.Truthful.{IsDest}
 use Rattle.local_files.specs.Calls.{DropTemp, IsCallRun, IsTempFor, Leads, MakeTemp, Rename, Stamp, WriteAt, written_at}
@@ -43,7 +46,7 @@ use Rattle.world_laws.proofs.Faithful.{IsFaithful, bare, bare_is_faithful, faith
 use Rattle.shared_lemmas.proofs.Maps.{get-insert_same, text_exact}
 use Rattle.shared_lemmas.proofs.Members.{contains_of, Has, has, has_middle}
 use Rattle.world_laws.proofs.Objects.{object_at-with_object}
-use Rattle.world_laws.proofs.PieceCounts.{pieces_are_one}
+use Rattle.job_terms.proofs.PieceCounts.{pieces_are_one}
 use Rattle.world_laws.proofs.Rounds.{AreApart as AreOtherJobs, rounds_come, rounds_given}
 use Rattle.world_laws.proofs.ScheduleWitness.{limits_are_valid, one_task, setting_of, the_limits}
 use Rattle.file_laws.specs.FileEnds.{HasFailedAct, HasFailedCall, IsFailedAct, IsShownByCalls}

@@ -21,7 +21,7 @@ use Rattle.s3_model.specs.Files.{HeldFile}
 use Rattle.s3_model.specs.Maps.{MapOf}
 use Rattle.s3_model.specs.Talks.{Talk}
 use Rattle.s3_service.specs.ServiceState.{State}
-use Rattle.run_promise.specs.Dispatches.{Dispatched}
+use Rattle.job_terms.specs.Dispatches.{Dispatched}
 use Rattle.run_promise.specs.Endings.{Excused, Holds, IsLeftover, IsAbsent, IsAsBefore, IsEnded, IsGone, IsGoneOrThere, IsNew, IsSpared, IsThereIn, IsUntimed, Scene}
 use Rattle.run_promise.specs.Outcomes.{HasOutcome, IsDecidedByRequest, IsObjectPlace, IsSourceDeleted, StoodAt}
 use Rattle.run_promise.specs.Schedule.{Setting, is_small}

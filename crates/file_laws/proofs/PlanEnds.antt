@@ -11,7 +11,7 @@ use Rattle.s3_model.specs.Files.{HeldFile}
 use Rattle.s3_model.specs.Maps.{MapOf}
 use Rattle.s3_model.specs.Talks.{Talk}
 use Rattle.s3_service.specs.ServiceState.{State}
-use Rattle.run_promise.specs.Dispatches.{Dispatched}
+use Rattle.job_terms.specs.Dispatches.{Dispatched}
 use Rattle.run_promise.specs.Endings.{IsEnded}
 use Rattle.run_promise.specs.Fits.{Fits}
 use Rattle.run_promise.specs.Outcomes.{IsDecidedByRequest}

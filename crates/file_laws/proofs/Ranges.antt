@@ -8,8 +8,7 @@ use Rattle.s3_model.specs.declared.tasks.Task.{Task}
 use Rattle.s3_model.specs.Parts.{HasPieces, piece_count}
 use Rattle.s3_model.specs.Validity.{IsValidConfig, IsValidLimits}
 use Rattle.run_promise.specs.Schedule.{Setting, is_small}
-use Rattle.world_laws.proofs.PieceCounts.{in_parts, pieces_are_one}
-use Rattle.world_laws.proofs.Pieces.{begins_inside, some_pieces}
+use Rattle.job_terms.proofs.PieceCounts.{in_parts, pieces_are_one, begins_inside, some_pieces}
 use Rattle.file_laws.specs.FileTasks.{IsRange, IsRangeIn}
 
 -- in parts the pieces have a length, and are as many as cover the whole, which is not empty

@@ -16,10 +16,13 @@ use Rattle.s3_model.specs.declared.tasks.Task.{Task}
 use Rattle.s3_model.specs.Files.{HeldFile}
 use Rattle.s3_model.specs.Maps.{MapOf}
 use Rattle.s3_service.specs.ServiceState.{State}
-use Rattle.run_promise.specs.Dispatches.{Dispatched, IsCompletedWell, op_number}
+use Rattle.run_promise.specs.Dispatches.{IsCompletedWell}
+use Rattle.job_terms.specs.Dispatches.{Dispatched}
+use Rattle.job_terms.specs.Ops.{op_number}
 use Rattle.run_promise.specs.Endings.{Excused}
 use Rattle.run_promise.specs.Outcomes.{HasOutcome}
-use Rattle.run_promise.specs.Schedule.{IsBefore, IsFailed, Setting, job_of}
+use Rattle.run_promise.specs.Schedule.{IsBefore, IsFailed, Setting}
+use Rattle.job_terms.specs.Jobs.{job_of}
 use Rattle.run_promise.specs.Truthful.{IsDest}
 use Rattle.local_files.specs.Calls.{IsCallRun, MakeTemp, Remove, Rename}
 use Rattle.run_promise.specs.Runs.{IsFitting}

@@ -24,9 +24,11 @@ use Rattle.s3_model.specs.Maps.{MapOf}
 use Rattle.s3_model.specs.Parts.{HasPieces, piece_count, piece_of}
 use Rattle.s3_model.specs.Talks.{Talk}
 use Rattle.s3_service.specs.ServiceState.{State}
-use Rattle.run_promise.specs.Dispatches.{Attempt, Dispatched, FitsAsk, FitsLast, last_of}
+use Rattle.run_promise.specs.Dispatches.{FitsAsk, FitsLast}
+use Rattle.job_terms.specs.Dispatches.{Attempt, Dispatched, last_of}
 use Rattle.run_promise.specs.Endings.{HasContent, IsGone}
-use Rattle.run_promise.specs.Schedule.{Gained, HasReply, IsSource, IsTaskAsk, Known, Origin, Setting, asked_range, gained_before, is_small, job_of, source_bytes}
+use Rattle.run_promise.specs.Schedule.{Gained, HasReply, IsTaskAsk, Known, Setting, asked_range, gained_before, is_small, source_bytes}
+use Rattle.job_terms.specs.Jobs.{IsSource, Origin, job_of}
 use Rattle.run_promise.specs.Traces.{Step, state_after, states}
 use Rattle.run_promise.specs.Runs.{HasJournal, IsFitting}
 use Rattle.world_laws.specs.Downloads.{IsGot, IsPartial}
@@ -35,7 +37,7 @@ use Rattle.world_laws.specs.Premises.{HasSucceeded, IsNoPlace}
 use Rattle.world_laws.specs.SmallTransfers.{HadContent}
 use Rattle.world_laws.specs.Tasks.{HasSourceObject, IsScheduled, IsTraceOf}
 use Rattle.world_laws.proofs.Downloads.{ranges_tell, whole_tells}
-use Rattle.world_laws.proofs.PieceCounts.{pieces_are_one}
+use Rattle.job_terms.proofs.PieceCounts.{pieces_are_one}
 use Rattle.world_laws.proofs.Pieces.{pieces_make_whole}
 use Rattle.world_laws.proofs.MovedTasks.{moved_source_is_gone}
 use Rattle.world_laws.proofs.Tasks.{last_place, replied}

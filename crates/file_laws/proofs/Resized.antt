@@ -7,7 +7,7 @@ use Rattle.s3_model.specs.declared.outcomes.Event.TheVariants as entry
 use Rattle.s3_model.specs.declared.outcomes.JobId.{JobId}
 use Rattle.s3_model.specs.declared.tries.Mark.{Mark}
 use Rattle.s3_service.specs.Serves.{Answer}
-use Rattle.run_promise.specs.Dispatches.{Attempt, Dispatched}
+use Rattle.job_terms.specs.Dispatches.{Attempt, Dispatched}
 use Rattle.run_promise.specs.Fits.{Fits, IsCertain, Names, request_at, requests_from, requests_of}
 use Rattle.run_promise.specs.Traces.{SentRequest, Came, Serve, TraceEvent, event_of}
 use Rattle.world_laws.specs.Premises.{AreGiven, HasCome}

@@ -17,10 +17,12 @@ use Rattle.s3_model.specs.Maps.{MapOf}
 use Rattle.s3_model.specs.Parts.{HasPieces, piece_range}
 use Rattle.s3_model.specs.Talks.{Talk}
 use Rattle.s3_model.specs.TempNames.{is_temp_name}
-use Rattle.run_promise.specs.Dispatches.{Attempt, Dispatched, IsCompletedWell, ShowsIn, last_of}
+use Rattle.run_promise.specs.Dispatches.{IsCompletedWell, ShowsIn}
+use Rattle.job_terms.specs.Dispatches.{Attempt, Dispatched, last_of}
 use Rattle.run_promise.specs.Endings.{Excused, IsLeft, IsUntimed}
-use Rattle.run_promise.specs.Outcomes.{deciding}
-use Rattle.run_promise.specs.Schedule.{HasReply, IsBefore, IsFailed, Setting, is_small, job_of}
+use Rattle.job_terms.specs.Ops.{deciding}
+use Rattle.run_promise.specs.Schedule.{HasReply, IsBefore, IsFailed, Setting, is_small}
+use Rattle.job_terms.specs.Jobs.{job_of}
 use Rattle.local_files.specs.Calls.{Call, CallStep, DropTemp, Fault, MakeTemp, Remove, Rename, Stamp, WriteAt}
 use Rattle.local_files.specs.Calls.{held_after}
 

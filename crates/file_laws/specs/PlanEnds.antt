@@ -10,7 +10,7 @@ use Rattle.s3_model.specs.declared.tasks.Kind.TheVariants as kind
 use Rattle.s3_model.specs.declared.tasks.Task.{Task}
 use Rattle.s3_model.specs.Talks.{Talk}
 use Rattle.s3_service.specs.ServiceState.{State}
-use Rattle.run_promise.specs.Dispatches.{Dispatched}
+use Rattle.job_terms.specs.Dispatches.{Dispatched}
 use Rattle.run_promise.specs.Schedule.{Setting, is_small}
 use Rattle.run_promise.specs.Runs.{Run, moments}
 use Rattle.run_promise.specs.Truthful.{FitsShown, HoldsOver, OtherFilesStay, Shown}

@@ -6,7 +6,7 @@ use Rattle.s3_model.specs.declared.outcomes.FileCall.TheVariants as call
 use Rattle.s3_model.specs.declared.outcomes.Outcome.TheVariants as outcome
 use Rattle.s3_model.specs.Files.{HeldFile}
 use Rattle.s3_model.specs.Maps.{MapOf}
-use Rattle.run_promise.specs.Dispatches.{Dispatched}
+use Rattle.job_terms.specs.Dispatches.{Dispatched}
 use Rattle.run_promise.specs.Truthful.{Shown}
 use Rattle.local_files.specs.Calls.{Remove}
 use Rattle.world_laws.specs.Rounds.{AreNone, Told, ToldStatus, no_text}

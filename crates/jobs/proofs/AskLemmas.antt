@@ -1,13 +1,10 @@
 -- The request of a step, from the texts that were copied for it.
-use Rattle.std.proofs.Common.{◌≡◌, ◌∙◌, ◌⊎◌, ℕ, Bool, true, List, Option, Some, None, refl, ap, inl, inr}
-use Rattle.s3_model.specs.declared.requests.Ask.{Ask}
+use Rattle.std.proofs.Common.{◌≡◌, ◌∙◌, ℕ, List, Option, Some, refl, ap}
 use Rattle.s3_model.specs.declared.requests.Ask.TheVariants as ask
-use Rattle.s3_model.specs.declared.tasks.Kind.{Kind}
-use Rattle.s3_model.specs.declared.tasks.Kind.TheVariants as kind
 use Rattle.s3_model.specs.declared.tasks.Task.{Task}
 use Rattle.s3_model.specs.Lists.{Reserved}
-use Rattle.run_promise.specs.Schedule.{IsObject, IsSource, IsSourceDelete, Origin, Target}
-use Rattle.jobs.specs.Jobs.{IsDelete, asked_range, ends_of, stated_content}
+use Rattle.job_terms.specs.Jobs.{IsObject, IsSource, Origin, Target}
+use Rattle.jobs.specs.Jobs.{asked_range, ends_of, stated_content}
 
 module _ (task : Task) (bucket key : List ℕ) where
   module _ (is : IsObject task.dest bucket key) where

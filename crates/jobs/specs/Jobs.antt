@@ -12,8 +12,8 @@ use Rattle.s3_model.specs.declared.tasks.Kind.{Kind}
 use Rattle.s3_model.specs.declared.tasks.Kind.TheVariants as kind
 use Rattle.s3_model.specs.declared.tasks.Task.{Task}
 use Rattle.s3_model.specs.Lists.{Reserved}
-use Rattle.run_promise.specs.Schedule.{IsSourceDelete, Origin, Target, op_of}
-use Rattle.run_promise.specs.Planning.{IsPlanning}
+use Rattle.job_terms.specs.Jobs.{IsSourceDelete, Origin, Target}
+use Rattle.job_terms.specs.Ops.{op_of, IsPlanning}
 use Rattle.jobs.specs.Holders.{Holder}
 use Rattle.jobs.specs.declared.what.What.{What}
 use Rattle.jobs.specs.declared.what.What.TheVariants as what

@@ -5,8 +5,8 @@ ghost use Rattle.std.specs.Arc.{arc_value};
 ghost use Rattle.s3_model.specs.Lists.{Reserved};
 ghost use Rattle.s3_model.specs.declared.requests.Ask.TheVariants as ask;
 ghost use Rattle.s3_model.specs.declared.requests.Op.TheVariants as op;
-ghost use Rattle.run_promise.specs.Planning.{IsPlanning};
-ghost use Rattle.run_promise.specs.Schedule.{IsObject, IsSource, Origin, Target};
+ghost use Rattle.job_terms.specs.Ops.{IsPlanning};
+ghost use Rattle.job_terms.specs.Jobs.{IsObject, IsSource, Origin, Target};
 ghost use Rattle.jobs.specs.Jobs.{
   HasBytes,
   HasRange,

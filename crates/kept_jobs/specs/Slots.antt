@@ -1,7 +1,7 @@
 -- Where the jobs of a task stand in a list: those that it has once, then those of its pieces.
 use Rattle.std.specs.Prelude.{◌≡◌, ◌<◌, ◌+◌, ◌-◌, ◌^◌, ◌==◌, ◌||◌, not, ℕ, List, Option, None, get_or, length, nat_lt, if◌then◌else◌}
 use Rattle.jobs.specs.Jobs.{SeenJob}
-use Rattle.run_promise.specs.Dispatches.{is_op}
+use Rattle.job_terms.specs.Ops.{is_op}
 use Rattle.s3_model.specs.declared.requests.Op.{Op}
 use Rattle.s3_model.specs.declared.requests.Op.TheVariants as op
 use Rattle.task_acts.specs.Work.{first_number, piece_op}

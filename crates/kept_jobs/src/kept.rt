@@ -1,7 +1,7 @@
 //! The jobs of a task that are kept to be given again.
 
 ghost use Rattle.std.specs.Prelude.{◌≡◌, ◌<◌, ◌+◌, ◌^◌, ℕ, None, IfOk, if◌then◌else◌, get_or, length, replicate, set};
-ghost use Rattle.run_promise.specs.Dispatches.{is_op};
+ghost use Rattle.job_terms.specs.Ops.{is_op};
 ghost use Rattle.s3_model.specs.declared.requests.Op.{Op};
 ghost use Rattle.task_acts.specs.declared.acts.Act.TheVariants as act;
 ghost use Rattle.task_acts.specs.Histories.{is_act};

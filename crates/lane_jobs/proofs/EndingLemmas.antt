@@ -25,9 +25,9 @@ use Rattle.s3_model.specs.declared.tries.Mark.TheVariants as mark
 use Rattle.s3_model.specs.Classes.{IsClass, Succeeded, is_tried_again, succeeded}
 use Rattle.s3_model.specs.Lists.{Reserved}
 use Rattle.s3_model.specs.Talks.{Talk, WireLog}
-use Rattle.run_promise.specs.Carried.{mark_of}
-use Rattle.run_promise.specs.Dispatches.{last_of}
-use Rattle.run_promise.specs.Schedule.{op_of}
+use Rattle.job_terms.specs.Attempts.{mark_of}
+use Rattle.job_terms.specs.Dispatches.{last_of}
+use Rattle.job_terms.specs.Ops.{op_of}
 use Rattle.answer_classes.specs.Documents.{ReadsError, ReadsReply}
 use Rattle.answer_classes.specs.Showing.{Shows}
 use Rattle.attempts.specs.Attempts.{IsGet, IsOfSomeTalk, SignedRequest}

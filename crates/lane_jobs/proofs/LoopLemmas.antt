@@ -11,14 +11,14 @@ use Rattle.s3_model.specs.declared.settings.Keys.{Keys}
 use Rattle.s3_model.specs.declared.tries.Mark.{Mark}
 use Rattle.s3_model.specs.Classes.{is_tried_again}
 use Rattle.s3_model.specs.Talks.{Talk, Note, WireLog}
-use Rattle.run_promise.specs.Carried.{mark_of}
-use Rattle.run_promise.specs.Dispatches.{last_of}
+use Rattle.job_terms.specs.Attempts.{mark_of}
+use Rattle.job_terms.specs.Dispatches.{last_of}
 use Rattle.attempts.specs.Attempts.{HasStatusIfRefused, IsOfSomeTalk, IsToldOf, SignedRequest, TellsStatus}
-use Rattle.run_promise.specs.Gains.{Gains}
+use Rattle.job_terms.specs.Gains.{Gains}
 use Rattle.attempts.specs.declared.send.Attempted.{Attempted}
 use Rattle.attempts.specs.declared.send.Attempted.TheVariants as attempted
 use Rattle.attempts.specs.declared.send.Judged.{Judged}
-use Rattle.run_promise.proofs.GainLemmas.{gains_as, gains_both, gains_nothing}
+use Rattle.job_terms.proofs.GainLemmas.{gains_as, gains_both, gains_nothing}
 use Rattle.jobs.specs.Holders.{Holder}
 use Rattle.jobs.specs.declared.ending.Ending.{Ending}
 use Rattle.jobs.specs.declared.ending.Ending.TheVariants as ending

@@ -6,8 +6,8 @@ use Rattle.s3_model.specs.declared.answers.Class.{Class}
 use Rattle.s3_model.specs.declared.answers.Class.TheVariants as class
 use Rattle.s3_model.specs.Classes.{is_tried_again}
 use Rattle.s3_model.specs.Talks.{Talk, Note}
-use Rattle.run_promise.specs.Carried.{mark_of}
-use Rattle.run_promise.specs.Dispatches.{last_of}
+use Rattle.job_terms.specs.Attempts.{mark_of}
+use Rattle.job_terms.specs.Dispatches.{last_of}
 use Rattle.attempts.specs.Attempts.{HasClass, IsInPlace, IsOneTalk, SignedRequest}
 use Rattle.lane_jobs.specs.Lanes.{AreMade, IsMade}
 

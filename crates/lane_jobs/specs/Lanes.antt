@@ -14,10 +14,10 @@ use Rattle.s3_model.specs.declared.settings.Keys.{Keys}
 use Rattle.s3_model.specs.declared.tries.Mark.{Mark}
 use Rattle.s3_model.specs.Classes.{is_tried_again}
 use Rattle.s3_model.specs.Talks.{Talk, Note, Pause, WireLog}
-use Rattle.run_promise.specs.Carried.{mark_of, pauses_before}
-use Rattle.run_promise.specs.Dispatches.{last_of}
+use Rattle.job_terms.specs.Attempts.{mark_of, pauses_before}
+use Rattle.job_terms.specs.Dispatches.{last_of}
 use Rattle.attempts.specs.Attempts.{IsOfSomeTalk, IsOneTalk, IsSilent, SignedRequest, TellsStatus, signed_request}
-use Rattle.run_promise.specs.Gains.{Gains}
+use Rattle.job_terms.specs.Gains.{Gains}
 use Rattle.attempts.specs.Payloads.{body_of}
 use Rattle.attempts.specs.declared.send.Attempted.{Attempted}
 use Rattle.attempts.specs.declared.send.Attempted.TheVariants as attempted

@@ -2,10 +2,10 @@
 
 ghost use Rattle.std.specs.Prelude.{◌≡◌, ◌≤◌, ◌+◌, ◌-◌, ◌^◌, [], None, IfSome, IsSome, map, min, unwrap_or};
 ghost use Rattle.s3_model.specs.Talks.{Pause};
-ghost use Rattle.run_promise.specs.Carried.{pauses_before};
+ghost use Rattle.job_terms.specs.Attempts.{pauses_before};
 ghost use Rattle.attempts.specs.Attempts.{HasStatusIfRefused, IfMade, IsGet, IsOfSomeTalk, signed_request};
 ghost use Rattle.jobs.specs.declared.ending.Ending.TheVariants as ending;
-ghost use Rattle.run_promise.specs.Gains.{Gains};
+ghost use Rattle.job_terms.specs.Gains.{Gains};
 ghost use Rattle.lane_jobs.specs.Lanes.{Attempts, IsNotedBefore, Looks, ending_of, noted_before};
 
 use attempts::{Attempted, Client, Judged, Payload, attempt};

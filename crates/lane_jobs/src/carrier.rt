@@ -5,7 +5,7 @@ ghost use Rattle.attempts.specs.Attempts.{IsGet};
 ghost use Rattle.attempts.specs.Payloads.{body_of};
 ghost use Rattle.s3_model.specs.Validity.{IsWithin};
 ghost use Rattle.s3_model.specs.declared.requests.Op.TheVariants as op;
-ghost use Rattle.run_promise.specs.Schedule.{op_of};
+ghost use Rattle.job_terms.specs.Ops.{op_of};
 ghost use Rattle.jobs.specs.Jobs.{HasPart, range_of};
 ghost use Rattle.jobs.specs.declared.ending.Ending.TheVariants as ending;
 ghost use Rattle.lane_jobs.specs.Lanes.{

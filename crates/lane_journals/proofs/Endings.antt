@@ -8,8 +8,8 @@ use Rattle.jobs.specs.declared.ending.Ending.TheVariants as ending
 use Rattle.lane_jobs.specs.Lanes.{HasLastStatus, class_ending}
 use Rattle.lane_laws.specs.Runs.{AreCarriedJobs, Giving, IsCarriedJob, given_to}
 use Rattle.lane_laws.proofs.AttemptLaw.{as_many, at_place, index_last, last_index, talks_same}
-use Rattle.run_promise.specs.Carried.{mark_of}
-use Rattle.run_promise.specs.Dispatches.{Attempt, last_of}
+use Rattle.job_terms.specs.Attempts.{mark_of}
+use Rattle.job_terms.specs.Dispatches.{Attempt, last_of}
 use Rattle.run_promise.specs.Schedule.{most_body}
 use Rattle.s3_model.specs.Talks.{Note, Talk}
 use Rattle.s3_model.specs.declared.answers.Class.{Class}

@@ -7,7 +7,7 @@ use Rattle.jobs.specs.declared.ending.Ending.TheVariants as ending
 use Rattle.lane_laws.specs.Runs.{Giving, IsCarriedJob, dispatched_of, given_to}
 use Rattle.lane_laws.proofs.RunLaw.{jobs_are_carried}
 use Rattle.manager_moves.specs.Runs.{Back, Events}
-use Rattle.run_promise.specs.Dispatches.{Attempt, Dispatched, last_of}
+use Rattle.job_terms.specs.Dispatches.{Attempt, Dispatched, last_of}
 use Rattle.s3_model.specs.Talks.{Note, Talk}
 use Rattle.s3_model.specs.declared.outcomes.Cause.{Cause}
 use Rattle.s3_model.specs.declared.places.Endpoint.{Endpoint}

@@ -15,9 +15,11 @@ use Rattle.lane_laws.specs.Runs.{Giving, HaveCauses, IsCarriedJob, IsCutShort, I
 use Rattle.manager_moves.specs.Examples.{shared}
 use Rattle.manager_moves.specs.Laws.{IsRun}
 use Rattle.manager_moves.specs.Runs.{journal_of}
-use Rattle.run_promise.specs.Carried.{MayStop, in_lane}
-use Rattle.run_promise.specs.Dispatches.{Dispatched}
-use Rattle.run_promise.specs.Schedule.{IsBefore, job_of}
+use Rattle.run_promise.specs.Carried.{MayStop}
+use Rattle.job_terms.specs.Attempts.{in_lane}
+use Rattle.job_terms.specs.Dispatches.{Dispatched}
+use Rattle.run_promise.specs.Schedule.{IsBefore}
+use Rattle.job_terms.specs.Jobs.{job_of}
 use Rattle.run_schedule.proofs.Entries.{given_came}
 use Rattle.s3_model.specs.Classes.{is_tried_again}
 use Rattle.s3_model.specs.Talks.{Began, Moment, Note, Talk}

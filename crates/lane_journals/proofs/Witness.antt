@@ -14,8 +14,8 @@ use Rattle.jobs.specs.declared.ending.Ending.TheVariants as ending
 use Rattle.jobs.specs.declared.what.What.{What}
 use Rattle.lane_laws.specs.Runs.{AreCarriedJobs, Giving, HaveCauses, IsCarriedJob, IsJournal, RanOut}
 use Rattle.manager_moves.specs.Runs.{Back, Event, Events, journal_of}
-use Rattle.run_promise.specs.Carried.{in_lane}
-use Rattle.run_promise.specs.Dispatches.{Dispatched}
+use Rattle.job_terms.specs.Attempts.{in_lane}
+use Rattle.job_terms.specs.Dispatches.{Dispatched}
 use Rattle.run_schedule.proofs.Entries.{given_came}
 use Rattle.run_schedule.specs.Witness.{notes}
 use Rattle.s3_model.specs.Classes.{is_tried_again, succeeded}

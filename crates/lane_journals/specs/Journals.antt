@@ -5,7 +5,7 @@ use Rattle.attempts.specs.Attempts.{text_of}
 use Rattle.jobs.specs.Endings.{SeenCarried}
 use Rattle.lane_laws.specs.Runs.{AreCarriedJobs, Giving, HaveCauses, IsJournal, dispatched_of, given_to}
 use Rattle.manager_moves.specs.Runs.{Back, Events, journal_of}
-use Rattle.run_promise.specs.Dispatches.{Dispatched}
+use Rattle.job_terms.specs.Dispatches.{Dispatched}
 use Rattle.run_promise.specs.Schedule.{Setting}
 use Rattle.run_schedule.specs.Runs.{EndAsShown, IsJournaled, IsOfPlanning}
 use Rattle.s3_model.specs.Talks.{Note, Talk}

@@ -8,8 +8,9 @@ use Rattle.lane_laws.specs.Runs.{Giving}
 use Rattle.manager_moves.specs.Examples.{shared}
 use Rattle.manager_moves.specs.Laws.{IsRun}
 use Rattle.manager_moves.specs.Runs.{Back, Called, Event, Events, Lined, Made, Sent}
-use Rattle.run_promise.specs.Dispatches.{Attempt, Dispatched}
-use Rattle.run_promise.specs.Schedule.{Setting, job_of}
+use Rattle.job_terms.specs.Dispatches.{Attempt, Dispatched}
+use Rattle.run_promise.specs.Schedule.{Setting}
+use Rattle.job_terms.specs.Jobs.{job_of}
 use Rattle.s3_model.specs.Talks.{Began, Failed, Moment, Note, Pause, Talk}
 use Rattle.s3_model.specs.declared.answers.Class.{Class}
 use Rattle.s3_model.specs.declared.answers.Class.TheVariants as class

@@ -6,7 +6,7 @@ use Rattle.jobs.specs.Holders.{Holder}
 use Rattle.jobs.specs.declared.ending.Ending.TheVariants as ending
 use Rattle.jobs.specs.declared.what.What.{What}
 use Rattle.lane_laws.specs.Runs.{Giving}
-use Rattle.run_promise.specs.Carried.{in_first}
+use Rattle.job_terms.specs.Attempts.{in_first}
 use Rattle.run_schedule.specs.Witness.{notes}
 use Rattle.s3_model.specs.Talks.{Closed, Talk}
 use Rattle.s3_model.specs.declared.answers.Class.TheVariants as class

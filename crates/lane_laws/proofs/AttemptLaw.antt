@@ -3,8 +3,8 @@ use Rattle.shared_lemmas.proofs.Clashes.{none_is_some, some_is}
 use Rattle.std.proofs.Common.{◌≡◌, ◌∙◌, ◌+◌, ◌<◌, ◌++◌, ℕ, zero, suc, List, [], ◌∷◌, Some, refl, sym, ap, subst, map, length, slice_get, arith}
 use Rattle.s3_model.specs.declared.answers.Class.{Class}
 use Rattle.s3_model.specs.Talks.{Talk, Note}
-use Rattle.run_promise.specs.Carried.{mark_of}
-use Rattle.run_promise.specs.Dispatches.{Attempt, last_of, paired}
+use Rattle.job_terms.specs.Attempts.{mark_of}
+use Rattle.job_terms.specs.Dispatches.{Attempt, last_of, paired}
 use Rattle.attempts.specs.Attempts.{HasClass, SignedRequest}
 use Rattle.lane_jobs.specs.Lanes.{AreMade, IsMade}
 

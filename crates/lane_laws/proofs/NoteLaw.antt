@@ -15,8 +15,8 @@ use Rattle.attempts.proofs.SaidLemmas.{said}
 use Rattle.jobs.specs.declared.ending.Ending.{Ending}
 use Rattle.jobs.specs.declared.ending.Ending.TheVariants as ending
 use Rattle.lane_jobs.specs.Lanes.{AreBehind, AreMade, IsWithoutTalk, noted_before}
-use Rattle.run_promise.specs.Carried.{AreNoted, Numbered, mark_of, numbered_from, pause_of, pauses_before}
-use Rattle.run_promise.specs.Dispatches.{Attempt, Dispatched}
+use Rattle.job_terms.specs.Attempts.{AreNoted, Numbered, mark_of, numbered_from, pause_of, pauses_before}
+use Rattle.job_terms.specs.Dispatches.{Attempt, Dispatched}
 use Rattle.run_promise.specs.Schedule.{Setting, most_body}
 use Rattle.lane_laws.specs.Runs.{AreCarriedJobs, Giving, RanOut, dispatched_of}
 use Rattle.lane_laws.proofs.AttemptLaw.{attempts_are, attempts_of}

@@ -18,8 +18,9 @@ use Rattle.answer_classes.proofs.OneShown.{one_shown}
 use Rattle.attempts.specs.Attempts.{HasClass, SignedRequest, text_of}
 use Rattle.jobs.specs.declared.ending.Ending.{Ending}
 use Rattle.lane_jobs.specs.Lanes.{class_ending, most_attempts}
-use Rattle.run_promise.specs.Carried.{AreNoted, IsCarried, MayStop, WouldGoOn, in_lane, mark_of, numbered_from, talks_of}
-use Rattle.run_promise.specs.Dispatches.{Attempt, Dispatched, last_of}
+use Rattle.run_promise.specs.Carried.{IsCarried, MayStop, WouldGoOn}
+use Rattle.job_terms.specs.Attempts.{AreNoted, in_lane, mark_of, numbered_from, talks_of}
+use Rattle.job_terms.specs.Dispatches.{Attempt, Dispatched, last_of}
 use Rattle.run_promise.specs.Schedule.{Setting, most_body}
 use Rattle.lane_laws.specs.Runs.{AreCarriedJobs, Giving, HaveCauses, IsCarriedJob, IsCutShort, IsJournal, JobsAreCarried, RanOut, dispatched_of, given_to}
 use Rattle.lane_laws.proofs.AttemptLaw.{as_many, at_place, index_below, index_last, last_index, talks_same}

@@ -17,8 +17,9 @@ use Rattle.attempts.specs.Attempts.{text_of}
 use Rattle.jobs.specs.declared.ending.Ending.{Ending}
 use Rattle.jobs.specs.declared.ending.Ending.TheVariants as ending
 use Rattle.lane_jobs.specs.Lanes.{Ends, IsShare, most_attempts}
-use Rattle.run_promise.specs.Carried.{IsCarried, MayStop, in_lane, mark_of}
-use Rattle.run_promise.specs.Dispatches.{Dispatched, dispatches, last_of, paired}
+use Rattle.run_promise.specs.Carried.{IsCarried, MayStop}
+use Rattle.job_terms.specs.Attempts.{in_lane, mark_of}
+use Rattle.job_terms.specs.Dispatches.{Dispatched, dispatches, last_of, paired}
 use Rattle.run_promise.specs.Schedule.{IsBefore, Setting, most_body}
 
 -- one giving of a job: the dispatch, the classes of its attempts, how it ended, and the reason that its cell gave

@@ -8,8 +8,8 @@ use Rattle.s3_model.specs.declared.places.Place.TheVariants as place
 use Rattle.s3_model.specs.declared.settings.Keys.{Keys}
 use Rattle.s3_model.specs.Lists.{Reserved}
 use Rattle.s3_model.specs.Talks.{WireLog}
-use Rattle.run_promise.specs.Gains.{Gains}
-use Rattle.run_promise.proofs.GainLemmas.{gains_as}
+use Rattle.job_terms.specs.Gains.{Gains}
+use Rattle.job_terms.proofs.GainLemmas.{gains_as}
 use Rattle.list_walk.specs.Pages.{Walk}
 use Rattle.listings.specs.Asked.{OfSomeTalks}
 use Rattle.listings.specs.Buckets.{ListsBuckets}

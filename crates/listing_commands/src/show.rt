@@ -1,7 +1,7 @@
 //! The requests of `ls`, and its rows.
 
 ghost use Rattle.std.specs.Prelude.{◌≡◌, ◌≤◌, IfErr};
-ghost use Rattle.run_promise.specs.Gains.{Gains};
+ghost use Rattle.job_terms.specs.Gains.{Gains};
 ghost use Rattle.listings.specs.Asked.{OfSomeTalks};
 ghost use Rattle.listings.specs.Faults.{IsNoCancel};
 ghost use Rattle.upload_plans.specs.Commands.{IsListed};

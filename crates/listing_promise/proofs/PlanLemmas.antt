@@ -5,8 +5,9 @@ use Rattle.s3_model.specs.declared.requests.Ask.{Ask}
 use Rattle.s3_model.specs.declared.answers.Class.{Class}
 use Rattle.s3_model.specs.declared.answers.Listed.{Listed}
 use Rattle.s3_model.specs.Talks.{Talk}
-use Rattle.run_promise.specs.Dispatches.{Dispatched}
-use Rattle.run_promise.specs.Planning.{IsPlanning, Need}
+use Rattle.job_terms.specs.Dispatches.{Dispatched}
+use Rattle.run_promise.specs.Planning.{Need}
+use Rattle.job_terms.specs.Ops.{IsPlanning}
 use Rattle.run_promise.specs.Planning as planning
 use Rattle.listings.specs.Asked.{Asked, dispatched_at, dispatched_from}
 use Rattle.listing_promise.specs.Listings.{AreQuestions, AskQuestions}

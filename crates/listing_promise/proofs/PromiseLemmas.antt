@@ -11,7 +11,7 @@ use Rattle.s3_model.specs.Files.{FileStore}
 use Rattle.s3_model.specs.Talks.{Talk, Note}
 use Rattle.s3_model.specs.Validity.{IsValidConfig, IsValidLimits}
 use Rattle.run_promise.specs.Carried.{IsCarried}
-use Rattle.run_promise.specs.Dispatches.{Dispatched}
+use Rattle.job_terms.specs.Dispatches.{Dispatched}
 use Rattle.run_promise.specs.Schedule.{IsSchedule}
 use Rattle.run_promise.specs.Settled.{IsSettingOf}
 use Rattle.run_promise.specs.Truthful.{IsDoneWhereWilling, IsTruthful, Shown}

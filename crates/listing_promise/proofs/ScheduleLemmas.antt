@@ -11,10 +11,10 @@ use Rattle.s3_model.specs.declared.answers.Class.{Class}
 use Rattle.s3_model.specs.declared.outcomes.Event.{Event}
 use Rattle.s3_model.specs.declared.outcomes.JobId.{JobId}
 use Rattle.s3_model.specs.Talks.{Talk}
-use Rattle.run_promise.specs.Buffers.{KeepsBuffers, holds_buffer, takes_buffer}
-use Rattle.run_promise.specs.Dispatches.{Dispatched}
-use Rattle.run_promise.specs.Schedule.{IsBefore, IsBeforeAny, IsSchedule, Setting, most_body, op_of, planning_of}
-use Rattle.run_promise.specs.Planning.{IsPlanning}
+use Rattle.job_terms.specs.Buffers.{KeepsBuffers, holds_buffer, takes_buffer}
+use Rattle.job_terms.specs.Dispatches.{Dispatched}
+use Rattle.run_promise.specs.Schedule.{IsBefore, IsBeforeAny, IsSchedule, Setting, most_body, planning_of}
+use Rattle.job_terms.specs.Ops.{op_of, IsPlanning}
 use Rattle.listings.specs.Asked.{Asked, dispatched_at, dispatched_from, events_from, job_of}
 use Rattle.listings.proofs.CarriedLemmas.{pairs_from}
 use Rattle.listing_promise.specs.Listings.{AreQuestions}

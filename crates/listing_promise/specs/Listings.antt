@@ -1,6 +1,7 @@
 -- What the requests of a listing ask.
 use Rattle.std.specs.Prelude.{List, [], ◌∷◌}
-use Rattle.run_promise.specs.Planning.{IsPlanning, Need}
+use Rattle.run_promise.specs.Planning.{Need}
+use Rattle.job_terms.specs.Ops.{IsPlanning}
 use Rattle.run_promise.specs.Planning as planning
 use Rattle.listings.specs.Asked.{Asked}
 

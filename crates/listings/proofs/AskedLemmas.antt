@@ -8,7 +8,7 @@ use Rattle.s3_model.specs.declared.outcomes.Event.{Event}
 use Rattle.s3_model.specs.declared.places.Endpoint.{Endpoint}
 use Rattle.s3_model.specs.declared.settings.Keys.{Keys}
 use Rattle.s3_model.specs.Talks.{Talk, Note}
-use Rattle.run_promise.specs.Dispatches.{Attempt, Dispatched}
+use Rattle.job_terms.specs.Dispatches.{Attempt, Dispatched}
 use Rattle.listings.specs.Asked.{AreAsked, Asked, IsAsked, dispatched_at, dispatched_from, events_from, events_of}
 use Rattle.listings.specs.Pages.{ShowPages, ShowsPage}
 

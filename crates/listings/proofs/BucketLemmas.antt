@@ -20,7 +20,7 @@ use Rattle.s3_model.specs.declared.places.Endpoint.{Endpoint}
 use Rattle.s3_model.specs.declared.settings.Keys.{Keys}
 use Rattle.s3_model.specs.declared.tries.Mark.TheVariants as mark
 use Rattle.s3_model.specs.Talks.{Talk, Note}
-use Rattle.run_promise.specs.Carried.{mark_of}
+use Rattle.job_terms.specs.Attempts.{mark_of}
 use Rattle.run_promise.specs.Planning as planning
 use Rattle.run_promise.specs.Schedule.{most_body}
 use Rattle.answer_classes.specs.Documents.{ReadsError, ReadsReply}

@@ -15,10 +15,10 @@ use Rattle.s3_model.specs.declared.settings.Keys.{Keys}
 use Rattle.s3_model.specs.declared.tries.Mark.{Mark}
 use Rattle.s3_model.specs.declared.tries.Mark.TheVariants as mark
 use Rattle.s3_model.specs.Talks.{Talk, Note, Moment, Began}
-use Rattle.run_promise.specs.Carried.{AreNoted, IsCarried, IsSaid, Numbered, WouldGoOn, in_lane, mark_of, numbered_from, talks_of}
-use Rattle.run_promise.specs.Dispatches.{Attempt, Dispatched, last_of}
+use Rattle.run_promise.specs.Carried.{IsCarried, WouldGoOn}
+use Rattle.job_terms.specs.Attempts.{AreNoted, IsSaid, Numbered, in_lane, mark_of, numbered_from, talks_of, in_first}
+use Rattle.job_terms.specs.Dispatches.{Attempt, Dispatched, last_of}
 use Rattle.run_promise.specs.Schedule.{IsBefore, Setting, most_body}
-use Rattle.run_promise.specs.Carried.{in_first}
 use Rattle.answer_classes.specs.Showing.{Shows}
 use Rattle.attempts.specs.Attempts.{text_of}
 use Rattle.attempts.proofs.SaidLemmas.{marked, said}

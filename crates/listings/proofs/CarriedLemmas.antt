@@ -10,10 +10,11 @@ use Rattle.s3_model.specs.declared.outcomes.Event.{Event}
 use Rattle.s3_model.specs.declared.outcomes.Event.TheVariants as entry
 use Rattle.s3_model.specs.declared.tries.Mark.{Mark}
 use Rattle.s3_model.specs.Talks.{Talk}
-use Rattle.run_promise.specs.Dispatches.{Attempt, Dispatch, Dispatched, dispatches, dispatches_from, earlier_dispatches, is_job, is_op, is_task, next_came, op_number, paired, place_of}
-use Rattle.run_promise.specs.Dispatches as journal
-use Rattle.run_promise.specs.Schedule.{op_of}
-use Rattle.run_promise.specs.Carried.{in_lane, talks_of}
+use Rattle.job_terms.specs.Dispatches.{Attempt, Dispatch, Dispatched, dispatches, dispatches_from, earlier_dispatches, next_came, paired, place_of}
+use Rattle.job_terms.specs.Jobs.{is_job, is_task}
+use Rattle.job_terms.specs.Ops.{is_op, op_number, op_of}
+use Rattle.job_terms.specs.Dispatches as journal
+use Rattle.job_terms.specs.Attempts.{in_lane, talks_of}
 use Rattle.shared_lemmas.proofs.Members.{Has}
 use Rattle.std.proofs.lemmas.List.Elements.{All-cons}
 use Rattle.std.proofs.lemmas.List.Kept.{AllPairs-cons}

@@ -10,16 +10,16 @@ use Rattle.s3_model.specs.declared.outcomes.Event.{Event}
 use Rattle.s3_model.specs.declared.outcomes.Event.TheVariants as entry
 use Rattle.s3_model.specs.declared.requests.Op.{Op}
 use Rattle.s3_model.specs.declared.tries.Mark.{Mark}
-use Rattle.run_promise.specs.Schedule.{op_of}
+use Rattle.job_terms.specs.Ops.{op_of}
 use Rattle.s3_model.specs.declared.places.Endpoint.{Endpoint}
 use Rattle.s3_model.specs.declared.settings.Keys.{Keys}
 use Rattle.s3_model.specs.Talks.{Note, Talk, WireLog}
 use Rattle.attempts.specs.Attempts.{IsOneTalk, Makes, tries_of}
-use Rattle.run_promise.specs.Gains.{Gains}
+use Rattle.job_terms.specs.Gains.{Gains}
 use Rattle.attempts.specs.declared.send.Attempted.{Attempted}
 use Rattle.attempts.specs.declared.send.Attempted.TheVariants as attempted_as
 use Rattle.attempts.specs.declared.send.Judged.{Judged}
-use Rattle.run_promise.proofs.GainLemmas.{gains_as, gains_both, gains_nothing}
+use Rattle.job_terms.proofs.GainLemmas.{gains_as, gains_both, gains_nothing}
 use Rattle.list_walk.specs.Pages.{Gathered, IsSound, Walk, count_of, gathered_with, new_walk, next_ask, refusal_of, total_of, with_page}
 use Rattle.list_walk.proofs.LawLemmas.{taken_where_sound}
 use Rattle.listings.specs.Asked.{IsGiven, OfSomeTalks, request_for}

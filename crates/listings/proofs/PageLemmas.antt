@@ -20,8 +20,8 @@ use Rattle.s3_model.specs.declared.outcomes.Event.{Event}
 use Rattle.s3_model.specs.declared.tries.Mark.TheVariants as mark
 use Rattle.s3_model.specs.Classes.{Succeeded, succeeded}
 use Rattle.s3_model.specs.Talks.{Talk, Note}
-use Rattle.run_promise.specs.Carried.{mark_of}
-use Rattle.run_promise.specs.Dispatches.{Attempt, Dispatched}
+use Rattle.job_terms.specs.Attempts.{mark_of}
+use Rattle.job_terms.specs.Dispatches.{Attempt, Dispatched}
 use Rattle.run_promise.specs.Schedule.{HasReply, most_body}
 use Rattle.answer_classes.specs.Documents.{ReadsError, ReadsReply}
 use Rattle.answer_classes.specs.Showing.{HasClass, Shows}

@@ -10,7 +10,8 @@ use Rattle.s3_model.specs.declared.places.Endpoint.{Endpoint}
 use Rattle.s3_model.specs.declared.settings.Keys.{Keys}
 use Rattle.s3_model.specs.declared.tries.Mark.{Mark}
 use Rattle.s3_model.specs.Talks.{Began, Ending, Finished, Moment, Note, Talk}
-use Rattle.run_promise.specs.Schedule.{most_body, op_of}
+use Rattle.run_promise.specs.Schedule.{most_body}
+use Rattle.job_terms.specs.Ops.{op_of}
 use Rattle.answer_classes.specs.Showing.{Shows}
 use Rattle.attempts.specs.Attempts.{HasClass, IfMade, IsOfSomeTalk, IsOneTalk, SignedRequest, text_at, tries_of}
 use Rattle.attempts.specs.declared.send.Attempted.{Attempted}

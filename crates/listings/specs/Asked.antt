@@ -11,9 +11,10 @@ use Rattle.s3_model.specs.declared.places.Endpoint.{Endpoint}
 use Rattle.s3_model.specs.declared.settings.Keys.{Keys}
 use Rattle.s3_model.specs.declared.tries.Mark.{Mark}
 use Rattle.s3_model.specs.Talks.{Talk, Note}
-use Rattle.run_promise.specs.Carried.{mark_of}
-use Rattle.run_promise.specs.Dispatches.{Attempt, Dispatched}
-use Rattle.run_promise.specs.Schedule.{most_body, op_of}
+use Rattle.job_terms.specs.Attempts.{mark_of}
+use Rattle.job_terms.specs.Dispatches.{Attempt, Dispatched}
+use Rattle.run_promise.specs.Schedule.{most_body}
+use Rattle.job_terms.specs.Ops.{op_of}
 use Rattle.attempts.specs.Attempts.{IsOneTalk, IsSilent, SignedRequest, signed_request}
 
 -- ---- requests

@@ -11,7 +11,7 @@ use Rattle.s3_model.specs.declared.places.Entry.{Entry}
 use Rattle.s3_model.specs.declared.settings.Keys.{Keys}
 use Rattle.s3_model.specs.Lists.{Reserved}
 use Rattle.s3_model.specs.Talks.{Talk, Note}
-use Rattle.run_promise.specs.Dispatches.{Attempt}
+use Rattle.job_terms.specs.Dispatches.{Attempt}
 use Rattle.run_promise.specs.Planning as planning
 use Rattle.run_promise.specs.Schedule.{most_body}
 use Rattle.answer_classes.specs.Showing.{Shows}

@@ -3,7 +3,8 @@ use Rattle.std.specs.Prelude.{◌≡◌, ◌≤◌, ℕ, Bool, true, List, None}
 use Rattle.s3_model.specs.declared.places.Endpoint.{Endpoint}
 use Rattle.s3_model.specs.declared.settings.Keys.{Keys}
 use Rattle.s3_model.specs.Talks.{Talk, Note}
-use Rattle.run_promise.specs.Carried.{IsCarried, in_first}
+use Rattle.run_promise.specs.Carried.{IsCarried}
+use Rattle.job_terms.specs.Attempts.{in_first}
 use Rattle.run_promise.specs.Schedule.{Setting}
 use Rattle.answer_classes.specs.Showing.{Shows}
 use Rattle.attempts.specs.Attempts.{text_of}

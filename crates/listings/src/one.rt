@@ -2,8 +2,8 @@
 
 ghost use Rattle.std.specs.Prelude.{◌≡◌, ◌≤◌, ◌+◌, IfSome, length};
 ghost use Rattle.answer_dates.specs.Dates.{HasDates};
-ghost use Rattle.run_promise.specs.Schedule.{op_of};
-ghost use Rattle.run_promise.specs.Gains.{Gains};
+ghost use Rattle.job_terms.specs.Ops.{op_of};
+ghost use Rattle.job_terms.specs.Gains.{Gains};
 ghost use Rattle.listings.specs.Asked.{IsGiven, OfSomeTalks};
 
 use attempts::{Attempted, Client, Payload, attempt, tries_of};
@@ -34,7 +34,7 @@ pub(crate) fn give<W: Wire>(
     ensures keys { client.new.signer ≡ client.old.signer }
 {
     journal.reserve(2).ok()?;
-    let payload = Payload::empty(alloc).ok()?;
+    let payload = Payload::empty();
     let mut into = Bytes::make(alloc, 0).ok()?;
     let job = JobId {
         task: None,

@@ -2,7 +2,7 @@
 
 ghost use Rattle.std.specs.Prelude.{◌≡◌, ◌≤◌, ◌+◌, false, IfErr, IfOk, length};
 ghost use Rattle.answer_dates.specs.Dates.{AreDated, HasDates};
-ghost use Rattle.run_promise.specs.Gains.{Gains};
+ghost use Rattle.job_terms.specs.Gains.{Gains};
 ghost use Rattle.listings.specs.Asked.{OfSomeTalks};
 ghost use Rattle.listings.specs.Faults.{IsNoCancel};
 ghost use Rattle.listings.specs.Pages.{IsNext, Listing, Lists, TakesClass, TakesPage, TookPage};

@@ -4,9 +4,9 @@ use Rattle.std.proofs.lemmas.Bool.{and_parts, eqb-true, ltb-false, ltb-true}
 use Rattle.std.specs.List.{range_with_len}
 use Rattle.std.specs.Prelude.{filter, is_some, nat_lt, not, if◌then◌else◌}
 use Rattle.jobs.specs.Endings.{SeenCarried}
-use Rattle.run_promise.specs.Buffers.{holds_buffer}
-use Rattle.run_promise.specs.Dispatches.{is_op, op_number}
-use Rattle.run_promise.specs.Schedule.{job_of}
+use Rattle.job_terms.specs.Buffers.{holds_buffer}
+use Rattle.job_terms.specs.Ops.{is_op, op_number}
+use Rattle.job_terms.specs.Jobs.{job_of}
 use Rattle.s3_model.specs.declared.outcomes.JobId.{JobId}
 use Rattle.s3_model.specs.declared.requests.Op.{Op}
 use Rattle.s3_model.specs.declared.requests.Op.TheVariants as op

@@ -2,8 +2,8 @@
 use Rattle.std.proofs.Common.{◌≡◌, ◌∙◌, ◌⊎◌, ◌+◌, ◌++◌, ◌≤◌, ℕ, Bool, true, false, cond, List, [], ◌∷◌, refl, sym, subst, ap, arith, inl, inr, nat_lt}
 use Rattle.std.proofs.lemmas.List.Sums.{sum_by_push}
 use Rattle.std.specs.Prelude.{count_by}
-use Rattle.run_promise.specs.Schedule.{job_of}
-use Rattle.run_promise.specs.Buffers.{buffers_out, gives_buffer_back, holds_buffer, takes_buffer}
+use Rattle.job_terms.specs.Jobs.{job_of}
+use Rattle.job_terms.specs.Buffers.{buffers_out, gives_buffer_back, holds_buffer, takes_buffer}
 use Rattle.s3_model.specs.declared.outcomes.Event.{Event as Entry}
 use Rattle.s3_model.specs.declared.outcomes.Event.TheVariants as entry
 use Rattle.shared_lemmas.proofs.Lists.{head_is, tail_is}

@@ -4,7 +4,7 @@ use Rattle.jobs.specs.Holders.{Holder}
 use Rattle.jobs.specs.declared.ending.Ending.{Ending}
 use Rattle.jobs.specs.declared.ending.Ending.TheVariants as ending
 use Rattle.jobs.specs.declared.what.What.{What}
-use Rattle.run_promise.specs.Buffers.{holds_buffer}
+use Rattle.job_terms.specs.Buffers.{holds_buffer}
 use Rattle.s3_model.specs.declared.answers.Reply.TheVariants as reply
 use Rattle.s3_model.specs.declared.outcomes.Cause.TheVariants as cause
 use Rattle.s3_model.specs.declared.outcomes.Outcome.TheVariants as outcome

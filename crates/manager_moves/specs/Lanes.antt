@@ -1,6 +1,6 @@
 -- Which jobs are out in which lane, and which lane the next job goes to.
 use Rattle.std.specs.Prelude.{◌+◌, ◌==◌, ◌++◌, [], ◌∷◌, ℕ, zero, suc, List, drop, length, nat_lt, if◌then◌else◌}
-use Rattle.run_promise.specs.Schedule.{job_of}
+use Rattle.job_terms.specs.Jobs.{job_of}
 use Rattle.s3_model.specs.declared.outcomes.JobId.{JobId}
 use Rattle.manager_moves.specs.Runs.{Events, Sent, Back}
 

@@ -1,7 +1,7 @@
 -- What the rule of moves keeps, in every run.
 use Rattle.std.specs.Prelude.{◌≡◌, ◌≢◌, ◌≤◌, ◌<◌, ◌+◌, [], ◌∷◌, ℕ, zero, suc, filter, length, Option, Some, None, is_some, slice_get}
 use Rattle.jobs.specs.Endings.{SeenCarried}
-use Rattle.run_promise.specs.Buffers.{KeepsBuffers, holds_buffer}
+use Rattle.job_terms.specs.Buffers.{KeepsBuffers, holds_buffer}
 use Rattle.s3_model.specs.declared.outcomes.JobId.{JobId}
 use Rattle.s3_model.specs.declared.outcomes.Reason.TheVariants as reason_of
 use Rattle.task_acts.specs.declared.work.Work.{Work}

@@ -1,7 +1,7 @@
 -- What happened in a run of many tasks, and each task's share of it.
 use Rattle.std.specs.Prelude.{◌+◌, ◌++◌, ◌==◌, [], ◌∷◌, ℕ, Bool, true, false, List, Option, Some, None, is_some, nat_lt, if◌then◌else◌}
 use Rattle.jobs.specs.Endings.{SeenCarried}
-use Rattle.run_promise.specs.Schedule.{job_of}
+use Rattle.job_terms.specs.Jobs.{job_of}
 use Rattle.s3_model.specs.declared.outcomes.Cause.TheVariants as cause
 use Rattle.s3_model.specs.declared.outcomes.Event.{Event as Entry}
 use Rattle.s3_model.specs.declared.outcomes.Event.TheVariants as entry

@@ -1,7 +1,7 @@
 -- What a table holds of a piece as the rule of a run names its next move.
 use Rattle.std.specs.Prelude.{◌≡◌, ◌≢◌, ◌<◌, ◌∷◌, ℕ, Bool, true, false, Some, None, is_some, slice_get}
 use Rattle.jobs.specs.Endings.{SeenCarried}
-use Rattle.run_promise.specs.Buffers.{holds_buffer}
+use Rattle.job_terms.specs.Buffers.{holds_buffer}
 use Rattle.s3_model.specs.declared.requests.Op.{Op}
 use Rattle.task_acts.specs.Kept.{kept_job}
 use Rattle.task_acts.specs.declared.acts.Act.TheVariants as act

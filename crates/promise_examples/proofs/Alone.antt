@@ -8,8 +8,8 @@ use Rattle.s3_model.specs.declared.requests.Ask.{Ask}
 use Rattle.s3_model.specs.declared.tries.Mark.{Mark}
 use Rattle.s3_model.specs.declared.tries.Mark.TheVariants as mark
 use Rattle.s3_model.specs.Talks.{Talk, Note, Ending, Failed, Closed, Finished, Moment, Pause, Began}
-use Rattle.run_promise.specs.Carried.{AreNoted, IsSaid, in_first, in_lane, numbered_from, talks_of}
-use Rattle.run_promise.specs.Dispatches.{Attempt, Dispatched, last_of, paired}
+use Rattle.job_terms.specs.Attempts.{AreNoted, IsSaid, in_first, in_lane, numbered_from, talks_of}
+use Rattle.job_terms.specs.Dispatches.{Attempt, Dispatched, last_of, paired}
 use Rattle.shared_lemmas.proofs.Clashes.{false_true as never}
 use Rattle.promise_examples.specs.Alone.{Clause, Shown, Comes, Lanes, UnusedLanes, NothingElse, InTurn, Gained, Noted, Marks, Again, GivenAgain, AtMost, ToTheEnd, Silent, Says, IsExcused, GoesOn, BreaksAlone, WiresBreakAlone, EachWireBreaksAlone}
 use Rattle.promise_examples.specs.GivenAgain.{bytes}

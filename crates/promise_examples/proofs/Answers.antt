@@ -6,7 +6,7 @@ use Rattle.s3_model.specs.declared.answers.Listed.{Listed}
 use Rattle.s3_model.specs.declared.outcomes.Event.{Event}
 use Rattle.s3_model.specs.declared.outcomes.Event.TheVariants as entry
 use Rattle.s3_service.specs.Serves.{Answer}
-use Rattle.run_promise.specs.Dispatches.{Attempt, Dispatched}
+use Rattle.job_terms.specs.Dispatches.{Attempt, Dispatched}
 use Rattle.run_promise.specs.Fits.{IsAnswered, IsCertain, Names, request_at, requests_from, requests_of}
 use Rattle.run_promise.specs.Traces.{SentRequest, Step, TraceEvent, Given, Begin, Serve, External, Came, IsSameAttempt, IsTrace, Steps, begun_in, event_of, events_of, served_in, state_after}
 use Rattle.promise_examples.specs.Misfits.{before}

@@ -22,11 +22,13 @@ use Rattle.s3_model.specs.Talks.{Talk}
 use Rattle.s3_service.specs.ServiceState.{HasBucket, objects_in}
 use Rattle.s3_service.specs.Serves.{Answer, IsThere, Refused, Replied}
 use Rattle.run_promise.specs.Carried.{IsCarried}
-use Rattle.run_promise.specs.Dispatches.{Attempt, Dispatched, FitsAsk, IsCut}
+use Rattle.run_promise.specs.Dispatches.{FitsAsk, IsCut}
+use Rattle.job_terms.specs.Dispatches.{Attempt, Dispatched}
 use Rattle.run_promise.specs.Fits.{Fits, IsAnswered, Names, request_at, requests_of}
 use Rattle.run_promise.specs.Outcomes.{HasOutcome, IsFirstFailure, SaysChanged, came_with}
 use Rattle.run_promise.specs.Runs.{IsFitting, Run, moments}
-use Rattle.run_promise.specs.Schedule.{IsBefore, IsDecided, IsFailed, IsSchedule, job_of, most_body}
+use Rattle.run_promise.specs.Schedule.{IsBefore, IsDecided, IsFailed, IsSchedule, most_body}
+use Rattle.job_terms.specs.Jobs.{job_of}
 use Rattle.run_promise.specs.Traces.{External, IsTrace, Serve, TraceEvent, begun_in, events_of}
 use Rattle.run_promise.specs.Truthful.{FitsShown, IsDest}
 use Rattle.local_files.specs.Calls.{DropTemp, MakeTemp, Rename, WriteAt}

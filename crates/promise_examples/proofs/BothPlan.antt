@@ -12,7 +12,8 @@ use Rattle.s3_model.specs.Maps.{MapOf}
 use Rattle.s3_model.specs.Parts.{HasPieces}
 use Rattle.s3_model.specs.TempNames.{is_temp_name}
 use Rattle.s3_model.specs.Validity.{IsValidConfig}
-use Rattle.run_promise.specs.Schedule.{IsObject, Origin, Setting, Target, bytes_of}
+use Rattle.run_promise.specs.Schedule.{Setting, bytes_of}
+use Rattle.job_terms.specs.Jobs.{IsObject, Origin, Target}
 use Rattle.local_files.specs.Calls.{IsCallRun, IsTempFor}
 use Rattle.shared_lemmas.proofs.Clashes.{false_true as never}
 use Rattle.shared_lemmas.proofs.Lists.{head_is}

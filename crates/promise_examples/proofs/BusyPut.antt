@@ -18,12 +18,15 @@ use Rattle.s3_model.specs.declared.tries.Mark.TheVariants as mark
 use Rattle.s3_model.specs.Talks.{Talk, Moment, Pause, Began, Closed, Finished}
 use Rattle.s3_service.specs.ServiceState.{State, HasBucket}
 use Rattle.s3_service.specs.Serves.{Replied, Refused}
-use Rattle.run_promise.specs.Buffers.{KeepsBuffers, buffers_out}
-use Rattle.run_promise.specs.Carried.{IsSaid, MayStop}
-use Rattle.run_promise.specs.Dispatches.{Attempt, Dispatched, IsCompletedWell}
+use Rattle.job_terms.specs.Buffers.{KeepsBuffers, buffers_out}
+use Rattle.run_promise.specs.Carried.{MayStop}
+use Rattle.job_terms.specs.Attempts.{IsSaid}
+use Rattle.run_promise.specs.Dispatches.{IsCompletedWell}
+use Rattle.job_terms.specs.Dispatches.{Attempt, Dispatched}
 use Rattle.run_promise.specs.Fits.{Fits, IsAnswered, Names, requests_of}
 use Rattle.run_promise.specs.Outcomes.{HasOutcome}
-use Rattle.run_promise.specs.Schedule.{most_body, IsSchedule, IsFailed, gained_before, job_of}
+use Rattle.run_promise.specs.Schedule.{most_body, IsSchedule, IsFailed, gained_before}
+use Rattle.job_terms.specs.Jobs.{job_of}
 use Rattle.run_promise.specs.Traces.{Step, IsTrace, begun_in, events_of}
 use Rattle.run_promise.specs.Truthful.{IsDest}
 use Rattle.shared_lemmas.proofs.Clashes.{false_true as never}

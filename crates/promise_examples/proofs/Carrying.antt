@@ -10,10 +10,10 @@ use Rattle.s3_model.specs.declared.tries.Mark.{Mark}
 use Rattle.s3_model.specs.Classes.{is_tried_again}
 use Rattle.s3_model.specs.Replies.{IsSameClass}
 use Rattle.s3_model.specs.Talks.{Talk, Note, Began}
-use Rattle.run_promise.specs.Dispatches.{Attempt, Dispatched, dispatches, last_of}
+use Rattle.job_terms.specs.Dispatches.{Attempt, Dispatched, dispatches, last_of}
 use Rattle.run_promise.specs.Schedule.{Setting, IsBefore}
-use Rattle.run_promise.specs.Carried.{IsCarried, AreNoted, WouldGoOn, MayStop, IsWanting, in_lane, numbered_from, talks_of, mark_of}
-use Rattle.run_promise.specs.Carried.{in_first}
+use Rattle.run_promise.specs.Carried.{IsCarried, WouldGoOn, MayStop, IsWanting}
+use Rattle.job_terms.specs.Attempts.{AreNoted, in_lane, numbered_from, talks_of, mark_of, in_first}
 use Rattle.promise_examples.specs.Everything.{in_two}
 use Rattle.promise_examples.specs.Reading.{Reads, body_by, signed_body}
 use Rattle.promise_examples.proofs.Concrete.{Each, each, has, Slots, slot, Pairs, pairs, none_is_some, some_is}

@@ -2,7 +2,7 @@
 use Rattle.std.proofs.Common.{◌≡◌, ◌∙◌, ◌⊎◌, ℕ, zero, suc, List, [], ◌∷◌, Some, refl, sym, ap, subst, inl, inr, slice_get, arith}
 use Rattle.std.specs.Prelude.{◌≢◌}
 use Rattle.s3_model.specs.declared.answers.Listed.{Listed}
-use Rattle.run_promise.specs.Dispatches.{Dispatched}
+use Rattle.job_terms.specs.Dispatches.{Dispatched}
 use Rattle.run_promise.specs.Schedule.{IsSchedule}
 use Rattle.promise_examples.specs.Alone as wires
 use Rattle.promise_examples.specs.Alone.{Clause, BreaksAlone, Carries, ClausesAreAll, Says}

@@ -3,8 +3,8 @@ use Rattle.std.proofs.Common.{◌≡◌, ◌∙◌, ◌⊎◌, ◌≤◌, ℕ, L
 use Rattle.s3_model.specs.declared.answers.Listed.{Listed}
 use Rattle.s3_model.specs.declared.tasks.Kind.TheVariants as kind
 use Rattle.s3_model.specs.declared.tasks.Task.{Task}
-use Rattle.run_promise.specs.Buffers.{buffers_out}
-use Rattle.run_promise.specs.Dispatches.{Dispatch, Dispatched, dispatches}
+use Rattle.job_terms.specs.Buffers.{buffers_out}
+use Rattle.job_terms.specs.Dispatches.{Dispatch, Dispatched, dispatches}
 use Rattle.run_promise.specs.Runs.{HasEndedBy, Run}
 use Rattle.run_promise.specs.Traces.{Step}
 use Rattle.run_promise.specs.Truthful.{FitsShown, HoldsOver, HasOutcomes, IsExternal, IsOldAfter}

@@ -20,10 +20,12 @@ use Rattle.s3_model.specs.declared.tasks.Kind.TheVariants as kind
 use Rattle.s3_model.specs.declared.tasks.Task.{Task}
 use Rattle.s3_model.specs.Parts.{HasPieces, IsFirstFitting, piece_of}
 use Rattle.s3_model.specs.Talks.{Talk}
-use Rattle.run_promise.specs.Buffers.{KeepsBuffers, buffers_out}
-use Rattle.run_promise.specs.Dispatches.{Dispatched, IsCut, last_of}
+use Rattle.job_terms.specs.Buffers.{KeepsBuffers, buffers_out}
+use Rattle.run_promise.specs.Dispatches.{IsCut}
+use Rattle.job_terms.specs.Dispatches.{Dispatched, last_of}
 use Rattle.run_promise.specs.Outcomes.{HasOutcome, IsFirstFailure}
-use Rattle.run_promise.specs.Schedule.{HasReply, IsSchedule, IsFailed, IsUpload, IsDecided, IsBefore, AreETags, Target, Origin, bytes_of, gained_before, job_of}
+use Rattle.run_promise.specs.Schedule.{HasReply, IsSchedule, IsFailed, IsUpload, IsDecided, IsBefore, AreETags, bytes_of, gained_before}
+use Rattle.job_terms.specs.Jobs.{Target, Origin, job_of}
 use Rattle.run_promise.specs.Truthful.{IsDest}
 use Rattle.shared_lemmas.proofs.Clashes.{false_true as never}
 use Rattle.shared_lemmas.proofs.Maps.{get-insert_same, text_exact}

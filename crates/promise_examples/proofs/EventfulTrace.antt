@@ -15,7 +15,7 @@ use Rattle.s3_model.specs.Talks.{Talk}
 use Rattle.s3_service.specs.ServiceState.{Upload, CompletedBy, HasBucket, objects_in}
 use Rattle.s3_service.specs.Serves.{Replied, Creates, Copies, StoresPart, Deletes, Joins, JoinsAgain, Completes}
 use Rattle.run_promise.specs.Fits.{Fits, IsAnswered, Names, requests_of}
-use Rattle.run_promise.specs.Dispatches.{Dispatched}
+use Rattle.job_terms.specs.Dispatches.{Dispatched}
 use Rattle.run_promise.specs.Schedule.{most_body}
 use Rattle.run_promise.specs.Traces.{IsTrace, IsHonest, begun_in, events_of}
 use Rattle.shared_lemmas.proofs.Clashes.{false_true as never}

@@ -7,7 +7,8 @@ use Rattle.s3_model.specs.declared.answers.Class.{Class}
 use Rattle.s3_model.specs.declared.answers.Listed.{Listed}
 use Rattle.s3_model.specs.declared.tries.Mark.TheVariants as mark
 use Rattle.s3_model.specs.Talks.{Talk, Moment, Pause, Began}
-use Rattle.run_promise.specs.Carried.{IsCarried, IsSaid, MayStop}
+use Rattle.run_promise.specs.Carried.{IsCarried, MayStop}
+use Rattle.job_terms.specs.Attempts.{IsSaid}
 use Rattle.shared_lemmas.proofs.Clashes.{false_true as never}
 use Rattle.promise_examples.specs.Reading.{Reads, signed_body}
 use Rattle.promise_examples.specs.Runs.{Example}

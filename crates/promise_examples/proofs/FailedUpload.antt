@@ -26,12 +26,15 @@ use Rattle.s3_model.specs.Parts.{HasPieces, IsFirstFitting, piece_of}
 use Rattle.s3_model.specs.Talks.{Talk, Moment, Began}
 use Rattle.s3_service.specs.ServiceState.{HasBucket}
 use Rattle.s3_service.specs.Serves.{Replied, Refused, Creates, StoresPart, Aborts}
-use Rattle.run_promise.specs.Buffers.{KeepsBuffers, buffers_out}
-use Rattle.run_promise.specs.Carried.{IsSaid, MayStop}
-use Rattle.run_promise.specs.Dispatches.{Attempt, Dispatched, IsCut}
+use Rattle.job_terms.specs.Buffers.{KeepsBuffers, buffers_out}
+use Rattle.run_promise.specs.Carried.{MayStop}
+use Rattle.job_terms.specs.Attempts.{IsSaid}
+use Rattle.run_promise.specs.Dispatches.{IsCut}
+use Rattle.job_terms.specs.Dispatches.{Attempt, Dispatched}
 use Rattle.run_promise.specs.Fits.{Fits, IsAnswered, Names, requests_of}
 use Rattle.run_promise.specs.Outcomes.{HasOutcome, HasDeciding, IsFirstFailure}
-use Rattle.run_promise.specs.Schedule.{IsSchedule, IsBefore, IsBeforeAny, IsBeforePlace, IsFailed, IsUpload, Target, bytes_of, gained_before, job_of, most_body}
+use Rattle.run_promise.specs.Schedule.{IsSchedule, IsBefore, IsBeforeAny, IsBeforePlace, IsFailed, IsUpload, bytes_of, gained_before, most_body}
+use Rattle.job_terms.specs.Jobs.{Target, job_of}
 use Rattle.run_promise.specs.Traces.{IsTrace, begun_in, events_of}
 use Rattle.run_promise.specs.Truthful.{IsDest}
 use Rattle.shared_lemmas.proofs.Clashes.{false_true as never}

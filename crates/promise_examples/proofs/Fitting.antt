@@ -6,7 +6,7 @@ use Rattle.s3_model.specs.declared.answers.Class.{Class}
 use Rattle.s3_model.specs.declared.outcomes.Event.{Event}
 use Rattle.s3_model.specs.Talks.{Talk}
 use Rattle.s3_service.specs.Serves.{Answer}
-use Rattle.run_promise.specs.Dispatches.{Attempt, Dispatched}
+use Rattle.job_terms.specs.Dispatches.{Attempt, Dispatched}
 use Rattle.run_promise.specs.Fits.{Fits, IsAnswered, Names, IsCertain, request_at, requests_of}
 use Rattle.run_promise.specs.Traces.{TraceEvent, Given, Serve, Came, IsSameAttempt, event_of, begun_in, served_in, is_begin_of, marks_come}
 use Rattle.promise_examples.proofs.Concrete.{Each, each, each_passing, Slots, slot, Pairs, pairs, Cuts, cut}

@@ -9,7 +9,7 @@ use Rattle.s3_model.specs.declared.tries.Mark.TheVariants as mark
 use Rattle.s3_model.specs.Classes.{is_tried_again}
 use Rattle.s3_model.specs.Talks.{Talk}
 use Rattle.run_promise.specs.Carried.{WouldGoOn}
-use Rattle.run_promise.specs.Dispatches.{Attempt, Dispatch, Dispatched, last_of, paired}
+use Rattle.job_terms.specs.Dispatches.{Attempt, Dispatch, Dispatched, last_of, paired}
 use Rattle.promise_examples.specs.GivenAgain.{twice, RefusedForGood, DeniedIsNotGivenAgain}
 use Rattle.promise_examples.proofs.Concrete.{none_is_some, some_is}
 

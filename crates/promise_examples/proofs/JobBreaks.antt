@@ -9,9 +9,10 @@ use Rattle.s3_model.specs.declared.requests.Op.TheVariants as op
 use Rattle.s3_model.specs.declared.settings.Limits.{Limits}
 use Rattle.s3_model.specs.declared.tries.Mark.TheVariants as mark
 use Rattle.s3_model.specs.Talks.{Talk, Note, Finished}
-use Rattle.run_promise.specs.Carried as wires
-use Rattle.run_promise.specs.Carried.{IsCarried, MayStop, in_first}
-use Rattle.run_promise.specs.Dispatches.{Attempt, Dispatched, dispatches}
+use Rattle.job_terms.specs.Attempts as wires
+use Rattle.run_promise.specs.Carried.{IsCarried, MayStop}
+use Rattle.job_terms.specs.Attempts.{in_first}
+use Rattle.job_terms.specs.Dispatches.{Attempt, Dispatched, dispatches}
 use Rattle.run_promise.specs.Schedule.{IsBeforeAny, Setting, gained_before, most_body}
 use Rattle.shared_lemmas.proofs.Clashes.{false_true as never}
 use Rattle.promise_examples.specs.GivenAgain.{bytes, put, put_job}

@@ -17,7 +17,7 @@ use Rattle.s3_model.specs.declared.tasks.Task.{Task}
 use Rattle.s3_model.specs.declared.tries.Mark.{Mark}
 use Rattle.s3_model.specs.declared.tries.Mark.TheVariants as mark
 use Rattle.s3_model.specs.Talks.{Talk}
-use Rattle.run_promise.specs.Dispatches.{Attempt, Dispatched, dispatches}
+use Rattle.job_terms.specs.Dispatches.{Attempt, Dispatched, dispatches}
 use Rattle.run_promise.specs.Outcomes.{HasOutcome, HasDeciding, IsLastCause}
 use Rattle.run_promise.specs.Schedule.{IsSchedule}
 use Rattle.shared_lemmas.proofs.Clashes.{false_true as never}

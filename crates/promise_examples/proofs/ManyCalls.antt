@@ -6,9 +6,10 @@ use Rattle.s3_model.specs.declared.requests.Op.TheVariants as op
 use Rattle.s3_model.specs.declared.tasks.Kind.TheVariants as kind
 use Rattle.s3_model.specs.declared.tasks.Task.{Task}
 use Rattle.s3_model.specs.Talks.{Talk}
-use Rattle.run_promise.specs.Dispatches.{Dispatched}
+use Rattle.job_terms.specs.Dispatches.{Dispatched}
 use Rattle.run_promise.specs.Endings.{Excused}
-use Rattle.run_promise.specs.Schedule.{IsBefore, Setting, job_of}
+use Rattle.run_promise.specs.Schedule.{IsBefore, Setting}
+use Rattle.job_terms.specs.Jobs.{job_of}
 use Rattle.local_files.specs.Calls.{Call, DropTemp, MakeTemp, Rename, WriteAt}
 use Rattle.file_laws.specs.FileTasks.{AreFileCalls, AreWritten, HasFailedBefore, HasFailedDrop, HasFailedStamp, IsBody, IsCallFor, IsDecidedBefore, IsDropped, IsMade, IsRenamed, IsStamped, IsTidying, MayFollow, TaskCall, UsesTemp}
 use Rattle.file_laws.proofs.CallWitness.{IsWarned, OnRename, OnStamp, OnUse, OnWrite}

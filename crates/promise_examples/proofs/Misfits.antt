@@ -13,7 +13,7 @@ use Rattle.s3_model.specs.Talks.{Talk}
 use Rattle.s3_service.specs.ServiceState.{State, with_object}
 use Rattle.world_laws.proofs.Objects.{object_at-with_object}
 use Rattle.s3_service.specs.Serves.{Answer, Replied, Refused, Removes, Writes}
-use Rattle.run_promise.specs.Dispatches.{Attempt, Dispatched, dispatches}
+use Rattle.job_terms.specs.Dispatches.{Attempt, Dispatched, dispatches}
 use Rattle.run_promise.specs.Fits.{Fits, Names, request_at}
 use Rattle.run_promise.specs.Traces.{SentRequest, Step, TraceEvent, Given, Begin, Serve, Came, External, IsTrace, IsHonest, events_of, states}
 use Rattle.run_promise.specs.Truthful.{IsDest}

@@ -3,8 +3,8 @@ use Rattle.std.proofs.Common.{◌≡◌, ℕ, List, [], ◌∷◌, refl, sym, su
 use Rattle.std.proofs.lemmas.List.{append-nil}
 use Rattle.s3_model.specs.declared.answers.Listed.{Listed}
 use Rattle.s3_model.specs.Talks.{Note, Moment, Pause, Began}
-use Rattle.run_promise.specs.Carried.{AreNoted, IsPrefixOf, IsSaid, Numbered, SaysAll}
-use Rattle.run_promise.specs.Dispatches.{Attempt, Dispatched}
+use Rattle.job_terms.specs.Attempts.{AreNoted, IsPrefixOf, IsSaid, Numbered, SaysAll}
+use Rattle.job_terms.specs.Dispatches.{Attempt, Dispatched}
 use Rattle.promise_examples.specs.Reading.{Reads, signed_body}
 use Rattle.promise_examples.proofs.Carrying.{nothing_begins}
 use Rattle.promise_examples.proofs.Concrete.{each}

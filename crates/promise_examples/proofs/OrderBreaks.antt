@@ -10,8 +10,9 @@ use Rattle.s3_model.specs.declared.requests.Ask.TheVariants as ask
 use Rattle.s3_model.specs.declared.requests.Op.TheVariants as op
 use Rattle.s3_model.specs.declared.tries.Mark.TheVariants as mark
 use Rattle.s3_model.specs.Parts.{piece_of}
-use Rattle.run_promise.specs.Dispatches.{Attempt, Dispatched}
-use Rattle.run_promise.specs.Schedule.{IsBefore, AreETags, gained_before, job_of}
+use Rattle.job_terms.specs.Dispatches.{Attempt, Dispatched}
+use Rattle.run_promise.specs.Schedule.{IsBefore, AreETags, gained_before}
+use Rattle.job_terms.specs.Jobs.{job_of}
 use Rattle.shared_lemmas.proofs.Clashes.{false_true as never}
 use Rattle.promise_examples.specs.Everything.{bucket, uploaded, id, first_etag, second_etag, upload, copy, create, complete, copy_ask, delete, part, document, create_job, part_job, complete_job, copy_job, delete_job, create_answered, copy_answered}
 use Rattle.promise_examples.specs.Orders as orders

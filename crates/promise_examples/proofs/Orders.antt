@@ -17,7 +17,8 @@ use Rattle.s3_model.specs.Lists.{Reserved}
 use Rattle.s3_model.specs.Parts.{HasPieces, piece_count, within_limits}
 use Rattle.s3_model.specs.Talks.{Talk}
 use Rattle.run_promise.specs.Carried.{IsCarried}
-use Rattle.run_promise.specs.Dispatches.{Dispatched, IsCut}
+use Rattle.run_promise.specs.Dispatches.{IsCut}
+use Rattle.job_terms.specs.Dispatches.{Dispatched}
 use Rattle.run_promise.specs.Schedule.{Gained, IsSchedule, IsTaskAsk, IsUpload, IsBefore, IsBeforeAny, gained_before, is_small, source_bytes}
 use Rattle.shared_lemmas.proofs.Clashes.{false_true as never}
 use Rattle.promise_examples.specs.Everything.{create_job, part_job, complete_job, copy_job, delete_job, create_answered, copy_answered, complete_again, upload, copy, id, limits, eventful_run}

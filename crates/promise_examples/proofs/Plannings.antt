@@ -8,7 +8,7 @@ use Rattle.s3_model.specs.declared.settings.Limits.{Limits}
 use Rattle.s3_model.specs.declared.tries.Mark.TheVariants as mark
 use Rattle.s3_model.specs.Talks.{Talk, Moment, Began}
 use Rattle.run_promise.specs.Carried.{IsCarried}
-use Rattle.run_promise.specs.Dispatches.{Dispatched}
+use Rattle.job_terms.specs.Dispatches.{Dispatched}
 use Rattle.run_promise.specs.Schedule.{IsBefore, IsSchedule, planning_of}
 use Rattle.shared_lemmas.proofs.Lists.{no_cons}
 use Rattle.promise_examples.specs.Pages.{list_job, talk_of, token}

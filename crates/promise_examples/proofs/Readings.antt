@@ -13,7 +13,7 @@ use Rattle.s3_model.specs.Replies.{IsSameReply, IsSameClass, IsSamePage}
 use Rattle.s3_model.specs.Talks.{Talk, Ending, Failed, Closed, Finished}
 use Rattle.s3_service.specs.Serves.{Answer}
 use Rattle.s3_model.specs.declared.tries.Mark.TheVariants as mark
-use Rattle.run_promise.specs.Carried.{mark_of, SaysAll}
+use Rattle.job_terms.specs.Attempts.{mark_of, SaysAll}
 use Rattle.run_promise.specs.Fits.{Names, IsCertain}
 use Rattle.promise_examples.specs.Reading.{Reads, reply_to, class_by, body_by}
 

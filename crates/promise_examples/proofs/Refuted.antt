@@ -18,8 +18,10 @@ use Rattle.s3_model.specs.declared.tasks.Task.{Task}
 use Rattle.s3_model.specs.declared.tries.Mark.{Mark}
 use Rattle.s3_model.specs.declared.tries.Mark.TheVariants as mark
 use Rattle.s3_model.specs.Talks.{Talk, Note, Ending, Finished, Moment, Pause, Began}
-use Rattle.run_promise.specs.Carried.{IsCarried, IsSaid, MayStop, Numbered, SaysAll, pause_of}
-use Rattle.run_promise.specs.Dispatches.{Attempt, Dispatched, IsCut, IsFailing, IsSuccessLast, dispatches, last_of}
+use Rattle.run_promise.specs.Carried.{IsCarried, MayStop}
+use Rattle.job_terms.specs.Attempts.{IsSaid, Numbered, SaysAll, pause_of}
+use Rattle.run_promise.specs.Dispatches.{IsCut, IsFailing, IsSuccessLast}
+use Rattle.job_terms.specs.Dispatches.{Attempt, Dispatched, dispatches, last_of}
 use Rattle.run_promise.specs.Schedule.{Setting, Gained, IsBeforeAny, IsSchedule, IsStopped, IsTaskAsk, bytes_of, gained_before, is_small, source_bytes}
 use Rattle.shared_lemmas.proofs.Clashes.{false_true as never}
 use Rattle.shared_lemmas.proofs.Maps.{get-insert_same, text_exact}

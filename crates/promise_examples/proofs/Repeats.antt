@@ -1,8 +1,9 @@
 -- Jobs that are given more than once, in a list of dispatches that is written out.
-use Rattle.world_laws.proofs.Jobs.{job_itself}
+use Rattle.job_terms.proofs.SameJobs.{job_itself}
 use Rattle.std.proofs.Common.{◌≡◌, ◌∙◌, ◌+◌, ◌<◌, ◌≤◌, ℕ, zero, suc, Bool, true, false, cond, List, [], ◌∷◌, Some, refl, sym, ap, AllPairs, filter, length, slice_get, arith}
 use Rattle.s3_model.specs.declared.outcomes.JobId.{JobId}
-use Rattle.run_promise.specs.Dispatches.{Dispatched, is_job}
+use Rattle.job_terms.specs.Dispatches.{Dispatched}
+use Rattle.job_terms.specs.Jobs.{is_job}
 use Rattle.promise_examples.proofs.Concrete.{Each, Pairs, pairs, none_is_some, some_is}
 
 -- two jobs that the test tells apart

@@ -5,8 +5,10 @@ use Rattle.s3_model.specs.declared.answers.Listed.{Listed}
 use Rattle.s3_model.specs.declared.outcomes.JobId.{JobId}
 use Rattle.s3_model.specs.declared.requests.Op.{Op}
 use Rattle.s3_model.specs.declared.requests.Op.TheVariants as op
-use Rattle.run_promise.specs.Dispatches.{Dispatched, is_op}
-use Rattle.run_promise.specs.Schedule.{IsBefore, IsBeforeAny, job_of, most_body, op_of, planning_of}
+use Rattle.job_terms.specs.Dispatches.{Dispatched}
+use Rattle.job_terms.specs.Ops.{is_op, op_of}
+use Rattle.run_promise.specs.Schedule.{IsBefore, IsBeforeAny, most_body, planning_of}
+use Rattle.job_terms.specs.Jobs.{job_of}
 use Rattle.promise_examples.specs.Rules.{Rule, IsComing, InOrder, Asks, Plans, Planned, Numbered, OneByOne, Dry, Twice, NoThird, Stops, AbortLast, Aborts, CompletedStays, MovesLast, Obeys, Keeps, Carries, AsksAsPlanned, HasFailed, MayRepeat, Shows, BreaksRule, RulesAreAll}
 use Rattle.promise_examples.specs.Refused.{IsRefusedWith}
 use Rattle.promise_examples.specs.Runs.{Example}

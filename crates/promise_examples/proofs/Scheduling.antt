@@ -10,8 +10,11 @@ use Rattle.s3_model.specs.declared.outcomes.JobId.{JobId}
 use Rattle.s3_model.specs.declared.tasks.Task.{Task}
 use Rattle.s3_model.specs.Parts.{HasPieces}
 use Rattle.s3_model.specs.Talks.{Talk}
-use Rattle.run_promise.specs.Dispatches.{Dispatched, IsCompletedWell, IsCut, IsFailing, IsSuccessLast, is_op, last_of, op_number}
-use Rattle.run_promise.specs.Schedule.{Setting, IsSchedule, IsBefore, IsBeforeAny, IsTaskAsk, IsUpload, IsDecided, IsFailed, IsStopped, gained_before, is_small, job_of, limit_of, most_body, op_of, planning_of, source_bytes}
+use Rattle.run_promise.specs.Dispatches.{IsCompletedWell, IsCut, IsFailing, IsSuccessLast}
+use Rattle.job_terms.specs.Dispatches.{Dispatched, last_of}
+use Rattle.job_terms.specs.Ops.{is_op, op_number, op_of}
+use Rattle.run_promise.specs.Schedule.{Setting, IsSchedule, IsBefore, IsBeforeAny, IsTaskAsk, IsUpload, IsDecided, IsFailed, IsStopped, gained_before, is_small, limit_of, most_body, planning_of, source_bytes}
+use Rattle.job_terms.specs.Jobs.{job_of}
 use Rattle.promise_examples.proofs.Concrete.{Each, each, Pairs, pairs, Slots, slot, Tails, tail_at}
 use Rattle.promise_examples.proofs.Repeats.{Repeats, all_repeats, Seconds, no_third}
 

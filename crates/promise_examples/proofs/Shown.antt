@@ -5,7 +5,7 @@ use Rattle.std.specs.Prelude.{IsPermutation}
 use Rattle.std.proofs.lemmas.List.{length-append}
 use Rattle.std.proofs.lemmas.List.Sorted.{IsPermutation-sym, Contains-permutation, length_permutation}
 use Rattle.s3_model.specs.declared.requests.Ask.{Ask}
-use Rattle.run_promise.specs.Dispatches.{Dispatch, Dispatched}
+use Rattle.job_terms.specs.Dispatches.{Dispatch, Dispatched}
 use Rattle.promise_examples.proofs.Concrete.{Has, has, has_middle, contains_of}
 
 abbrev pub made : Dispatch → Ask → List ℕ → ℕ → ℕ → Dispatched

@@ -11,8 +11,9 @@ use Rattle.s3_model.specs.declared.tasks.Kind.TheVariants as kind
 use Rattle.s3_model.specs.Files.{HeldFile}
 use Rattle.s3_model.specs.Maps.{MapOf}
 use Rattle.s3_model.specs.Talks.{Talk}
-use Rattle.run_promise.specs.Dispatches.{Attempt, Dispatched}
-use Rattle.run_promise.specs.Schedule.{Gained, IsBefore, IsSchedule, IsTaskAsk, Target, bytes_of, gained_before, job_of, most_body, source_bytes}
+use Rattle.job_terms.specs.Dispatches.{Attempt, Dispatched}
+use Rattle.run_promise.specs.Schedule.{Gained, IsBefore, IsSchedule, IsTaskAsk, bytes_of, gained_before, most_body, source_bytes}
+use Rattle.job_terms.specs.Jobs.{Target, job_of}
 use Rattle.shared_lemmas.proofs.Maps.{get-insert_same, text_exact}
 use Rattle.promise_examples.specs.GivenAgain.{bytes, put, put_job, upload}
 use Rattle.promise_examples.specs.Misfits.{bucket, key}

@@ -14,7 +14,7 @@ use Rattle.s3_model.specs.declared.tasks.Task.{Task}
 use Rattle.s3_service.specs.ServiceState.{HasBucket, objects_in}
 use Rattle.std.specs.FinMap.{insert}
 use Rattle.s3_service.specs.Serves.{Replied, Removes, Writes}
-use Rattle.run_promise.specs.Dispatches.{Attempt, Dispatched}
+use Rattle.job_terms.specs.Dispatches.{Attempt, Dispatched}
 use Rattle.run_promise.specs.Fits.{requests_of}
 use Rattle.run_promise.specs.Schedule.{IsSchedule}
 use Rattle.run_promise.specs.Traces.{External, IsSameAttempt, Serve, Step, TraceEvent, Begin, Came, Given, begun_in, event_of, events_of, served_in, states}

@@ -19,12 +19,13 @@ use Rattle.s3_model.specs.Talks.{Talk, Moment, Began}
 use Rattle.s3_service.specs.ServiceState.{State, Object, HasBucket, objects_in, with_object}
 use Rattle.s3_service.specs.Listing.{Name, Key, IsPage, listing, after, name_of, once}
 use Rattle.s3_service.specs.Serves.{Replied}
-use Rattle.run_promise.specs.Buffers.{KeepsBuffers, buffers_out}
-use Rattle.run_promise.specs.Carried.{IsSaid}
-use Rattle.run_promise.specs.Dispatches.{Attempt, Dispatched}
+use Rattle.job_terms.specs.Buffers.{KeepsBuffers, buffers_out}
+use Rattle.job_terms.specs.Attempts.{IsSaid}
+use Rattle.job_terms.specs.Dispatches.{Attempt, Dispatched}
 use Rattle.run_promise.specs.Fits.{Fits, IsAnswered, Names, requests_of}
 use Rattle.run_promise.specs.Planning.{Listing, PlansFor}
-use Rattle.run_promise.specs.Schedule.{most_body, IsSchedule, IsFailed, job_of}
+use Rattle.run_promise.specs.Schedule.{most_body, IsSchedule, IsFailed}
+use Rattle.job_terms.specs.Jobs.{job_of}
 use Rattle.run_promise.specs.Truthful.{IsDest}
 use Rattle.run_promise.specs.Traces.{IsTrace, begun_in, events_of}
 use Rattle.shared_lemmas.proofs.Clashes.{false_true as never}

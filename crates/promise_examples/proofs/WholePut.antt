@@ -14,9 +14,9 @@ use Rattle.s3_model.specs.declared.tries.Mark.TheVariants as mark
 use Rattle.s3_model.specs.Talks.{Talk}
 use Rattle.s3_service.specs.ServiceState.{HasBucket}
 use Rattle.s3_service.specs.Serves.{Replied}
-use Rattle.run_promise.specs.Buffers.{KeepsBuffers, buffers_out}
-use Rattle.run_promise.specs.Carried.{IsSaid}
-use Rattle.run_promise.specs.Dispatches.{Attempt, Dispatched}
+use Rattle.job_terms.specs.Buffers.{KeepsBuffers, buffers_out}
+use Rattle.job_terms.specs.Attempts.{IsSaid}
+use Rattle.job_terms.specs.Dispatches.{Attempt, Dispatched}
 use Rattle.run_promise.specs.Fits.{Fits, IsAnswered, Names, requests_of}
 use Rattle.run_promise.specs.Outcomes.{HasOutcome}
 use Rattle.run_promise.specs.Schedule.{most_body, IsFailed}

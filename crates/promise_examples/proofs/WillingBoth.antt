@@ -16,8 +16,8 @@ use Rattle.s3_model.specs.declared.tasks.Task.{Task}
 use Rattle.s3_model.specs.Maps.{MapOf}
 use Rattle.s3_service.specs.ServiceState.{State, Object, object_at}
 use Rattle.s3_service.specs.Serves.{Succeeds}
-use Rattle.run_promise.specs.Dispatches.{Attempt}
-use Rattle.run_promise.specs.Schedule.{IsObject}
+use Rattle.job_terms.specs.Dispatches.{Attempt}
+use Rattle.job_terms.specs.Jobs.{IsObject}
 use Rattle.run_promise.specs.Traces.{IsWilling}
 use Rattle.shared_lemmas.proofs.Lists.{head_is}
 use Rattle.shared_lemmas.proofs.Maps.{found_in_empty, get-insert_same, text_exact}

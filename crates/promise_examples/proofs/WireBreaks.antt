@@ -9,9 +9,10 @@ use Rattle.s3_model.specs.declared.requests.Ask.{Ask}
 use Rattle.s3_model.specs.declared.requests.Op.TheVariants as op
 use Rattle.s3_model.specs.declared.tries.Mark.TheVariants as mark
 use Rattle.s3_model.specs.Talks.{Talk, Note, Moment, Pause, Began}
-use Rattle.run_promise.specs.Carried as wires
-use Rattle.run_promise.specs.Carried.{AreNoted, MayStop, in_first, in_lane, numbered_from, talks_of}
-use Rattle.run_promise.specs.Dispatches.{Attempt, Dispatched}
+use Rattle.job_terms.specs.Attempts as wires
+use Rattle.run_promise.specs.Carried.{MayStop}
+use Rattle.job_terms.specs.Attempts.{AreNoted, in_first, in_lane, numbered_from, talks_of}
+use Rattle.job_terms.specs.Dispatches.{Attempt, Dispatched}
 use Rattle.run_promise.specs.Schedule.{IsBefore, IsFailed, IsSchedule, gained_before, most_body}
 use Rattle.shared_lemmas.proofs.Clashes.{false_true as never}
 use Rattle.promise_examples.specs.Alone.{Shown, Comes, Lanes, InTurn, GivenAgain, BreaksAlone}

@@ -3,8 +3,8 @@ use Rattle.std.proofs.Common.{◌≡◌, ◌+◌, ◌<◌, ◌≤◌, ℕ, zero,
 use Rattle.std.specs.Prelude.{◌≢◌, flat_map}
 use Rattle.s3_model.specs.declared.answers.Listed.{Listed}
 use Rattle.s3_model.specs.declared.outcomes.Event.TheVariants as entry
-use Rattle.run_promise.specs.Carried.{AreNoted, in_lane, numbered_from}
-use Rattle.run_promise.specs.Dispatches.{Attempt, Dispatched, dispatches, last_of}
+use Rattle.job_terms.specs.Attempts.{AreNoted, in_lane, numbered_from}
+use Rattle.job_terms.specs.Dispatches.{Attempt, Dispatched, dispatches, last_of}
 use Rattle.promise_examples.specs.Alone.{Clause, Shown, Comes, Lanes, UnusedLanes, NothingElse, InTurn, Gained, Noted, Marks, Again, GivenAgain, AtMost, ToTheEnd, Silent, Says, IsExcused, GoesOn}
 use Rattle.promise_examples.specs.Reading.{Reads, body_by, signed_body}
 use Rattle.promise_examples.specs.Runs.{Example}

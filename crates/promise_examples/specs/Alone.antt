@@ -11,9 +11,9 @@ use Rattle.s3_model.specs.declared.requests.Ask.{Ask}
 use Rattle.s3_model.specs.declared.tries.Mark.{Mark}
 use Rattle.s3_model.specs.declared.tries.Mark.TheVariants as mark
 use Rattle.s3_model.specs.Talks.{Talk}
-use Rattle.run_promise.specs.Carried.{AreNoted, IsCarried, IsWanting, MayStop, WouldGoOn, in_lane, mark_of}
-use Rattle.run_promise.specs.Carried.{numbered_from, talks_of}
-use Rattle.run_promise.specs.Dispatches.{Attempt, Dispatched, dispatches, last_of}
+use Rattle.run_promise.specs.Carried.{IsCarried, IsWanting, MayStop, WouldGoOn}
+use Rattle.job_terms.specs.Attempts.{AreNoted, in_lane, mark_of, numbered_from, talks_of}
+use Rattle.job_terms.specs.Dispatches.{Attempt, Dispatched, dispatches, last_of}
 use Rattle.run_promise.specs.Schedule.{IsBefore, IsSchedule}
 use Rattle.promise_examples.specs.Reading.{Reads, signed_body}
 use Rattle.promise_examples.specs.Refused as refused

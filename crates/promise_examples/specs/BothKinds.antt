@@ -23,12 +23,12 @@ use Rattle.s3_model.specs.Maps.{MapOf}
 use Rattle.s3_model.specs.Talks.{Talk, Note, Closed, Finished, Moment, Began}
 use Rattle.s3_service.specs.ServiceState.{State, with_object}
 use Rattle.s3_service.specs.Serves.{Replied, Refused}
-use Rattle.run_promise.specs.Dispatches.{Dispatched}
+use Rattle.job_terms.specs.Dispatches.{Dispatched}
 use Rattle.run_promise.specs.Runs.{HasJournal, IsFitting}
-use Rattle.run_promise.specs.Schedule.{job_of}
+use Rattle.job_terms.specs.Jobs.{job_of}
 use Rattle.run_promise.specs.Traces.{SentRequest, Step, Given, Begin, Serve, Came, IsWilling}
 use Rattle.run_promise.specs.Truthful.{AreCertain, IsAlone, IsDest, Shown}
-use Rattle.run_promise.specs.Carried.{in_first}
+use Rattle.job_terms.specs.Attempts.{in_first}
 use Rattle.local_files.specs.Calls.{Call, DropTemp, MakeTemp, Remove, Rename, Stamp, WriteAt, written_at}
 use Rattle.world_laws.specs.Completeness.{AreCallsCounted}
 use Rattle.world_laws.specs.ExampleTasks as tasks

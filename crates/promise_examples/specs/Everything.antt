@@ -23,7 +23,7 @@ use Rattle.s3_model.specs.Talks.{Talk, Note, Ending, Failed, Finished, Moment, P
 use Rattle.s3_service.specs.ServiceState.{State, Upload, StoredPart, CompletedBy, with_object, without_object}
 use Rattle.s3_service.specs.ServiceState.{with_upload, with_part, with_ended}
 use Rattle.s3_service.specs.Serves.{Replied}
-use Rattle.run_promise.specs.Schedule.{job_of}
+use Rattle.job_terms.specs.Jobs.{job_of}
 use Rattle.run_promise.specs.Traces.{SentRequest, Step, TraceEvent, Given, Begin, Serve, Came}
 use Rattle.world_laws.specs.ExampleTasks as tasks
 use Rattle.promise_examples.specs.Runs.{Example, IsMet}

@@ -19,8 +19,9 @@ use Rattle.s3_model.specs.Classes.{is_tried_again}
 use Rattle.s3_model.specs.Talks.{Talk, Note, Closed, Finished, Moment, Pause, Began}
 use Rattle.s3_service.specs.ServiceState.{State, with_object}
 use Rattle.s3_service.specs.Serves.{Replied, Refused}
-use Rattle.run_promise.specs.Carried.{IsCarried, in_first}
-use Rattle.run_promise.specs.Dispatches.{Attempt, Dispatched, last_of}
+use Rattle.run_promise.specs.Carried.{IsCarried}
+use Rattle.job_terms.specs.Attempts.{in_first}
+use Rattle.job_terms.specs.Dispatches.{Attempt, Dispatched, last_of}
 use Rattle.run_promise.specs.Schedule.{Setting, IsSchedule}
 use Rattle.run_promise.specs.Traces.{SentRequest, Step, Given, Begin, Serve, Came}
 use Rattle.world_laws.specs.ExampleTasks as tasks

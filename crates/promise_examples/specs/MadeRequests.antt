@@ -3,7 +3,7 @@ use Rattle.std.specs.Prelude.{◌≤◌, ℕ, List, Contains, length}
 use Rattle.s3_model.specs.declared.settings.Limits.{Limits}
 use Rattle.s3_model.specs.declared.tasks.Task.{Task}
 use Rattle.s3_service.specs.Serves.{MayChange}
-use Rattle.run_promise.specs.Dispatches.{Dispatched}
+use Rattle.job_terms.specs.Dispatches.{Dispatched}
 use Rattle.run_promise.specs.Runs.{Run}
 use Rattle.run_promise.specs.Schedule.{Setting}
 use Rattle.world_laws.specs.Destinations.{AllThatChange}

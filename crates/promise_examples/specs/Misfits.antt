@@ -6,7 +6,7 @@ use Rattle.s3_model.specs.declared.tries.Mark.TheVariants as mark
 use Rattle.s3_service.specs.ServiceState.{Object, State, with_object, without_object}
 use Rattle.s3_service.specs.Serves.{Replied, Refused, Removes, Writes}
 use Rattle.run_promise.specs.Carried.{IsCarried}
-use Rattle.run_promise.specs.Dispatches.{Dispatched}
+use Rattle.job_terms.specs.Dispatches.{Dispatched}
 use Rattle.run_promise.specs.Fits.{Fits}
 use Rattle.run_promise.specs.Schedule.{IsSchedule}
 use Rattle.run_promise.specs.Traces.{SentRequest, Step, Given, Begin, Serve, Came, External, IsTrace, IsHonest}

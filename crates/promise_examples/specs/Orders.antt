@@ -7,7 +7,7 @@ use Rattle.s3_model.specs.declared.outcomes.Event.TheVariants as entry
 use Rattle.s3_model.specs.declared.requests.Op.TheVariants as op
 use Rattle.s3_model.specs.declared.tries.Mark.TheVariants as mark
 use Rattle.s3_model.specs.Talks.{Talk, Note, Closed, Finished, Moment, Began}
-use Rattle.run_promise.specs.Schedule.{job_of}
+use Rattle.job_terms.specs.Jobs.{job_of}
 use Rattle.promise_examples.specs.Everything.{create_job, part_job, complete_job, copy_job, delete_job, create_answered}
 use Rattle.promise_examples.specs.Everything.{copy_answered, complete_again, first_etag, second_etag, document}
 use Rattle.promise_examples.specs.Everything.{eventful_run, in_two, talk}

@@ -16,7 +16,7 @@ use Rattle.s3_service.specs.ServiceState.{State, Object, with_object, with_token
 use Rattle.s3_service.specs.Serves.{Replied}
 use Rattle.run_promise.specs.Planning.{Listing, PlansFor}
 use Rattle.run_promise.specs.Traces.{SentRequest, Step, Given, Begin, Serve, Came}
-use Rattle.run_promise.specs.Carried.{in_first}
+use Rattle.job_terms.specs.Attempts.{in_first}
 use Rattle.promise_examples.specs.Reading.{Reads}
 use Rattle.promise_examples.specs.Services.{object_of, one_bucket}
 use Rattle.promise_examples.specs.Runs.{Example, IsMet}

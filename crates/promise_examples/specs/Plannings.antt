@@ -7,7 +7,7 @@ use Rattle.s3_model.specs.declared.settings.Limits.{Limits}
 use Rattle.s3_model.specs.declared.tries.Mark.TheVariants as mark
 use Rattle.s3_model.specs.Talks.{Talk, Note, Finished, Moment, Began}
 use Rattle.run_promise.specs.Schedule.{Setting}
-use Rattle.run_promise.specs.Carried.{in_first}
+use Rattle.job_terms.specs.Attempts.{in_first}
 use Rattle.promise_examples.specs.Everything.{in_two}
 use Rattle.promise_examples.specs.Pages.{list_job, listing_run, talk_of, token}
 use Rattle.promise_examples.specs.Refused.{IsRefusedWith}

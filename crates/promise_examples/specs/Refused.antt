@@ -13,8 +13,9 @@ use Rattle.s3_model.specs.declared.tasks.Task.{Task}
 use Rattle.s3_model.specs.declared.tries.Mark.{Mark}
 use Rattle.s3_model.specs.declared.tries.Mark.TheVariants as mark
 use Rattle.s3_model.specs.Talks.{Talk, Note, Ending, Failed, Closed, Finished, Moment, Pause, Began}
-use Rattle.run_promise.specs.Carried.{IsCarried, in_first}
-use Rattle.run_promise.specs.Dispatches.{Dispatched}
+use Rattle.run_promise.specs.Carried.{IsCarried}
+use Rattle.job_terms.specs.Attempts.{in_first}
+use Rattle.job_terms.specs.Dispatches.{Dispatched}
 use Rattle.run_promise.specs.Schedule.{Setting, IsSchedule}
 use Rattle.promise_examples.specs.GivenAgain.{put_job, bytes, upload}
 use Rattle.promise_examples.specs.Reading.{Reads, signed_body}

@@ -11,10 +11,13 @@ use Rattle.s3_model.specs.declared.tasks.Task.{Task}
 use Rattle.s3_model.specs.Parts.{HasPieces}
 use Rattle.s3_model.specs.Talks.{Talk}
 use Rattle.run_promise.specs.Carried.{IsCarried}
-use Rattle.run_promise.specs.Dispatches.{Dispatched, IsSuccessLast, last_of}
+use Rattle.run_promise.specs.Dispatches.{IsSuccessLast}
+use Rattle.job_terms.specs.Dispatches.{Dispatched, last_of}
 use Rattle.run_promise.specs.Planning.{Listing, PlansFor}
 use Rattle.run_promise.specs.Schedule.{IsBefore, IsBeforeAny, IsDecided, IsFailed, IsSchedule, IsTaskAsk, IsUpload}
-use Rattle.run_promise.specs.Schedule.{gained_before, is_small, job_of, limit_of, most_body, op_of, planning_of}
+use Rattle.run_promise.specs.Schedule.{gained_before, is_small, limit_of, most_body, planning_of}
+use Rattle.job_terms.specs.Jobs.{job_of}
+use Rattle.job_terms.specs.Ops.{op_of}
 use Rattle.run_promise.specs.Schedule.{source_bytes}
 use Rattle.promise_examples.specs.Orders as orders
 use Rattle.promise_examples.specs.Pages.{bucket, page_with}

@@ -10,7 +10,7 @@ use Rattle.s3_model.specs.Talks.{Talk}
 use Rattle.s3_service.specs.ServiceState.{Object, State, object_at}
 use Rattle.s3_service.specs.Serves.{Answer, Removes, Writes}
 use Rattle.run_promise.specs.Carried.{IsCarried}
-use Rattle.run_promise.specs.Dispatches.{Attempt, Dispatched}
+use Rattle.job_terms.specs.Dispatches.{Attempt, Dispatched}
 use Rattle.run_promise.specs.Fits.{Fits, IsAnswered, IsCertain, Names, request_at, requests_of}
 use Rattle.run_promise.specs.Schedule.{IsSchedule}
 use Rattle.run_promise.specs.Traces.{SentRequest, Came, External, Given, IsHonest, IsSameAttempt, IsTrace, Serve, Step}

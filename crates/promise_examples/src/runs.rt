@@ -6,7 +6,7 @@ ghost use Rattle.promise_examples.specs.FailedUpload.{FailedUploadIsMet};
 ghost use Rattle.promise_examples.specs.GivenAgain.{BusyIsGivenAgain, DeniedIsNotGivenAgain, RefusedForGood};
 ghost use Rattle.promise_examples.specs.MadeRequests.{RefusalWasMade, RefusedTaskWasMade};
 ghost use Rattle.promise_examples.specs.Pages.{TwoPagesAreMet};
-ghost use Rattle.run_promise.specs.Dispatches.{Dispatched};
+ghost use Rattle.job_terms.specs.Dispatches.{Dispatched};
 ghost use Rattle.s3_model.specs.Talks.{Talk};
 ghost use Rattle.s3_model.specs.declared.answers.Class.{Class};
 ghost use Rattle.s3_model.specs.declared.requests.Ask.{Ask};

@@ -18,8 +18,9 @@ use Rattle.attempts.specs.Attempts.{text_of}
 use Rattle.jobs.specs.declared.ending.Ending.{Ending}
 use Rattle.jobs.specs.declared.ending.Ending.TheVariants as ending
 use Rattle.lane_jobs.specs.Lanes.{Ends}
-use Rattle.run_promise.specs.Carried.{IsCarried, MayStop, in_first, in_lane, mark_of}
-use Rattle.run_promise.specs.Dispatches.{Attempt, Dispatched, paired}
+use Rattle.run_promise.specs.Carried.{IsCarried, MayStop}
+use Rattle.job_terms.specs.Attempts.{in_first, in_lane, mark_of}
+use Rattle.job_terms.specs.Dispatches.{Attempt, Dispatched, paired}
 use Rattle.run_promise.specs.Schedule.{Setting, source_bytes}
 use Rattle.run_promise.specs.Settled.{cause_of, is_memory}
 use Rattle.lane_laws.specs.Runs.{AreCarriedJobs, Giving, HaveCauses, IsCarriedJob, IsCutShort, IsJournal, RanOut, given_to}

@@ -23,8 +23,8 @@ use Rattle.attempts.specs.Attempts.{HasClass, SignedRequest}
 use Rattle.jobs.specs.declared.ending.Ending.{Ending}
 use Rattle.jobs.specs.declared.ending.Ending.TheVariants as ending
 use Rattle.lane_jobs.specs.Lanes.{AreMade, class_ending}
-use Rattle.run_promise.specs.Carried.{mark_of}
-use Rattle.run_promise.specs.Dispatches.{Attempt, Dispatched, last_of, paired}
+use Rattle.job_terms.specs.Attempts.{mark_of}
+use Rattle.job_terms.specs.Dispatches.{Attempt, Dispatched, last_of, paired}
 use Rattle.run_promise.specs.Outcomes.{HasOutcome}
 use Rattle.run_promise.specs.Schedule.{source_bytes}
 use Rattle.run_promise.specs.Settled.{cause_of, is_memory}

@@ -15,7 +15,7 @@ use Rattle.s3_outside.specs.Files.{SeenFiles, shape_at}
 use Rattle.s3_outside.specs.declared.files.Shape.TheVariants as shape
 use Rattle.answer_classes.specs.Showing.{HasStatus, Shows}
 use Rattle.attempts.specs.Attempts.{text_of}
-use Rattle.run_promise.specs.Dispatches.{Dispatched}
+use Rattle.job_terms.specs.Dispatches.{Dispatched}
 use Rattle.run_promise.specs.Schedule.{bytes_of, source_bytes}
 use Rattle.run_promise.specs.Settled.{left_by, untimed_by}
 use Rattle.upload_promise.specs.Shown.{CallFailed, KeepsPromise, shown_by}

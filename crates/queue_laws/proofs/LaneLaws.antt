@@ -9,7 +9,7 @@ use Rattle.lane_queues.specs.Lanes as kept
 use Rattle.manager_moves.proofs.MoveLaws.{is_freest}
 use Rattle.manager_moves.specs.Lanes.{freest, jobs_in, out_before, out_in}
 use Rattle.manager_moves.specs.Runs.{Back, Called, Events, Lined, Made, Sent, Shared, Stopped}
-use Rattle.run_promise.specs.Schedule.{job_of}
+use Rattle.job_terms.specs.Jobs.{job_of}
 use Rattle.s3_model.specs.declared.outcomes.JobId.{JobId}
 use Rattle.queue_laws.specs.Holding.{BackLeaves, FreestIsFreest, HoldLanes, LanesBegin, OthersStay, OutIsOut, SentJoins}
 

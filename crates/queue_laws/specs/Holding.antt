@@ -5,7 +5,7 @@ use Rattle.lane_queues.specs.Lanes.{IsFreest, SeenLanes, out_of, with_jobs}
 use Rattle.lane_queues.specs.Lanes as kept
 use Rattle.manager_moves.specs.Lanes.{freest, jobs_in, out_before}
 use Rattle.manager_moves.specs.Runs.{Back, Event, Events, Sent, Shared}
-use Rattle.run_promise.specs.Schedule.{job_of}
+use Rattle.job_terms.specs.Jobs.{job_of}
 use Rattle.s3_model.specs.declared.requests.Op.{Op}
 
 -- lanes as they are kept hold what is out after those events

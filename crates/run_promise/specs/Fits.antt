@@ -11,7 +11,7 @@ use Rattle.s3_model.specs.declared.answers.Class.{Class}
 use Rattle.s3_model.specs.declared.answers.Class.TheVariants as class
 use Rattle.s3_model.specs.Talks.{Talk}
 use Rattle.s3_service.specs.Serves.{Answer, Replied, Refused}
-use Rattle.run_promise.specs.Dispatches.{Attempt, Dispatched}
+use Rattle.job_terms.specs.Dispatches.{Attempt, Dispatched}
 use Rattle.run_promise.specs.Traces.{SentRequest, TraceEvent, Given, Serve, Came, event_of, begun_in, served_in}
 use Rattle.run_promise.specs.Traces.{is_begin_of, marks_come, IsSameAttempt}
 

@@ -1,9 +1,7 @@
-pub mod Buffers
 pub mod Carried
 pub mod Dispatches
 pub mod Endings
 pub mod Fits
-pub mod Gains
 pub mod Outcomes
 pub mod Planning
 pub mod Runs

@@ -1,5 +1,5 @@
 -- How a task ended, by what the talks of its jobs show: the outcome that is printed, and its cause.
-use Rattle.std.specs.Prelude.{◌≡◌, ◌≢◌, ◌⊎◌, ℕ, Bool, true, false, List, [], Option, Some, None, slice_get, codes}
+use Rattle.std.specs.Prelude.{◌≡◌, ◌≢◌, ◌⊎◌, ℕ, true, false, List, [], Option, Some, None, slice_get, codes}
 use Rattle.std.specs.Prelude.{Contains, IsSome}
 use Rattle.s3_model.specs.declared.requests.Ask.{Ask}
 use Rattle.s3_model.specs.declared.requests.Op.{Op}
@@ -27,19 +27,13 @@ use Rattle.s3_model.specs.Files.{HeldFile, is_listed}
 use Rattle.s3_model.specs.Maps.{MapOf}
 use Rattle.s3_model.specs.Talks.{Talk}
 use Rattle.s3_service.specs.Serves.{taken_codes}
-use Rattle.run_promise.specs.Dispatches.{Attempt, Dispatched, FitsAsk, ShowsIn, last_of}
+use Rattle.run_promise.specs.Dispatches.{FitsAsk, ShowsIn}
+use Rattle.job_terms.specs.Dispatches.{Attempt, Dispatched, last_of}
 use Rattle.run_promise.specs.Schedule.{Setting, IsBefore, IsBeforePlace, IsDecided, IsFailed, HasReply, is_small}
-use Rattle.run_promise.specs.Schedule.{job_of}
+use Rattle.job_terms.specs.Jobs.{job_of}
+use Rattle.job_terms.specs.Ops.{deciding}
 
 -- ---- requests
-
--- the request that decides a task whose destination is an object
-abbrev pub deciding : Kind → Bool → Op
-deciding kind.Upload true = op.Put
-deciding kind.Upload false = op.Complete
-deciding kind.Copy true = op.Copy
-deciding kind.Copy false = op.Complete
-deciding of_kind small = op.Delete
 
 -- the kinds of task that such a request decides; a download is decided by its Gets, and a removal of a file by a call
 -- on files

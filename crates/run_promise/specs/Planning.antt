@@ -8,15 +8,8 @@ use Rattle.s3_model.specs.declared.answers.Reply.TheVariants as reply
 use Rattle.s3_model.specs.declared.answers.Class.{Class}
 use Rattle.s3_model.specs.declared.answers.Listed.{Listed}
 use Rattle.s3_model.specs.Talks.{Talk}
-use Rattle.run_promise.specs.Dispatches.{Dispatched, last_of}
+use Rattle.job_terms.specs.Dispatches.{Dispatched, last_of}
 use Rattle.run_promise.specs.Schedule.{HasReply}
-
--- planning asks for heads, pages and buckets
-abbrev pub IsPlanning : Ask → Type 0
-IsPlanning (ask.Head bucket key) = Unit {0}
-IsPlanning (ask.List bucket prefix delimited token) = Unit {0}
-IsPlanning ask.Buckets = Unit {0}
-IsPlanning asked = ⊥
 
 -- what a command needs to know: the answer to one request, or all pages of a listing
 pub data Need : Type 0 where

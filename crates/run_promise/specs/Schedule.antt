@@ -25,24 +25,16 @@ use Rattle.s3_model.specs.Documents.{document_of}
 use Rattle.s3_model.specs.Maps.{MapOf}
 use Rattle.s3_model.specs.Files.{HeldFile}
 use Rattle.s3_model.specs.Parts.{HasPieces, piece_range, piece_of}
-use Rattle.run_promise.specs.Dispatches.{Dispatched, Attempt, last_of, IsSuccessLast, IsCompletedWell, IsCut, IsFailing}
+use Rattle.run_promise.specs.Dispatches.{IsSuccessLast, IsCompletedWell, IsCut, IsFailing}
+use Rattle.job_terms.specs.Dispatches.{Dispatched, Attempt, last_of}
+use Rattle.job_terms.specs.Jobs.{IsSourceDelete, Origin, Target, job_of}
+use Rattle.job_terms.specs.Ops.{op_of}
 
 -- ---- what a job asks
 
 -- which successes came before: of which job, with which reply
 abbrev pub Gained : Type 1
 Gained = JobId → Reply → Type 0
-
-abbrev pub job_of : ℕ → Op → ℕ → JobId
-job_of task op number = record { task = Some task; op = op; number = number }
-
-abbrev pub IsObject : Place → List ℕ → List ℕ → Type 0
-IsObject (place.Object b k) bucket key = (b ≡ bucket) × (k ≡ key)
-IsObject (place.File path) bucket key = ⊥
-
-abbrev pub IsSource : Option Place → List ℕ → List ℕ → Type 0
-IsSource None bucket key = ⊥
-IsSource (Some of_place) bucket key = IsObject of_place bucket key
 
 -- the upload that Create named
 abbrev pub IsUpload : Gained → ℕ → List ℕ → Type 0
@@ -69,17 +61,6 @@ limit_of size piece number (ask.Get bucket key etag None) = size
 limit_of size piece number (ask.Get bucket key etag (Some range)) = (piece_range size piece number).1
 limit_of size piece number asked = most_body
 
--- where a request of a task goes to, and for a copy where it takes from
-pub record Target (task : Task) : Type 0 where
-  pub bucket : List ℕ
-  pub key : List ℕ
-  pub is_dest : IsObject task.dest bucket key
-
-pub record Origin (task : Task) : Type 0 where
-  pub bucket : List ℕ
-  pub key : List ℕ
-  pub is_source : IsSource task.source bucket key
-
 -- what of a task its jobs depend on: its number, the bytes of a source file, the length of a piece and their count
 pub record Known : Type 0 where
   pub number : ℕ
@@ -99,9 +80,6 @@ IsComplete gained task known part asked =
 abbrev pub IsAbort : Gained → Task → Known → Ask → Type 0
 IsAbort gained task known asked =
     (to : Target task) × (id : List ℕ) × IsUpload gained known.number id × (asked ≡ ask.Abort to.bucket to.key id)
-
-abbrev pub IsSourceDelete : Task → Ask → Type 0
-IsSourceDelete task asked = (from : Origin task) × (task.moves ≡ true) × (asked ≡ ask.Delete from.bucket from.key)
 
 -- The ask and the body of a task's job, by the task's kind, whether it is below the threshold, and the job's op.
 -- A job with no row here is never given.
@@ -143,21 +121,6 @@ IsTaskAsk gained task known kind.Copy small op.Delete number asked body =
 IsTaskAsk gained task known kind.RemoveObject small op.Delete number asked body =
     (to : Target task) × (number ≡ 0) × (asked ≡ ask.Delete to.bucket to.key) × (body ≡ [])
 IsTaskAsk gained task known of_kind small of_op number asked body = ⊥
-
--- the op of a request
-abbrev pub op_of : Ask → Op
-op_of (ask.Head bucket key) = op.Head
-op_of (ask.Get bucket key etag range) = op.Get
-op_of (ask.Put bucket key content fresh) = op.Put
-op_of (ask.Copy bucket key from_bucket from_key etag) = op.Copy
-op_of (ask.Delete bucket key) = op.Delete
-op_of (ask.Create bucket key content) = op.Create
-op_of (ask.Part bucket key upload number) = op.Part
-op_of (ask.PartCopy bucket key upload number from_bucket from_key etag range) = op.PartCopy
-op_of (ask.Complete bucket key upload etags fresh) = op.Complete
-op_of (ask.Abort bucket key upload) = op.Abort
-op_of (ask.List bucket prefix delimited token) = op.List
-op_of ask.Buckets = op.Buckets
 
 -- ---- which jobs are given
 

@@ -12,7 +12,7 @@ use Rattle.s3_model.specs.declared.outcomes.Reason.TheVariants as reason
 use Rattle.s3_model.specs.declared.tasks.Warning.{Warning}
 use Rattle.s3_model.specs.declared.tasks.Warning.TheVariants as warning
 use Rattle.s3_model.specs.Talks.{Talk}
-use Rattle.run_promise.specs.Dispatches.{Attempt, Dispatched, dispatches}
+use Rattle.job_terms.specs.Dispatches.{Attempt, Dispatched, dispatches}
 use Rattle.run_promise.specs.Outcomes.{SaysChanged}
 use Rattle.run_promise.specs.Schedule.{IsSchedule}
 use Rattle.run_promise.specs.Truthful.{Shown}

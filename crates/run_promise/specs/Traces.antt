@@ -1,20 +1,18 @@
 -- Traces of a service: what happened to it while a program ran, in one order.
-use Rattle.std.specs.Prelude.{◌≡◌, ◌==◌, ℕ, Bool, true, false, List, [], ◌∷◌, Option, Some, None, map, length, Contains}
-use Rattle.std.specs.Prelude.{IsSome, if◌then◌else◌}
+use Rattle.std.specs.Prelude.{◌≡◌, ◌==◌, ℕ, Bool, false, List, [], ◌∷◌, Option, Some, None, map, length, Contains}
+use Rattle.std.specs.Prelude.{if◌then◌else◌}
 use Rattle.s3_model.specs.declared.outcomes.JobId.{JobId}
 use Rattle.s3_model.specs.declared.outcomes.Event.{Event}
 use Rattle.s3_model.specs.declared.outcomes.Event.TheVariants as entry
 use Rattle.s3_model.specs.declared.requests.Ask.{Ask}
-use Rattle.s3_model.specs.declared.requests.Ask.TheVariants as ask
 use Rattle.s3_model.specs.declared.answers.Reply.{Reply}
-use Rattle.s3_model.specs.declared.answers.Reply.TheVariants as reply
 use Rattle.s3_model.specs.declared.settings.Limits.{Limits}
 use Rattle.s3_model.specs.declared.tries.Mark.{Mark}
-use Rattle.s3_model.specs.Files.{is_listed}
 use Rattle.s3_service.specs.ServiceState.{State, Object, HasBucket, object_at}
 use Rattle.s3_service.specs.Serves.{Answer, Replied, Refused, Serves, Succeeds, ExternalWrite, Writes, Removes}
-use Rattle.s3_service.specs.Serves.{bucket_of, after_external, taken_codes}
-use Rattle.run_promise.specs.Dispatches.{is_job}
+use Rattle.s3_service.specs.Serves.{bucket_of, after_external}
+use Rattle.job_terms.specs.Jobs.{is_job}
+use Rattle.s3_service.specs.Willing.{HasRange, IsWholeObject, SaysIfThere}
 
 -- a request that was begun: the nth attempt of its job, counted from 1, with its body
 pub record SentRequest : Type 0 where
@@ -121,25 +119,6 @@ pub record IsHonest (start : State) (trace : List Step) (IsKept : List ℕ → L
       → ¬ (IsKept bucket key)
 
 -- ---- willing traces
-
-abbrev pub IsWholeObject : Reply → Type 0
-IsWholeObject (reply.Got status range size) = status ≡ 200
-IsWholeObject answered = ⊥
-
-abbrev pub HasRange : Ask → Type 0
-HasRange (ask.Get bucket key etag (Some range)) = Unit {0}
-HasRange asked = ⊥
-
--- A request that is not to replace an object that is there is refused with a code that says so.
-abbrev pub IsRefusedAsTaken : Bool → State → (bucket key code : List ℕ) → Type 0
-IsRefusedAsTaken fresh t bucket key code =
-    fresh ≡ true → IsSome (object_at t bucket key) → is_listed taken_codes code ≡ true
-
--- what a Put and a Complete that are not to replace an object are refused with, where it is there
-abbrev pub SaysIfThere : State → Ask → (code : List ℕ) → Type 0
-SaysIfThere t (ask.Put bucket key content fresh) code = IsRefusedAsTaken fresh t bucket key code
-SaysIfThere t (ask.Complete bucket key id etags fresh) code = IsRefusedAsTaken fresh t bucket key code
-SaysIfThere t asked code = Unit {0}
 
 -- What may succeed does, and a Get with a range is not answered with the whole.
 abbrev pub IsWillingAt : Limits → State → TraceEvent → Type 0

@@ -1,5 +1,5 @@
 -- Truthful outcomes: what a run of `cp`, `mv`, `rm` and `sync` promises over every honest service.
-use Rattle.std.specs.Prelude.{◌≡◌, ◌++◌, ◌⊎◌, ℕ, Bool, true, false, List, [], ◌∷◌, Some, None, filter_map, length}
+use Rattle.std.specs.Prelude.{◌≡◌, ◌++◌, ◌⊎◌, ℕ, Bool, true, false, List, [], ◌∷◌, Some, None, length}
 use Rattle.std.specs.Prelude.{slice_get, Contains, IsNone}
 use Rattle.std.specs.FinMap.{get}
 use Rattle.s3_model.specs.declared.requests.Ask.{Ask}
@@ -23,13 +23,13 @@ use Rattle.s3_model.specs.Maps.{MapOf}
 use Rattle.s3_service.specs.ServiceState.{State, Object, object_at, HasBucket}
 use Rattle.s3_model.specs.Files.{HeldFile}
 use Rattle.s3_service.specs.Serves.{Replied, ExternalWrite, Writes, Removes}
-use Rattle.run_promise.specs.Dispatches.{Attempt, Dispatched}
+use Rattle.job_terms.specs.Dispatches.{Attempt, Dispatched}
 use Rattle.run_promise.specs.Traces.{Step, SentRequest, Begin, Serve, External, IsWilling, events_of, state_after}
 use Rattle.run_promise.specs.Runs.{Run, moments, HasEndedBy, IsFitting}
 use Rattle.run_promise.specs.Endings.{Excused, Scene, IsEnded, IsLeftover, IsNew, IsThereIn}
 use Rattle.run_promise.specs.Schedule.{Setting, IsSchedule}
 use Rattle.run_promise.specs.Outcomes.{HasOutcome}
-use Rattle.run_promise.specs.Buffers.{KeepsBuffers}
+use Rattle.job_terms.specs.Buffers.{KeepsBuffers}
 use Rattle.run_promise.specs.Carried.{IsCarried}
 
 -- What a run shows: its status, the plan with its outcomes, the journal, what each wire's log and notes gained, the

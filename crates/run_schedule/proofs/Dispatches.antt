@@ -3,7 +3,8 @@ use Rattle.std.proofs.Common.{append_assoc, append-nil, ◌≡◌, ◌∙◌, �
 use Rattle.std.proofs.lemmas.Grind.{reverse_onto}
 use Rattle.std.proofs.lemmas.List.{length-append}
 use Rattle.std.specs.Prelude.{nat_lt, reverse, sum_by, if◌then◌else◌}
-use Rattle.run_promise.specs.Dispatches.{Attempt, Dispatch, dispatches_from, earlier_dispatches, is_job, next_came, next_marks, paired, place_of}
+use Rattle.job_terms.specs.Dispatches.{Attempt, Dispatch, dispatches_from, earlier_dispatches, next_came, next_marks, paired, place_of}
+use Rattle.job_terms.specs.Jobs.{is_job}
 use Rattle.s3_model.specs.Talks.{Talk}
 use Rattle.s3_model.specs.declared.outcomes.Event.{Event as Entry}
 use Rattle.s3_model.specs.declared.outcomes.Event.TheVariants as entry
@@ -13,7 +14,7 @@ use Rattle.shared_lemmas.proofs.Clashes.{none_is_some, some_is}
 use Rattle.shared_lemmas.proofs.Members.{Has, has-append_cases, has-append_left, has-filter, has_at, has_middle, kept, passes, reversed}
 use Rattle.task_progress.proofs.Endings.{no}
 use Rattle.task_progress.proofs.Progress.{less_is}
-use Rattle.world_laws.proofs.Jobs.{job_itself, job_same}
+use Rattle.job_terms.proofs.SameJobs.{job_itself, job_same}
 use Rattle.run_schedule.proofs.Entries.{came_given, given_came, given_same}
 
 -- ---- where a job comes next

@@ -10,10 +10,12 @@ use Rattle.manager_moves.specs.Examples.{shared}
 use Rattle.manager_moves.specs.Laws.{IsRun}
 use Rattle.manager_moves.specs.Runs.{Back, Called, Event, Events, Lined, Sent, Stopped, journal_of, share}
 use Rattle.run_progress.specs.RunProgress.{HasMeans}
-use Rattle.run_promise.specs.Buffers.{holds_buffer}
-use Rattle.run_promise.specs.Carried.{AreNoted, IsCarried, IsSaid, IsWanting, Numbered, SaysAll, WouldGoOn, in_lane, mark_of, numbered_from, talks_of}
-use Rattle.run_promise.specs.Dispatches.{Attempt, Dispatched, last_of}
-use Rattle.run_promise.specs.Schedule.{IsBefore, IsBeforeAny, job_of}
+use Rattle.job_terms.specs.Buffers.{holds_buffer}
+use Rattle.run_promise.specs.Carried.{IsCarried, IsWanting, WouldGoOn}
+use Rattle.job_terms.specs.Attempts.{AreNoted, IsSaid, Numbered, SaysAll, in_lane, mark_of, numbered_from, talks_of}
+use Rattle.job_terms.specs.Dispatches.{Attempt, Dispatched, last_of}
+use Rattle.run_promise.specs.Schedule.{IsBefore, IsBeforeAny}
+use Rattle.job_terms.specs.Jobs.{job_of}
 use Rattle.s3_model.specs.Classes.{is_tried_again}
 use Rattle.s3_model.specs.Replies.{IsSameClass}
 use Rattle.s3_model.specs.Talks.{Began, Note, Talk}

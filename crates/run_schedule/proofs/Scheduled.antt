@@ -1,9 +1,10 @@
 -- A run with its planning keeps to the whole schedule.
 use Rattle.std.proofs.Common.{◌≡◌, ◌≢◌, ◌∙◌, ◌⊎◌, ◌<◌, ℕ, zero, suc, Bool, true, false, List, [], ◌∷◌, Option, Some, None, Contains, refl, sym, ap, inl, inr, arith, filter, slice_get}
 use Rattle.std.specs.Prelude.{IsPermutation, IsSome, if◌then◌else◌, is_some, not}
-use Rattle.run_promise.specs.Dispatches.{Dispatched, IsSuccessLast, last_of}
-use Rattle.run_promise.specs.Planning.{IsPlanning}
-use Rattle.run_promise.specs.Schedule.{IsBefore, IsBeforeAny, IsFailed, IsSchedule, Setting, is_planning, op_of, planning_of}
+use Rattle.run_promise.specs.Dispatches.{IsSuccessLast}
+use Rattle.job_terms.specs.Dispatches.{Dispatched, last_of}
+use Rattle.job_terms.specs.Ops.{IsPlanning, op_of}
+use Rattle.run_promise.specs.Schedule.{IsBefore, IsBeforeAny, IsFailed, IsSchedule, Setting, is_planning, planning_of}
 use Rattle.s3_model.specs.Talks.{Talk}
 use Rattle.s3_model.specs.declared.answers.Class.{Class}
 use Rattle.s3_model.specs.declared.outcomes.JobId.{JobId}

@@ -3,8 +3,9 @@ use Rattle.std.proofs.Common.{append_assoc, ◌≡◌, ◌∙◌, ◌⊎◌, ◌
 use Rattle.std.proofs.lemmas.List.{length-append}
 use Rattle.jobs.specs.Endings.{SeenCarried}
 use Rattle.manager_moves.specs.Runs.{Back, Event, Events, Sent, journal_of}
-use Rattle.run_promise.specs.Dispatches.{Attempt, Dispatch, Dispatched, next_came, next_marks, paired, place_of}
-use Rattle.run_promise.specs.Schedule.{Setting, job_of}
+use Rattle.job_terms.specs.Dispatches.{Attempt, Dispatch, Dispatched, next_came, next_marks, paired, place_of}
+use Rattle.run_promise.specs.Schedule.{Setting}
+use Rattle.job_terms.specs.Jobs.{job_of}
 use Rattle.s3_model.specs.Talks.{Note, Talk}
 use Rattle.s3_model.specs.declared.answers.Class.{Class}
 use Rattle.s3_model.specs.declared.outcomes.Event.{Event as Entry}
@@ -19,7 +20,7 @@ use Rattle.task_schedule.proofs.Deciding.{makes}
 use Rattle.task_schedule.proofs.Failures.{all_pairs}
 use Rattle.task_schedule.specs.Journals.{AreSent, IsBack, IsFirst, IsSecond, IsSent, place_after}
 use Rattle.world_laws.proofs.Carried.{are_given}
-use Rattle.world_laws.proofs.Jobs.{job_is}
+use Rattle.job_terms.proofs.SameJobs.{job_is}
 use Rattle.run_schedule.proofs.Dispatches.{ComesNext, StandsAt, comes_next, given_in_turn, marks_of, stands_in}
 use Rattle.run_schedule.proofs.Entries.{EventAt, back_entry, behind, entry_of, event_at, is_back, is_sent, journal_around, sent_entry}
 use Rattle.run_schedule.specs.Runs.{IsJournaled, JournalsShowSent}

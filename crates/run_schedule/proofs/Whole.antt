@@ -4,7 +4,7 @@ use Rattle.std.specs.Prelude.{IsSome, is_some, nat_lt, if◌then◌else◌, None
 use Rattle.manager_moves.specs.Runs.{Events, Sent, Shared, lacks_memory, made_count, share}
 use Rattle.run_progress.proofs.Progress.{tasks_have_ended}
 use Rattle.run_progress.proofs.Waiting.{is_waiting, memory_waits}
-use Rattle.run_promise.specs.Dispatches.{Dispatched}
+use Rattle.job_terms.specs.Dispatches.{Dispatched}
 use Rattle.run_promise.specs.Schedule.{Setting}
 use Rattle.s3_model.specs.Talks.{Note, Talk}
 use Rattle.s3_model.specs.declared.answers.Class.{Class}

@@ -9,9 +9,10 @@ use Rattle.jobs.specs.declared.what.What.{What}
 use Rattle.manager_moves.specs.Examples.{shared, upload}
 use Rattle.manager_moves.specs.Runs.{Back, Events, journal_of, share}
 use Rattle.run_progress.specs.RunProgress.{HasMeans}
-use Rattle.run_promise.specs.Carried.{AreNoted, IsCarried, IsSaid, IsWanting, Numbered, SaysAll, WouldGoOn, in_lane, mark_of, numbered_from, talks_of}
-use Rattle.run_promise.specs.Dispatches.{Attempt, Dispatched}
-use Rattle.run_promise.specs.Schedule.{job_of}
+use Rattle.run_promise.specs.Carried.{IsCarried, IsWanting, WouldGoOn}
+use Rattle.job_terms.specs.Attempts.{AreNoted, IsSaid, Numbered, SaysAll, in_lane, mark_of, numbered_from, talks_of}
+use Rattle.job_terms.specs.Dispatches.{Attempt, Dispatched}
+use Rattle.job_terms.specs.Jobs.{job_of}
 use Rattle.s3_model.specs.Classes.{is_tried_again}
 use Rattle.s3_model.specs.Talks.{Began, Moment, Note, Talk}
 use Rattle.s3_model.specs.declared.answers.Class.{Class}
@@ -29,7 +30,7 @@ use Rattle.shared_lemmas.proofs.Lists.{no_cons}
 use Rattle.shared_lemmas.proofs.Members.{contains_of, has}
 use Rattle.task_progress.proofs.Endings.{no, skipped}
 use Rattle.task_schedule.proofs.Witness.{back_same, came_at, only, run_is_met}
-use Rattle.task_schedule.specs.Asks.{IsStepOf}
+use Rattle.kept_jobs.specs.Steps.{IsStepOf}
 use Rattle.task_schedule.specs.Journals.{EndsAs}
 use Rattle.task_schedule.specs.Witness.{ShowsStored, no_talk, put_run, read_run, small_put, small_setting, small_task}
 use Rattle.run_schedule.proofs.Entries.{given_came}

@@ -6,9 +6,10 @@ use Rattle.jobs.specs.declared.ending.Ending.TheVariants as ending
 use Rattle.jobs.specs.declared.what.What.{What}
 use Rattle.manager_moves.specs.Examples.{back, shared}
 use Rattle.manager_moves.specs.Runs.{Called, Events, Lined, Made, Sent, share}
-use Rattle.run_promise.specs.Carried.{in_first}
-use Rattle.run_promise.specs.Dispatches.{Dispatched}
-use Rattle.run_promise.specs.Schedule.{Setting, job_of, most_body}
+use Rattle.job_terms.specs.Attempts.{in_first}
+use Rattle.job_terms.specs.Dispatches.{Dispatched}
+use Rattle.run_promise.specs.Schedule.{Setting, most_body}
+use Rattle.job_terms.specs.Jobs.{job_of}
 use Rattle.s3_model.specs.Documents.{document_of}
 use Rattle.s3_model.specs.Parts.{piece_of}
 use Rattle.s3_model.specs.Talks.{Began, Moment, Note, Talk}
@@ -29,7 +30,7 @@ use Rattle.task_acts.specs.Examples.{in_pieces}
 use Rattle.task_acts.specs.declared.acts.Act.TheVariants as act
 use Rattle.task_acts.specs.declared.acts.FileCame.TheVariants as file
 use Rattle.task_acts.specs.declared.work.Work.{Work}
-use Rattle.task_schedule.specs.Asks.{IsStepOf}
+use Rattle.kept_jobs.specs.Steps.{IsStepOf}
 use Rattle.task_schedule.specs.Journals.{ShowOne}
 use Rattle.task_schedule.specs.Witness.{no_talk, small_setting, small_task}
 use Rattle.run_schedule.specs.Runs.{IsWholeRun}

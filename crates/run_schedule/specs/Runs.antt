@@ -8,9 +8,9 @@ use Rattle.manager_moves.specs.Runs.{Back, Events, Shared, journal_of}
 use Rattle.manager_moves.specs.declared.moves.Move.TheVariants as move
 use Rattle.run_progress.specs.RunProgress.{HasMeans}
 use Rattle.run_promise.specs.Carried.{IsCarried}
-use Rattle.run_promise.specs.Dispatches.{Dispatched}
-use Rattle.run_promise.specs.Planning.{IsPlanning}
-use Rattle.run_promise.specs.Schedule.{IsBefore, IsSchedule, Setting, most_body, op_of, planning_of}
+use Rattle.job_terms.specs.Dispatches.{Dispatched}
+use Rattle.job_terms.specs.Ops.{IsPlanning, op_of}
+use Rattle.run_promise.specs.Schedule.{IsBefore, IsSchedule, Setting, most_body, planning_of}
 use Rattle.s3_model.specs.Talks.{Note, Talk}
 use Rattle.s3_model.specs.declared.answers.Class.{Class}
 use Rattle.s3_model.specs.declared.outcomes.Event.{Event as Entry}

@@ -5,13 +5,13 @@ use Rattle.jobs.specs.Jobs.{IsAskOf}
 use Rattle.jobs.specs.declared.what.What.{What}
 use Rattle.manager_moves.specs.Examples.{shared, upload}
 use Rattle.manager_moves.specs.Runs.{share}
-use Rattle.run_promise.specs.Carried.{in_first}
-use Rattle.run_promise.specs.Schedule.{job_of}
+use Rattle.job_terms.specs.Attempts.{in_first}
+use Rattle.job_terms.specs.Jobs.{job_of}
 use Rattle.s3_model.specs.Talks.{Began, Moment, Note, Talk}
 use Rattle.s3_model.specs.declared.bytes.Part.{Part}
 use Rattle.s3_model.specs.declared.requests.Ask.{Ask}
 use Rattle.s3_model.specs.declared.requests.Op.TheVariants as op
-use Rattle.task_schedule.specs.Asks.{IsStepOf}
+use Rattle.kept_jobs.specs.Steps.{IsStepOf}
 use Rattle.task_schedule.specs.Journals.{ShowOne}
 use Rattle.task_schedule.specs.Witness.{ShowsStored, no_talk, put_run, read_run, small_put, small_setting, small_task}
 use Rattle.run_schedule.specs.Runs.{IsWholeRun}

@@ -3,8 +3,8 @@ use Rattle.std.proofs.Common.{ℕ, [], ◌∷◌, Option, refl, sym, append-nil}
 use Rattle.s3_model.specs.Talks.{Moment, WireLog}
 use Rattle.s3_outside.specs.Seen.{IsSeenAfter}
 use Rattle.s3_outside.specs.Wire.{noted}
-use Rattle.run_promise.specs.Gains.{Gains}
-use Rattle.run_promise.proofs.GainLemmas.{gains_step}
+use Rattle.job_terms.specs.Gains.{Gains}
+use Rattle.job_terms.proofs.GainLemmas.{gains_step}
 use Rattle.run_show.specs.Urls.{IsMoment}
 
 pub is_moment : (moment : ℕ) (before after : Option WireLog) (b a : ℕ) → IsSeenAfter (noted (Moment moment)) before after b a → Gains before after (IsMoment moment)

@@ -13,7 +13,7 @@ use Rattle.s3_model.specs.declared.list.OutOfMemory.{OutOfMemory}
 use Rattle.s3_model.specs.declared.settings.Settings.{Settings}
 use Rattle.s3_model.specs.Talks.{WireLog}
 use Rattle.s3_words.specs.declared.commands.Command.{Command}
-use Rattle.run_promise.specs.Gains.{Gains}
+use Rattle.job_terms.specs.Gains.{Gains}
 use Rattle.run_report.specs.declared.run.Fatal.{Fatal}
 use Rattle.run_report.specs.declared.run.Fatal.TheVariants as fatal
 use Rattle.run_report.specs.declared.run.Run.{Run}

@@ -2,7 +2,7 @@
 
 ghost use Rattle.std.specs.Prelude.{◌≡◌, ◌≤◌, ◌<◌, [], ◌∷◌, IfOk, map, string_bytes};
 ghost use Rattle.upload_plans.specs.Commands.{IsObject, NamesObject, bucket_at, key_at};
-ghost use Rattle.run_promise.specs.Gains.{Gains};
+ghost use Rattle.job_terms.specs.Gains.{Gains};
 ghost use Rattle.run_show.specs.Urls.{IsMoment, MakesLine, url_line};
 
 use presigned_urls::{PresignFault, presign};

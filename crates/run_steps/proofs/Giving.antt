@@ -10,7 +10,7 @@ use Rattle.manager_moves.proofs.PartLaws.{nothing}
 use Rattle.manager_moves.proofs.QueueLaws.{ended_on}
 use Rattle.manager_moves.proofs.ShareLaws.{shares_are_histories}
 use Rattle.manager_moves.specs.Runs.{Events, Sent, Shared, lacks_memory, made_count, share, with_taken}
-use Rattle.run_promise.specs.Dispatches.{is_op, op_number}
+use Rattle.job_terms.specs.Ops.{is_op, op_number}
 use Rattle.s3_model.specs.declared.outcomes.Cause.TheVariants as cause
 use Rattle.s3_model.specs.declared.outcomes.Outcome.{Outcome}
 use Rattle.s3_model.specs.declared.outcomes.Outcome.TheVariants as outcome

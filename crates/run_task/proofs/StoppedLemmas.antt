@@ -5,8 +5,8 @@ use Rattle.s3_model.specs.declared.settings.Keys.{Keys}
 use Rattle.s3_model.specs.declared.tasks.Task.{Task}
 use Rattle.s3_model.specs.Talks.{WireLog}
 use Rattle.s3_outside.specs.Files.{SeenFiles}
-use Rattle.run_promise.specs.Gains.{Gains}
-use Rattle.run_promise.proofs.GainLemmas.{gains_nothing}
+use Rattle.job_terms.specs.Gains.{Gains}
+use Rattle.job_terms.proofs.GainLemmas.{gains_nothing}
 use Rattle.run_report.specs.declared.run.Run.{Run}
 use Rattle.run_report.specs.Taskless.{EndsForMemory}
 use Rattle.run_task.specs.Uploaded.{MayUpload}

@@ -4,7 +4,7 @@ ghost use Rattle.std.specs.Prelude.{◌≡◌, ◌≤◌, [], ◌∷◌, None, I
 ghost use Rattle.std.specs.Arc.{arc_value};
 ghost use Rattle.s3_model.specs.Validity.{IsWithin};
 ghost use Rattle.result_lines.specs.Tasks.{HasShownCause, HasSource};
-ghost use Rattle.run_promise.specs.Gains.{Gains};
+ghost use Rattle.job_terms.specs.Gains.{Gains};
 ghost use Rattle.upload_promise.specs.Sources.{LooksAt};
 ghost use Rattle.run_report.specs.Texts.{HasTexts, IsLineOf, err_lines, mode_in, out_lines};
 ghost use Rattle.run_task.specs.Rooms.{HasRoom};

@@ -9,7 +9,7 @@ use Rattle.object_table.specs.Refused.{IsNotRefused}
 use Rattle.object_table.specs.declared.fault.Refusal.{Refusal}
 use Rattle.object_table.specs.declared.fault.TableFault.{TableFault}
 use Rattle.object_table.specs.declared.fault.TableFault.TheVariants.{Refused, Memory}
-use Rattle.run_promise.specs.Traces.{HasRange, IsWholeObject, SaysIfThere}
+use Rattle.s3_service.specs.Willing.{HasRange, IsWholeObject, SaysIfThere}
 use Rattle.service_answers.specs.Statuses.{refusal_code}
 use Rattle.service_answers.specs.declared.gained.Gained.{Gained}
 use Rattle.table_service.specs.Served.{IsServed, reply_of}

@@ -6,7 +6,7 @@ use Rattle.s3_model.specs.declared.requests.Ask.{Ask}
 use Rattle.s3_model.specs.declared.settings.Limits.{Limits}
 use Rattle.object_table.specs.Codes.{state_code}
 use Rattle.object_table.specs.declared.fault.Refusal.{Refusal}
-use Rattle.run_promise.specs.Traces.{HasRange, IsWholeObject, SaysIfThere}
+use Rattle.s3_service.specs.Willing.{HasRange, IsWholeObject, SaysIfThere}
 use Rattle.s3_service.specs.ServiceState.{State, HasBucket}
 use Rattle.s3_service.specs.Serves.{ExternalWrite, Succeeds, after_external, bucket_of}
 use Rattle.service_answers.specs.Statuses.{refusal_code}

@@ -12,9 +12,9 @@ use Rattle.s3_outside.specs.Env.{SeenEnv}
 use Rattle.s3_outside.specs.Files.{SeenFiles}
 use Rattle.s3_words.specs.declared.commands.Command.{Command}
 use Rattle.upload_plans.specs.Commands.{is_listing, is_presign, path_at, source_path}
-use Rattle.run_promise.specs.Gains.{Gains}
+use Rattle.job_terms.specs.Gains.{Gains}
 use Rattle.upload_promise.specs.Sources.{LooksAt}
-use Rattle.run_promise.proofs.GainLemmas.{gains_as, gains_nothing}
+use Rattle.job_terms.proofs.GainLemmas.{gains_as, gains_nothing}
 use Rattle.run_report.specs.declared.run.Fatal.{Fatal}
 use Rattle.run_report.specs.declared.run.Fatal.TheVariants as fatal
 use Rattle.run_report.specs.declared.run.Run.{Run}

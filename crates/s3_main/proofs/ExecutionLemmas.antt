@@ -21,9 +21,9 @@ use Rattle.upload_plans.specs.Commands.{source_path}
 use Rattle.upload_plans.specs.declared.plan.Fate.{Fate}
 use Rattle.upload_plans.specs.declared.plan.Fate.TheVariants as fate
 use Rattle.upload_plans.proofs.FateLemmas.{large_of, task_of}
-use Rattle.run_promise.specs.Gains.{Gains}
+use Rattle.job_terms.specs.Gains.{Gains}
 use Rattle.upload_promise.specs.Uploads.{IsReadCause, WantsJournal}
-use Rattle.run_promise.proofs.GainLemmas.{gains_as, gains_nothing}
+use Rattle.job_terms.proofs.GainLemmas.{gains_as, gains_nothing}
 use Rattle.small_uploads.specs.Uploading.{Uploads, put_ask}
 use Rattle.run_report.specs.declared.run.Fatal.{Fatal}
 use Rattle.run_report.specs.declared.run.Fatal.TheVariants as fatal

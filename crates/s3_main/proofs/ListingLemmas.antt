@@ -32,8 +32,8 @@ use Rattle.s3_outside.specs.Env.{SeenEnv}
 use Rattle.s3_outside.specs.Files.{SeenFiles}
 use Rattle.s3_words.specs.declared.commands.Command.{Command}
 use Rattle.upload_plans.specs.Commands.{is_listing}
-use Rattle.run_promise.specs.Gains.{Gains}
-use Rattle.run_promise.proofs.GainLemmas.{gains_as}
+use Rattle.job_terms.specs.Gains.{Gains}
+use Rattle.job_terms.proofs.GainLemmas.{gains_as}
 use Rattle.run_report.specs.declared.run.Fatal.{Fatal}
 use Rattle.run_report.specs.declared.run.Fatal.TheVariants as fatal
 use Rattle.run_report.specs.declared.run.Run.{Run}

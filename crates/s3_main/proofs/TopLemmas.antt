@@ -20,7 +20,7 @@ use Rattle.listing_commands.specs.Commands.{ShowsListing}
 use Rattle.listing_commands.specs.declared.show.Shown.{Shown}
 use Rattle.listings.specs.declared.fault.ListingFault.{ListingFault}
 use Rattle.listings.proofs.SomeLemmas.{some_as}
-use Rattle.run_promise.proofs.GainLemmas.{gains_as}
+use Rattle.job_terms.proofs.GainLemmas.{gains_as}
 use Rattle.s3_model.specs.declared.outcomes.Outcome.{Outcome}
 use Rattle.s3_model.specs.declared.tasks.Warning.{Warning}
 use Rattle.s3_main.specs.Asked.{lists_in}

@@ -9,8 +9,8 @@ use Rattle.s3_outside.specs.Env.{SeenEnv}
 use Rattle.s3_words.specs.declared.commands.Command.{Command}
 use Rattle.s3_words.specs.declared.commands.Verb.{Verb}
 use Rattle.upload_plans.specs.Commands.{is_listing, is_presign}
-use Rattle.run_promise.specs.Gains.{Gains}
-use Rattle.run_promise.proofs.GainLemmas.{gains_as}
+use Rattle.job_terms.specs.Gains.{Gains}
+use Rattle.job_terms.proofs.GainLemmas.{gains_as}
 use Rattle.s3_model.specs.declared.outcomes.Outcome.{Outcome}
 use Rattle.s3_model.specs.declared.tasks.Mode.{Mode}
 use Rattle.s3_model.specs.declared.tasks.Task.{Task}

@@ -21,7 +21,7 @@ use Rattle.attempts.specs.Attempts.{text_of}
 use Rattle.list_walk.specs.Pages.{IsRefusedPage}
 use Rattle.listings.specs.Asked.{OfSomeTalks}
 use Rattle.listings.specs.Faults.{IsCauseOf}
-use Rattle.run_promise.specs.Dispatches.{Dispatched}
+use Rattle.job_terms.specs.Dispatches.{Dispatched}
 use Rattle.run_promise.specs.Planning.{PlansFor}
 use Rattle.upload_plans.specs.Commands.{is_listing, is_presign, source_path}
 use Rattle.upload_plans.specs.Plans.{is_large}

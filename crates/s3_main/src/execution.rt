@@ -4,7 +4,7 @@ ghost use Rattle.std.specs.Prelude.{◌≡◌, ◌≤◌, [], true, false, IfErr
 ghost use Rattle.s3_model.specs.Validity.{IsValidLimits, IsWithin};
 ghost use Rattle.upload_plans.specs.Commands.{CopiesUp, source_path};
 ghost use Rattle.upload_plans.specs.Plans.{HasNoMemory};
-ghost use Rattle.run_promise.specs.Gains.{Gains};
+ghost use Rattle.job_terms.specs.Gains.{Gains};
 ghost use Rattle.upload_promise.specs.Sources.{LooksAt};
 ghost use Rattle.s3_main.specs.Asked.{lists_in, path_in};
 ghost use Rattle.s3_main.specs.Executed.{

@@ -1,3 +1,4 @@
 pub mod Listing
 pub mod Serves
 pub mod ServiceState
+pub mod Willing

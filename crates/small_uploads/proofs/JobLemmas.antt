@@ -8,9 +8,9 @@ use Rattle.jobs.specs.Jobs.{IsAskOf, IsOfKind, IsOfTask, IsStepAsk, SeenJob, ran
 use Rattle.jobs.specs.declared.what.What.{What}
 use Rattle.jobs.specs.declared.what.What.TheVariants as what
 use Rattle.lane_jobs.specs.Lanes.{Carries, Ends, IsCarriedBy, IsSameJob, IsShare, KeepsCell, SeenCarrier, bytes_of, most_attempts, reason_of, request_for}
-use Rattle.run_promise.specs.Gains.{Gains}
-use Rattle.run_promise.proofs.GainLemmas.{gains_as}
-use Rattle.run_promise.specs.Schedule.{IsObject}
+use Rattle.job_terms.specs.Gains.{Gains}
+use Rattle.job_terms.proofs.GainLemmas.{gains_as}
+use Rattle.job_terms.specs.Jobs.{IsObject}
 use Rattle.s3_model.specs.declared.bytes.Part.{Part}
 use Rattle.s3_model.specs.declared.outcomes.Event.{Event}
 use Rattle.s3_model.specs.declared.outcomes.JobId.{JobId}

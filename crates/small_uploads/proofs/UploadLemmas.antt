@@ -23,8 +23,8 @@ use Rattle.s3_model.specs.declared.tries.Mark.TheVariants as mark
 use Rattle.s3_model.specs.Counts.{Rose}
 use Rattle.s3_model.specs.Talks.{WireLog}
 use Rattle.s3_outside.specs.Files.{SeenFiles}
-use Rattle.run_promise.specs.Gains.{Gains}
-use Rattle.run_promise.proofs.GainLemmas.{gains_nothing}
+use Rattle.job_terms.specs.Gains.{Gains}
+use Rattle.job_terms.proofs.GainLemmas.{gains_nothing}
 use Rattle.upload_promise.specs.Puts.{put_job}
 use Rattle.upload_promise.specs.Sources.{HasFewer}
 use Rattle.upload_promise.specs.Uploads.{IsReadCause, WantsJournal, is_open, put_events}

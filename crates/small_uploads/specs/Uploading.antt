@@ -8,7 +8,7 @@ use Rattle.jobs.specs.declared.ending.Ending.TheVariants as ending
 use Rattle.jobs.specs.declared.what.What.{What}
 use Rattle.jobs.specs.declared.what.What.TheVariants as what
 use Rattle.lane_jobs.specs.Lanes.{Ends, IsShare, most_attempts}
-use Rattle.run_promise.specs.Carried.{mark_of}
+use Rattle.job_terms.specs.Attempts.{mark_of}
 use Rattle.s3_model.specs.declared.answers.Class.{Class}
 use Rattle.s3_model.specs.declared.answers.Why.{Why}
 use Rattle.s3_model.specs.declared.answers.Why.TheVariants as why

@@ -2,7 +2,7 @@
 
 ghost use Rattle.std.specs.Prelude.{◌≡◌, ◌≤◌, [], Some, None};
 ghost use Rattle.std.specs.Arc.{arc_value};
-ghost use Rattle.run_promise.specs.Gains.{Gains};
+ghost use Rattle.job_terms.specs.Gains.{Gains};
 ghost use Rattle.upload_promise.specs.Puts.{put_job};
 ghost use Rattle.upload_promise.specs.Sources.{LooksAt};
 ghost use Rattle.upload_promise.specs.Uploads.{WantsJournal, is_open, is_uncertain};

@@ -5,7 +5,7 @@ use Rattle.std.specs.Prelude.{is_some}
 use Rattle.jobs.specs.Jobs.{HasPart, IsOfKind, IsOfTask}
 use Rattle.manager_moves.proofs.CountLemmas.{no}
 use Rattle.run_needs.specs.Needs.{part_bytes, piece_bytes}
-use Rattle.run_promise.specs.Buffers.{holds_buffer}
+use Rattle.job_terms.specs.Buffers.{holds_buffer}
 use Rattle.s3_model.specs.declared.bytes.Part.{Part}
 use Rattle.s3_model.specs.declared.requests.Op.{Op}
 use Rattle.s3_model.specs.declared.requests.Op.TheVariants as op

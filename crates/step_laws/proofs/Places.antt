@@ -13,7 +13,7 @@ use Rattle.kept_jobs.specs.Slots.{HasSlot, SeenKept, job_at, piece_slot, rank, s
 use Rattle.manager_moves.proofs.HoldLemmas.{same_number}
 use Rattle.run_needs.proofs.JobLemmas.{ready_job}
 use Rattle.run_needs.specs.Jobs.{jobs_for, source_jobs, upload_jobs}
-use Rattle.run_promise.specs.Dispatches.{is_op, op_number}
+use Rattle.job_terms.specs.Ops.{is_op, op_number}
 use Rattle.s3_model.specs.declared.requests.Ask.TheVariants as ask
 use Rattle.s3_model.specs.declared.requests.Op.{Op}
 use Rattle.s3_model.specs.declared.requests.Op.TheVariants as op

@@ -1,7 +1,7 @@
 -- What a job is given that a task is ready for, and that it fits.
 use Rattle.std.specs.Prelude.{◌≡◌, ◌≤◌, ◌<◌, ◌^◌, ℕ, true, IfSome, is_some}
 use Rattle.run_needs.specs.Needs.{part_bytes}
-use Rattle.run_promise.specs.Buffers.{holds_buffer}
+use Rattle.job_terms.specs.Buffers.{holds_buffer}
 use Rattle.s3_model.specs.Validity.{IsValidConfig, IsValidLimits}
 use Rattle.s3_model.specs.declared.settings.Config.{Config}
 use Rattle.s3_model.specs.declared.settings.Limits.{Limits}
@@ -15,7 +15,7 @@ use Rattle.task_acts.specs.Histories.{History}
 use Rattle.task_acts.specs.Kept.{IsHistory, upload_of}
 use Rattle.task_acts.specs.Rule.{is_ready_in}
 use Rattle.task_acts.specs.Work.{IsWorkOf}
-use Rattle.task_schedule.specs.Asks.{HasTags}
+use Rattle.kept_jobs.specs.Steps.{HasTags}
 
 -- The upload and the entity tags are those that the history says, and a part is there where the op takes one, with that
 -- room.

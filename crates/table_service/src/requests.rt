@@ -5,7 +5,7 @@ ghost use Rattle.std.specs.FinMap.{keys};
 ghost use Rattle.std.specs.Option.{is_some};
 ghost use Rattle.object_table.specs.Pages.{IsBehind};
 ghost use Rattle.object_table.specs.Refused.{IsNotRefused};
-ghost use Rattle.run_promise.specs.Traces.{HasRange, IsWholeObject, SaysIfThere};
+ghost use Rattle.s3_service.specs.Willing.{HasRange, IsWholeObject, SaysIfThere};
 ghost use Rattle.s3_model.specs.declared.answers.Reply.{Reply};
 ghost use Rattle.s3_model.specs.declared.places.Entry.{Entry};
 ghost use Rattle.s3_service.specs.Listing.{GoesOnAfter};

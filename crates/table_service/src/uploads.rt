@@ -2,7 +2,7 @@
 
 ghost use Rattle.std.specs.Prelude.{◌≡◌, List, ℕ, IfOk, OnErr, Err};
 ghost use Rattle.object_table.specs.Refused.{IsNotRefused};
-ghost use Rattle.run_promise.specs.Traces.{SaysIfThere};
+ghost use Rattle.s3_service.specs.Willing.{SaysIfThere};
 ghost use Rattle.s3_model.specs.declared.answers.Reply.{Reply};
 ghost use Rattle.s3_service.specs.ServiceState.{State};
 ghost use Rattle.s3_service.specs.Serves.{MayRefuse, Succeeds};

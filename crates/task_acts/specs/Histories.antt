@@ -1,7 +1,7 @@
 -- What happened to a task.
 use Rattle.std.specs.Prelude.{◌==◌, ◌&&◌, ℕ, Bool, true, false, List}
 use Rattle.jobs.specs.Endings.{SeenCarried}
-use Rattle.run_promise.specs.Dispatches.{is_op}
+use Rattle.job_terms.specs.Ops.{is_op}
 use Rattle.s3_model.specs.declared.outcomes.Reason.{Reason}
 use Rattle.s3_model.specs.declared.requests.Op.{Op}
 use Rattle.task_acts.specs.declared.acts.Act.{Act}

@@ -8,7 +8,7 @@ use Rattle.jobs.specs.declared.ending.Ending.TheVariants as ending
 use Rattle.kept_jobs.specs.Slots.{HasSlot, SeenKept, piece_slot, rank, slot, slots}
 use Rattle.kept_jobs.specs.Tags.{HasPart, SeenTags}
 use Rattle.piece_stages.specs.declared.piece.PieceStages.{PieceStages}
-use Rattle.run_promise.specs.Dispatches.{is_op}
+use Rattle.job_terms.specs.Ops.{is_op}
 use Rattle.s3_model.specs.declared.requests.Op.{Op}
 use Rattle.s3_model.specs.declared.requests.Op.TheVariants as op
 use Rattle.s3_model.specs.declared.tasks.Kind.{Kind}

@@ -26,7 +26,7 @@ use Rattle.task_acts.specs.Work.{piece_op}
 use Rattle.task_ends.specs.Causes.{SeenCauses, failure_of, is_stopped_by}
 use Rattle.task_stages.specs.Stages.{SeenStages, stage_by}
 use Rattle.task_core.specs.Machine.{IsSettled, SeenTask, Stands, part_act, ready_by, settled_by}
-use Rattle.run_promise.specs.Dispatches.{is_op, op_number}
+use Rattle.job_terms.specs.Ops.{is_op, op_number}
 use Rattle.std.proofs.lemmas.Bool.{cases_eq, eq-eqb, eqb-true, ne_eqb}
 use Rattle.std.proofs.lemmas.List.{get_or-set_same, get_or-set_other}
 use Rattle.std.specs.List.{range_with_len}

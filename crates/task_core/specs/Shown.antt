@@ -1,7 +1,7 @@
 -- What a job that came back shows of the task.
 use Rattle.std.specs.Prelude.{◌&&◌, ◌+◌, ◌==◌, ℕ, Bool, Option, Some, None, if◌then◌else◌}
 use Rattle.jobs.specs.Jobs.{SeenJob}
-use Rattle.run_promise.specs.Dispatches.{is_op}
+use Rattle.job_terms.specs.Ops.{is_op}
 use Rattle.s3_model.specs.declared.outcomes.JobId.{JobId}
 use Rattle.task_acts.specs.Ends.{is_by_request}
 use Rattle.task_acts.specs.Work.{deciding_op}

@@ -5,7 +5,7 @@ use Rattle.std.specs.List.{list_any}
 use Rattle.jobs.specs.Endings.{SeenCarried}
 use Rattle.kept_jobs.specs.Slots.{job_at}
 use Rattle.kept_jobs.specs.Tags.{HasPart, SeenTags}
-use Rattle.run_promise.specs.Dispatches.{is_op}
+use Rattle.job_terms.specs.Ops.{is_op}
 use Rattle.s3_model.specs.declared.outcomes.Reason.{Reason}
 use Rattle.s3_model.specs.declared.requests.Op.{Op}
 use Rattle.task_acts.specs.declared.acts.Act.{Act}

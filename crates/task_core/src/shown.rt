@@ -2,7 +2,7 @@
 
 ghost use Rattle.std.specs.Prelude.{◌≡◌, ◌&&◌, length, nat_lt};
 ghost use Rattle.std.specs.List.{list_any};
-ghost use Rattle.run_promise.specs.Dispatches.{is_op};
+ghost use Rattle.job_terms.specs.Ops.{is_op};
 ghost use Rattle.task_acts.specs.Ends.{decides, has_tries, is_by_request, is_uncertain};
 ghost use Rattle.task_acts.specs.Work.{deciding_op};
 ghost use Rattle.task_core.specs.Shown.{is_deciding};

@@ -1,7 +1,7 @@
 -- Which acts of a task can fail, by its kind and by whether it was decided.
 use Rattle.std.proofs.Common.{◌≡◌, ◌≢◌, ◌∙◌, ◌==◌, ◌&&◌, ◌⊎◌, ℕ, true, false, refl, sym, subst, ap, inl, inr, not}
 use Rattle.std.proofs.lemmas.Bool.{and_parts}
-use Rattle.run_promise.specs.Outcomes.{deciding}
+use Rattle.job_terms.specs.Ops.{deciding}
 use Rattle.s3_model.specs.declared.requests.Op.TheVariants as op
 use Rattle.s3_model.specs.declared.tasks.Kind.{Kind}
 use Rattle.s3_model.specs.declared.tasks.Kind.TheVariants as kind

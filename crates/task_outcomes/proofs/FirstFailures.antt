@@ -5,9 +5,10 @@ use Rattle.std.proofs.lemmas.List.Sorted.{Contains-permutation}
 use Rattle.std.specs.Prelude.{is_some, nat_lt}
 use Rattle.jobs.specs.Endings.{SeenCarried}
 use Rattle.manager_moves.specs.Runs.{Back, Events, Sent, Shared, share}
-use Rattle.run_promise.specs.Dispatches.{Dispatched}
+use Rattle.job_terms.specs.Dispatches.{Dispatched}
 use Rattle.run_promise.specs.Outcomes.{FailsFirstBy, HasNoFailure, IsFailureOf, IsLastCause}
-use Rattle.run_promise.specs.Schedule.{IsBeforePlace, IsFailed, Setting, job_of}
+use Rattle.run_promise.specs.Schedule.{IsBeforePlace, IsFailed, Setting}
+use Rattle.job_terms.specs.Jobs.{job_of}
 use Rattle.s3_model.specs.Talks.{Talk}
 use Rattle.s3_model.specs.declared.answers.Class.{Class}
 use Rattle.s3_model.specs.declared.outcomes.Cause.{Cause}

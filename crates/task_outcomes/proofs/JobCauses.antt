@@ -8,7 +8,8 @@ use Rattle.jobs.specs.Endings.{IsEnded, SeenCarried}
 use Rattle.jobs.specs.declared.ending.Ending.{Ending}
 use Rattle.jobs.specs.declared.ending.Ending.TheVariants as ending
 use Rattle.manager_moves.specs.Runs.{Events, Sent, Shared}
-use Rattle.run_promise.specs.Dispatches.{Attempt, Dispatched, FitsAsk}
+use Rattle.run_promise.specs.Dispatches.{FitsAsk}
+use Rattle.job_terms.specs.Dispatches.{Attempt, Dispatched}
 use Rattle.run_promise.specs.Outcomes.{IsCauseOf, IsLastCause, ReadsSource, SaysChanged}
 use Rattle.run_promise.specs.Schedule.{Setting}
 use Rattle.s3_model.specs.Talks.{Talk}

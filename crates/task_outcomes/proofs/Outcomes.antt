@@ -5,9 +5,11 @@ use Rattle.jobs.specs.Endings.{SeenCarried}
 use Rattle.jobs.specs.declared.ending.Ending.TheVariants as ending
 use Rattle.manager_moves.specs.Runs.{Events, Sent, Shared, lacks_memory, made_count, outcome_in, share, with_taken}
 use Rattle.run_progress.proofs.Waiting.{is_waiting, memory_waits}
-use Rattle.run_promise.specs.Dispatches.{Dispatched}
-use Rattle.run_promise.specs.Outcomes.{HasDeciding, HasOutcome, IsDecidedAt, IsFilePlace, IsObjectPlace, IsSourceDeleted, came_with, deciding}
-use Rattle.run_promise.specs.Schedule.{IsDecidedBy, Setting, is_small, job_of}
+use Rattle.job_terms.specs.Dispatches.{Dispatched}
+use Rattle.run_promise.specs.Outcomes.{HasDeciding, HasOutcome, IsDecidedAt, IsFilePlace, IsObjectPlace, IsSourceDeleted, came_with}
+use Rattle.job_terms.specs.Ops.{deciding}
+use Rattle.run_promise.specs.Schedule.{IsDecidedBy, Setting, is_small}
+use Rattle.job_terms.specs.Jobs.{job_of}
 use Rattle.run_promise.specs.Settled.{cause_of}
 use Rattle.run_promise.specs.Settled as promised
 use Rattle.s3_model.specs.Talks.{Talk}
@@ -65,8 +67,8 @@ use Rattle.task_schedule.proofs.Shown.{decides_is, outcomes_show}
 use Rattle.task_schedule.proofs.Sources.{download_decided}
 use Rattle.task_schedule.proofs.Standing.{act_itself, earlier}
 use Rattle.task_schedule.proofs.Successes.{sends}
-use Rattle.world_laws.proofs.Jobs.{job_is}
-use Rattle.world_laws.proofs.PieceCounts.{pieces_are_one}
+use Rattle.job_terms.proofs.SameJobs.{job_is}
+use Rattle.job_terms.proofs.PieceCounts.{pieces_are_one}
 use Rattle.task_outcomes.specs.Causes.{HaveOneStatus, IsTold, MovesSource, OutcomesHaveCauses}
 use Rattle.task_outcomes.proofs.Acts.{failed_removal, removes_moved}
 use Rattle.task_outcomes.proofs.FirstFailures.{none_failed}

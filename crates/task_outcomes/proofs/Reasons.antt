@@ -6,9 +6,11 @@ use Rattle.jobs.specs.Endings.{IsEnded, SeenCarried}
 use Rattle.jobs.specs.declared.ending.Ending.{Ending}
 use Rattle.jobs.specs.declared.ending.Ending.TheVariants as ending
 use Rattle.manager_moves.specs.Runs.{Back, Called, Events, Sent, Shared, Stopped, share}
-use Rattle.run_promise.specs.Dispatches.{Attempt, Dispatched, is_op}
+use Rattle.job_terms.specs.Dispatches.{Attempt, Dispatched}
+use Rattle.job_terms.specs.Ops.{is_op}
 use Rattle.run_promise.specs.Outcomes.{FailsFirstBy, FailsFor, IsCallOf, IsDecidingJob, IsFilePlace, IsLastCause, IsLastTried, IsOpenFor, StaysFor}
-use Rattle.run_promise.specs.Schedule.{Setting, job_of}
+use Rattle.run_promise.specs.Schedule.{Setting}
+use Rattle.job_terms.specs.Jobs.{job_of}
 use Rattle.s3_model.specs.Talks.{Talk}
 use Rattle.s3_model.specs.declared.answers.Class.{Class}
 use Rattle.s3_model.specs.declared.outcomes.Cause.{Cause}

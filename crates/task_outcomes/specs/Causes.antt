@@ -3,7 +3,7 @@ use Rattle.std.specs.Prelude.{◌≡◌, ◌++◌, ◌∷◌, ℕ, true, List, S
 use Rattle.jobs.specs.Endings.{SeenCarried}
 use Rattle.jobs.specs.declared.ending.Ending.TheVariants as ending
 use Rattle.manager_moves.specs.Runs.{Back, Called, Events, Shared, outcome_in}
-use Rattle.run_promise.specs.Dispatches.{Attempt, Dispatched, last_of}
+use Rattle.job_terms.specs.Dispatches.{Attempt, Dispatched, last_of}
 use Rattle.run_promise.specs.Outcomes.{HasOutcome, IsFilePlace}
 use Rattle.run_promise.specs.Schedule.{Setting}
 use Rattle.run_promise.specs.Settled.{cause_of, is_memory}

@@ -3,7 +3,7 @@ use Rattle.std.proofs.Common.{◌≡◌, ◌∙◌, ◌==◌, ◌&&◌, ◌⊎�
 use Rattle.std.proofs.lemmas.Bool.{and_parts, eqb-true, ltb-true}
 use Rattle.std.specs.List.{range_with_len}
 use Rattle.std.specs.Prelude.{[], ◌∷◌, if◌then◌else◌}
-use Rattle.run_promise.specs.Dispatches.{is_op, op_number}
+use Rattle.job_terms.specs.Ops.{is_op, op_number}
 use Rattle.s3_model.specs.declared.requests.Op.{Op}
 use Rattle.s3_model.specs.declared.requests.Op.TheVariants as op
 use Rattle.s3_model.specs.declared.tasks.Kind.{Kind}
@@ -19,7 +19,7 @@ use Rattle.task_acts.specs.Kept.{IsHistory}
 use Rattle.task_acts.specs.Rule.{acts_of, file_acts, is_due, is_left_over, is_named, is_ready_in, piece_sends, reads, single_sends}
 use Rattle.task_acts.specs.Stages.{carried_stage, file_stage, given_stage, is_out, may_be_given, stage}
 use Rattle.task_acts.specs.Work.{first_number, is_piece, numbers, piece_op}
-use Rattle.world_laws.proofs.Jobs.{op_same}
+use Rattle.job_terms.proofs.SameJobs.{op_same}
 use Rattle.shared_lemmas.proofs.Members.{Has, has-append_left, has-append_right, has-map}
 use Rattle.task_progress.proofs.Endings.{no}
 

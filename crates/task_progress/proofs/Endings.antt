@@ -6,7 +6,7 @@ use Rattle.std.specs.Prelude.{is_some, if◌then◌else◌}
 use Rattle.jobs.specs.Endings.{SeenCarried}
 use Rattle.jobs.specs.declared.ending.Ending.{Ending}
 use Rattle.jobs.specs.declared.ending.Ending.TheVariants as ending
-use Rattle.run_promise.specs.Dispatches.{is_op, op_number}
+use Rattle.job_terms.specs.Ops.{is_op, op_number}
 use Rattle.s3_model.specs.declared.outcomes.Cause.{Cause}
 use Rattle.s3_model.specs.declared.requests.Op.{Op}
 use Rattle.s3_model.specs.declared.tries.Mark.{Mark}
@@ -22,7 +22,7 @@ use Rattle.task_acts.specs.Kept.{IsHistory, MayHappen}
 use Rattle.task_acts.specs.Rule.{is_named}
 use Rattle.task_acts.specs.Stages.{carried_stage, given_stage, has_done, is_out, may_be_given, stage}
 use Rattle.task_acts.specs.Work.{deciding_op}
-use Rattle.world_laws.proofs.Jobs.{op_same}
+use Rattle.job_terms.proofs.SameJobs.{op_same}
 
 pub no : {P : Type 0} → false ≡ true → P
 no e = cc

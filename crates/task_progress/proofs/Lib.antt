@@ -1,5 +1,6 @@
 pub mod Begun
 pub mod Endings
+pub mod PieceNumbers
 pub mod Pieces
 pub mod Progress
 pub mod Quiet

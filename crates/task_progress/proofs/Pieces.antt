@@ -8,8 +8,7 @@ use Rattle.s3_model.specs.declared.tasks.Kind.TheVariants as kind
 use Rattle.s3_model.specs.Parts.{HasPieces, IsTransfer}
 use Rattle.s3_model.specs.Validity.{IsValidConfig, IsValidLimits}
 use Rattle.task_progress.specs.Progress.{WorkHasPieces}
-use Rattle.world_laws.proofs.PieceCounts.{in_parts}
-use Rattle.world_laws.proofs.Pieces.{some_pieces}
+use Rattle.job_terms.proofs.PieceCounts.{in_parts, some_pieces}
 
 module _ (config : Config) (limits : Limits) (valid : IsValidConfig config) (fit : IsValidLimits limits) (size piece count : ℕ) where
   abbrev Counted : Bool → Type 0

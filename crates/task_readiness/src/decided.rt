@@ -1,7 +1,7 @@
 //! Whether a task is decided, and whether something of it is out.
 
 ghost use Rattle.std.specs.Prelude.{◌≡◌, ◌&&◌, ◌||◌, not, Bool};
-ghost use Rattle.run_promise.specs.Outcomes.{deciding};
+ghost use Rattle.job_terms.specs.Ops.{deciding};
 ghost use Rattle.task_acts.specs.Ends.{removal};
 ghost use Rattle.task_acts.specs.Rule.{is_decided, is_idle};
 ghost use Rattle.task_acts.specs.Stages.{has_done};

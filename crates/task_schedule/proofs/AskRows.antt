@@ -6,7 +6,8 @@ use Rattle.std.specs.Prelude.{length, slice_get, nat_lt}
 use Rattle.jobs.specs.Jobs.{IsDelete, IsStepAsk, ends_of, stated_content}
 use Rattle.jobs.specs.declared.what.What.TheVariants as what
 use Rattle.kept_jobs.specs.Tags.{present}
-use Rattle.run_promise.specs.Schedule.{AreETags, IsTaskAsk, IsUpload, job_of}
+use Rattle.run_promise.specs.Schedule.{AreETags, IsTaskAsk, IsUpload}
+use Rattle.job_terms.specs.Jobs.{job_of, IsSourceDelete}
 use Rattle.s3_model.specs.Documents.{document_of}
 use Rattle.s3_model.specs.Lists.{Reserved}
 use Rattle.s3_model.specs.Parts.{HasPieces, IsTransfer, piece_of, piece_range}
@@ -29,17 +30,18 @@ use Rattle.task_acts.specs.Rule.{is_due, is_left_over, is_named, is_ready_in}
 use Rattle.task_acts.specs.Stages.{may_be_given, stage}
 use Rattle.task_acts.specs.Work.{is_piece, piece_op}
 use Rattle.shared_lemmas.proofs.Clashes.{some_is}
-use Rattle.task_progress.proofs.Begun.{begun_calls, is_false}
+use Rattle.task_progress.proofs.Begun.{begun_calls, is_false, from_range}
 use Rattle.task_progress.proofs.Endings.{chosen, no, skipped}
 use Rattle.task_progress.proofs.Quiet.{done_has_begun}
 use Rattle.task_progress.proofs.Tags.{each_part, tag_there}
-use Rattle.task_schedule.specs.Asks.{AreOfTask, AsksAreOfSchedule, HasTags, IsBodyOf, bytes_at, gained_in, known_of}
+use Rattle.task_schedule.specs.Asks.{AreOfTask, AsksAreOfSchedule, IsBodyOf, bytes_at, gained_in, known_of}
+use Rattle.kept_jobs.specs.Steps.{HasTags}
 use Rattle.task_schedule.proofs.Successes.{all_present, is_gained, tag_came, upload_came}
 use Rattle.std.proofs.lemmas.Bool.{ltb-true}
 use Rattle.task_acts.specs.Work.{first_number}
-use Rattle.run_promise.specs.Schedule.{IsAbort, IsComplete, IsSourceDelete}
+use Rattle.run_promise.specs.Schedule.{IsAbort, IsComplete}
 use Rattle.task_acts.specs.Stages.{has_done}
-use Rattle.task_progress.proofs.Begun.{from_range}
+use Rattle.task_progress.proofs.PieceNumbers.{is_zero, of_part, one_piece, only_piece}
 
 -- the kinds that may go in parts
 abbrev GoesInParts : Kind → Type 0
@@ -60,31 +62,6 @@ no_document asked h = refl
 
 empty : (asked is : Ask) (body : List ℕ) → asked ≡ is → HasNoDocument is → body ≡ document_of asked → body ≡ []
 empty asked is body e h b = b ∙ ap document_of e ∙ no_document is h
-
--- ---- numbers of pieces
-
-module _ (w : Work) (m : ℕ) where
-  inside : is_piece w m ≡ true → (first_number w ≤ m) × (m < first_number w + w.count)
-  inside e =
-      let two = and_parts (nat_lt m (first_number w + w.count)) (nat_lt (first_number w) (m + 1)) e in
-      let below = ltb-true m (first_number w + w.count) two.0 in
-      let above = ltb-true (first_number w) (m + 1) two.1 in
-      (omega arith, below)
-
-  pub only_piece : w.small ≡ true → w.count ≡ 1 → is_piece w m ≡ true → m ≡ 0
-  only_piece small one e =
-      let range = inside e in
-      let first : first_number w ≡ 0 = chosen w.small 0 1 small in
-      omega arith
-
-  pub of_part : w.small ≡ false → is_piece w m ≡ true → (1 ≤ m) × (m ≤ w.count)
-  of_part large e =
-      let range = inside e in
-      let first : first_number w ≡ 1 = skipped w.small 0 1 large in
-      (omega arith, omega arith)
-
-pub is_zero : (m : ℕ) → (m == 0) ≡ true → m ≡ 0
-is_zero m e = eqb-true m 0 e
 
 not_zero : (m : ℕ) → 1 ≤ m → (m == 0) ≡ false
 not_zero m l = grind arith
@@ -291,17 +268,6 @@ module _ (task : Task) (w : Work) (h : History) (n : ℕ) (bytes : List ℕ) (ho
     row false k is ik o ready named step tags b = due_row k is ik w.small refl o ready (subst (λ (x : Kind). is_due w (stage w h) false x (act.Send o m) ≡ true) is named) step tags b
 
 -- ---- the law
-
-one_transfer : (config : Config) (limits : Limits) (size piece count : ℕ) → IsTransfer config limits size piece count → nat_lt size config.threshold ≡ true → count ≡ 1
-one_transfer config limits size piece count (inl small) e = small.2
-one_transfer config limits size piece count (inr large) e = let below = ltb-true size config.threshold e in let above = large.0 in absurd (omega arith)
-
-pub one_piece : (config : Config) (limits : Limits) (k : Kind) (size piece count : ℕ) → HasPieces config limits k size piece count → nat_lt size config.threshold ≡ true → count ≡ 1
-one_piece config limits kind.Upload size piece count has e = one_transfer config limits size piece count has e
-one_piece config limits kind.Download size piece count has e = one_transfer config limits size piece count has e
-one_piece config limits kind.Copy size piece count has e = one_transfer config limits size piece count has e
-one_piece config limits kind.RemoveObject size piece count has e = has.1
-one_piece config limits kind.RemoveFile size piece count has e = has.1
 
 pub asks_are_of_schedule : AsksAreOfSchedule
 asks_are_of_schedule task config limits w h n bytes o m (what.Plan planned) asked body is holds of ready step asks b = absurd step

@@ -8,8 +8,9 @@ use Rattle.jobs.specs.declared.what.What.{What}
 use Rattle.manager_moves.specs.Examples.{put_out, shared, upload}
 use Rattle.manager_moves.specs.Runs.{Back, Called, Events, Made, Sent, Stopped, share}
 use Rattle.manager_moves.specs.declared.moves.Move.TheVariants as move
-use Rattle.run_promise.specs.Dispatches.{Dispatched}
-use Rattle.run_promise.specs.Schedule.{Setting, job_of}
+use Rattle.job_terms.specs.Dispatches.{Dispatched}
+use Rattle.run_promise.specs.Schedule.{Setting}
+use Rattle.job_terms.specs.Jobs.{job_of}
 use Rattle.s3_model.specs.declared.bytes.Part.{Part}
 use Rattle.s3_model.specs.declared.outcomes.Cause.{Cause}
 use Rattle.s3_model.specs.declared.outcomes.Cause.TheVariants as cause
@@ -27,7 +28,7 @@ use Rattle.task_acts.specs.declared.acts.FileCame.TheVariants as file
 use Rattle.task_acts.specs.declared.work.Work.{Work}
 use Rattle.task_acts.specs.Ends.{outcome_of}
 use Rattle.task_progress.proofs.Endings.{no}
-use Rattle.task_schedule.specs.Asks.{IsStepOf}
+use Rattle.kept_jobs.specs.Steps.{IsStepOf}
 use Rattle.task_schedule.specs.Breaks.{BreakAlone, BreaksAlone, EachBreaksAlone, Example, Premise, PremisesAreAll, Says}
 use Rattle.task_schedule.specs.Breaks.{Asks, Cancels, Coming, Ends, Failures, Jobs, Order, Place, Run, Works}
 use Rattle.task_schedule.specs.Breaks.{other_size, put_still_out, told_cancel, untold_cancel, untold_failure, without_coming, without_dispatch, without_room, without_work}

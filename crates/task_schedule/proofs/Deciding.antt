@@ -2,9 +2,11 @@
 use Rattle.std.proofs.Common.{◌≡◌, ◌∙◌, ◌==◌, ◌&&◌, ◌++◌, ℕ, zero, suc, true, List, [], ◌∷◌, Some, refl, sym, subst, ap, arith, slice_get, map}
 use Rattle.std.proofs.lemmas.Bool.{and_parts, eqb-true}
 use Rattle.jobs.specs.Endings.{SeenCarried}
-use Rattle.run_promise.specs.Dispatches.{Attempt, Dispatched, is_op, op_number}
-use Rattle.run_promise.specs.Outcomes.{HasDeciding, IsDecidedByRequest, deciding}
-use Rattle.run_promise.specs.Schedule.{Setting, is_small, job_of}
+use Rattle.job_terms.specs.Dispatches.{Attempt, Dispatched}
+use Rattle.job_terms.specs.Ops.{is_op, op_number, deciding}
+use Rattle.run_promise.specs.Outcomes.{HasDeciding, IsDecidedByRequest}
+use Rattle.run_promise.specs.Schedule.{Setting, is_small}
+use Rattle.job_terms.specs.Jobs.{job_of}
 use Rattle.s3_model.specs.Talks.{Talk}
 use Rattle.s3_model.specs.declared.answers.Class.{Class}
 use Rattle.s3_model.specs.declared.outcomes.Cause.{Cause}
@@ -21,7 +23,7 @@ use Rattle.task_acts.specs.Histories.{Came}
 use Rattle.task_acts.specs.Work.{IsWorkOf, deciding_op}
 use Rattle.shared_lemmas.proofs.Clashes.{none_is_some, some_is}
 use Rattle.shared_lemmas.proofs.Members.{Has, contains_of, has, has_at, has_middle, split_of}
-use Rattle.world_laws.proofs.Jobs.{job_is, op_same}
+use Rattle.job_terms.proofs.SameJobs.{job_is, op_same}
 use Rattle.task_progress.proofs.Endings.{no}
 use Rattle.task_progress.proofs.Progress.{both}
 use Rattle.manager_moves.specs.Runs.{Back, Events, Sent, Shared, share}

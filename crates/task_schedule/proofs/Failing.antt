@@ -5,7 +5,8 @@ use Rattle.std.proofs.lemmas.List.{length-append}
 use Rattle.std.proofs.lemmas.List.Sorted.{Contains-permutation, IsPermutation-sym}
 use Rattle.std.specs.Prelude.{if◌then◌else◌, is_some, nat_lt, IsSome}
 use Rattle.jobs.specs.Endings.{SeenCarried}
-use Rattle.run_promise.specs.Dispatches.{Dispatched, IsCompletedWell, IsCut, IsFailing}
+use Rattle.run_promise.specs.Dispatches.{IsCompletedWell, IsCut, IsFailing}
+use Rattle.job_terms.specs.Dispatches.{Dispatched}
 use Rattle.run_promise.specs.Schedule.{IsBeforeAny, IsStopped, Setting}
 use Rattle.s3_model.specs.Talks.{Talk}
 use Rattle.s3_model.specs.declared.answers.Class.{Class}

@@ -5,8 +5,9 @@ use Rattle.std.specs.Prelude.{IsSome, is_some, if◌then◌else◌}
 use Rattle.jobs.specs.Endings.{IsEnded, IsReplyTo, SeenCarried}
 use Rattle.jobs.specs.declared.ending.Ending.{Ending}
 use Rattle.jobs.specs.declared.ending.Ending.TheVariants as ending
-use Rattle.run_promise.specs.Dispatches.{Attempt, Dispatched, last_of}
-use Rattle.run_promise.specs.Schedule.{HasReply, IsBefore, IsDecided, IsDecidedBy, IsTaskAsk, IsUpload, Setting, gained_before, is_small, job_of, limit_of, source_bytes}
+use Rattle.job_terms.specs.Dispatches.{Attempt, Dispatched, last_of}
+use Rattle.run_promise.specs.Schedule.{HasReply, IsBefore, IsDecided, IsDecidedBy, IsTaskAsk, IsUpload, Setting, gained_before, is_small, limit_of, source_bytes}
+use Rattle.job_terms.specs.Jobs.{job_of}
 use Rattle.s3_model.specs.Parts.{HasPieces}
 use Rattle.s3_model.specs.Talks.{Talk}
 use Rattle.s3_model.specs.declared.answers.Class.{Class}
@@ -31,8 +32,8 @@ use Rattle.task_acts.specs.Work.{IsWorkOf}
 use Rattle.shared_lemmas.proofs.Clashes.{none_is_some, some_is, true_is_false}
 use Rattle.shared_lemmas.proofs.Lists.{tail_is}
 use Rattle.shared_lemmas.proofs.Members.{Has, contains_of, has, has_at, has_middle, split_of}
-use Rattle.world_laws.proofs.Jobs.{job_is}
-use Rattle.world_laws.proofs.PieceCounts.{pieces_are_one}
+use Rattle.job_terms.proofs.SameJobs.{job_is}
+use Rattle.job_terms.proofs.PieceCounts.{pieces_are_one}
 use Rattle.task_progress.proofs.Endings.{no}
 use Rattle.manager_moves.specs.Runs.{Back, Events, Sent, Shared, share, with_taken}
 use Rattle.task_schedule.specs.Asks.{AreOfTask, gained_in, known_of}

@@ -5,7 +5,7 @@ use Rattle.std.proofs.lemmas.Option.{get_or_from_slice_get, slice_get-get_or, sl
 use Rattle.jobs.specs.Endings.{EndIn, HaveNoSuccess, IsEnded, SeenCarried}
 use Rattle.jobs.specs.declared.ending.Ending.{Ending}
 use Rattle.jobs.specs.declared.ending.Ending.TheVariants as ending
-use Rattle.run_promise.specs.Dispatches.{last_of}
+use Rattle.job_terms.specs.Dispatches.{last_of}
 use Rattle.s3_model.specs.declared.answers.Reply.{Reply}
 use Rattle.s3_model.specs.declared.tries.Mark.{Mark}
 use Rattle.s3_model.specs.declared.tries.Mark.TheVariants as mark

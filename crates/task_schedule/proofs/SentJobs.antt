@@ -4,8 +4,9 @@ use Rattle.std.specs.Prelude.{if◌then◌else◌, is_some, nat_lt}
 use Rattle.std.proofs.lemmas.Bool.{ltb-true}
 use Rattle.s3_model.specs.declared.requests.Op.TheVariants as op
 use Rattle.jobs.specs.Endings.{SeenCarried}
-use Rattle.run_promise.specs.Dispatches.{Dispatched}
-use Rattle.run_promise.specs.Schedule.{Setting, job_of}
+use Rattle.job_terms.specs.Dispatches.{Dispatched}
+use Rattle.run_promise.specs.Schedule.{Setting}
+use Rattle.job_terms.specs.Jobs.{job_of}
 use Rattle.s3_model.specs.Talks.{Talk}
 use Rattle.s3_model.specs.declared.answers.Class.{Class}
 use Rattle.s3_model.specs.declared.outcomes.JobId.{JobId}
@@ -21,7 +22,7 @@ use Rattle.task_acts.specs.Kept.{IsHistory, kept_job}
 use Rattle.task_acts.specs.Stages.{given_stage, stage}
 use Rattle.shared_lemmas.proofs.Lists.{tail_is}
 use Rattle.shared_lemmas.proofs.Members.{Has, contains_of, has, has-append_cases, has-append_right, has_middle, split_of}
-use Rattle.world_laws.proofs.Jobs.{job_is}
+use Rattle.job_terms.proofs.SameJobs.{job_is}
 use Rattle.task_progress.proofs.Begun.{has_begun, out_has_begun}
 use Rattle.task_progress.proofs.Endings.{chosen}
 use Rattle.manager_moves.proofs.MoveLaws.{in_front}

@@ -8,8 +8,7 @@ use Rattle.std.specs.Prelude.{if◌then◌else◌, is_some}
 use Rattle.jobs.specs.Endings.{EndIn, IsEnded, IsReplyTo, SeenCarried}
 use Rattle.jobs.specs.declared.ending.Ending.{Ending}
 use Rattle.jobs.specs.declared.ending.Ending.TheVariants as ending
-use Rattle.run_promise.specs.Dispatches.{is_op, op_number}
-use Rattle.run_promise.specs.Outcomes.{deciding}
+use Rattle.job_terms.specs.Ops.{is_op, op_number, deciding}
 use Rattle.s3_model.specs.declared.answers.Reply.{Reply}
 use Rattle.s3_model.specs.declared.answers.Reply.TheVariants as reply
 use Rattle.s3_model.specs.declared.outcomes.Cause.{Cause}

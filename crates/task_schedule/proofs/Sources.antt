@@ -2,8 +2,9 @@
 use Rattle.std.proofs.Common.{◌≡◌, ◌≢◌, ℕ, Bool, true, false, ◌∷◌, refl, sym, subst, inr, arith}
 use Rattle.std.proofs.lemmas.Bool.{and_parts}
 use Rattle.std.specs.List.{range_with_len}
-use Rattle.run_promise.specs.Outcomes.{deciding}
-use Rattle.run_promise.specs.Schedule.{IsDecidedBy, job_of}
+use Rattle.job_terms.specs.Ops.{deciding}
+use Rattle.run_promise.specs.Schedule.{IsDecidedBy}
+use Rattle.job_terms.specs.Jobs.{job_of}
 use Rattle.s3_model.specs.declared.requests.Op.{Op}
 use Rattle.s3_model.specs.declared.requests.Op.TheVariants as op
 use Rattle.s3_model.specs.declared.tasks.Kind.{Kind}

@@ -2,7 +2,7 @@
 use Rattle.std.proofs.Common.{◌≡◌, ◌∙◌, ◌==◌, ◌&&◌, ◌⊎◌, ◌++◌, ℕ, Bool, true, false, [], ◌∷◌, refl, sym, subst, ap, inl, inr, arith}
 use Rattle.std.specs.Prelude.{if◌then◌else◌, is_some}
 use Rattle.jobs.specs.Endings.{SeenCarried}
-use Rattle.run_promise.specs.Dispatches.{is_op, op_number}
+use Rattle.job_terms.specs.Ops.{is_op, op_number}
 use Rattle.s3_model.specs.declared.requests.Op.{Op}
 use Rattle.task_acts.specs.declared.acts.Act.{Act}
 use Rattle.task_acts.specs.declared.acts.Act.TheVariants as act

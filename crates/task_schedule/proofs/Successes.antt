@@ -7,7 +7,7 @@ use Rattle.jobs.specs.Endings.{SeenCarried}
 use Rattle.jobs.specs.declared.ending.Ending.{Ending}
 use Rattle.jobs.specs.declared.ending.Ending.TheVariants as ending
 use Rattle.kept_jobs.specs.Tags.{present}
-use Rattle.run_promise.specs.Schedule.{job_of}
+use Rattle.job_terms.specs.Jobs.{job_of}
 use Rattle.s3_model.specs.declared.answers.Reply.{Reply}
 use Rattle.s3_model.specs.declared.answers.Reply.TheVariants as reply
 use Rattle.s3_model.specs.declared.requests.Op.{Op}
@@ -18,7 +18,7 @@ use Rattle.task_acts.specs.Histories.{Came, Cancelled, Gave, Happening, History,
 use Rattle.task_acts.specs.Kept.{created_in, etag_in, etag_of, upload_in, upload_of}
 use Rattle.shared_lemmas.proofs.Clashes.{none_is_some, some_is}
 use Rattle.shared_lemmas.proofs.Members.{Has, contains_of}
-use Rattle.world_laws.proofs.Jobs.{job_is}
+use Rattle.job_terms.proofs.SameJobs.{job_is}
 use Rattle.task_progress.proofs.Begun.{same_act}
 use Rattle.task_progress.proofs.Endings.{no}
 use Rattle.task_schedule.specs.Asks.{AreOfTask, gained_in}

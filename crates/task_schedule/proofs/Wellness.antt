@@ -5,7 +5,8 @@ use Rattle.std.specs.Prelude.{if◌then◌else◌, is_some}
 use Rattle.jobs.specs.Endings.{IsEnded, IsReplyTo, SeenCarried}
 use Rattle.jobs.specs.declared.ending.Ending.{Ending}
 use Rattle.jobs.specs.declared.ending.Ending.TheVariants as ending
-use Rattle.run_promise.specs.Dispatches.{Attempt, Dispatched, FitsAsk, FitsLast, IsCompletedWell, IsSuccessLast, last_of}
+use Rattle.run_promise.specs.Dispatches.{FitsAsk, FitsLast, IsCompletedWell, IsSuccessLast}
+use Rattle.job_terms.specs.Dispatches.{Attempt, Dispatched, last_of}
 use Rattle.run_promise.specs.Schedule.{HasReply, gained_before, source_bytes, IsTaskAsk, Known, Setting, asked_range, is_small, limit_of}
 use Rattle.s3_model.specs.Parts.{HasPieces, piece_range}
 use Rattle.s3_model.specs.Replies.{IsSameClass}
@@ -27,7 +28,7 @@ use Rattle.s3_model.specs.declared.tasks.Task.{Task}
 use Rattle.task_acts.specs.declared.work.Work.{Work}
 use Rattle.task_acts.specs.Failures.{carried_cause, ended_cause, is_asked_for, is_range, is_same_range, is_whole_object}
 use Rattle.shared_lemmas.proofs.Clashes.{some_is}
-use Rattle.world_laws.proofs.PieceCounts.{pieces_are_one}
+use Rattle.job_terms.proofs.PieceCounts.{pieces_are_one}
 use Rattle.task_progress.proofs.Endings.{chosen, no, skipped}
 use Rattle.task_progress.proofs.Progress.{both}
 use Rattle.manager_moves.specs.Runs.{Events, Sent, Shared}

@@ -6,8 +6,9 @@ use Rattle.jobs.specs.Endings.{SeenCarried}
 use Rattle.jobs.specs.Holders.{Holder}
 use Rattle.jobs.specs.Jobs.{IsAskOf}
 use Rattle.jobs.specs.declared.what.What.{What}
-use Rattle.run_promise.specs.Dispatches.{Dispatched}
-use Rattle.run_promise.specs.Schedule.{Setting, job_of}
+use Rattle.job_terms.specs.Dispatches.{Dispatched}
+use Rattle.run_promise.specs.Schedule.{Setting}
+use Rattle.job_terms.specs.Jobs.{job_of}
 use Rattle.s3_model.specs.Replies.{IsSameClass}
 use Rattle.s3_model.specs.declared.answers.Class.{Class}
 use Rattle.s3_model.specs.declared.answers.Class.TheVariants as class
@@ -33,7 +34,7 @@ use Rattle.manager_moves.proofs.ExampleRuns.{uploads_are_runs}
 use Rattle.manager_moves.specs.Examples.{shared, stored, upload}
 use Rattle.manager_moves.specs.Runs.{Back, Called, Event, Events, Lined, Made, Sent, Stopped, share}
 use Rattle.task_progress.specs.Progress.{HasPiece}
-use Rattle.task_schedule.specs.Asks.{IsStepOf}
+use Rattle.kept_jobs.specs.Steps.{IsStepOf}
 use Rattle.task_schedule.specs.Journals.{AreSent, ComeInOrder, IsAsked, IsBack, IsFirst, IsRunOf, IsSent, ShowOne, fails_otherwise, place_after}
 use Rattle.task_schedule.specs.Witness.{RunIsMet, ShowsStored, put_back, put_run, read_run, sized_put, small_put, small_setting, small_task}
 

@@ -7,7 +7,8 @@ use Rattle.jobs.specs.declared.ending.Ending.TheVariants as ending
 use Rattle.jobs.specs.declared.what.What.{What}
 use Rattle.jobs.specs.declared.what.What.TheVariants as what
 use Rattle.kept_jobs.specs.Tags.{present}
-use Rattle.run_promise.specs.Schedule.{Gained, IsTaskAsk, Known, job_of}
+use Rattle.run_promise.specs.Schedule.{Gained, IsTaskAsk, Known}
+use Rattle.job_terms.specs.Jobs.{job_of}
 use Rattle.s3_model.specs.Documents.{document_of}
 use Rattle.s3_model.specs.Lists.{Reserved}
 use Rattle.s3_model.specs.Parts.{piece_of, piece_range}
@@ -23,6 +24,7 @@ use Rattle.task_acts.specs.Rule.{is_ready_in}
 use Rattle.task_acts.specs.Work.{IsWorkOf}
 use Rattle.task_acts.specs.declared.acts.Act.TheVariants as act
 use Rattle.task_acts.specs.declared.work.Work.{Work}
+use Rattle.kept_jobs.specs.Steps.{IsStepOf}
 
 -- ---- successes
 
@@ -34,21 +36,6 @@ gained_in history job said = (carried : SeenCarried) × Contains history (Came c
 -- the jobs that came are those of that task
 abbrev pub AreOfTask : (n : ℕ) → History → Type 0
 AreOfTask n history = (carried : SeenCarried) → Contains history (Came carried) → carried.job.id.task ≡ Some n
-
--- ---- the job of an act
-
--- the entity tags that a job is given: a Complete has those of all parts
-abbrev pub HasTags : Work → History → Op → Option (Reserved (List ℕ)) → Type 0
-HasTags w history op.Complete etags = (given : Reserved (List ℕ)) × (etags ≡ Some given)
-    × (given.items ≡ present (etags_of w history))
-HasTags w history of_op etags = etags ≡ None
-
--- what a job is for that is formed for an act after that history: its piece, the upload that a reply named, and tags
-abbrev pub IsStepOf : Task → Work → History → Op → (number : ℕ) → What → Type 0
-IsStepOf task w history of_op number (what.Plan asked) = ⊥
-IsStepOf task w history of_op number (what.Step of_task range upload etags) =
-    (arc_value of_task ≡ task) × (range ≡ piece_range w.size w.piece number) × (upload ≡ upload_of history)
-    × HasTags w history of_op etags
 
 -- ---- its body
 

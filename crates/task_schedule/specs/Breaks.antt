@@ -6,8 +6,9 @@ use Rattle.jobs.specs.declared.what.What.{What}
 use Rattle.manager_moves.specs.Examples.{put_out, shared, upload}
 use Rattle.manager_moves.specs.Laws.{IsRun}
 use Rattle.manager_moves.specs.Runs.{Called, Events, Made, Sent, Shared, Stopped, share}
-use Rattle.run_promise.specs.Dispatches.{Dispatched}
-use Rattle.run_promise.specs.Schedule.{Setting, job_of}
+use Rattle.job_terms.specs.Dispatches.{Dispatched}
+use Rattle.run_promise.specs.Schedule.{Setting}
+use Rattle.job_terms.specs.Jobs.{job_of}
 use Rattle.s3_model.specs.declared.bytes.Part.{Part}
 use Rattle.s3_model.specs.declared.outcomes.Reason.TheVariants as reason_of
 use Rattle.s3_model.specs.declared.requests.Op.{Op}
@@ -16,7 +17,7 @@ use Rattle.task_acts.specs.declared.acts.Act.TheVariants as act
 use Rattle.task_acts.specs.declared.acts.FileCame.TheVariants as file
 use Rattle.task_acts.specs.declared.work.Work.{Work}
 use Rattle.task_acts.specs.Ends.{outcome_of}
-use Rattle.task_schedule.specs.Asks.{IsStepOf}
+use Rattle.kept_jobs.specs.Steps.{IsStepOf}
 use Rattle.task_schedule.specs.Journals.{AreAsked, AreSent, AreWorks, ComeInOrder, IsRunOf, KeepsSchedule}
 use Rattle.task_schedule.specs.Journals.{TellsCancels, TellsFailures, TellsWhere}
 use Rattle.task_schedule.specs.Witness.{ShowsStored, open_put, put_back, put_run, read_run, sized_put, small_put}

@@ -9,9 +9,11 @@ use Rattle.jobs.specs.declared.ending.Ending.TheVariants as ending
 use Rattle.jobs.specs.declared.what.What.{What}
 use Rattle.manager_moves.specs.Laws.{IsRun}
 use Rattle.manager_moves.specs.Runs.{Back, Events, Sent, Shared, Stopped, journal_of, share}
-use Rattle.run_promise.specs.Dispatches.{Attempt, Dispatched, IsSuccessLast, last_of}
+use Rattle.run_promise.specs.Dispatches.{IsSuccessLast}
+use Rattle.job_terms.specs.Dispatches.{Attempt, Dispatched, last_of}
 use Rattle.run_promise.specs.Schedule.{IsBefore, IsBeforeAny, IsDecided, IsFailed, IsTaskAsk, IsUpload, Setting}
-use Rattle.run_promise.specs.Schedule.{gained_before, is_small, job_of, limit_of, source_bytes}
+use Rattle.run_promise.specs.Schedule.{gained_before, is_small, limit_of, source_bytes}
+use Rattle.job_terms.specs.Jobs.{job_of}
 use Rattle.s3_model.specs.Parts.{HasPieces}
 use Rattle.s3_model.specs.Replies.{IsSameClass}
 use Rattle.s3_model.specs.Talks.{Talk}
@@ -36,7 +38,8 @@ use Rattle.task_acts.specs.Work.{IsWorkOf}
 use Rattle.task_acts.specs.declared.acts.Act.TheVariants as act
 use Rattle.task_acts.specs.declared.work.Work.{Work}
 use Rattle.task_progress.specs.Progress.{HasPiece}
-use Rattle.task_schedule.specs.Asks.{IsBodyOf, IsStepOf}
+use Rattle.task_schedule.specs.Asks.{IsBodyOf}
+use Rattle.kept_jobs.specs.Steps.{IsStepOf}
 
 -- ---- the journal
 

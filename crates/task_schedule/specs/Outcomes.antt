@@ -1,7 +1,7 @@
 -- What the outcome of a task shows of its history: of its deciding request, and of the source of a move.
 use Rattle.std.specs.Prelude.{◌≡◌, ◌≢◌, ◌++◌, ◌∷◌, ℕ, true, List, Contains, Some, slice_get}
 use Rattle.manager_moves.specs.Runs.{Events, Shared, share}
-use Rattle.run_promise.specs.Dispatches.{Dispatched}
+use Rattle.job_terms.specs.Dispatches.{Dispatched}
 use Rattle.run_promise.specs.Outcomes.{HasDeciding}
 use Rattle.run_promise.specs.Schedule.{Setting}
 use Rattle.s3_model.specs.Talks.{Talk}

@@ -6,8 +6,9 @@ use Rattle.jobs.specs.Jobs.{IsAskOf}
 use Rattle.jobs.specs.declared.what.What.{What}
 use Rattle.manager_moves.specs.Examples.{put_out, shared, stored, upload}
 use Rattle.manager_moves.specs.Runs.{Called, Events, Lined, Made, share}
-use Rattle.run_promise.specs.Dispatches.{Dispatched}
-use Rattle.run_promise.specs.Schedule.{Setting, job_of, most_body}
+use Rattle.job_terms.specs.Dispatches.{Dispatched}
+use Rattle.run_promise.specs.Schedule.{Setting, most_body}
+use Rattle.job_terms.specs.Jobs.{job_of}
 use Rattle.s3_model.specs.Talks.{Closed, Talk}
 use Rattle.s3_model.specs.declared.answers.Class.{Class}
 use Rattle.s3_model.specs.declared.answers.Class.TheVariants as class
@@ -22,7 +23,7 @@ use Rattle.s3_model.specs.declared.tasks.Task.{Task}
 use Rattle.s3_model.specs.declared.tries.Mark.TheVariants as mark
 use Rattle.task_acts.specs.declared.acts.Act.TheVariants as act
 use Rattle.task_acts.specs.declared.acts.FileCame.TheVariants as file
-use Rattle.task_schedule.specs.Asks.{IsStepOf}
+use Rattle.kept_jobs.specs.Steps.{IsStepOf}
 use Rattle.task_schedule.specs.Journals.{IsRunOf, ShowOne}
 
 abbrev pub small_task : Task

@@ -2,7 +2,7 @@
 use Rattle.std.proofs.Common.{length, length-set, ◌≡◌, ◌==◌, ◌&&◌, ◌∙◌, ℕ, Bool, true, false, replicate, refl, sym, ap, subst, if◌then◌else◌}
 use Rattle.piece_stages.specs.declared.piece.PieceStages.{PieceStages}
 use Rattle.piece_stages.specs.Pieces.{no_piece}
-use Rattle.run_promise.specs.Dispatches.{is_op}
+use Rattle.job_terms.specs.Ops.{is_op}
 use Rattle.s3_model.specs.declared.requests.Op.{Op}
 use Rattle.s3_model.specs.declared.requests.Op.TheVariants as op
 use Rattle.task_acts.specs.declared.acts.Act.{Act}

@@ -2,7 +2,7 @@
 use Rattle.std.specs.Prelude.{◌≡◌, ◌≤◌, ◌<◌, ◌+◌, ◌-◌, ◌^◌, ◌==◌, ◌||◌, not, ℕ, Bool, true, false, List, get_or, length, nat_lt, set, if◌then◌else◌}
 use Rattle.piece_stages.specs.declared.piece.PieceStages.{PieceStages}
 use Rattle.piece_stages.specs.Pieces.{SeenPieces, no_piece}
-use Rattle.run_promise.specs.Dispatches.{is_op}
+use Rattle.job_terms.specs.Ops.{is_op}
 use Rattle.s3_model.specs.declared.requests.Op.{Op}
 use Rattle.s3_model.specs.declared.requests.Op.TheVariants as op
 use Rattle.s3_model.specs.declared.tasks.Kind.{Kind}

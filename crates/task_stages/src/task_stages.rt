@@ -3,7 +3,7 @@
 ghost use Rattle.std.specs.Prelude.{◌≡◌, ◌<◌, ◌≤◌, ◌+◌, ◌^◌, if◌then◌else◌, length, not, IfOk};
 ghost use Rattle.std.specs.List.{list_all, position};
 ghost use Rattle.piece_stages.specs.Pieces.{can_place, can_read, can_send, is_busy, is_placed, is_sent};
-ghost use Rattle.run_promise.specs.Dispatches.{is_op};
+ghost use Rattle.job_terms.specs.Ops.{is_op};
 ghost use Rattle.task_acts.specs.declared.acts.Act.{Act};
 ghost use Rattle.task_acts.specs.declared.acts.Stage.TheVariants as at;
 ghost use Rattle.task_acts.specs.Histories.{is_act};

@@ -18,9 +18,10 @@ use Rattle.s3_model.specs.declared.settings.Config.{Config}
 use Rattle.s3_model.specs.declared.settings.Limits.{Limits}
 use Rattle.s3_model.specs.Talks.{Talk}
 use Rattle.s3_model.specs.Parts.{HasPieces}
-use Rattle.run_promise.specs.Buffers.{KeepsBuffers, buffers_out}
-use Rattle.run_promise.specs.Dispatches.{Attempt, Dispatch, Dispatched}
-use Rattle.run_promise.specs.Schedule.{Setting, Gained, Known, IsTaskAsk, IsSchedule, IsBefore, job_of, limit_of, most_body, source_bytes, gained_before, is_small}
+use Rattle.job_terms.specs.Buffers.{KeepsBuffers, buffers_out}
+use Rattle.job_terms.specs.Dispatches.{Attempt, Dispatch, Dispatched}
+use Rattle.run_promise.specs.Schedule.{Setting, Gained, Known, IsTaskAsk, IsSchedule, IsBefore, limit_of, most_body, source_bytes, gained_before, is_small}
+use Rattle.job_terms.specs.Jobs.{job_of}
 use Rattle.s3_outside.specs.Files.{SeenFiles}
 use Rattle.shared_lemmas.proofs.Clashes.{none_is_some, some_is}
 use Rattle.shared_lemmas.proofs.Lists.{head_is, no_cons, tail_is}

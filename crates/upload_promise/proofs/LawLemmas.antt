@@ -10,14 +10,14 @@ use Rattle.s3_model.specs.declared.tasks.Task.{Task}
 use Rattle.s3_model.specs.Talks.{Talk}
 use Rattle.s3_model.specs.Validity.{IsValidConfig, IsValidLimits}
 use Rattle.s3_service.specs.ServiceState.{State}
-use Rattle.run_promise.specs.Buffers.{KeepsBuffers}
+use Rattle.job_terms.specs.Buffers.{KeepsBuffers}
 use Rattle.run_promise.specs.Carried.{IsCarried}
-use Rattle.run_promise.specs.Dispatches.{Dispatched, dispatches}
+use Rattle.job_terms.specs.Dispatches.{Dispatched, dispatches}
 use Rattle.run_promise.specs.Outcomes.{HasOutcome}
 use Rattle.run_promise.specs.Schedule.{IsSchedule, is_small}
 use Rattle.run_promise.specs.Runs.{moments}
 use Rattle.run_promise.specs.Truthful.{Shown, IsTruthful, IsDoneWhereWilling}
-use Rattle.run_promise.specs.Planning.{IsPlanning}
+use Rattle.job_terms.specs.Ops.{IsPlanning}
 use Rattle.world_laws.specs.Completeness.{AreCallsCounted, AreSourcesThere}
 use Rattle.world_laws.specs.Promises.{AreFilesLeft, IsByRequests, IsOrderly}
 use Rattle.world_laws.specs.Tasks.{AreApart, HasSource}

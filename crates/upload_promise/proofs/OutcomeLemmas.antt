@@ -15,9 +15,12 @@ use Rattle.s3_model.specs.declared.outcomes.FileCall.TheVariants as call
 use Rattle.s3_model.specs.declared.outcomes.Outcome.{Outcome}
 use Rattle.s3_model.specs.declared.outcomes.Outcome.TheVariants as outcome
 use Rattle.s3_model.specs.Talks.{Talk}
-use Rattle.run_promise.specs.Dispatches.{Attempt, Dispatched, FitsLast, IsCompletedWell, IsCut, IsFailing, IsSuccessLast, last_of}
-use Rattle.run_promise.specs.Schedule.{Setting, IsFailed, IsStopped, job_of, most_body}
-use Rattle.run_promise.specs.Outcomes.{HasOutcome, HasDeciding, HasMark, IsCauseOf, IsDecidingJob, IsFailureOf, IsLastCause, deciding}
+use Rattle.run_promise.specs.Dispatches.{FitsLast, IsCompletedWell, IsCut, IsFailing, IsSuccessLast}
+use Rattle.job_terms.specs.Dispatches.{Attempt, Dispatched, last_of}
+use Rattle.run_promise.specs.Schedule.{Setting, IsFailed, IsStopped, most_body}
+use Rattle.job_terms.specs.Jobs.{job_of}
+use Rattle.run_promise.specs.Outcomes.{HasOutcome, HasDeciding, HasMark, IsCauseOf, IsDecidingJob, IsFailureOf, IsLastCause}
+use Rattle.job_terms.specs.Ops.{deciding}
 use Rattle.run_promise.specs.Settled.{cause_of, is_memory}
 use Rattle.s3_outside.specs.Files.{SeenFiles}
 use Rattle.shared_lemmas.proofs.Clashes.{none_is_some}

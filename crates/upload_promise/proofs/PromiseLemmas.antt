@@ -22,9 +22,10 @@ use Rattle.s3_model.specs.declared.tries.Mark.{Mark}
 use Rattle.s3_model.specs.Files.{FileStore, HeldFile, is_folder, is_listed}
 use Rattle.s3_model.specs.Talks.{Talk, Note}
 use Rattle.s3_model.specs.Validity.{IsValidConfig, IsValidLimits, IsWithin}
-use Rattle.run_promise.specs.Buffers.{KeepsBuffers}
-use Rattle.run_promise.specs.Carried.{IsCarried, in_first}
-use Rattle.run_promise.specs.Dispatches.{Attempt, Dispatched}
+use Rattle.job_terms.specs.Buffers.{KeepsBuffers}
+use Rattle.run_promise.specs.Carried.{IsCarried}
+use Rattle.job_terms.specs.Attempts.{in_first}
+use Rattle.job_terms.specs.Dispatches.{Attempt, Dispatched}
 use Rattle.run_promise.specs.Outcomes.{HasOutcome, ReadsSource}
 use Rattle.run_promise.specs.Schedule.{IsSchedule, is_small}
 use Rattle.run_promise.specs.Settled.{HasFileFailed, IsSettingOf, NoneSaysChanged, cause_of, is_dry, left_by, untimed_by}

@@ -5,7 +5,8 @@ use Rattle.s3_model.specs.declared.answers.Class.{Class}
 use Rattle.s3_model.specs.declared.outcomes.Event.TheVariants as entry
 use Rattle.s3_model.specs.Talks.{Talk, Note, Began}
 use Rattle.run_promise.specs.Schedule.{Setting}
-use Rattle.run_promise.specs.Carried.{IsCarried, AreNoted, Numbered, in_first}
+use Rattle.run_promise.specs.Carried.{IsCarried}
+use Rattle.job_terms.specs.Attempts.{AreNoted, Numbered, in_first}
 use Rattle.shared_lemmas.proofs.Clashes.{none_is_some}
 use Rattle.upload_promise.specs.Puts.{AreIdle}
 use Rattle.upload_promise.proofs.JobLemmas.{in_none}

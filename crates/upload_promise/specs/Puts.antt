@@ -3,7 +3,7 @@ use Rattle.std.specs.Prelude.{◌≡◌, List, [], Some, Contains, filter_map}
 use Rattle.s3_model.specs.declared.requests.Op.TheVariants as op
 use Rattle.s3_model.specs.declared.outcomes.JobId.{JobId}
 use Rattle.s3_model.specs.Talks.{Note, Began}
-use Rattle.run_promise.specs.Carried.{pause_of}
+use Rattle.job_terms.specs.Attempts.{pause_of}
 
 abbrev pub put_job : JobId
 put_job = record { task = Some 0; op = op.Put; number = 0 }

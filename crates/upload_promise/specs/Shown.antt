@@ -12,11 +12,11 @@ use Rattle.s3_model.specs.declared.settings.Limits.{Limits}
 use Rattle.s3_model.specs.declared.tasks.Task.{Task}
 use Rattle.s3_model.specs.declared.tasks.Warning.{Warning}
 use Rattle.s3_model.specs.Talks.{Talk, Note}
-use Rattle.run_promise.specs.Dispatches.{Dispatched}
+use Rattle.job_terms.specs.Dispatches.{Dispatched}
 use Rattle.run_promise.specs.Schedule.{Setting}
 use Rattle.run_promise.specs.Settled.{IsSettingOf, cause_of, is_memory}
 use Rattle.run_promise.specs.Truthful.{Shown, IsTruthful, IsDoneWhereWilling}
-use Rattle.run_promise.specs.Carried.{in_first}
+use Rattle.job_terms.specs.Attempts.{in_first}
 use Rattle.s3_outside.specs.Files.{SeenFiles}
 use Rattle.upload_promise.specs.Uploads.{IsReadCause}
 

@@ -9,8 +9,9 @@ use Rattle.s3_model.specs.declared.answers.Reply.{Reply}
 use Rattle.s3_model.specs.declared.answers.Why.TheVariants as why
 use Rattle.s3_model.specs.declared.tasks.Task.{Task}
 use Rattle.s3_model.specs.Talks.{Talk, Note, Moment, Began}
-use Rattle.run_promise.specs.Carried.{AreNoted, IsCarried, IsSaid, Numbered, SaysAll, in_lane, mark_of, numbered_from, talks_of}
-use Rattle.run_promise.specs.Dispatches.{Attempt, Dispatched, dispatches}
+use Rattle.run_promise.specs.Carried.{IsCarried}
+use Rattle.job_terms.specs.Attempts.{AreNoted, IsSaid, Numbered, SaysAll, in_lane, mark_of, numbered_from, talks_of}
+use Rattle.job_terms.specs.Dispatches.{Attempt, Dispatched, dispatches}
 use Rattle.run_promise.specs.Schedule.{IsBefore, IsBeforeAny}
 use Rattle.s3_service.specs.ServiceState.{State}
 use Rattle.s3_model.specs.Maps.{MapOf}
@@ -18,7 +19,7 @@ use Rattle.s3_model.specs.Files.{HeldFile}
 use Rattle.shared_lemmas.proofs.Clashes.{some_is}
 use Rattle.shared_lemmas.proofs.Members.{Has, has}
 use Rattle.world_laws.specs.Rounds.{Round, Told, attempt_of, body_by, class_by, dispatch_at, dispatched_from, ending_by, journal_of, mark_by, no_text, reply_to}
-use Rattle.world_laws.proofs.Jobs.{either_way}
+use Rattle.job_terms.proofs.SameJobs.{either_way}
 use Rattle.world_laws.proofs.Rounds.{AreApart as AreOtherJobs, first_attempt, round_of, rounds_given, stands_at}
 use Rattle.world_laws.proofs.ScheduleWitness.{AllPlain, in_order, same_place, setting_with}
 

@@ -34,12 +34,14 @@ use Rattle.s3_model.specs.declared.tries.Mark.TheVariants as mark
 use Rattle.s3_model.specs.Talks.{Talk}
 use Rattle.s3_service.specs.ServiceState.{State, Object, object_at, Ended, CompletedBy}
 use Rattle.s3_service.specs.Serves.{Replied, IsVacant, Succeeds}
-use Rattle.run_promise.specs.Dispatches.{Attempt, Dispatched, last_of, op_number}
+use Rattle.job_terms.specs.Dispatches.{Attempt, Dispatched, last_of}
+use Rattle.job_terms.specs.Ops.{op_number, deciding}
 use Rattle.run_promise.specs.Endings.{IsThereIn}
 use Rattle.run_promise.specs.Fits.{request_at}
-use Rattle.run_promise.specs.Outcomes.{HasDeciding, HasOutcome, IsCauseOf, IsDecidedByRequest, IsFirstFailure, IsSkippedByFile, IsSkippedByRequest, ReadsSource, IsTakenLast, FailsFirstBy, FailsFor, StaysFor, deciding}
+use Rattle.run_promise.specs.Outcomes.{HasDeciding, HasOutcome, IsCauseOf, IsDecidedByRequest, IsFirstFailure, IsSkippedByFile, IsSkippedByRequest, ReadsSource, IsTakenLast, FailsFirstBy, FailsFor, StaysFor}
 use Rattle.run_promise.specs.Runs.{Run}
-use Rattle.run_promise.specs.Schedule.{Setting, IsObject, IsTaskAsk, Known, Target, gained_before, is_small, job_of, source_bytes, IsUpload}
+use Rattle.run_promise.specs.Schedule.{Setting, IsTaskAsk, Known, gained_before, is_small, source_bytes, IsUpload}
+use Rattle.job_terms.specs.Jobs.{IsObject, Target, job_of}
 use Rattle.run_promise.specs.Traces.{Step, TraceEvent, Serve, IsWilling, Steps, state_after}
 use Rattle.run_promise.specs.Truthful.{Shown, AreCertain, HasDestBuckets, IsAlone, IsFinished, MayBeFresh, WasTaken}
 use Rattle.shared_lemmas.proofs.Clashes.{some_is, true_is_false}
@@ -51,7 +53,7 @@ use Rattle.world_laws.specs.Tasks.{IsScheduled, IsTraceOf}
 use Rattle.world_laws.proofs.Early as early
 use Rattle.world_laws.proofs.Early.{reached}
 use Rattle.world_laws.proofs.Fitting as fitting
-use Rattle.world_laws.proofs.Jobs.{either_way}
+use Rattle.job_terms.proofs.SameJobs.{either_way}
 use Rattle.world_laws.proofs.Promises as promises
 use Rattle.world_laws.proofs.Requests.{may_change_decided, success_elsewhere}
 use Rattle.world_laws.proofs.Rows as rows

@@ -10,7 +10,7 @@ use Rattle.s3_model.specs.declared.settings.Limits.{Limits}
 use Rattle.s3_model.specs.Talks.{Talk}
 use Rattle.s3_service.specs.ServiceState.{State, Object, object_at}
 use Rattle.s3_service.specs.Serves.{Replied, Refused, MayChange, ExternalWrite, after_external}
-use Rattle.run_promise.specs.Dispatches.{Dispatched}
+use Rattle.job_terms.specs.Dispatches.{Dispatched}
 use Rattle.run_promise.specs.Traces.{SentRequest, Step, Serve, External, IsTrace, state_after, events_of, event_of}
 use Rattle.run_promise.specs.Fits.{Fits, request_at}
 use Rattle.run_promise.specs.Truthful.{IsExternal}

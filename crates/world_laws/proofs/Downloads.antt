@@ -25,7 +25,8 @@ use Rattle.shared_lemmas.proofs.Members.{contains_of, Has}
 use Rattle.world_laws.proofs.Traces.{begun_through, step_of, has_state_after}
 use Rattle.world_laws.proofs.Fitting as fitting
 use Rattle.world_laws.proofs.Kept.{one_content}
-use Rattle.world_laws.proofs.Pieces.{some_pieces, joined_same, ranges_make_whole}
+use Rattle.world_laws.proofs.Pieces.{joined_same, ranges_make_whole}
+use Rattle.job_terms.proofs.PieceCounts.{some_pieces}
 
 -- ---- one Get
 

@@ -14,7 +14,7 @@ use Rattle.s3_model.specs.Replies.{IsSameReply}
 use Rattle.s3_model.specs.Talks.{Talk}
 use Rattle.s3_service.specs.ServiceState.{State, HasBucket}
 use Rattle.s3_service.specs.Serves.{Answer, Replied, Refused, Succeeds, ExternalWrite, bucket_of, after_external}
-use Rattle.run_promise.specs.Dispatches.{Attempt, Dispatched}
+use Rattle.job_terms.specs.Dispatches.{Attempt, Dispatched}
 use Rattle.run_promise.specs.Traces.{SentRequest, Step, TraceEvent, Given, Begin, Serve, External, Came, IsTrace, Steps, state_after, states, events_of, event_of, begun_in}
 use Rattle.run_promise.specs.Fits.{Fits, IsCertain, Names, request_at, requests_from, requests_of}
 use Rattle.run_promise.specs.Runs.{HasJournal}

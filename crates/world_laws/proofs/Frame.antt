@@ -7,7 +7,7 @@ use Rattle.s3_model.specs.declared.settings.Limits.{Limits}
 use Rattle.s3_model.specs.Talks.{Talk}
 use Rattle.s3_service.specs.ServiceState.{State, object_at}
 use Rattle.s3_service.specs.Serves.{MayChange, ExternalWrite, Writes, Removes}
-use Rattle.run_promise.specs.Dispatches.{Dispatched}
+use Rattle.job_terms.specs.Dispatches.{Dispatched}
 use Rattle.run_promise.specs.Traces.{Step, TraceEvent, Given, Begin, Serve, External, Came, IsTrace, state_after, events_of}
 use Rattle.run_promise.specs.Fits.{Fits}
 use Rattle.run_promise.specs.Truthful.{IsExternal}

@@ -8,7 +8,8 @@ use Rattle.s3_model.specs.Parts.{piece_count}
 use Rattle.s3_service.specs.ServiceState.{HasBucket, Object, objects_in, State, with_object}
 use Rattle.s3_service.specs.Serves.{Succeeds, IsThere, LiesWithin, bytes_within}
 use Rattle.run_promise.specs.Traces.{states}
-use Rattle.run_promise.specs.Schedule.{job_of, asked_range}
+use Rattle.run_promise.specs.Schedule.{asked_range}
+use Rattle.job_terms.specs.Jobs.{job_of}
 use Rattle.std.specs.List.{starts_with}
 use Rattle.std.specs.Ordering.{nat_cmp}
 use Rattle.std.specs.Cmp.Lexicographic.{slice_cmp, nat_list_cmp_total}

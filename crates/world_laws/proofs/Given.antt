@@ -8,7 +8,8 @@ use Rattle.s3_model.specs.declared.outcomes.Event.{Event}
 use Rattle.s3_model.specs.declared.outcomes.Event.TheVariants as entry
 use Rattle.s3_model.specs.declared.tries.Mark.{Mark}
 use Rattle.s3_model.specs.Talks.{Talk}
-use Rattle.run_promise.specs.Dispatches.{Dispatch, Dispatched, is_job, next_came, place_of, dispatches_from, dispatches}
+use Rattle.job_terms.specs.Dispatches.{Dispatch, Dispatched, next_came, place_of, dispatches_from, dispatches}
+use Rattle.job_terms.specs.Jobs.{is_job}
 
 -- ---- where a job comes next
 

@@ -10,7 +10,7 @@ use Rattle.s3_model.specs.declared.settings.Limits.{Limits}
 use Rattle.s3_model.specs.Talks.{Talk}
 use Rattle.s3_service.specs.ServiceState.{State, Object, Aborted, object_at}
 use Rattle.s3_service.specs.Serves.{Succeeds, bytes_within, IsThere}
-use Rattle.run_promise.specs.Dispatches.{Dispatched}
+use Rattle.job_terms.specs.Dispatches.{Dispatched}
 use Rattle.run_promise.specs.Traces.{Step, TraceEvent, IsTrace, Steps, begun_after, state_after}
 use Rattle.world_laws.specs.Premises.{IsPlace}
 use Rattle.run_promise.specs.Runs.{Run, moments, IsFitting}

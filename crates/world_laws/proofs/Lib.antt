@@ -13,7 +13,6 @@ pub mod FreshIds
 pub mod GetWitness
 pub mod Given
 pub mod InParts
-pub mod Jobs
 pub mod Kept
 pub mod Listings
 pub mod Marks
@@ -24,7 +23,6 @@ pub mod Objects
 pub mod OpenUploads
 pub mod Order
 pub mod PartsWitness
-pub mod PieceCounts
 pub mod Pieces
 pub mod Possible
 pub mod PromiseWitness

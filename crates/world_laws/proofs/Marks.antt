@@ -14,8 +14,10 @@ use Rattle.s3_model.specs.declared.tries.Mark.TheVariants as mark
 use Rattle.s3_model.specs.Classes.{is_tried_again}
 use Rattle.s3_model.specs.Replies.{IsSameClass}
 use Rattle.s3_model.specs.Talks.{Talk, Note}
-use Rattle.run_promise.specs.Carried.{IsCarried, mark_of}
-use Rattle.run_promise.specs.Dispatches.{Attempt, Dispatched, FitsAsk, FitsLast, IsSuccessLast, last_of}
+use Rattle.run_promise.specs.Carried.{IsCarried}
+use Rattle.job_terms.specs.Attempts.{mark_of}
+use Rattle.run_promise.specs.Dispatches.{FitsAsk, FitsLast, IsSuccessLast}
+use Rattle.job_terms.specs.Dispatches.{Attempt, Dispatched, last_of}
 use Rattle.run_promise.specs.Outcomes.{HasMark}
 use Rattle.run_promise.specs.Schedule.{Setting, IsBefore, IsBeforeAny, IsFailed, IsSchedule, HasReply}
 use Rattle.shared_lemmas.proofs.Clashes.{some_is}

@@ -17,9 +17,10 @@ use Rattle.s3_model.specs.declared.tasks.Task.{Task}
 use Rattle.s3_model.specs.Talks.{Talk}
 use Rattle.s3_service.specs.ServiceState.{State}
 use Rattle.s3_service.specs.Serves.{MayChange}
-use Rattle.run_promise.specs.Dispatches.{Dispatched}
+use Rattle.job_terms.specs.Dispatches.{Dispatched}
 use Rattle.run_promise.specs.Traces.{Step, events_of}
-use Rattle.run_promise.specs.Schedule.{Setting, Gained, IsObject, IsSource, IsTaskAsk, IsDecidedBy, is_small, job_of, source_bytes, gained_before}
+use Rattle.run_promise.specs.Schedule.{Setting, Gained, IsTaskAsk, IsDecidedBy, is_small, source_bytes, gained_before}
+use Rattle.job_terms.specs.Jobs.{IsObject, IsSource, job_of}
 use Rattle.run_promise.specs.Endings.{IsGone}
 use Rattle.s3_model.specs.Maps.{MapOf}
 use Rattle.s3_model.specs.Files.{HeldFile}
@@ -30,7 +31,7 @@ use Rattle.run_promise.specs.Runs.{Run, moments, HasEndedBy}
 use Rattle.world_laws.specs.Destinations.{AllThatChange}
 use Rattle.world_laws.specs.SmallTransfers.{AsksDelete}
 use Rattle.world_laws.specs.Tasks.{scene_after, IsRunOf, IsScheduled, IsTaskNew, MovedTaskIsNew, MovedSourceIsGone, OtherObjectsStay}
-use Rattle.run_promise.specs.Outcomes.{deciding}
+use Rattle.job_terms.specs.Ops.{deciding}
 use Rattle.world_laws.proofs.Traces.{state_after_step}
 use Rattle.world_laws.proofs.Frame.{others_stay}
 use Rattle.world_laws.proofs.Order.{begun_is_after, came_before}

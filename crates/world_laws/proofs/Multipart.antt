@@ -18,7 +18,7 @@ use Rattle.s3_model.specs.Lists.{Reserved}
 use Rattle.s3_model.specs.Talks.{Talk}
 use Rattle.s3_service.specs.ServiceState.{State, Object, Upload, StoredPart, Ended, CompletedBy, Aborted, object_at}
 use Rattle.s3_service.specs.Serves.{Replied, Succeeds, Assembles, Completes, StoresObject, IsOpen, MayChange, ExternalWrite, after_external}
-use Rattle.run_promise.specs.Dispatches.{Dispatched}
+use Rattle.job_terms.specs.Dispatches.{Dispatched}
 use Rattle.run_promise.specs.Traces.{Step, TraceEvent, Serve, External, Steps, state_after, states, events_of, event_of}
 use Rattle.run_promise.specs.Fits.{request_at}
 use Rattle.world_laws.specs.Premises.{IsPlace, HasCome}

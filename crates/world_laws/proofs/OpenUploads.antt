@@ -23,12 +23,14 @@ use Rattle.s3_model.specs.Replies.{IsSameReply}
 use Rattle.s3_model.specs.Talks.{Talk}
 use Rattle.s3_service.specs.ServiceState.{State, Upload, StoredPart, Ended, CompletedBy, Aborted}
 use Rattle.s3_service.specs.Serves.{Replied, Succeeds, IsOpen, IsVacant, bytes_within}
-use Rattle.run_promise.specs.Dispatches.{Dispatched, IsSuccessLast, last_of, op_number}
+use Rattle.run_promise.specs.Dispatches.{IsSuccessLast}
+use Rattle.job_terms.specs.Dispatches.{Dispatched, last_of}
+use Rattle.job_terms.specs.Ops.{op_number, IsPlanning}
 use Rattle.run_promise.specs.Fits.{request_at}
-use Rattle.run_promise.specs.Schedule.{Setting, AreETags, Gained, HasReply, IsTaskAsk, IsUpload, Known, Target, asked_range, gained_before, is_small, job_of, source_bytes}
+use Rattle.run_promise.specs.Schedule.{Setting, AreETags, Gained, HasReply, IsTaskAsk, IsUpload, Known, asked_range, gained_before, is_small, source_bytes}
+use Rattle.job_terms.specs.Jobs.{Target, job_of}
 use Rattle.run_promise.specs.Traces.{SentRequest, Step, TraceEvent, Serve, Steps, state_after, states, events_of, event_of}
 use Rattle.run_promise.specs.Truthful.{IsAlone}
-use Rattle.run_promise.specs.Planning.{IsPlanning}
 use Rattle.shared_lemmas.proofs.Clashes.{some_is}
 use Rattle.shared_lemmas.proofs.Lists.{head_is, tail_is}
 use Rattle.shared_lemmas.proofs.Maps.{get-insert_other, get-insert_same, key_decided, text_exact}
@@ -39,7 +41,7 @@ use Rattle.world_laws.proofs.Early as early
 use Rattle.world_laws.proofs.Early.{reached}
 use Rattle.world_laws.proofs.Fitting as fitting
 use Rattle.world_laws.proofs.Fitting.{IsServed}
-use Rattle.world_laws.proofs.Jobs.{job_is, op_same}
+use Rattle.job_terms.proofs.SameJobs.{job_is, op_same}
 use Rattle.world_laws.proofs.Marks as marks
 use Rattle.world_laws.proofs.Multipart as multi
 use Rattle.world_laws.proofs.Rows as rows

@@ -14,13 +14,14 @@ use Rattle.s3_model.specs.declared.settings.Limits.{Limits}
 use Rattle.s3_model.specs.declared.tries.Mark.{Mark}
 use Rattle.s3_model.specs.Talks.{Talk}
 use Rattle.s3_service.specs.ServiceState.{State}
-use Rattle.run_promise.specs.Dispatches.{Dispatched, is_job}
+use Rattle.job_terms.specs.Dispatches.{Dispatched}
+use Rattle.job_terms.specs.Jobs.{is_job}
 use Rattle.run_promise.specs.Traces.{SentRequest, Step, TraceEvent, Given, Begin, Serve, External, Came, IsTrace, events_of, event_of, is_begin_of, marks_come}
 use Rattle.run_promise.specs.Fits.{Fits}
 use Rattle.run_promise.specs.Schedule.{IsBefore}
 use Rattle.world_laws.specs.Premises.{AreGiven, HasCome}
 use Rattle.shared_lemmas.proofs.Members.{Has, has-append_cases, has-append_left, has-append_right, has_at, has_filtered, place_in_front, place_middle, place_within_front, split_of}
-use Rattle.world_laws.proofs.Jobs.{either_way, job_itself, job_same, job_decided}
+use Rattle.job_terms.proofs.SameJobs.{either_way, job_itself, job_same, job_decided}
 use Rattle.world_laws.proofs.Fitting.{begin_is_dispatched}
 use Rattle.world_laws.proofs.Traces.{event_within}
 use Rattle.world_laws.proofs.Frame.{any_decided}

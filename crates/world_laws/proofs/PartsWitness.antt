@@ -12,8 +12,10 @@ use Rattle.s3_model.specs.declared.settings.Limits.{Limits}
 use Rattle.s3_model.specs.Lists.{Reserved}
 use Rattle.s3_service.specs.ServiceState.{State, Upload, StoredPart, CompletedBy, Aborted, objects_in, HasBucket, with_object, without_object, with_upload, with_part, with_ended}
 use Rattle.s3_service.specs.Serves.{Serves, MayChange, IsOpen, IsThere, LiesWithin, Succeeds, bytes_within}
-use Rattle.run_promise.specs.Dispatches.{Dispatched, op_number}
-use Rattle.run_promise.specs.Schedule.{job_of, IsBefore}
+use Rattle.job_terms.specs.Dispatches.{Dispatched}
+use Rattle.job_terms.specs.Ops.{op_number}
+use Rattle.run_promise.specs.Schedule.{IsBefore}
+use Rattle.job_terms.specs.Jobs.{job_of}
 use Rattle.run_promise.specs.Fits.{request_at}
 use Rattle.s3_model.specs.Documents.{document_of}
 use Rattle.shared_lemmas.proofs.Clashes.{false_true}

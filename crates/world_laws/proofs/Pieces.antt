@@ -2,28 +2,16 @@
 use Rattle.std.proofs.Common.{◌≡◌, ◌∙◌, ◌+◌, ◌-◌, ◌*◌, ◌<◌, ◌≤◌, ◌++◌, ℕ, zero, suc, min, List, refl, sym, ap, length, take, drop, arith}
 use Rattle.std.proofs.lemmas.List.{take_min, length-drop, length-take}
 use Rattle.std.proofs.Math.Seq.{take-add, take_all, drop-drop}
-use Rattle.std.proofs.lemmas.Nat.{le-div}
-use Rattle.std.proofs.Math.Nat.{div-mul-le_self, mul-le-mul_right}
 use Rattle.s3_model.specs.Parts.{piece_count, piece_of}
 use Rattle.run_promise.specs.Schedule.{asked_range}
 use Rattle.s3_service.specs.Serves.{LiesWithin, bytes_within}
 use Rattle.world_laws.specs.Multipart.{joined}
+use Rattle.job_terms.proofs.PieceCounts.{begins_inside}
 
 -- ---- numbers
 
 covered : (size piece : ℕ) → 1 ≤ piece → size ≤ piece_count size piece * piece
 covered size piece some = omega arith
-
-pub begins_inside : (size piece number : ℕ) → 1 ≤ piece → 1 ≤ size → 1 ≤ number → number ≤ piece_count size piece → (number - 1) * piece < size
-begins_inside size piece number some sized low high =
-    let whole : piece_count size piece * piece ≤ size + piece - 1 = div-mul-le_self (size + piece - 1) piece in
-    let up_to : number * piece ≤ piece_count size piece * piece = mul-le-mul_right piece high in
-    let back : (number - 1) * piece + piece ≡ number * piece = one_less number low in
-    omega arith
-  where
-    one_less : (n : ℕ) → 1 ≤ n → (n - 1) * piece + piece ≡ n * piece
-    one_less zero l = absurd (omega arith)
-    one_less (suc n) l = let back : suc n - 1 ≡ n = omega arith in rw back (omega arith)
 
 -- ---- pieces
 
@@ -67,10 +55,6 @@ ranges_make_whole bytes piece some sized =
     joined_same (λ n. bytes_within (asked_range (length bytes) piece n) bytes) (piece_of bytes piece) (piece_count (length bytes) piece) 1
     (λ k low high. piece_is_range bytes piece k some (begins_inside (length bytes) piece k some sized low (omega arith)))
     ∙ pieces_make_whole bytes piece some
-
--- what is not empty has a piece
-pub some_pieces : (size piece : ℕ) → 1 ≤ size → 1 ≤ piece → 1 ≤ piece_count size piece
-some_pieces size piece sized some = le-div 1 (size + piece - 1) piece some (omega arith)
 
 -- a piece before the last is a whole one
 pub whole_piece : (bytes : List ℕ) (piece number : ℕ) → 1 ≤ piece → 1 ≤ length bytes → 1 ≤ number → number < piece_count (length bytes) piece → length (piece_of bytes piece number) ≡ piece

@@ -23,10 +23,13 @@ use Rattle.s3_model.specs.declared.tries.Mark.TheVariants as mark
 use Rattle.s3_model.specs.Replies.{IsSameClass}
 use Rattle.s3_service.specs.ServiceState.{State, Object, HasBucket, with_object}
 use Rattle.s3_service.specs.Serves.{IsThere}
-use Rattle.run_promise.specs.Dispatches.{Attempt, Dispatched, IsCut, dispatches, op_number}
+use Rattle.run_promise.specs.Dispatches.{IsCut}
+use Rattle.job_terms.specs.Dispatches.{Attempt, Dispatched, dispatches}
+use Rattle.job_terms.specs.Ops.{op_number}
 use Rattle.run_promise.specs.Outcomes.{HasMark, HasOutcome, IsFirstFailure}
-use Rattle.run_promise.specs.Schedule.{IsFailed, IsObject, IsSchedule, IsSource, Target, is_small, job_of, source_bytes}
-use Rattle.run_promise.specs.Traces.{External, IsWilling, events_of, states}
+use Rattle.run_promise.specs.Schedule.{IsFailed, IsSchedule, is_small, source_bytes}
+use Rattle.job_terms.specs.Jobs.{IsObject, IsSource, Target, job_of}
+use Rattle.run_promise.specs.Traces.{External, IsWilling, events_of}
 use Rattle.run_promise.specs.Truthful.{AreCertain, HasDestBuckets, IsAlone, IsDest, Shown}
 use Rattle.s3_model.specs.Maps.{MapOf}
 use Rattle.s3_model.specs.Files.{HeldFile}

@@ -25,11 +25,14 @@ use Rattle.s3_model.specs.declared.tries.Mark.{Mark}
 use Rattle.s3_model.specs.declared.tries.Mark.TheVariants as mark
 use Rattle.s3_model.specs.Talks.{Talk}
 use Rattle.s3_service.specs.ServiceState.{State}
-use Rattle.run_promise.specs.Dispatches.{Attempt, Dispatched, FitsAsk, last_of}
+use Rattle.run_promise.specs.Dispatches.{FitsAsk}
+use Rattle.job_terms.specs.Dispatches.{Attempt, Dispatched, last_of}
 use Rattle.run_promise.specs.Endings.{Scene, IsEnded, IsGoneOrThere, IsSpared}
 use Rattle.run_promise.specs.Fits.{Fits}
-use Rattle.run_promise.specs.Outcomes.{HasDeciding, HasOutcome, IsDecidedAt, IsDecidedByRequest, IsObjectPlace, IsTakenLast, IsSkippedByFile, IsSkippedByRequest, deciding}
-use Rattle.run_promise.specs.Schedule.{Setting, Gained, IsDecidedBy, IsTaskAsk, gained_before, is_planning, is_small, job_of, planning_of, source_bytes}
+use Rattle.run_promise.specs.Outcomes.{HasDeciding, HasOutcome, IsDecidedAt, IsDecidedByRequest, IsObjectPlace, IsTakenLast, IsSkippedByFile, IsSkippedByRequest}
+use Rattle.job_terms.specs.Ops.{deciding}
+use Rattle.run_promise.specs.Schedule.{Setting, Gained, IsDecidedBy, IsTaskAsk, gained_before, is_planning, is_small, planning_of, source_bytes}
+use Rattle.job_terms.specs.Jobs.{job_of}
 use Rattle.run_promise.specs.Traces.{Step, IsHonest, IsTrace, events_of, state_after, states}
 use Rattle.run_promise.specs.Truthful.{Shown, AbortsLast, AllEnded, FitsShown, IsDest, MovesAfter, NoneChanged, OthersStay}
 use Rattle.run_promise.specs.Runs.{HasEndedBy, HasJournal, Run}

@@ -7,8 +7,8 @@ use Rattle.s3_model.specs.Parts.{HasPieces, piece_count, IsTransfer, piece_of}
 use Rattle.world_laws.proofs.Fitting.{IsServed}
 use Rattle.world_laws.proofs.OpenUploads as opens
 use Rattle.world_laws.proofs.Order.{came_before}
-use Rattle.world_laws.proofs.PieceCounts.{in_parts, pieces_are_one, least_piece}
-use Rattle.world_laws.proofs.Pieces.{range_within, begins_inside, piece_is_range, some_pieces, whole_piece}
+use Rattle.job_terms.proofs.PieceCounts.{in_parts, pieces_are_one, least_piece, begins_inside, some_pieces}
+use Rattle.world_laws.proofs.Pieces.{range_within, piece_is_range, whole_piece}
 use Rattle.world_laws.proofs.OpenUploads.{IsOpenWith, Joins, UsesUpload, part_of, row_joins, row_upload, AsksPart, completed_says, complete_vacant}
 use Rattle.world_laws.proofs.Assembled.{HasPartAt, IsLong, completes_by}
 use Rattle.world_laws.proofs.Uploads.{StoresPart}
@@ -38,12 +38,16 @@ use Rattle.s3_model.specs.Maps.{MapOf}
 use Rattle.s3_model.specs.Talks.{Talk}
 use Rattle.s3_service.specs.ServiceState.{State, Object, object_at, HasBucket, Upload}
 use Rattle.s3_service.specs.Serves.{Replied, Refused, IsThere, IsVacant, MayChange, Succeeds, taken_codes, IsOpen, LiesWithin, bytes_within}
-use Rattle.run_promise.specs.Carried.{mark_of}
-use Rattle.run_promise.specs.Dispatches.{Attempt, Dispatched, FitsAsk, last_of, IsSuccessLast, op_number}
+use Rattle.job_terms.specs.Attempts.{mark_of}
+use Rattle.run_promise.specs.Dispatches.{FitsAsk, IsSuccessLast}
+use Rattle.job_terms.specs.Dispatches.{Attempt, Dispatched, last_of}
+use Rattle.job_terms.specs.Ops.{op_number, deciding}
 use Rattle.run_promise.specs.Fits.{request_at}
-use Rattle.run_promise.specs.Outcomes.{HasMark, IsDecidedByRequest, deciding}
-use Rattle.run_promise.specs.Schedule.{Setting, Gained, IsFailed, IsObject, IsSource, IsTaskAsk, Known, Target, gained_before, is_small, job_of, source_bytes, HasReply, IsBefore, IsPart, IsUpload, asked_range, bytes_of}
-use Rattle.run_promise.specs.Traces.{Step, IsTrace, IsWilling, SaysIfThere, state_after, events_of, event_of, states}
+use Rattle.run_promise.specs.Outcomes.{HasMark, IsDecidedByRequest}
+use Rattle.run_promise.specs.Schedule.{Setting, Gained, IsFailed, IsTaskAsk, Known, gained_before, is_small, source_bytes, HasReply, IsBefore, IsPart, IsUpload, asked_range, bytes_of}
+use Rattle.job_terms.specs.Jobs.{IsObject, IsSource, Target, job_of}
+use Rattle.run_promise.specs.Traces.{Step, IsTrace, IsWilling, state_after, events_of, event_of, states}
+use Rattle.s3_service.specs.Willing.{SaysIfThere}
 use Rattle.run_promise.specs.Truthful.{Shown, AreCertain, HasDestBuckets, IsAlone, MayBeFresh}
 use Rattle.shared_lemmas.proofs.Clashes.{none_is_some, some_is, true_is_false}
 use Rattle.shared_lemmas.proofs.Maps.{found_in_empty}
@@ -55,7 +59,7 @@ use Rattle.world_laws.specs.Tasks.{IsScheduled, IsTraceOf}
 use Rattle.world_laws.proofs.Buckets.{bucket_is_stable}
 use Rattle.world_laws.proofs.Early as early
 use Rattle.world_laws.proofs.Early.{reached}
-use Rattle.world_laws.proofs.Jobs.{either_way, job_is, op_same}
+use Rattle.job_terms.proofs.SameJobs.{either_way, job_is, op_same}
 use Rattle.world_laws.proofs.Marks as marks
 use Rattle.world_laws.proofs.Possible as possible
 use Rattle.world_laws.proofs.Possible.{IsInVain}

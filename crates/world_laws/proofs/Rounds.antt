@@ -18,7 +18,8 @@ use Rattle.s3_model.specs.declared.settings.Limits.{Limits}
 use Rattle.s3_model.specs.declared.tries.Mark.{Mark}
 use Rattle.s3_service.specs.ServiceState.{State}
 use Rattle.s3_service.specs.Serves.{Answer}
-use Rattle.run_promise.specs.Dispatches.{Attempt, Dispatched, is_job}
+use Rattle.job_terms.specs.Dispatches.{Attempt, Dispatched}
+use Rattle.job_terms.specs.Jobs.{is_job}
 use Rattle.run_promise.specs.Traces.{SentRequest, TraceEvent, Given, Begin, Serve, Came, IsTrace, IsSameAttempt, events_of, event_of, begun_in, served_in, is_begin_of, marks_come}
 use Rattle.run_promise.specs.Fits.{Fits, Names, request_at, requests_of}
 use Rattle.shared_lemmas.proofs.Clashes.{some_is}
@@ -26,7 +27,7 @@ use Rattle.shared_lemmas.proofs.Lists.{head_is, tail_is}
 use Rattle.shared_lemmas.proofs.Members.{contains_of, Has, has, has_middle, place_middle}
 use Rattle.world_laws.specs.Premises.{AreGiven, HasCome}
 use Rattle.world_laws.specs.Rounds.{reply_to, Told, Round, answer_by, mark_by, ending_by, attempt_of, dispatch_at, dispatched_from, journal_of, steps_from, AreServed}
-use Rattle.world_laws.proofs.Jobs.{job_itself}
+use Rattle.job_terms.proofs.SameJobs.{job_itself}
 
 -- ---- events that differ
 

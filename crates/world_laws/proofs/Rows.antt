@@ -11,14 +11,17 @@ use Rattle.s3_model.specs.declared.tasks.Kind.{Kind}
 use Rattle.s3_model.specs.declared.tasks.Kind.TheVariants as kind
 use Rattle.s3_model.specs.declared.tasks.Task.{Task}
 use Rattle.s3_model.specs.Lists.{Reserved}
-use Rattle.run_promise.specs.Dispatches.{Dispatched, FitsAsk, op_number}
+use Rattle.run_promise.specs.Dispatches.{FitsAsk}
+use Rattle.job_terms.specs.Dispatches.{Dispatched}
+use Rattle.job_terms.specs.Ops.{op_number, deciding}
 use Rattle.s3_model.specs.Parts.{piece_of}
 use Rattle.s3_service.specs.ServiceState.{State}
 use Rattle.s3_service.specs.Serves.{MayChange, MayRefuse, IsTakenOnlyWhereThere}
 use Rattle.world_laws.specs.Tasks.{IsConditional}
-use Rattle.run_promise.specs.Schedule.{Gained, IsObject, IsSource, IsUpload, Known, Target, Origin, IsTaskAsk, asked_range}
-use Rattle.run_promise.specs.Outcomes.{deciding, IsDecidedByRequest}
-use Rattle.world_laws.proofs.Jobs.{op_same}
+use Rattle.run_promise.specs.Schedule.{Gained, IsUpload, Known, IsTaskAsk, asked_range}
+use Rattle.job_terms.specs.Jobs.{IsObject, IsSource, Target, Origin}
+use Rattle.run_promise.specs.Outcomes.{IsDecidedByRequest}
+use Rattle.job_terms.proofs.SameJobs.{op_same}
 
 -- a place is an object in one way
 pub moved_place : (of_place : Place) (b k bucket key : List ℕ) → IsObject of_place b k → b ≡ bucket → k ≡ key → IsObject of_place bucket key

@@ -16,14 +16,16 @@ use Rattle.s3_model.specs.declared.settings.Config.{Config}
 use Rattle.s3_model.specs.declared.settings.Limits.{Limits}
 use Rattle.s3_model.specs.declared.tasks.Task.{Task}
 use Rattle.s3_model.specs.Parts.{HasPieces}
-use Rattle.run_promise.specs.Dispatches.{Dispatched, FitsAsk, IsCompletedWell, op_number}
+use Rattle.run_promise.specs.Dispatches.{FitsAsk, IsCompletedWell}
+use Rattle.job_terms.specs.Dispatches.{Dispatched}
+use Rattle.job_terms.specs.Ops.{op_number, deciding}
 use Rattle.run_promise.specs.Fits.{request_at}
-use Rattle.run_promise.specs.Outcomes.{deciding}
 use Rattle.run_promise.specs.Traces.{states}
 use Rattle.s3_service.specs.ServiceState.{State}
 use Rattle.run_promise.specs.Truthful.{IsDest}
 use Rattle.s3_model.specs.Validity.{IsValidConfig, IsValidLimits}
-use Rattle.run_promise.specs.Schedule.{IsUpload, Setting, limit_of, Target, Origin, IsSchedule, IsTaskAsk, IsBefore, IsBeforeAny, IsDecided, IsObject, IsSource, IsFailed, gained_before, is_planning, planning_of, is_small, job_of, source_bytes}
+use Rattle.run_promise.specs.Schedule.{IsUpload, Setting, limit_of, IsSchedule, IsTaskAsk, IsBefore, IsBeforeAny, IsDecided, IsFailed, gained_before, is_planning, planning_of, is_small, source_bytes}
+use Rattle.job_terms.specs.Jobs.{Target, Origin, IsObject, IsSource, job_of}
 use Rattle.s3_model.specs.Maps.{MapOf}
 use Rattle.s3_model.specs.Files.{HeldFile}
 use Rattle.shared_lemmas.proofs.Clashes.{false_true, some_is}

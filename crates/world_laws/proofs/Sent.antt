@@ -7,7 +7,7 @@ use Rattle.s3_model.specs.declared.settings.Limits.{Limits}
 use Rattle.s3_model.specs.Talks.{Talk}
 use Rattle.s3_service.specs.ServiceState.{State}
 use Rattle.s3_service.specs.Serves.{Answer}
-use Rattle.run_promise.specs.Dispatches.{Dispatched}
+use Rattle.job_terms.specs.Dispatches.{Dispatched}
 use Rattle.run_promise.specs.Traces.{SentRequest, Step, Begin, Serve, IsTrace, events_of}
 use Rattle.run_promise.specs.Fits.{Fits}
 use Rattle.shared_lemmas.proofs.Members.{contains_of, has}

@@ -10,7 +10,7 @@ use Rattle.s3_model.specs.declared.settings.Limits.{Limits}
 use Rattle.s3_model.specs.Talks.{Talk}
 use Rattle.s3_service.specs.ServiceState.{State, Object, object_at, HasBytes}
 use Rattle.s3_service.specs.Serves.{Succeeds, IsThere}
-use Rattle.run_promise.specs.Dispatches.{Dispatched}
+use Rattle.job_terms.specs.Dispatches.{Dispatched}
 use Rattle.run_promise.specs.Traces.{Step, event_of, events_of, states}
 use Rattle.world_laws.specs.Premises.{HasCome, HasSuccess, IsPlace}
 use Rattle.run_promise.specs.Runs.{moments}

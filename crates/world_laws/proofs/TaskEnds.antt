@@ -22,7 +22,7 @@ use Rattle.s3_service.specs.Serves.{Answer, Refused}
 use Rattle.run_promise.specs.Traces.{Step, TraceEvent, Serve, Steps, state_after, events_of}
 use Rattle.run_promise.specs.Fits.{request_at}
 use Rattle.run_promise.specs.Schedule.{Setting, Known, IsTaskAsk, is_small, source_bytes, gained_before}
-use Rattle.run_promise.specs.Outcomes.{deciding}
+use Rattle.job_terms.specs.Ops.{deciding}
 use Rattle.run_promise.specs.Endings.{Excused, Scene, LeavesAs, IsAsBefore, IsThereIn, IsGone}
 use Rattle.shared_lemmas.proofs.Clashes.{true_is_false}
 use Rattle.shared_lemmas.proofs.Members.{Has}

@@ -17,9 +17,10 @@ use Rattle.s3_model.specs.Files.{HeldFile}
 use Rattle.s3_model.specs.Parts.{HasPieces, IsTransfer, piece_of, piece_count}
 use Rattle.s3_service.specs.Serves.{MayChange, bytes_within}
 use Rattle.s3_service.specs.ServiceState.{State, object_at, HasBytes}
-use Rattle.run_promise.specs.Dispatches.{Dispatched}
+use Rattle.job_terms.specs.Dispatches.{Dispatched}
 use Rattle.run_promise.specs.Traces.{Step, state_after, events_of, event_of}
-use Rattle.run_promise.specs.Schedule.{Setting, IsTaskAsk, is_small, job_of, source_bytes, bytes_of, gained_before, asked_range}
+use Rattle.run_promise.specs.Schedule.{Setting, IsTaskAsk, is_small, source_bytes, bytes_of, gained_before, asked_range}
+use Rattle.job_terms.specs.Jobs.{job_of}
 use Rattle.run_promise.specs.Endings.{Excused, Scene, HasContent, Holds, IsAbsent, IsNew}
 use Rattle.run_promise.specs.Truthful.{IsDest, IsOldAfter}
 use Rattle.world_laws.specs.Premises.{BeginsWith, IsPlace, HasCome, HasSucceeded}
@@ -28,13 +29,13 @@ use Rattle.world_laws.specs.Destinations.{AllThatChange, Making, Requests, IsNew
 use Rattle.world_laws.specs.SmallTransfers.{AsksPut, AsksCopy, AsksDelete, HadContent, IsStored, IsCopied, IsRemoved}
 use Rattle.world_laws.specs.Multipart.{AreParts, AreCopiedParts, IsCopiedInParts, joined}
 use Rattle.world_laws.specs.Tasks.{HasSource, IsRefusedIn, IsScheduled, IsTaskNew, IsTraceOf, TaskIsNew, TaskIsOld, TaskIsWhole}
-use Rattle.run_promise.specs.Outcomes.{deciding}
+use Rattle.job_terms.specs.Ops.{deciding}
 use Rattle.shared_lemmas.proofs.Members.{contains_of, has_at}
 use Rattle.world_laws.proofs.Frame.{asked_decided}
 use Rattle.world_laws.proofs.Kept.{kept_at}
 use Rattle.world_laws.proofs.Fitting.{come_by}
 use Rattle.world_laws.proofs.Pieces.{pieces_make_whole, ranges_make_whole}
-use Rattle.world_laws.proofs.PieceCounts.{in_parts}
+use Rattle.job_terms.proofs.PieceCounts.{in_parts}
 use Rattle.world_laws.proofs.SmallTransfers as small
 use Rattle.world_laws.proofs.InParts as parts
 use Rattle.world_laws.proofs.Rows as rows

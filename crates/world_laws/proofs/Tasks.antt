@@ -18,8 +18,9 @@ use Rattle.s3_model.specs.declared.tasks.Task.{Task}
 use Rattle.s3_model.specs.Talks.{Talk}
 use Rattle.s3_model.specs.Parts.{HasPieces, piece_of}
 use Rattle.s3_service.specs.Serves.{MayChange}
-use Rattle.run_promise.specs.Dispatches.{Attempt, Dispatched, last_of}
-use Rattle.run_promise.specs.Schedule.{Setting, IsObject, IsSource, asked_range, IsTaskAsk, IsUpload, Known, is_small, job_of, source_bytes, HasReply, gained_before, is_planning, planning_of}
+use Rattle.job_terms.specs.Dispatches.{Attempt, Dispatched, last_of}
+use Rattle.run_promise.specs.Schedule.{Setting, asked_range, IsTaskAsk, IsUpload, Known, is_small, source_bytes, HasReply, gained_before, is_planning, planning_of}
+use Rattle.job_terms.specs.Jobs.{IsObject, IsSource, job_of}
 use Rattle.shared_lemmas.proofs.Clashes.{some_is}
 use Rattle.shared_lemmas.proofs.Members.{contains_of, found_or_not, has, has-filter}
 use Rattle.world_laws.specs.Premises.{HasSucceeded}
@@ -27,10 +28,9 @@ use Rattle.world_laws.specs.Destinations.{AllThatChange}
 use Rattle.world_laws.specs.SmallTransfers.{AsksPut, AsksCopy, AsksDelete}
 use Rattle.world_laws.specs.Multipart.{IsCreated, CompletesHere, AreParts, AreCopiedParts}
 use Rattle.world_laws.specs.Tasks.{IsScheduled}
-use Rattle.run_promise.specs.Outcomes.{deciding}
-use Rattle.run_promise.specs.Planning.{IsPlanning}
-use Rattle.world_laws.proofs.Jobs.{job_is}
-use Rattle.world_laws.proofs.PieceCounts.{pieces_are_one}
+use Rattle.job_terms.specs.Ops.{deciding, IsPlanning}
+use Rattle.job_terms.proofs.SameJobs.{job_is}
+use Rattle.job_terms.proofs.PieceCounts.{pieces_are_one}
 use Rattle.world_laws.proofs.Rows as rows
 use Rattle.world_laws.proofs.Rows.{ChangesAs, CompletesAt}
 

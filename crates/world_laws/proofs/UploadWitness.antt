@@ -15,9 +15,11 @@ use Rattle.s3_model.specs.Files.{HeldFile}
 use Rattle.s3_model.specs.Maps.{MapOf}
 use Rattle.s3_model.specs.Parts.{HasPieces, piece_of}
 use Rattle.s3_service.specs.ServiceState.{State}
-use Rattle.run_promise.specs.Dispatches.{Dispatched, op_number}
+use Rattle.job_terms.specs.Dispatches.{Dispatched}
+use Rattle.job_terms.specs.Ops.{op_number}
 use Rattle.run_promise.specs.Outcomes.{HasOutcome}
-use Rattle.run_promise.specs.Schedule.{AreETags, IsSchedule, IsUpload, Target, bytes_of, gained_before, job_of}
+use Rattle.run_promise.specs.Schedule.{AreETags, IsSchedule, IsUpload, bytes_of, gained_before}
+use Rattle.job_terms.specs.Jobs.{Target, job_of}
 use Rattle.run_promise.specs.Traces.{IsWilling}
 use Rattle.run_promise.specs.Truthful.{IsDest}
 use Rattle.shared_lemmas.proofs.Clashes.{false_true, none_is_some, some_is}

@@ -10,8 +10,9 @@ use Rattle.s3_model.specs.declared.settings.Limits.{Limits}
 use Rattle.s3_model.specs.Talks.{Talk}
 use Rattle.s3_service.specs.ServiceState.{State}
 use Rattle.s3_service.specs.Serves.{Answer, Refused, Succeeds}
-use Rattle.run_promise.specs.Dispatches.{Attempt, Dispatched}
-use Rattle.run_promise.specs.Traces.{Step, TraceEvent, Serve, Came, IsTrace, IsWilling, IsWillingAt, SaysIfThere, state_after, events_of, event_of}
+use Rattle.job_terms.specs.Dispatches.{Attempt, Dispatched}
+use Rattle.run_promise.specs.Traces.{Step, TraceEvent, Serve, Came, IsTrace, IsWilling, IsWillingAt, state_after, events_of, event_of}
+use Rattle.s3_service.specs.Willing.{SaysIfThere}
 use Rattle.run_promise.specs.Fits.{Fits, request_at}
 use Rattle.world_laws.specs.Premises.{HasCome}
 use Rattle.shared_lemmas.proofs.Lists.{head_is, tail_is}

@@ -8,8 +8,10 @@ use Rattle.s3_model.specs.declared.outcomes.JobId.{JobId}
 use Rattle.s3_model.specs.declared.settings.Limits.{Limits}
 use Rattle.s3_service.specs.ServiceState.{State, objects_in, HasBucket, with_object, without_object}
 use Rattle.s3_service.specs.Serves.{MayChange, IsThere}
-use Rattle.run_promise.specs.Dispatches.{Attempt, Dispatched, op_number}
-use Rattle.run_promise.specs.Schedule.{job_of, IsBefore}
+use Rattle.job_terms.specs.Dispatches.{Attempt, Dispatched}
+use Rattle.job_terms.specs.Ops.{op_number}
+use Rattle.run_promise.specs.Schedule.{IsBefore}
+use Rattle.job_terms.specs.Jobs.{job_of}
 use Rattle.run_promise.specs.Fits.{request_at}
 use Rattle.shared_lemmas.proofs.Clashes.{false_true}
 use Rattle.shared_lemmas.proofs.Members.{contains_of, Has, has}

@@ -1,6 +1,6 @@
 -- What a service that does what it may owes to a run: each task is done, but one whose file call failed or for which
 -- memory ran out.
-use Rattle.std.specs.Prelude.{◌≡◌, ◌⊎◌, ℕ, true, List, [], Some, None, length, slice_get}
+use Rattle.std.specs.Prelude.{◌≡◌, ◌⊎◌, ℕ, true, List, Some, None, length, slice_get}
 use Rattle.s3_model.specs.declared.requests.Ask.{Ask}
 use Rattle.s3_model.specs.declared.answers.Class.{Class}
 use Rattle.s3_model.specs.declared.outcomes.Cause.{Cause}
@@ -14,9 +14,10 @@ use Rattle.s3_model.specs.Talks.{Talk}
 use Rattle.s3_service.specs.ServiceState.{State, Object}
 use Rattle.s3_service.specs.Serves.{IsThere}
 use Rattle.run_promise.specs.Carried.{IsCarried}
-use Rattle.run_promise.specs.Dispatches.{Dispatched}
+use Rattle.job_terms.specs.Dispatches.{Dispatched}
 use Rattle.run_promise.specs.Runs.{Run}
-use Rattle.run_promise.specs.Schedule.{IsObject, IsSource, IsSchedule}
+use Rattle.run_promise.specs.Schedule.{IsSchedule}
+use Rattle.job_terms.specs.Jobs.{IsObject, IsSource}
 use Rattle.run_promise.specs.Traces.{IsWilling}
 use Rattle.run_promise.specs.Truthful.{Shown, AreCertain, FitsShown, HasDestBuckets, IsAlone, IsDoneWhereWilling}
 use Rattle.run_promise.specs.Truthful.{IsFinished, MayBeFresh, WasTaken}

@@ -7,7 +7,7 @@ use Rattle.s3_model.specs.declared.settings.Limits.{Limits}
 use Rattle.s3_model.specs.Talks.{Talk}
 use Rattle.s3_service.specs.ServiceState.{State}
 use Rattle.s3_service.specs.Serves.{MayChange}
-use Rattle.run_promise.specs.Dispatches.{Dispatched}
+use Rattle.job_terms.specs.Dispatches.{Dispatched}
 use Rattle.run_promise.specs.Traces.{Step, state_after, events_of, event_of}
 use Rattle.world_laws.specs.Premises.{BeginsWith, IsPlace, HasSuccess}
 use Rattle.run_promise.specs.Truthful.{IsOldAfter}

@@ -8,7 +8,7 @@ use Rattle.s3_model.specs.declared.answers.Class.{Class}
 use Rattle.s3_model.specs.declared.outcomes.Event.{Event}
 use Rattle.s3_model.specs.declared.settings.Limits.{Limits}
 use Rattle.s3_model.specs.Talks.{Talk}
-use Rattle.run_promise.specs.Dispatches.{Dispatched}
+use Rattle.job_terms.specs.Dispatches.{Dispatched}
 use Rattle.s3_model.specs.Parts.{piece_count}
 use Rattle.run_promise.specs.Schedule.{asked_range}
 use Rattle.world_laws.specs.Premises.{IsNoPlace, HasCome, HasSucceeded}

@@ -5,7 +5,7 @@ use Rattle.s3_model.specs.declared.answers.Class.{Class}
 use Rattle.s3_model.specs.declared.settings.Limits.{Limits}
 use Rattle.s3_model.specs.Talks.{Talk}
 use Rattle.s3_service.specs.Serves.{MayChange}
-use Rattle.run_promise.specs.Dispatches.{Dispatched}
+use Rattle.job_terms.specs.Dispatches.{Dispatched}
 use Rattle.run_promise.specs.Traces.{Step}
 use Rattle.run_promise.specs.Truthful.{IsExternal, IsOldAfter}
 use Rattle.world_laws.specs.Premises.{BeginsWith, HasTrace}

@@ -7,7 +7,7 @@ use Rattle.s3_model.specs.declared.settings.Limits.{Limits}
 use Rattle.s3_model.specs.Talks.{Talk}
 use Rattle.s3_service.specs.ServiceState.{Object, object_at}
 use Rattle.s3_service.specs.Serves.{Writes}
-use Rattle.run_promise.specs.Dispatches.{Dispatched}
+use Rattle.job_terms.specs.Dispatches.{Dispatched}
 use Rattle.run_promise.specs.Traces.{Step, External, state_after, events_of}
 use Rattle.run_promise.specs.Schedule.{IsBefore}
 use Rattle.run_promise.specs.Endings.{IsDeleted}

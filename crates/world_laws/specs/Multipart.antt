@@ -10,7 +10,7 @@ use Rattle.s3_model.specs.Lists.{Reserved}
 use Rattle.s3_model.specs.Talks.{Talk}
 use Rattle.s3_service.specs.ServiceState.{State, HasBytes}
 use Rattle.s3_service.specs.Serves.{bytes_within}
-use Rattle.run_promise.specs.Dispatches.{Dispatched}
+use Rattle.job_terms.specs.Dispatches.{Dispatched}
 use Rattle.run_promise.specs.Traces.{Step, IsTrace}
 use Rattle.run_promise.specs.Truthful.{AbortsLast}
 use Rattle.world_laws.specs.Premises.{HasCome, HasSucceeded}

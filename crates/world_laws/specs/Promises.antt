@@ -14,7 +14,7 @@ use Rattle.s3_model.specs.Replies.{IsSameClass}
 use Rattle.s3_model.specs.Talks.{Talk, Note}
 use Rattle.s3_model.specs.Validity.{IsValidConfig, IsValidLimits}
 use Rattle.run_promise.specs.Carried.{IsCarried}
-use Rattle.run_promise.specs.Dispatches.{Dispatched}
+use Rattle.job_terms.specs.Dispatches.{Dispatched}
 use Rattle.run_promise.specs.Outcomes.{HasOutcome, IsDecidedByRequest}
 use Rattle.s3_service.specs.ServiceState.{State}
 use Rattle.run_promise.specs.Traces.{Step}
@@ -22,7 +22,7 @@ use Rattle.run_promise.specs.Schedule.{Setting, IsSchedule, is_small}
 use Rattle.run_promise.specs.Truthful.{Shown, FitsShown, HasOutcomes, HoldsOver}
 use Rattle.world_laws.specs.Premises.{AreGiven, HasCome}
 use Rattle.run_promise.specs.Runs.{Run, moments}
-use Rattle.run_promise.specs.Planning.{IsPlanning}
+use Rattle.job_terms.specs.Ops.{IsPlanning}
 use Rattle.world_laws.specs.Tasks.{AreApart, HasSource, MayBeNew}
 
 -- a task that requests decide: its destination is an object, and a removal moves nothing

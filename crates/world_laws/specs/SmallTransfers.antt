@@ -7,7 +7,7 @@ use Rattle.s3_model.specs.declared.outcomes.Event.{Event}
 use Rattle.s3_model.specs.Talks.{Talk}
 use Rattle.s3_service.specs.ServiceState.{State, Object, object_at, HasBytes}
 use Rattle.s3_service.specs.Serves.{IsThere}
-use Rattle.run_promise.specs.Dispatches.{Dispatched}
+use Rattle.job_terms.specs.Dispatches.{Dispatched}
 use Rattle.world_laws.specs.Destinations.{AllThatChange, IsNewAfterSuccess, IsOldOrNew}
 
 -- ---- which requests

@@ -11,7 +11,7 @@ use Rattle.s3_model.specs.declared.places.Entry.{Entry}
 use Rattle.s3_model.specs.declared.places.Place.TheVariants as place
 use Rattle.s3_model.specs.declared.tasks.Task.{Task}
 use Rattle.s3_model.specs.Talks.{Talk}
-use Rattle.run_promise.specs.Dispatches.{Dispatched}
+use Rattle.job_terms.specs.Dispatches.{Dispatched}
 use Rattle.run_promise.specs.Schedule.{Setting}
 use Rattle.world_laws.specs.Premises.{HasCome, HasSucceeded}
 use Rattle.run_promise.specs.Runs.{Run, moments}

@@ -21,15 +21,15 @@ use Rattle.s3_model.specs.Validity.{IsValidConfig, IsValidLimits}
 use Rattle.s3_model.specs.Files.{HeldFile, is_listed}
 use Rattle.s3_service.specs.ServiceState.{State}
 use Rattle.s3_service.specs.Serves.{taken_codes}
-use Rattle.run_promise.specs.Dispatches.{Attempt, Dispatched}
+use Rattle.job_terms.specs.Dispatches.{Attempt, Dispatched}
 use Rattle.run_promise.specs.Traces.{SentRequest, Step, Begin, state_after}
-use Rattle.run_promise.specs.Schedule.{Setting, IsObject, IsSource, IsSchedule, is_small, job_of}
-use Rattle.run_promise.specs.Outcomes.{deciding}
+use Rattle.run_promise.specs.Schedule.{Setting, IsSchedule, is_small}
+use Rattle.job_terms.specs.Jobs.{IsObject, IsSource, job_of}
+use Rattle.job_terms.specs.Ops.{deciding, IsPlanning}
 use Rattle.run_promise.specs.Endings.{Excused, Scene, IsNew, IsGone, IsGoneOrThere, IsSpared, IsEnded}
 use Rattle.run_promise.specs.Truthful.{IsDest, IsMovedSource, IsExternal, IsOldAfter}
 use Rattle.world_laws.specs.Premises.{BeginsWith, AreGiven, HasCome}
 use Rattle.run_promise.specs.Runs.{Run, moments, HasEndedBy, IsFitting}
-use Rattle.run_promise.specs.Planning.{IsPlanning}
 use Rattle.world_laws.specs.Premises.{HasSucceeded, AllRefused}
 use Rattle.world_laws.specs.SmallTransfers.{HasSize}
 

@@ -9,7 +9,7 @@ use Rattle.s3_model.specs.declared.settings.Limits.{Limits}
 use Rattle.s3_model.specs.Talks.{Talk}
 use Rattle.s3_service.specs.ServiceState.{State}
 use Rattle.s3_service.specs.Serves.{Replied}
-use Rattle.run_promise.specs.Dispatches.{Dispatched}
+use Rattle.job_terms.specs.Dispatches.{Dispatched}
 use Rattle.run_promise.specs.Traces.{SentRequest, Step, Serve, IsTrace, state_after}
 use Rattle.world_laws.specs.Premises.{BeginsWith, HasTrace}
 use Rattle.run_promise.specs.Runs.{Run}

@@ -14,9 +14,10 @@ use Rattle.s3_model.specs.declared.tasks.Kind.TheVariants as kind
 use Rattle.s3_model.specs.declared.tasks.Task.{Task}
 use Rattle.s3_service.specs.ServiceState.{State}
 use Rattle.s3_service.specs.Serves.{Replied, LiesWithin, bytes_within}
-use Rattle.run_promise.specs.Dispatches.{Dispatched}
+use Rattle.job_terms.specs.Dispatches.{Dispatched}
 use Rattle.run_promise.specs.Traces.{SentRequest, Step, Begin, Serve, IsTrace, IsWilling, state_after, events_of}
-use Rattle.run_promise.specs.Schedule.{Setting, is_small, job_of}
+use Rattle.run_promise.specs.Schedule.{Setting, is_small}
+use Rattle.job_terms.specs.Jobs.{job_of}
 use Rattle.run_promise.specs.Truthful.{Shown, AreCertain, HasDestBuckets, IsAlone, IsDest, IsExternal}
 use Rattle.run_promise.specs.Runs.{HasJournal, Run, moments, HasEndedBy, IsFitting}
 use Rattle.s3_model.specs.Parts.{HasPieces}
@@ -33,7 +34,7 @@ use Rattle.world_laws.specs.Moves.{IsGivenAfter}
 use Rattle.world_laws.specs.Sources.{IsFound}
 use Rattle.world_laws.specs.Uploads.{NamesUpload, IsFree}
 use Rattle.world_laws.specs.Tasks.{HasDeleted, IsDecidedIn, IsObjectTask, IsRefusedIn, IsRunOf, IsTraceOf}
-use Rattle.run_promise.specs.Outcomes.{deciding}
+use Rattle.job_terms.specs.Ops.{deciding}
 use Rattle.world_laws.specs.Promises.{IsOrderly, run_of}
 use Rattle.world_laws.specs.Rounds.{AreNone, NeverFailed, Told, ToldStatus, no_text}
 

@@ -4,7 +4,7 @@ ghost use Rattle.s3_model.specs.declared.answers.Class.{Class};
 ghost use Rattle.s3_model.specs.declared.outcomes.Cause.{Cause};
 ghost use Rattle.s3_model.specs.declared.requests.Ask.{Ask};
 ghost use Rattle.s3_model.specs.Talks.{Talk};
-ghost use Rattle.run_promise.specs.Dispatches.{Dispatched};
+ghost use Rattle.job_terms.specs.Dispatches.{Dispatched};
 ghost use Rattle.std.specs.Prelude.{List, ℕ};
 ghost use Rattle.world_laws.specs.Completeness.{OrderlyIsDone, WillingIsDone};
 ghost use Rattle.world_laws.specs.Destinations.{IsOldAfterRefusals};

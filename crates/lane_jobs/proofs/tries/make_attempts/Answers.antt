@@ -3,7 +3,7 @@ use Rattle.s3_model.specs.declared.answers.Class.{Class}
 use Rattle.s3_model.specs.declared.tries.Mark.{Mark}
 use Rattle.attempts.specs.Attempts.{SignedRequest}
 use Rattle.attempts.specs.declared.send.Attempted.TheVariants as attempted
-use Rattle.run_promise.specs.Carried.{mark_of}
+use Rattle.job_terms.specs.Attempts.{mark_of}
 use Rattle.lane_jobs.proofs.LoopLemmas.{Underway, ends_there, goes_on, keeps_same, looked, none_made, runs_out, stops, to_service, unheard, wants}
 use Rattle.lane_jobs.proofs.tries.make_attempts.Goals as goal
 

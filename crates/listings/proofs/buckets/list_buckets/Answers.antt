@@ -2,8 +2,8 @@ use Rattle.std.proofs.Common.{sym, subst, Result}
 use Rattle.s3_model.specs.declared.places.Entry.{Entry}
 use Rattle.s3_model.specs.declared.requests.Ask.TheVariants as ask
 use Rattle.s3_model.specs.Lists.{Reserved}
-use Rattle.run_promise.specs.Gains.{Gains}
-use Rattle.run_promise.proofs.GainLemmas.{gains_as}
+use Rattle.job_terms.specs.Gains.{Gains}
+use Rattle.job_terms.proofs.GainLemmas.{gains_as}
 use Rattle.listings.specs.Asked.{IsGiven, OfSomeTalks}
 use Rattle.listings.specs.Buckets.{ListsBuckets, buckets_of}
 use Rattle.listings.specs.declared.fault.ListingFault.{ListingFault}

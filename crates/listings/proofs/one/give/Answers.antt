@@ -6,9 +6,6 @@ use Rattle.listings.proofs.one.give.Goals as goal
 pub returns-in_err-ok-clause-given : goal.returns-in_err-ok-clause-given
 returns-in_err-ok-clause-given g c = none_given _ _ _ _ _ _ _ _ (search rules) c.reserve.ensures.items
 
-pub returns-in_err-payload-clause-given : goal.returns-in_err-payload-clause-given
-returns-in_err-payload-clause-given g c = none_given _ _ _ _ _ _ _ _ (search rules) c.reserve.ensures.items
-
 pub returns-in_err-into-clause-given : goal.returns-in_err-into-clause-given
 returns-in_err-into-clause-given g c = none_given _ _ _ _ _ _ _ _ (search rules) c.reserve.ensures.items
 
@@ -18,9 +15,6 @@ returns-in-Made-clause-given g c =
 
 pub returns-in_err-ok-clause-some : goal.returns-in_err-ok-clause-some
 returns-in_err-ok-clause-some g c = none_of_some _ _ _ _ _ _ _ (search rules) c.reserve.ensures.items
-
-pub returns-in_err-payload-clause-some : goal.returns-in_err-payload-clause-some
-returns-in_err-payload-clause-some g c = none_of_some _ _ _ _ _ _ _ (search rules) c.reserve.ensures.items
 
 pub returns-in_err-into-clause-some : goal.returns-in_err-into-clause-some
 returns-in_err-into-clause-some g c = none_of_some _ _ _ _ _ _ _ (search rules) c.reserve.ensures.items

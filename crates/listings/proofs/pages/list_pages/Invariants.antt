@@ -1,6 +1,6 @@
 use Rattle.std.proofs.Common.{◌≡◌, ◌+◌, ◌*◌, ◌≤◌, false, length}
 use Rattle.answer_dates.specs.Dates.{AreDated}
-use Rattle.run_promise.specs.Gains.{Gains}
+use Rattle.job_terms.specs.Gains.{Gains}
 use Rattle.list_walk.specs.Pages.{IsSound, total_of}
 use Rattle.listings.specs.Asked.{OfSomeTalks}
 use Rattle.listings.proofs.PageLemmas.{IsUnderway}

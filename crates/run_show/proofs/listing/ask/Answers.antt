@@ -7,8 +7,8 @@ use Rattle.listings.specs.declared.fault.ListingFault.{ListingFault}
 use Rattle.listings.specs.declared.fault.ListingFault.TheVariants as fault
 use Rattle.s3_model.specs.declared.places.Endpoint.{Endpoint}
 use Rattle.s3_model.specs.declared.settings.Keys.{Keys}
-use Rattle.run_promise.specs.Gains.{Gains}
-use Rattle.run_promise.proofs.GainLemmas.{gains_nothing}
+use Rattle.job_terms.specs.Gains.{Gains}
+use Rattle.job_terms.proofs.GainLemmas.{gains_nothing}
 use Rattle.run_show.proofs.listing.ask.Goals as goal
 
 pub returns-clause-shown : goal.returns-clause-shown

@@ -1,7 +1,7 @@
 use Rattle.std.proofs.Common.{◌≡◌, List, [], rules, sym, ap, subst}
 use Rattle.listing_commands.specs.Commands.{ShowsListing}
 use Rattle.listings.specs.Asked.{OfSomeTalks}
-use Rattle.run_promise.specs.Gains.{Gains}
+use Rattle.job_terms.specs.Gains.{Gains}
 use Rattle.s3_model.specs.declared.outcomes.Event.{Event}
 use Rattle.run_show.proofs.listing.execute_listing.Goals as goal
 

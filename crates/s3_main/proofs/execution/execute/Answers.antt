@@ -1,7 +1,7 @@
 use Rattle.std.proofs.Common.{◌∙◌, Global, map, string_bytes, refl, ap, is_some, subst, sym, inl, inr}
 use Rattle.s3_model.specs.declared.settings.Limits.{Limits}
-use Rattle.run_promise.specs.Gains.{Gains}
-use Rattle.run_promise.proofs.GainLemmas.{gains_as}
+use Rattle.job_terms.specs.Gains.{Gains}
+use Rattle.job_terms.proofs.GainLemmas.{gains_as}
 use Rattle.s3_main.specs.Listings.{IsListing}
 use Rattle.s3_main.specs.Runs.{GoesAs}
 use Rattle.s3_main.specs.Urls.{IsPresigned}

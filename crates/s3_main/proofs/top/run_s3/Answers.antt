@@ -1,7 +1,7 @@
 use Rattle.std.proofs.Common.{None, Global, map, string_bytes, arith}
 use Rattle.s3_main.proofs.PromiseLemmas.{all_true}
 use Rattle.s3_main.proofs.TopLemmas as lemma
-use Rattle.run_promise.proofs.GainLemmas.{gains_as}
+use Rattle.job_terms.proofs.GainLemmas.{gains_as}
 use Rattle.s3_main.proofs.top.run_s3.Goals as goal
 
 pub returns-clause-went : goal.returns-clause-went

@@ -2,7 +2,7 @@ use Rattle.std.proofs.Common.{◌∙◌, List, Err, sym, ap, subst}
 use Rattle.std.specs.Arc.{arc_value}
 use Rattle.s3_model.specs.declared.outcomes.Outcome.TheVariants as outcome
 use Rattle.s3_model.specs.declared.outcomes.Cause.{Cause}
-use Rattle.run_promise.specs.Gains.{Gains}
+use Rattle.job_terms.specs.Gains.{Gains}
 use Rattle.upload_promise.specs.Uploads.{WantsJournal}
 use Rattle.small_uploads.specs.Uploading.{Uploads, put_ask}
 use Rattle.lane_jobs.specs.Lanes.{bytes_of}

@@ -1,5 +1,7 @@
--- The pieces of a transfer: their length and number are one, and no piece is empty.
-use Rattle.std.proofs.Common.{◌≡◌, ◌∙◌, ◌*◌, ◌^◌, ◌≤◌, ℕ, Bool, true, false, max, nat_lt, sym, ap, subst, inl, inr, if◌then◌else◌, arith}
+-- The pieces of a transfer: their length and number are one, no piece is empty, and each begins inside the whole.
+use Rattle.std.proofs.Common.{◌≡◌, ◌∙◌, ◌+◌, ◌-◌, ◌*◌, ◌^◌, ◌<◌, ◌≤◌, ℕ, zero, suc, Bool, true, false, max, nat_lt, sym, ap, subst, inl, inr, if◌then◌else◌, arith}
+use Rattle.std.proofs.Math.Nat.{div-mul-le_self, mul-le-mul_right}
+use Rattle.std.proofs.lemmas.Nat.{le-div}
 use Rattle.std.proofs.lemmas.Bool.{cases_lt, ltb-false}
 use Rattle.s3_model.specs.declared.settings.Limits.{Limits}
 use Rattle.s3_model.specs.declared.settings.Config.{Config}
@@ -57,3 +59,19 @@ least_length limits found valid = which (nat_lt limits.max_part found)
 pub least_piece : (config : Config) (limits : Limits) (size piece count : ℕ) → IsValidLimits limits → nat_lt size config.threshold ≡ false → IsTransfer config limits size piece count → limits.min_part ≤ piece
 least_piece config limits size piece count valid large (inl a) = let above = ltb-false size config.threshold large in let below = a.0 in absurd (omega arith)
 least_piece config limits size piece count valid large (inr b) = subst (λ n. limits.min_part ≤ n) (sym b.1.2) (least_length limits b.1.0 valid)
+
+-- a piece begins inside the whole
+pub begins_inside : (size piece number : ℕ) → 1 ≤ piece → 1 ≤ size → 1 ≤ number → number ≤ piece_count size piece → (number - 1) * piece < size
+begins_inside size piece number some sized low high =
+    let whole : piece_count size piece * piece ≤ size + piece - 1 = div-mul-le_self (size + piece - 1) piece in
+    let up_to : number * piece ≤ piece_count size piece * piece = mul-le-mul_right piece high in
+    let back : (number - 1) * piece + piece ≡ number * piece = one_less number low in
+    omega arith
+  where
+    one_less : (n : ℕ) → 1 ≤ n → (n - 1) * piece + piece ≡ n * piece
+    one_less zero l = absurd (omega arith)
+    one_less (suc n) l = let back : suc n - 1 ≡ n = omega arith in rw back (omega arith)
+
+-- what is not empty has a piece
+pub some_pieces : (size piece : ℕ) → 1 ≤ size → 1 ≤ piece → 1 ≤ piece_count size piece
+some_pieces size piece sized some = le-div 1 (size + piece - 1) piece some (omega arith)

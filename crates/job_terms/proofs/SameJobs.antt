@@ -3,7 +3,8 @@ use Rattle.std.proofs.Common.{◌≡◌, ◌∙◌, ◌⊎◌, ◌==◌, ◌&&�
 use Rattle.s3_model.specs.declared.outcomes.JobId.{JobId}
 use Rattle.s3_model.specs.declared.requests.Op.{Op}
 use Rattle.s3_model.specs.declared.requests.Op.TheVariants as op
-use Rattle.run_promise.specs.Dispatches.{is_job, is_task, is_op, op_number}
+use Rattle.job_terms.specs.Jobs.{is_job, is_task}
+use Rattle.job_terms.specs.Ops.{is_op, op_number}
 
 op_of : ℕ → Op
 op_of n =

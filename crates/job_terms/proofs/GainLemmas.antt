@@ -1,10 +1,10 @@
 -- What a wire gains in one call after the other.
 use Rattle.shared_lemmas.proofs.Clashes.{none_is_some, some_is}
-use Rattle.std.proofs.Common.{◌≡◌, ◌∙◌, ◌++◌, ◌⊎◌, ℕ, List, [], Option, Some, None, refl, sym, ap, inl, inr, append_assoc, append-nil}
+use Rattle.std.proofs.Common.{◌≡◌, ◌∙◌, ◌++◌, ◌⊎◌, ℕ, List, [], Option, Some, None, sym, ap, inl, inr, append_assoc, append-nil}
 use Rattle.std.specs.Option.{option_map}
 use Rattle.s3_model.specs.Counts.{Rose}
 use Rattle.s3_model.specs.Talks.{Talk, Note, WireLog}
-use Rattle.run_promise.specs.Gains.{Gains}
+use Rattle.job_terms.specs.Gains.{Gains}
 
 -- nothing was called
 pub gains_nothing : (P : List Talk → List Note → Type 0) (seen : Option WireLog) → P [] [] → Gains seen seen P

@@ -1,0 +1,3 @@
+pub mod GainLemmas
+pub mod PieceCounts
+pub mod SameJobs
