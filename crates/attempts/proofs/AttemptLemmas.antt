@@ -14,13 +14,13 @@ use Rattle.http_exchange.specs.Exchange as exchange
 use Rattle.attempts.specs.declared.send.Attempted.TheVariants as attempted
 use Rattle.attempts.specs.declared.send.Judged.{Judged}
 use Rattle.attempts.specs.Attempts.{HasClass, IsGet, IsOfSomeTalk, IsOneTalk, IsToldOf, Makes, SignedRequest, TellsStatus}
-use Rattle.run_promise.specs.Dispatches.{last_of}
-use Rattle.run_promise.specs.Gains.{Gains}
+use Rattle.job_terms.specs.Dispatches.{last_of}
+use Rattle.job_terms.specs.Gains.{Gains}
 use Rattle.attempts.specs.Steps.{IsAnsweredBy, IsJudged, IsSigned, exchange_of, status_of}
 use Rattle.answer_classes.specs.Showing.{is_head}
 use Rattle.attempts.proofs.ClassLemmas.{answered_within, has_class}
 use Rattle.http_exchange.specs.Seen.{with_talk}
-use Rattle.run_promise.proofs.GainLemmas.{gains_both, gains_step}
+use Rattle.job_terms.proofs.GainLemmas.{gains_both, gains_step}
 use Rattle.s3_outside.specs.Seen.{IsSeenAfter}
 
 gains_talk : (P : List Talk → List Note → Type 0) (talk : Talk) (before after : Option WireLog) (b a : ℕ) → IsSeenAfter (with_talk talk) before after b a

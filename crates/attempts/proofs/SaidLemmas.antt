@@ -12,8 +12,8 @@ use Rattle.s3_model.specs.declared.tries.Mark.{Mark}
 use Rattle.s3_model.specs.declared.tries.Mark.TheVariants as mark
 use Rattle.s3_model.specs.Talks.{Talk, Note, Failed}
 use Rattle.answer_classes.specs.Showing.{Shows}
-use Rattle.run_promise.specs.Carried.{IsPrefixOf, IsSaid, SaysAll, mark_of}
-use Rattle.run_promise.specs.Dispatches.{Dispatched}
+use Rattle.job_terms.specs.Attempts.{IsPrefixOf, IsSaid, SaysAll, mark_of}
+use Rattle.job_terms.specs.Dispatches.{Dispatched}
 use Rattle.attempts.specs.Attempts.{HasClass, IsOneTalk, SignedRequest, most_of, text_at, text_of}
 
 success_certain : (said : Reply) (reason : Why) → class.Success said ≡ class.Uncertain reason → ⊥

@@ -12,8 +12,8 @@ use Rattle.s3_model.specs.Talks.{Talk, Note, Moment, Began, Failed}
 use Rattle.s3_requests.specs.Requests.{request_text}
 use Rattle.answer_grammar.specs.Answer.{Begins}
 use Rattle.answer_classes.specs.Showing.{HasStatus, Shows}
-use Rattle.run_promise.specs.Carried.{mark_of}
-use Rattle.run_promise.specs.Dispatches.{last_of}
+use Rattle.job_terms.specs.Attempts.{mark_of}
+use Rattle.job_terms.specs.Dispatches.{last_of}
 use Rattle.attempts.specs.declared.send.Attempted.{Attempted}
 use Rattle.attempts.specs.declared.send.Attempted.TheVariants as attempted
 use Rattle.attempts.specs.declared.send.Judged.{Judged}

@@ -2,7 +2,7 @@
 
 ghost use Rattle.std.specs.Prelude.{◌≡◌};
 ghost use Rattle.attempts.specs.Attempts.{tries_of};
-ghost use Rattle.run_promise.specs.Carried.{mark_of};
+ghost use Rattle.job_terms.specs.Attempts.{mark_of};
 
 use crate::send::Attempted;
 use s3_model::{Class, Mark, Tries};

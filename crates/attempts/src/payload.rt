@@ -4,8 +4,8 @@ ghost use Rattle.std.specs.Prelude.{◌≡◌, [], IfOk};
 ghost use Rattle.s3_signing.specs.Signing.{hex_sha256};
 ghost use Rattle.attempts.specs.Payloads.{body_of, content_of};
 
-use s3_model::{Ask, Bytes, OutOfMemory, Text};
-use s3_requests::{body_text, payload_hash};
+use s3_model::{Ask, Bytes, OutOfMemory};
+use s3_requests::{HexHash, body_text, payload_hash};
 use std::alloc::Global;
 use std::marker::Model;
 
@@ -20,7 +20,7 @@ pub enum Content<'a> {
 #[derive(Drop)]
 pub struct Payload<'a> {
     content: Content<'a>,
-    hash: Text,
+    hash: HexHash,
 }
 
 impl<'a> Model for Payload<'a> {
@@ -65,17 +65,18 @@ impl<'a> Payload<'a> {
         ensures { IfOk result (λ payload. payload ≡ body_of ask.now bytes.now) }
     {
         let content = content_for(alloc, ask, bytes)?;
-        let hash = payload_hash(alloc, content.as_slice())?;
+        let hash = payload_hash(content.as_slice());
         Ok(Payload { content, hash })
     }
 
     /// What a request sends that has no body.
-    pub fn empty(alloc: Global) -> Result<Payload<'a>, OutOfMemory>
-        ensures { IfOk result (λ payload. payload ≡ []) }
+    pub fn empty() -> Payload<'a>
+        ensures { result ≡ [] }
     {
-        let hash = payload_hash(alloc, &[])?;
-        let content = Content::Lent(&[]);
-        Ok(Payload { content, hash })
+        Payload {
+            content: Content::Lent(&[]),
+            hash: payload_hash(&[]),
+        }
     }
 
     /// The bytes, lent.

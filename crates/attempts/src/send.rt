@@ -12,7 +12,7 @@ ghost use Rattle.attempts.specs.Attempts.{
   Makes,
   signed_request,
 };
-ghost use Rattle.run_promise.specs.Gains.{Gains};
+ghost use Rattle.job_terms.specs.Gains.{Gains};
 ghost use Rattle.attempts.specs.Steps.{IsAnsweredBy, IsSigned, status_of};
 ghost use Rattle.answer_classes.specs.Showing.{is_head};
 

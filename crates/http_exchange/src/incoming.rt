@@ -12,7 +12,7 @@ use std::marker::Model;
 pub(crate) const PIECE: usize = 16_384;
 
 /// Room for the bytes of a head, and behind them a piece.
-const ROOM: usize = 81_920;
+pub(crate) const ROOM: usize = 81_920;
 
 /// Bytes that came and are not read yet, in a place that is made once. Contracts see them as a list.
 #[derive(Debug, Drop)]
@@ -65,6 +65,17 @@ fn take_behind<W: Wire>(
     }
 }
 
+/// Writes two runs of bytes to the front, one behind the other.
+fn write_both(buffer: &mut [u8], first: &[u8], second: &[u8])
+    requires { length first.now + length second.now ≤ length buffer.old }
+    ensures front { slice_range buffer.new 0 (length first.now + length second.now) ≡ first.now ++ second.now }
+    ensures len { length buffer.new ≡ length buffer.old }
+{
+    let middle = first.len();
+    buffer[..middle].copy_from_slice(first);
+    buffer[middle..middle + second.len()].copy_from_slice(second);
+}
+
 impl Incoming {
     /// No bytes.
     pub(crate) fn make(alloc: Global) -> Result<Incoming, OutOfMemory>
@@ -84,6 +95,16 @@ impl Incoming {
     {
         self.start = 0;
         self.end = 0;
+    }
+
+    /// Lends the place to two runs of bytes, which stand there one behind the other in place of what came.
+    pub(crate) fn hold(&mut self, first: &[u8], second: &[u8])
+        requires { length first.now + length second.now ≤ 81_920 }
+        ensures { self.new ≡ first.now ++ second.now }
+    {
+        write_both(&mut self.buffer, first, second);
+        self.start = 0;
+        self.end = first.len() + second.len();
     }
 
     /// The bytes that are not read yet.

@@ -72,9 +72,9 @@ pub fn exchange<W: Wire>(
     ensures room { into.new.room ≡ into.old.room }
     ensures untouched { limit ≡ None → into.new ≡ into.old }
 {
-    room.incoming.clear();
-    match ask(alloc, wire, endpoint, head, body) {
+    match ask(wire, &mut room.incoming, endpoint, head, body) {
         Ok(()) => {
+            room.incoming.clear();
             let answer = receive(alloc, wire, room, head_only, limit, into);
             let is_entire = room.incoming.bytes().is_empty();
             end(wire, keep, is_entire, answer)

@@ -3,30 +3,30 @@
 use crate::asks::ask_named;
 use crate::fixtures::{MOMENT, endpoint, keys, value};
 use s3_model::{Ask, Bytes, OutOfMemory, Text};
-use s3_requests::{HeadRoom, Signer, body_text, head_text, payload_hash};
+use s3_requests::{HeadRoom, HexHash, Signer, body_text, head_text, payload_hash};
 use std::alloc::{AllocError, Global};
 
 /// The SHA-256 and the length of a body.
 #[derive(Drop)]
 struct Payload {
-    hash: Text,
+    hash: HexHash,
     length: u64,
 }
 
-fn hashed(alloc: Global, bytes: &[u8]) -> Result<Payload, OutOfMemory> {
-    Ok(Payload {
-        hash: payload_hash(alloc, bytes)?,
+fn hashed(bytes: &[u8]) -> Payload {
+    Payload {
+        hash: payload_hash(bytes),
         length: bytes.len() as u64,
-    })
+    }
 }
 
 /// The payload of an ask: its document, or else the bytes that the values name.
 fn payload_of(alloc: Global, ask: &Ask, values: &str) -> Result<Payload, OutOfMemory> {
     let document = body_text(alloc, ask)?;
     if document.as_slice().is_empty() {
-        hashed(alloc, value(values, "body").unwrap_or("").as_bytes())
+        Ok(hashed(value(values, "body").unwrap_or("").as_bytes()))
     } else {
-        hashed(alloc, document.as_slice())
+        Ok(hashed(document.as_slice()))
     }
 }
 
@@ -73,7 +73,7 @@ fn document_shown(alloc: Global, document: &Bytes) -> Result<String, AllocError>
 
 /// The length of a document, and its SHA-256.
 fn size_shown(alloc: Global, document: &Bytes) -> Result<String, OutOfMemory> {
-    let payload = hashed(alloc, document.as_slice())?;
+    let payload = hashed(document.as_slice());
     Ok(format!(in alloc; "{} {}", payload.length, payload.hash.as_str())?)
 }
 

@@ -34,7 +34,7 @@ pub(crate) fn canonical(alloc: Global, call: &str, values: &str) -> Result<Strin
     if call == "canonical" {
         return Ok(format!(in alloc; "{:?}", text.as_str())?);
     }
-    let hash = payload_hash(alloc, text.as_str().as_bytes())?;
+    let hash = payload_hash(text.as_str().as_bytes());
     let digits = signature(alloc, &keys(alloc, "")?, MOMENT, text.as_str())?;
     Ok(format!(in alloc; "{} {}", hash.as_str(), digits.as_str())?)
 }

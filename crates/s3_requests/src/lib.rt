@@ -12,7 +12,7 @@ mod target;
 pub use body::body_text;
 pub use head::HeadRoom;
 pub use s3_signing::{
-    canonical_request, has_sorted_names, hmac_sha256, payload_hash, signature, signing_key,
-    string_to_sign,
+    HexHash, canonical_request, has_sorted_names, hmac_sha256, payload_hash, signature,
+    signing_key, string_to_sign,
 };
 pub use signer::{Signer, head_text};

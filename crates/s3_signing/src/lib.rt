@@ -2,6 +2,7 @@
 #![tactic(auto)]
 
 mod canonical;
+mod digits;
 mod escapes;
 mod headers;
 mod hmac;
@@ -12,6 +13,7 @@ mod signing;
 mod times;
 
 pub use canonical::{SignedParts, canonical_request, canonical_text, write_canonical};
+pub use digits::HexHash;
 pub use escapes::{push_path, push_query};
 pub use headers::{Header, push_signed_names};
 pub use hmac::hmac_sha256;

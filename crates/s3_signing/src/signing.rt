@@ -4,6 +4,7 @@ ghost use Rattle.hex.specs.Hex.{encode_lower};
 ghost use Rattle.s3_signing.specs.Signing as spec;
 ghost use Rattle.s3_signing.specs.Times.{basic_date};
 
+use crate::digits::HexHash;
 use crate::hmac::hmac_sha256;
 use crate::times::{push_basic_date, push_basic_time};
 use s3_model::{Keys, OutOfMemory, Text};
@@ -14,26 +15,15 @@ use std::alloc::{AllocError, Global};
 fn push_hex(out: &mut String, hash: [u8; 32]) -> Result<(), AllocError>
     ensures { OnOk result (string_bytes out.new ≡ string_bytes out.old ++ encode_lower hash) }
 {
-    let mut digits = [0; 64];
-    match hex::encode_to_slice(hash, &mut digits) {
-        Ok(()) => out.push_str(unsafe { str::from_utf8_unchecked(&digits) }),
-        Err(_) => unreachable!(),
-    }
-}
-
-/// The SHA-256 of some bytes in 64 lower-case hexadecimal digits.
-#[tactic(auto, unfolding(crate::specs::Signing::hex_sha256))]
-fn hex_sha256(alloc: Global, bytes: &[u8]) -> Result<String, AllocError>
-    ensures { IfOk result (λ text. string_bytes text ≡ spec.hex_sha256 bytes.now) }
-{
-    hex::encode(alloc, Sha256::digest(bytes))
+    out.push_str(HexHash::of(hash).as_str())
 }
 
 /// The payload hash of a body: its SHA-256 in 64 lower-case hexadecimal digits.
-pub fn payload_hash(alloc: Global, body: &[u8]) -> Result<Text, OutOfMemory>
-    ensures { IfOk result (λ text. text ≡ spec.hex_sha256 body.now) }
+#[tactic(auto, unfolding(crate::specs::Signing::hex_sha256))]
+pub fn payload_hash(body: &[u8]) -> HexHash
+    ensures { result ≡ spec.hex_sha256 body.now }
 {
-    Ok(Text::from(hex_sha256(alloc, body)?))
+    HexHash::of(Sha256::digest(body))
 }
 
 /// Adds date/region/s3/aws4_request.

@@ -7,7 +7,7 @@ use Rattle.std.specs.List.{list_all}
 use Rattle.std.specs.Str.{IsAscii, IsUtf8}
 use Rattle.hex.specs.Hex.{encode_lower, lower_digits}
 use Rattle.hex.proofs.HexLemmas.{IsAscii-encode_with}
-use Rattle.s3_signing.proofs.signing.push_hex.Goals as goal
+use Rattle.s3_signing.proofs.digits.HexHash.of.Goals as goal
 
 both : (a b : Bool) → (a && b) ≡ true → (a ≡ true) × (b ≡ true)
 both true b h = (refl, h)
@@ -19,7 +19,7 @@ ascii (x ∷ rest) h =
     let found = both (ltb x 128) (list_all (λ x. ltb x 128) rest) h in
     IsAscii-cons x rest (ltb-true x 128 found.0) (ascii rest found.1)
 
-pub from_utf8_unchecked-requires : goal.from_utf8_unchecked-requires
-from_utf8_unchecked-requires c =
+pub invariant_of-result : goal.invariant_of-result
+invariant_of-result c =
     let digits = IsAscii-encode_with lower_digits c.args.hash (ascii lower_digits refl) in
     subst IsUtf8 (sym c.in-Ok.ensures.written) (IsUtf8-from_ascii (encode_lower c.args.hash) digits)
