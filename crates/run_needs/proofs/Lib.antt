@@ -1,3 +1,6 @@
 pub mod EntryCounts
+pub mod Falls
+pub mod GivenCounts
 pub mod JobLemmas
+pub mod MoveCounts
 pub mod NeedLemmas

@@ -1,3 +1,4 @@
 pub mod Entries
 pub mod Jobs
+pub mod Moves
 pub mod Needs

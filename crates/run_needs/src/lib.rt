@@ -4,5 +4,5 @@
 mod law;
 mod needs;
 
-pub use law::journals_fit;
+pub use law::{journals_fit, runs_are_finite};
 pub use needs::{Needs, needs_of};

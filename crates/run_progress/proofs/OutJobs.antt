@@ -3,8 +3,8 @@ use Rattle.std.proofs.Common.{◌≡◌, ◌∙◌, ◌==◌, ◌&&◌, ◌++◌
 use Rattle.std.proofs.lemmas.Bool.{and_parts, eqb-true}
 use Rattle.std.specs.Prelude.{is_some, if◌then◌else◌}
 use Rattle.jobs.specs.Endings.{SeenCarried}
-use Rattle.run_promise.specs.Dispatches.{is_op, op_number}
-use Rattle.run_promise.specs.Schedule.{job_of}
+use Rattle.job_terms.specs.Ops.{is_op, op_number}
+use Rattle.job_terms.specs.Jobs.{job_of}
 use Rattle.s3_model.specs.declared.outcomes.JobId.{JobId}
 use Rattle.s3_model.specs.declared.requests.Op.{Op}
 use Rattle.task_acts.specs.declared.acts.Act.{Act}
@@ -19,7 +19,7 @@ use Rattle.task_acts.specs.Kept.{is_file_act, kept_job}
 use Rattle.task_acts.specs.Stages.{carried_stage, file_stage, given_stage, is_out, stage}
 use Rattle.shared_lemmas.proofs.Clashes.{some_is}
 use Rattle.shared_lemmas.proofs.Members.{Has, contains_of, has-append_left, has-append_right}
-use Rattle.world_laws.proofs.Jobs.{op_same}
+use Rattle.job_terms.proofs.SameJobs.{op_same}
 use Rattle.task_progress.proofs.Endings.{chosen, no}
 use Rattle.manager_moves.proofs.HoldLemmas.{same_number}
 use Rattle.manager_moves.proofs.PartLaws.{nothing}

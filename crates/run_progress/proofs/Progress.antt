@@ -5,7 +5,7 @@ use Rattle.std.proofs.lemmas.Option.{slice_get_within}
 use Rattle.std.specs.List.{range_with_len}
 use Rattle.std.specs.Option.{option_or}
 use Rattle.std.specs.Prelude.{filter, is_some, unwrap_or, if◌then◌else◌}
-use Rattle.run_promise.specs.Schedule.{job_of}
+use Rattle.job_terms.specs.Jobs.{job_of}
 use Rattle.s3_model.specs.declared.outcomes.JobId.{JobId}
 use Rattle.s3_model.specs.declared.outcomes.Outcome.{Outcome}
 use Rattle.s3_model.specs.declared.requests.Op.{Op}
@@ -182,7 +182,7 @@ module _ (s : Shared) (events : Events) where
       let makes = guarded (nat_lt (made_count events) (length s.works) && nat_lt (unfinished_from s events 0 (made s events)) s.queue) (move.Make (made_count events)) refl in
       either_no_end (next_line s events) _ lines (either_no_end (first_call s events 0 (made s events)) _ calls (either_no_end (first_giving s events 0 (made s events)) (next_make s events) givings makes))
 
-  over : next_move s events ≡ move.End → IsOver
+  pub over : next_move s events ≡ move.End → IsOver
   over e =
       let is = by_default moves _ move.End none_is_last e refl in
       let one = some_or (next_line s events) _ is.0 in

@@ -2,7 +2,7 @@
 use Rattle.std.proofs.Common.{◌≡◌, ◌∙◌, ◌+◌, ◌++◌, ◌≤◌, ℕ, zero, suc, Bool, true, false, List, [], ◌∷◌, Some, refl, sym, subst, ap, arith, inl, inr, map}
 use Rattle.std.specs.List.{find, range_with_len}
 use Rattle.std.specs.Prelude.{if◌then◌else◌}
-use Rattle.run_promise.specs.Dispatches.{is_op}
+use Rattle.job_terms.specs.Ops.{is_op}
 use Rattle.s3_model.specs.declared.requests.Op.{Op}
 use Rattle.s3_model.specs.declared.requests.Op.TheVariants as op
 use Rattle.task_acts.specs.declared.acts.Act.{Act}
