@@ -22,8 +22,9 @@ use Rattle.task_acts.specs.declared.work.Work.{Work}
 use Rattle.task_acts.specs.Ends.{outcome_of}
 use Rattle.task_core.specs.Machine.{SeenTask}
 use Rattle.move_core.specs.declared.move_core.Means.{Means}
-use Rattle.move_core.specs.Follows.{Follows, IsSharedBy, outcome_at}
-use Rattle.move_core.specs.Kept.{IsSound, SeenMoves}
+use Rattle.move_core.specs.Means.{IsSharedBy}
+use Rattle.move_laws.specs.Follows.{Follows, outcome_at}
+use Rattle.move_laws.specs.Kept.{IsSound, SeenMoves}
 
 none_at : {X : Type 0} (none : X) (count n : ℕ) → get_or (replicate count none) n none ≡ none
 none_at none zero n = refl

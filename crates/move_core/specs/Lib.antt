@@ -1,9 +1,2 @@
-pub mod Admits
-pub mod Calls
-pub mod Cancelling
-pub mod Follows
-pub mod Freed
-pub mod Kept
-pub mod Lending
-pub mod Making
-pub mod Steady
+pub mod Given
+pub mod Means

@@ -1,31 +1,18 @@
 //! Calls on files.
 
-ghost use Rattle.std.specs.Prelude.{◌≡◌, ◌∷◌, [], true, None, IfSome};
+ghost use Rattle.std.specs.Prelude.{◌≡◌, ◌≤◌, ◌∷◌, [], true, None, IfSome};
 ghost use Rattle.held_parts.specs.Held.{IsSamePool, held_at, here_at};
 ghost use Rattle.manager_moves.specs.Runs.{Called};
-ghost use Rattle.move_core.specs.Admits.{Admits, GoesOn};
-ghost use Rattle.move_core.specs.Calls.{HasPlaced, IsBegun, IsLent, IsPlaced};
-ghost use Rattle.move_core.specs.Kept.{SeenMoves, has_free, with_parts};
-ghost use Rattle.move_core.specs.Steady.{IsSteady};
-ghost use Rattle.task_acts.specs.declared.work.Work.{Work};
-ghost use Rattle.task_acts.specs.Histories.{Gave, History, Returned};
-ghost use Rattle.task_core.specs.Machine.{Stands, ready_by};
+ghost use Rattle.move_laws.specs.Admits.{Admits, GoesOn};
+ghost use Rattle.move_laws.specs.Bytes.{KeepsBytes, no_part};
+ghost use Rattle.move_laws.specs.Calls.{HasPlaced, IsLentFor, IsLent, IsPlaced};
+ghost use Rattle.move_laws.specs.Kept.{SeenMoves, has_free, with_parts};
+ghost use Rattle.move_laws.specs.Steady.{IsSteady};
 
 use crate::move_core::MoveCore;
 use crate::settling::fails;
 use task_acts::{Act, FileCame};
-use task_core::TaskState;
-
-/// A call on files was made, and came back.
-fn call(state: &mut TaskState, act: Act, came: FileCame)
-    requires { ready_by state.old ≡ Some act }
-    ensures stands { (w : Work) (history : History) → Stands w history state.old
-        → Stands w (Returned act came ∷ Gave act ∷ history) state.new }
-    ensures tags { state.new.tags ≡ state.old.tags }
-{
-    state.gave(act);
-    state.file_came(act, came);
-}
+use task_slots::call;
 
 impl MoveCore {
     /// The part of a piece whose bytes were written is free.
@@ -42,11 +29,13 @@ impl MoveCore {
     }
 
     /// Lends an empty part to the piece that is read next, as the next move was.
-    pub fn lend(&mut self, task: u32, number: u32)
+    pub(crate) fn lend(&mut self, task: u32, number: u32)
         requires none { held_at self.old.parts.slots task number ≡ None }
         requires free { has_free self.old ≡ true }
         ensures lent { IsLent task number self.old self.new }
         ensures empty { IfSome (here_at self.new.parts.slots task number) (λ part. part.bytes.bytes ≡ []) }
+        ensures room { IfSome (here_at self.new.parts.slots task number)
+            (λ part. self.old.parts.pool.room ≤ part.bytes.room) }
     {
         let Some(part) = self.parts.lend(task, number) else {
             unreachable!()
@@ -58,8 +47,9 @@ impl MoveCore {
     /// part that it was lent, and one that was placed gives its part back; so does a task that fails, with all its
     /// parts but those of jobs that are out.
     pub fn called(&mut self, task: u32, act: Act, came: FileCame)
-        requires { (m : SeenMoves) × IsBegun task act m self.old × Admits (Called task act came) m }
-        ensures goes_on { (m : SeenMoves) → IsBegun task act m self.old → GoesOn (Called task act came) m self.new }
+        requires { (m : SeenMoves) × IsLentFor task act m self.old × Admits (Called task act came) m }
+        ensures goes_on { (m : SeenMoves) → IsLentFor task act m self.old → GoesOn (Called task act came) m self.new }
+        ensures bytes { KeepsBytes no_part self.old.parts.slots self.new.parts.slots }
         ensures steady { IsSteady self.old self.new }
     {
         let mut state = self.take_state(task);

@@ -5,14 +5,16 @@ ghost use Rattle.held_parts.specs.Held.{IsSamePool, held_at};
 ghost use Rattle.kept_jobs.specs.Slots.{job_at};
 ghost use Rattle.lane_queues.specs.Lanes.{jobs_in, out_in, with_jobs};
 ghost use Rattle.manager_moves.specs.Runs.{Events, Sent, Shared, share, with_taken};
-ghost use Rattle.move_core.specs.Admits.{Admits, GoesOn, IsRunOf};
-ghost use Rattle.move_core.specs.Calls.{IsPartFor, again_of, bytes_held, part_with};
-ghost use Rattle.move_core.specs.Follows.{Follows};
-ghost use Rattle.move_core.specs.Kept.{kept_at, with_lanes, with_parts};
-ghost use Rattle.move_core.specs.Steady.{IsSteady};
+ghost use Rattle.move_laws.specs.Admits.{Admits, GoesOn, IsRunOf};
+ghost use Rattle.move_laws.specs.Bytes.{KeepsBytes, no_part};
+ghost use Rattle.move_laws.specs.Calls.{IsPartFor, bytes_held};
+ghost use Rattle.move_core.specs.Given.{again_of, part_with};
+ghost use Rattle.move_laws.specs.Follows.{Follows};
+ghost use Rattle.move_laws.specs.Kept.{kept_at, with_lanes, with_parts};
+ghost use Rattle.move_laws.specs.Steady.{IsSteady};
 ghost use Rattle.part_tables.specs.Finding.{FindsPart};
 ghost use Rattle.part_tables.specs.Tables.{IsPutWhere};
-ghost use Rattle.run_promise.specs.Buffers.{holds_buffer};
+ghost use Rattle.job_terms.specs.Buffers.{holds_buffer};
 ghost use Rattle.task_acts.specs.declared.acts.Act.TheVariants as act;
 ghost use Rattle.task_acts.specs.declared.work.Work.{Work};
 ghost use Rattle.task_acts.specs.Histories.{History};
@@ -20,11 +22,11 @@ ghost use Rattle.task_acts.specs.Kept.{kept_job};
 ghost use Rattle.task_core.specs.Machine.{Stands};
 
 use crate::move_core::MoveCore;
-use held_parts::HeldParts;
 use jobs::Job;
 use s3_model::{JobId, Op, Part};
 use task_acts::Act;
 use task_core::TaskState;
+use task_slots::part_for;
 
 /// What a job that is given takes along.
 #[derive(Drop)]
@@ -33,44 +35,6 @@ pub enum Given {
     Again(Job),
     /// A job that was not given before, and the part that it takes, if it takes one.
     First(Option<Part>),
-}
-
-/// Whether a job takes a part.
-fn takes_part(op: Op) -> bool
-    ensures { result ≡ holds_buffer op }
-{
-    matches!(op, Op::Put | Op::Part | Op::Get)
-}
-
-/// The part that the piece holds, or an empty one.
-fn part_of(parts: &mut HeldParts, task: u32, number: u32) -> Part
-    requires { FindsPart false parts.old.pool.count parts.old.slots task number }
-    ensures held { IsPutWhere true task number (Some None) parts.old.slots parts.new.slots }
-    ensures pool { IsSamePool parts.old.pool parts.new.pool }
-    ensures room { parts.old.pool.room ≤ result.bytes.room }
-    ensures bytes { result.bytes.bytes ≡ bytes_held (held_at parts.old.slots task number) }
-{
-    if parts.part(task, number).is_some() {
-        return parts.take(task, number);
-    }
-    let Some(part) = parts.lend(task, number) else {
-        unreachable!()
-    };
-    part
-}
-
-/// The part that a job takes which was not given before.
-fn part_for(parts: &mut HeldParts, task: u32, op: Op, number: u32) -> Option<Part>
-    requires { holds_buffer op ≡ true → FindsPart false parts.old.pool.count parts.old.slots task number }
-    ensures part { IsPartFor op parts.old.pool.room (held_at parts.old.slots task number) result }
-    ensures held { IsPutWhere (holds_buffer op) task number (Some None) parts.old.slots parts.new.slots }
-    ensures pool { IsSamePool parts.old.pool parts.new.pool }
-{
-    if takes_part(op) {
-        Some(part_of(parts, task, number))
-    } else {
-        None
-    }
 }
 
 impl MoveCore {
@@ -117,6 +81,7 @@ impl MoveCore {
         ensures taken { is_some (part_with result) ≡ holds_buffer op }
         ensures part { again_of result ≡ None
             → IsPartFor op self.old.parts.pool.room (held_at self.old.parts.slots task number) (part_with result) }
+        ensures bytes { KeepsBytes no_part self.old.parts.slots self.new.parts.slots }
         ensures steady { IsSteady self.old self.new }
     {
         let _free = self.has_free();

@@ -1,18 +1,19 @@
 //! What a run lends of its tasks and of its parts, and what it gives away.
 
 ghost use Rattle.std.specs.Option.{option_copied, option_map};
-ghost use Rattle.std.specs.Prelude.{◌≡◌, ◌==◌, ◌<◌, [], ℕ, false, None, Some, IfSome, IsSome, get_or, length};
+ghost use Rattle.std.specs.Prelude.{◌≡◌, ◌==◌, ◌≤◌, ◌<◌, [], ℕ, false, None, Some, IfSome, IsSome, get_or, length};
 ghost use Rattle.std.specs.Prelude.{slice_get};
 ghost use Rattle.held_parts.specs.Held.{IsHere, held_at, here_at, with_more};
 ghost use Rattle.kept_jobs.specs.Tags.{present};
 ghost use Rattle.manager_moves.specs.Moves.{next_move};
 ghost use Rattle.manager_moves.specs.Runs.{Events, Shared, share};
-ghost use Rattle.move_core.specs.Admits.{IsRunOf};
-ghost use Rattle.move_core.specs.Calls.{IsLent};
-ghost use Rattle.move_core.specs.Follows.{Follows, outcome_at};
-ghost use Rattle.move_core.specs.Kept.{SeenMoves, state_at, with_parts};
-ghost use Rattle.move_core.specs.Lending.{HasRoomFor, IsGoing, IsLentIn, IsReadNext, failing_in, tags_in, upload_in};
-ghost use Rattle.move_core.specs.Steady.{IsSteady};
+ghost use Rattle.move_laws.specs.Admits.{IsRunOf};
+ghost use Rattle.move_laws.specs.Bytes.{KeepsBytes, no_part, only_at};
+ghost use Rattle.move_laws.specs.Calls.{IsLent};
+ghost use Rattle.move_laws.specs.Follows.{Follows, outcome_at};
+ghost use Rattle.move_laws.specs.Kept.{SeenMoves, state_at, with_parts};
+ghost use Rattle.move_laws.specs.Lending.{HasRoomFor, IsGoing, IsLentIn, IsReadNext, failing_in, slot_tags, slot_upload};
+ghost use Rattle.move_laws.specs.Steady.{IsSteady};
 ghost use Rattle.task_acts.specs.declared.work.Work.{Work};
 ghost use Rattle.task_acts.specs.Kept.{etags_of, upload_of};
 
@@ -52,7 +53,7 @@ impl MoveCore {
     /// The upload that a reply named of a task that is made and has not ended.
     pub fn upload(&self, task: u32) -> Option<UploadId>
         requires { task < length self.now.slots }
-        ensures kept { result ≡ upload_in (state_at self.now task) }
+        ensures kept { result ≡ slot_upload (state_at self.now task) }
         ensures follows { (s : Shared) (events : Events) (w : Work) → Follows s events self.now
             → IsGoing s events self.now task w → result ≡ upload_of (share w task events) }
     {
@@ -61,7 +62,7 @@ impl MoveCore {
 
     /// The entity tags of a task's parts, in order of number; they are given away once.
     pub fn etags(&mut self, task: u32) -> Texts
-        requires { IsSome (tags_in (state_at self.old task)) }
+        requires { IsSome (slot_tags (state_at self.old task)) }
         ensures tags { (s : Shared) (events : Events) (w : Work) → Follows s events self.old
             → IsGoing s events self.old task w → result.items ≡ present (etags_of w (share w task events)) }
         ensures follows { (s : Shared) (events : Events) → Follows s events self.old → Follows s events self.new }
@@ -85,6 +86,8 @@ impl MoveCore {
             → next_move s events ≡ Move.Read task number → IsLentIn s events task number self.new }
         ensures part { IsLent task number self.old self.new }
         ensures empty { IfSome (here_at self.new.parts.slots task number) (λ part. part.bytes.bytes ≡ []) }
+        ensures room { IfSome (here_at self.new.parts.slots task number)
+            (λ part. self.old.parts.pool.room ≤ part.bytes.room) }
     {
         let _free = self.has_free();
         self.lend(task, number);
@@ -97,6 +100,9 @@ impl MoveCore {
         ensures grown { here_at self.new.parts.slots task number
             ≡ option_map (with_more bytes.now) (here_at self.old.parts.slots task number) }
         ensures lent { (m : SeenMoves) → IsLent task number m self.old → IsLent task number m self.new }
+        ensures bytes { KeepsBytes
+            (only_at task number (option_map (with_more bytes.now) (here_at self.old.parts.slots task number)))
+            self.old.parts.slots self.new.parts.slots }
     {
         self.parts.add(task, number, bytes);
     }
@@ -106,6 +112,7 @@ impl MoveCore {
         requires { IsHere (held_at self.old.parts.slots task number) }
         ensures follows { (s : Shared) (events : Events) → IsLentIn s events task number self.old
             → Follows s events self.new }
+        ensures bytes { KeepsBytes no_part self.old.parts.slots self.new.parts.slots }
         ensures steady { IsSteady self.old self.new }
     {
         let part = self.parts.take(task, number);

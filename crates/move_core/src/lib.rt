@@ -3,15 +3,12 @@
 
 mod calling;
 mod cancelling;
-mod forms;
-mod freeing;
 mod giving;
 mod lending;
 mod making;
 mod move_core;
 mod returning;
 mod settling;
-mod slot;
 
 pub use giving::Given;
 pub use move_core::{Means, MoveCore};

@@ -4,37 +4,18 @@ ghost use Rattle.std.specs.Prelude.{◌≡◌, ◌<◌, ◌+◌, ◌^◌, ◌∷
 ghost use Rattle.manager_moves.specs.Runs.{Events, Made, Shared};
 ghost use Rattle.task_acts.specs.declared.work.Work.{Work};
 ghost use Rattle.task_core.specs.Machine.{SeenTask, Stands};
-ghost use Rattle.move_core.specs.Admits.{Admits, IsRunOf};
-ghost use Rattle.move_core.specs.Follows.{Follows};
-ghost use Rattle.move_core.specs.Kept.{IsSound, with_state};
+ghost use Rattle.move_laws.specs.Admits.{Admits, IsRunOf};
+ghost use Rattle.move_laws.specs.Follows.{Follows};
+ghost use Rattle.move_laws.specs.Kept.{IsSound, with_state};
 ghost use Rattle.std.specs.Result.{result_ok};
-ghost use Rattle.move_core.specs.Steady.{IsSteadyBut};
-ghost use Rattle.move_core.specs.Making.{IsNew, first_cancel, with_lost, with_made};
+ghost use Rattle.move_laws.specs.Steady.{IsSteadyBut};
+ghost use Rattle.move_laws.specs.Making.{IsNew, first_cancel, with_lost, with_made};
 
 use crate::move_core::MoveCore;
-use crate::slot::TaskSlot;
 use s3_model::{Cause, OutOfMemory, Outcome, Reason};
 use std::alloc::Global;
 use task_core::TaskState;
-
-fn boxed(
-    alloc: Global,
-    state: Result<TaskState, OutOfMemory>,
-) -> Result<Box<TaskState>, OutOfMemory>
-    ensures { IfOk result (λ kept. state ≡ Ok kept.value) }
-{
-    Ok(Box::new(alloc, state?)?)
-}
-
-/// A new task hears of the first cancel, if there was one.
-fn tell(state: &mut TaskState, reason: Option<Reason>)
-    ensures stands { (w : Work) → Stands w [] state.old → Stands w (first_cancel reason) state.new }
-    ensures tags { state.new.tags ≡ state.old.tags }
-{
-    if let Some(reason) = reason {
-        state.cancel(reason);
-    }
-}
+use task_slots::{TaskSlot, boxed, tell};
 
 impl MoveCore {
     /// The next task is made and in this state, or has ended in it.
@@ -68,6 +49,7 @@ impl MoveCore {
         ensures lost { IfErr state (λ lost. result ≡ false) }
         ensures made { (s : Shared) (events : Events) → IfOk state (IsNew s events) → IsRunOf s (Made result ∷ events)
             → Follows s events self.old → Follows s (Made result ∷ events) self.new }
+        ensures parts { self.new.parts ≡ self.old.parts }
         ensures steady { IsSteadyBut (result_ok state) self.old self.new }
     {
         match boxed(alloc, state) {

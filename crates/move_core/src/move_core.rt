@@ -5,12 +5,11 @@ ghost use Rattle.held_parts.specs.Held.{AreSingle};
 ghost use Rattle.lane_queues.specs.Lanes.{IsFreest};
 ghost use Rattle.manager_moves.specs.Moves.{next_move};
 ghost use Rattle.manager_moves.specs.Runs.{Events, Lined, Shared};
-ghost use Rattle.move_core.specs.Follows.{Follows, IsSharedBy};
-ghost use Rattle.move_core.specs.Steady.{IsSteady};
-ghost use Rattle.move_core.specs.Kept.{act_at, call_by, giver, giving_by, has_free, has_outcome, line_by, make_by, rest_by};
+ghost use Rattle.move_core.specs.Means.{IsSharedBy};
+ghost use Rattle.move_laws.specs.Follows.{Follows};
+ghost use Rattle.move_laws.specs.Steady.{IsSteady};
+ghost use Rattle.move_laws.specs.Kept.{act_at, call_by, giver, giving_by, has_free, has_outcome, line_by, make_by, rest_by};
 
-use crate::forms::{call_move, giving_move};
-use crate::slot::TaskSlot;
 use act_queues::ActQueues;
 use held_parts::HeldParts;
 use lane_queues::LaneQueues;
@@ -19,9 +18,10 @@ use s3_model::{OutOfMemory, Outcome, Reason};
 use std::alloc::Global;
 use std::marker::Model;
 use task_acts::Act;
+use task_slots::{TaskSlot, call_move, giving_move};
 
-/// What a run of many tasks keeps to know its next move: for each lane the jobs out, for each task its state while it is
-/// made and unfinished, the sort of the act that it is ready for, and its outcome, which pieces hold a part, and the
+/// What a run of many tasks keeps to know its next move: for each lane the jobs out, for each task its state while it
+/// is made and unfinished, the sort of the act that it is ready for, and its outcome, which pieces hold a part, and the
 /// first cancel. No call goes over the tasks but `make` and `cancel_all`.
 #[derive(Drop)]
 pub struct MoveCore {
@@ -38,7 +38,7 @@ pub struct MoveCore {
 }
 
 impl Model for MoveCore {
-    ghost use Rattle.move_core.specs.Kept.{IsSound, SeenMoves};
+    ghost use Rattle.move_laws.specs.Kept.{IsSound, SeenMoves};
 
     ghost Value = { SeenMoves };
 
@@ -239,6 +239,7 @@ impl MoveCore {
         requires { has_outcome self.old self.old.lined ≡ true }
         ensures follows { (s : Shared) (events : Events) → Follows s events self.old
             → Follows s (Lined ∷ events) self.new }
+        ensures parts { self.new.parts ≡ self.old.parts }
         ensures steady { IsSteady self.old self.new }
     {
         self.lined += 1;

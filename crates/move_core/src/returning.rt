@@ -4,18 +4,19 @@ ghost use Rattle.std.specs.Prelude.{◌≡◌, ◌≤◌, ◌<◌, ◌&&◌, ◌
 ghost use Rattle.held_parts.specs.Held.{IsSamePool, held_at};
 ghost use Rattle.lane_queues.specs.Lanes.{jobs_in, with_jobs};
 ghost use Rattle.manager_moves.specs.Runs.{Back};
-ghost use Rattle.move_core.specs.Admits.{Admits, GoesOn};
-ghost use Rattle.move_core.specs.Calls.{IsBrought};
-ghost use Rattle.move_core.specs.Kept.{with_lanes, with_parts};
-ghost use Rattle.move_core.specs.Steady.{IsSteady};
+ghost use Rattle.move_laws.specs.Admits.{Admits, GoesOn};
+ghost use Rattle.move_laws.specs.Bytes.{KeepsBytes, part_by};
+ghost use Rattle.move_laws.specs.Calls.{IsBrought};
+ghost use Rattle.move_laws.specs.Kept.{with_lanes, with_parts};
+ghost use Rattle.move_laws.specs.Steady.{IsSteady};
 ghost use Rattle.part_changes.specs.Changes.{comes_down};
 
 use crate::move_core::MoveCore;
 use crate::settling::fails;
-use crate::slot::comes_down;
 use jobs::Carried;
 use s3_model::{JobId, Op, Part};
 use task_core::TaskState;
+use task_slots::comes_down;
 
 fn id_of(carried: &Carried) -> JobId
     ensures { result ≡ carried.now.job.id }
@@ -66,6 +67,7 @@ impl MoveCore {
         requires first { is_some carried.job.cell ≡ true → carried.job.had ≡ 0 }
         requires room { IfSome carried.job.part (λ part. self.old.parts.pool.room ≤ part.bytes.room) }
         ensures goes_on { GoesOn (Back lane carried) self.old self.new }
+        ensures bytes { KeepsBytes (part_by carried) self.old.parts.slots self.new.parts.slots }
         ensures steady { IsSteady self.old self.new }
     {
         let id = id_of(&carried);

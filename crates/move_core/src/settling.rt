@@ -2,21 +2,20 @@
 
 ghost use Rattle.std.specs.Prelude.{◌≡◌, ◌≤◌, ◌<◌, ◌&&◌, ◌||◌, ℕ, true, Some, IsSome, is_some, length, not, if◌then◌else◌};
 ghost use Rattle.held_parts.specs.Held.{IsSamePool};
-ghost use Rattle.move_core.specs.Calls.{IsFreedWhere};
-ghost use Rattle.move_core.specs.Follows.{IsTaskIn};
-ghost use Rattle.move_core.specs.Freed.{AreWithJobs};
-ghost use Rattle.move_core.specs.Kept.{IsSound, ended_count, state_at, with_fewer, with_outcome, with_parts, with_slot, with_sort};
-ghost use Rattle.move_core.specs.Kept.{with_state, without_state};
+ghost use Rattle.move_laws.specs.Calls.{IsFreedWhere};
+ghost use Rattle.move_laws.specs.Follows.{IsTaskIn};
+ghost use Rattle.move_laws.specs.Freed.{AreWithJobs};
+ghost use Rattle.move_laws.specs.Kept.{IsSound, ended_count, state_at, with_fewer, with_outcome, with_parts, with_slot, with_sort};
+ghost use Rattle.move_laws.specs.Kept.{with_state, without_state};
 ghost use Rattle.task_acts.specs.declared.work.Work.{Work};
 ghost use Rattle.task_acts.specs.Failures.{is_stopped};
 ghost use Rattle.task_acts.specs.Histories.{History};
 
-use crate::freeing::free_parts;
 use crate::move_core::MoveCore;
-use crate::slot::{Settled, TaskSlot, settle, sort_of};
 use act_queues::ActSort;
 use s3_model::Outcome;
 use task_core::TaskState;
+use task_slots::{Settled, TaskSlot, free_parts, settle, sort_of};
 
 /// Whether a task has failed that had not stopped before.
 pub(crate) fn fails(stopped: bool, state: &TaskState) -> bool

@@ -10,13 +10,15 @@ use Rattle.task_acts.specs.Stages.{is_out}
 use Rattle.task_core.specs.Machine.{SeenTask, Stands}
 use Rattle.task_stages.specs.Stages.{stage_by}
 use Rattle.manager_moves.specs.Laws.{IsOfTask}
-use Rattle.move_core.proofs.JobsBack as returning
-use Rattle.move_core.proofs.Open.{is_counted}
-use Rattle.move_core.proofs.Settled.{between}
-use Rattle.move_core.proofs.SteadyLemmas.{steady_moved}
-use Rattle.move_core.proofs.Steps.{at_most_one, moved_again, put_back, same_pools, taken_moved, unfinished_stay}
-use Rattle.move_core.specs.Calls.{IsBrought}
-use Rattle.move_core.specs.Kept.{IsSound, SeenMoves, state_at, with_state, without_state}
+use Rattle.move_laws.proofs.JobsBack as returning
+use Rattle.move_laws.proofs.KeptBytes.{bytes_freed_where, bytes_then}
+use Rattle.move_laws.proofs.Open.{is_counted}
+use Rattle.move_laws.proofs.Settled.{between}
+use Rattle.move_laws.proofs.SteadyLemmas.{steady_moved}
+use Rattle.move_laws.proofs.Steps.{at_most_one, moved_again, put_back, same_pools, taken_moved, unfinished_stay}
+use Rattle.move_laws.specs.Bytes.{KeepsBytes, part_by}
+use Rattle.move_laws.specs.Calls.{IsBrought}
+use Rattle.move_laws.specs.Kept.{IsSound, SeenMoves, state_at, with_state, without_state}
 use Rattle.move_core.proofs.move_core.MoveCore.back.Goals as goal
 
 pub unreachable-requires : goal.unreachable-requires
@@ -225,6 +227,31 @@ returns-clause-goes_on c s events run follows =
     c.put_state.ensures
     ∙ ap (λ (x : SeenMoves). with_state c.in-Some.task c.free_where.new.state
     (between c.in-Some.task c.free_where.new.self.parts x.lanes x)) c.pop.ensures)
+
+pub returns-clause-bytes : goal.returns-clause-bytes
+returns-clause-bytes c =
+    let a = c.requires.admitted in
+    let m = c.args.self.now in
+    let t = c.take_state-state.result.value in
+    let of_task = ap (λ (i : JobId). i.task) (sym c.id_of-id.ensures) ∙ c.in-Some.is in
+    let its = returning.w a.s a.events c.args.lane c.args.carried c.in-Some.task m a.run a.follows of_task in
+    let heard = returning.heard a.s a.events c.args.lane c.args.carried c.in-Some.task m a.run a.follows of_task in
+    let stood : Stands its heard c.deref_mut.result.now =
+    subst (λ (x : SeenTask). Stands its heard x) (sym c.deref_mut.ensures.value)
+    (returning.stood a.s a.events c.args.lane c.args.carried c.in-Some.task m a.run a.follows of_task t
+    (ap (λ (x : SeenMoves). state_at x c.in-Some.task) (sym c.pop.ensures) ∙ c.take_state-state.ensures.state)) in
+    let m2 = c.take_state-state.ensures.rest ∙ ap (λ (x : SeenMoves). without_state c.in-Some.task x) c.pop.ensures in
+    let put = subst (λ (x : SeenMoves). IsBrought c.in-Some.task c.args.carried.job.id.number c.came-part.result
+    c.stays-stays.result x.parts.slots c.bring.new.self.parts.slots) m2
+    (subst (λ (i : JobId). IsBrought c.in-Some.task i.number c.came-part.result c.stays-stays.result
+    c.take_state-state.new.self.parts.slots c.bring.new.self.parts.slots) c.id_of-id.ensures c.bring.ensures.held) in
+    subst (λ (x : SeenMoves). KeepsBytes (part_by c.args.carried) m.parts.slots x.parts.slots) (sym c.put_state.ensures)
+    (bytes_then (part_by c.args.carried) m.parts.slots c.bring.new.self.parts.slots
+    c.free_where.new.self.parts.slots
+    (returning.brings_bytes a.s a.events c.args.lane c.args.carried c.in-Some.task m a.run a.follows of_task
+    c.came-part.result (c.came-part.ensures.part its heard stood) c.stays-stays.result c.bring.new.self.parts.slots put)
+    (bytes_freed_where c.fails-stops.result c.in-Some.task c.deref_mut-2.result.now c.bring.new.self.parts.slots
+    c.free_where.new.self.parts.slots c.free_where.ensures.freed))
 
 pub returns-clause-steady : goal.returns-clause-steady
 returns-clause-steady c =

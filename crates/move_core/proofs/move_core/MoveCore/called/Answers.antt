@@ -2,12 +2,14 @@ use Rattle.std.proofs.Common.{◌∙◌, ◌&&◌, ◌||◌, Option, sym, subst,
 use Rattle.held_parts.specs.Held.{IsSamePool}
 use Rattle.kept_jobs.specs.Tags.{SeenTags}
 use Rattle.task_core.specs.Machine.{SeenTask, Stands}
-use Rattle.move_core.proofs.FileCalls as calls
-use Rattle.move_core.proofs.Open.{is_counted}
-use Rattle.move_core.proofs.SteadyLemmas.{steady_moved}
-use Rattle.move_core.proofs.Steps.{at_most_one, moved_again, put_back, same_pools, taken_moved, unfinished_stay}
-use Rattle.move_core.specs.Calls.{HasPlaced, IsPlaced}
-use Rattle.move_core.specs.Kept.{SeenMoves}
+use Rattle.move_laws.proofs.FileCalls as calls
+use Rattle.move_laws.proofs.KeptBytes.{bytes_freed_where, bytes_placed, bytes_then}
+use Rattle.move_laws.proofs.Open.{is_counted}
+use Rattle.move_laws.proofs.SteadyLemmas.{steady_moved}
+use Rattle.move_laws.proofs.Steps.{at_most_one, moved_again, put_back, same_pools, taken_moved, unfinished_stay}
+use Rattle.move_laws.specs.Bytes.{KeepsBytes, no_part}
+use Rattle.move_laws.specs.Calls.{HasPlaced, IsPlaced}
+use Rattle.move_laws.specs.Kept.{SeenMoves}
 use Rattle.move_core.proofs.move_core.MoveCore.called.Goals as goal
 
 pub take_state-state-requires : goal.take_state-state-requires
@@ -120,6 +122,18 @@ returns-clause-goes_on c m begun s events run follows =
     c.free_where.ensures.freed c.free_where.ensures.pool c.free_where.ensures.known
     (put_back c.args.task now c.free_where.new.state c.free_where.new.self c.put_state.new.self moved
     c.put_state.ensures)
+
+pub returns-clause-bytes : goal.returns-clause-bytes
+returns-clause-bytes c =
+    let slots = c.args.self.now.parts.slots in
+    let placed = c.free_placed.new.self.parts.slots in
+    subst (λ (x : SeenMoves). KeepsBytes no_part slots x.parts.slots) (sym c.put_state.ensures)
+    (bytes_then no_part slots placed c.free_where.new.self.parts.slots
+    (bytes_placed c.args.task c.args.act slots placed
+    (subst (λ (x : SeenMoves). IsPlaced c.args.task c.args.act x.parts.slots placed) c.take_state-state.ensures.rest
+    c.free_placed.ensures.held))
+    (bytes_freed_where c.fails-stops.result c.args.task c.deref_mut-2.result.now placed
+    c.free_where.new.self.parts.slots c.free_where.ensures.freed))
 
 pub returns-clause-steady : goal.returns-clause-steady
 returns-clause-steady c =

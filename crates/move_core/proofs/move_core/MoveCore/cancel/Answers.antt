@@ -1,13 +1,15 @@
-use Rattle.std.proofs.Common.{◌≡◌, ◌∙◌, ◌≤◌, ℕ, false, ap, subst, sym}
+use Rattle.std.proofs.Common.{◌≡◌, ◌∙◌, ◌≤◌, ℕ, false, ap, refl, subst, sym}
 use Rattle.std.proofs.Common.{Option, is_some}
 use Rattle.held_parts.specs.Held.{IsSamePool, SeenParts}
 use Rattle.kept_jobs.specs.Tags.{SeenTags}
 use Rattle.task_core.specs.Machine.{SeenTask}
-use Rattle.move_core.proofs.Telling.{HasHeard, counts_off, has_slot, may_free, tells_nobody, tells_one}
-use Rattle.move_core.proofs.Settled.{between}
-use Rattle.move_core.proofs.SteadyLemmas.{steady_moved, steady_same}
-use Rattle.move_core.specs.Freed.{AreWithJobs}
-use Rattle.move_core.specs.Kept.{SeenMoves, ended_count, with_parts, with_state, without_state}
+use Rattle.move_laws.proofs.Telling.{HasHeard, counts_off, has_slot, may_free, tells_nobody, tells_one}
+use Rattle.move_laws.proofs.Settled.{between}
+use Rattle.move_laws.proofs.SteadyLemmas.{steady_moved, steady_same}
+use Rattle.move_laws.proofs.KeptBytes.{bytes_heard, bytes_same}
+use Rattle.move_laws.specs.Bytes.{KeepsBytes, no_part}
+use Rattle.move_laws.specs.Freed.{AreWithJobs, keeps_part}
+use Rattle.move_laws.specs.Kept.{SeenMoves, ended_count, with_parts, with_state, without_state}
 use Rattle.move_core.proofs.move_core.MoveCore.cancel.Goals as goal
 
 same_jobs : (task : ℕ) (t now : SeenTask) (parts here : SeenParts) → now ≡ t → here ≡ parts
@@ -29,8 +31,8 @@ returns-then-not-has_state-clause-next c s events run heard =
 pub cancel_task-requires : goal.cancel_task-requires
 cancel_task-requires c =
     let told = c.requires.told in
-    same_jobs c.args.task c.take_state-state.result.value c.deref_mut.result.now c.args.self.now.parts c.self.inside.parts
-    c.deref_mut.ensures.value
+    same_jobs c.args.task c.take_state-state.result.value c.deref_mut.result.now c.args.self.now.parts
+    c.self.inside.parts c.deref_mut.ensures.value
     (ap (λ (x : SeenMoves). x.parts) (c.self.view_is ∙ c.take_state-state.ensures.rest))
     (may_free told.s told.events c.args.reason told.run c.args.task c.args.self.now told.heard c.requires.made
     c.take_state-state.result.value c.take_state-state.ensures.state)
@@ -62,6 +64,18 @@ returns-clause-next c s events run heard =
     c.cancel_task.new.parts) (ap (λ (x : SeenMoves). x.parts) was) has))
     (c.put_state.ensures
     ∙ ap (λ (x : SeenMoves). with_state c.args.task c.cancel_task.new.state (with_parts c.cancel_task.new.parts x)) was)
+
+pub returns-then-not-has_state-clause-bytes : goal.returns-then-not-has_state-clause-bytes
+returns-then-not-has_state-clause-bytes c =
+    bytes_same c.args.self.now.parts.slots c.args.self.now.parts.slots refl
+
+pub returns-clause-bytes : goal.returns-clause-bytes
+returns-clause-bytes c =
+    subst (λ (x : SeenMoves). KeepsBytes no_part c.args.self.now.parts.slots x.parts.slots) (sym c.put_state.ensures)
+    (subst (λ (p : SeenParts). KeepsBytes no_part p.slots c.cancel_task.new.parts.slots)
+    (ap (λ (x : SeenMoves). x.parts) (c.self.view_is ∙ c.take_state-state.ensures.rest))
+    (bytes_heard c.deref_mut.result.now.causes.failing c.args.task (keeps_part c.deref_mut.result.now)
+    c.self.inside.parts c.cancel_task.new.parts c.cancel_task.ensures.freed c.cancel_task.ensures.same))
 
 moved_by : (task : ℕ) (t t2 : SeenTask) (parts : SeenParts) (seen m mid new : SeenMoves) → seen ≡ mid
     → mid ≡ without_state task m → new ≡ with_state task t2 (with_parts parts seen)

@@ -1,7 +1,9 @@
 use Rattle.std.proofs.Common.{◌∙◌, Some, ap, arith, is_some, refl, sym}
-use Rattle.move_core.proofs.CancelEnds.{begins_at, ends_at, follows_again}
-use Rattle.move_core.proofs.SteadyLemmas.{steady_as, steady_same, steady_then}
-use Rattle.move_core.specs.Kept.{SeenMoves}
+use Rattle.move_laws.proofs.CancelEnds.{begins_at, ends_at, follows_again}
+use Rattle.move_laws.proofs.KeptBytes.{bytes_same, bytes_then}
+use Rattle.move_laws.proofs.SteadyLemmas.{steady_as, steady_same, steady_then}
+use Rattle.move_laws.specs.Bytes.{no_part}
+use Rattle.move_laws.specs.Kept.{SeenMoves}
 use Rattle.move_core.proofs.move_core.MoveCore.cancel_all.Goals as goal
 
 pub returns-then-is_some-clause-goes_on : goal.returns-then-is_some-clause-goes_on
@@ -23,6 +25,7 @@ loop-task-init c =
         heard = here c.requires.s c.requires.events c.requires.run c.requires.follows;
       };
       heard = here;
+      bytes = bytes_same c.args.self.now.parts.slots _ (ap (λ (x : SeenMoves). x.parts.slots) c.self.view_is);
       steady = steady_as c.args.self.now _ (ap (λ (x : SeenMoves). x.slots) c.self.view_is)
           (ap (λ (x : SeenMoves). x.parts.pool.room) c.self.view_is);
     }
@@ -45,8 +48,16 @@ loop-task-preserved c =
         heard = c.cancel.ensures.next now.told.s now.told.events now.told.run now.told.heard;
       };
       heard = λ s events run follows. c.cancel.ensures.next s events run (now.heard s events run follows);
+      bytes = bytes_then no_part c.args.self.now.parts.slots c.loop-task.self.parts.slots
+          c.cancel.new.self.parts.slots now.bytes c.cancel.ensures.bytes;
       steady = steady_then c.args.self.now c.loop-task.self c.cancel.new.self now.steady c.cancel.ensures.steady;
     }
+
+pub returns-then-is_some-clause-bytes : goal.returns-then-is_some-clause-bytes
+returns-then-is_some-clause-bytes c = bytes_same c.args.self.now.parts.slots c.args.self.now.parts.slots refl
+
+pub returns-clause-bytes : goal.returns-clause-bytes
+returns-clause-bytes c = c.loop-task.invariant.bytes
 
 pub returns-then-is_some-clause-steady : goal.returns-then-is_some-clause-steady
 returns-then-is_some-clause-steady c = steady_same c.args.self.now

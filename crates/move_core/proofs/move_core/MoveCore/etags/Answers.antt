@@ -1,8 +1,8 @@
 use Rattle.std.proofs.Common.{◌∙◌, sym, subst, ap}
-use Rattle.move_core.proofs.Lent.{gives_tags, its_tags, slot_within}
-use Rattle.move_core.proofs.SteadyLemmas.{slot_apart}
-use Rattle.move_core.specs.Follows.{Follows}
-use Rattle.move_core.specs.Kept.{SeenMoves, state_at, with_slot}
+use Rattle.move_laws.proofs.Lent.{gives_tags, its_tags, slot_within}
+use Rattle.move_laws.proofs.SteadyLemmas.{slot_apart}
+use Rattle.move_laws.specs.Follows.{Follows}
+use Rattle.move_laws.specs.Kept.{SeenMoves, state_at, with_slot}
 use Rattle.move_core.proofs.move_core.MoveCore.etags.Goals as goal
 
 pub returns-clause-tags : goal.returns-clause-tags

@@ -1,7 +1,7 @@
 use Rattle.std.proofs.Common.{◌∙◌, Bool, ap}
 use Rattle.std.specs.List.{position}
 use Rattle.act_queues.specs.Sorts.{may_give}
-use Rattle.move_core.specs.Kept.{SeenMoves, giver}
+use Rattle.move_laws.specs.Kept.{SeenMoves, giver}
 use Rattle.move_core.proofs.move_core.MoveCore.first_giver.Goals as goal
 
 pub returns : goal.returns

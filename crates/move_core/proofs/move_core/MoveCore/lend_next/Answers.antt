@@ -1,4 +1,4 @@
-use Rattle.move_core.proofs.Lent.{read_next}
+use Rattle.move_laws.proofs.Lent.{read_next}
 use Rattle.move_core.proofs.move_core.MoveCore.lend_next.Goals as goal
 
 pub lend-requires-clause-none : goal.lend-requires-clause-none

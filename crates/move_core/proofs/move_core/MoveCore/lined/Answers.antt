@@ -1,8 +1,8 @@
 use Rattle.std.proofs.Common.{◌≡◌, true, ap, arith, subst, sym}
 use Rattle.std.specs.Prelude.{◌+◌}
-use Rattle.move_core.specs.Kept.{SeenMoves, has_outcome}
-use Rattle.move_core.proofs.SteadyLemmas.{steady_as}
-use Rattle.move_core.proofs.Staying.{line_fits, line_follows}
+use Rattle.move_laws.specs.Kept.{SeenMoves, has_outcome}
+use Rattle.move_laws.proofs.SteadyLemmas.{steady_as}
+use Rattle.move_laws.proofs.Staying.{line_fits, line_follows}
 use Rattle.move_core.proofs.move_core.MoveCore.lined.Goals as goal
 
 pub overflow_add-self : goal.overflow_add-self

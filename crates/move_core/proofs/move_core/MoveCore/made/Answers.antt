@@ -5,11 +5,11 @@ use Rattle.kept_jobs.specs.Tags.{SeenTags}
 use Rattle.s3_model.specs.declared.list.OutOfMemory.{OutOfMemory}
 use Rattle.s3_model.specs.declared.outcomes.Reason.{Reason}
 use Rattle.task_core.specs.Machine.{SeenTask, Stands}
-use Rattle.move_core.proofs.MadeTasks.{counts_within, loses_one, makes_one, makes_within}
-use Rattle.move_core.proofs.SteadyLemmas.{steady_lost, steady_made}
-use Rattle.move_core.specs.Kept.{IsSound, SeenMoves}
-use Rattle.move_core.specs.Steady.{IsSteadyBut}
-use Rattle.move_core.specs.Making.{IsNew, first_cancel}
+use Rattle.move_laws.proofs.MadeTasks.{counts_within, loses_one, makes_one, makes_within}
+use Rattle.move_laws.proofs.SteadyLemmas.{steady_lost, steady_made}
+use Rattle.move_laws.specs.Kept.{IsSound, SeenMoves}
+use Rattle.move_laws.specs.Steady.{IsSteadyBut}
+use Rattle.move_laws.specs.Making.{IsNew, first_cancel}
 use Rattle.move_core.proofs.move_core.MoveCore.made.Goals as goal
 
 pub begin-requires-clause-there : goal.begin-requires-clause-there

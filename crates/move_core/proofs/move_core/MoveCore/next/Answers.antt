@@ -1,6 +1,6 @@
 use Rattle.std.proofs.Common.{Some, None, refl}
-use Rattle.move_core.specs.Kept.{rest_by}
-use Rattle.move_core.proofs.Next.{by_call, by_giving, by_line, by_rest}
+use Rattle.move_laws.specs.Kept.{rest_by}
+use Rattle.move_laws.proofs.Next.{by_call, by_giving, by_line, by_rest}
 use Rattle.move_core.proofs.move_core.MoveCore.next.Goals as goal
 
 pub returns-in-Some : goal.returns-in-Some

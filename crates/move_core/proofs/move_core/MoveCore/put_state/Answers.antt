@@ -1,7 +1,7 @@
 use Rattle.std.proofs.Common.{◌∙◌, ap}
 use Rattle.task_core.specs.Machine.{SeenTask}
-use Rattle.move_core.proofs.Steps.{put_by_parts}
-use Rattle.move_core.specs.Kept.{sort_by}
+use Rattle.move_laws.proofs.Steps.{put_by_parts}
+use Rattle.move_laws.specs.Kept.{sort_by}
 use Rattle.move_core.proofs.move_core.MoveCore.put_state.Goals as goal
 
 pub returns : goal.returns

@@ -5,15 +5,18 @@ use Rattle.kept_jobs.specs.Tags.{SeenTags}
 use Rattle.lane_queues.specs.Lanes.{jobs_in, out_in, with_jobs}
 use Rattle.part_tables.specs.Finding.{FindsPart}
 use Rattle.part_tables.specs.Tables.{IsPutWhere}
-use Rattle.run_promise.specs.Buffers.{holds_buffer}
-use Rattle.run_promise.specs.Schedule.{job_of}
+use Rattle.job_terms.specs.Buffers.{holds_buffer}
+use Rattle.job_terms.specs.Jobs.{job_of}
 use Rattle.task_acts.specs.declared.acts.Act.TheVariants as act
 use Rattle.task_core.specs.Machine.{SeenTask, Stands, ready_by}
-use Rattle.move_core.proofs.Open.{is_counted}
-use Rattle.move_core.proofs.SentJobs as sending
-use Rattle.move_core.proofs.SteadyLemmas.{steady_moved}
-use Rattle.move_core.proofs.Steps.{at_most_one, pushed, taken_moved, unfinished_stay}
-use Rattle.move_core.specs.Kept.{SeenMoves}
+use Rattle.move_laws.proofs.KeptBytes.{bytes_away}
+use Rattle.move_laws.proofs.Open.{is_counted}
+use Rattle.move_laws.proofs.SentJobs as sending
+use Rattle.move_core.proofs.GivenParts.{takes_its_part}
+use Rattle.move_laws.proofs.SteadyLemmas.{steady_moved}
+use Rattle.move_laws.proofs.Steps.{at_most_one, pushed, taken_moved, unfinished_stay}
+use Rattle.move_laws.specs.Bytes.{KeepsBytes, no_part}
+use Rattle.move_laws.specs.Kept.{SeenMoves, with_state}
 use Rattle.move_core.proofs.move_core.MoveCore.sent.Goals as goal
 
 pub take_state-state-requires : goal.take_state-state-requires
@@ -109,12 +112,22 @@ returns-clause-known c s events w run follows there =
 pub returns-clause-taken : goal.returns-clause-taken
 returns-clause-taken c =
     let a = c.requires in
-    sending.takes_its_part a.s a.events c.args.task c.args.op c.args.number c.args.lane c.args.self.now a.run a.follows
-    c.take_along-given.result (job_at c.deref_mut.result.now.kept c.args.op c.args.number)
+    takes_its_part c.args.self.now.parts.pool.room c.args.op c.take_along-given.result
+    (job_at c.deref_mut.result.now.kept c.args.op c.args.number)
     c.take_along-given.ensures.again
     (sending.kept_part a.s a.events c.args.task c.args.op c.args.number c.args.lane c.args.self.now a.run a.follows
     c.take_state-state.result.value c.deref_mut.result.now c.take_state-state.ensures.state c.deref_mut.ensures.value)
     (λ none. (c.take_along-given.ensures.part none).0)
+
+pub returns-clause-bytes : goal.returns-clause-bytes
+returns-clause-bytes c =
+    let slots = c.args.self.now.parts.slots in
+    let after = c.take_along-given.new.self.parts.slots in
+    subst (λ (x : SeenMoves). KeepsBytes no_part slots x.parts.slots)
+    (sym (c.put_state.ensures ∙ ap (λ (x : SeenMoves). with_state c.args.task c.gave.new.self x) c.push.ensures))
+    (bytes_away (holds_buffer c.args.op) c.args.task c.args.number slots after
+    (subst (λ (x : SeenMoves). IsPutWhere (holds_buffer c.args.op) c.args.task c.args.number (Some None) x.parts.slots
+    after) c.take_state-state.ensures.rest c.take_along-given.ensures.held))
 
 pub returns-clause-steady : goal.returns-clause-steady
 returns-clause-steady c =

@@ -1,11 +1,12 @@
-use Rattle.std.proofs.Common.{◌≡◌, ◌∙◌, ◌==◌, ◌&&◌, None, Some, ap}
+use Rattle.std.proofs.Common.{◌≡◌, ◌∙◌, ◌==◌, ◌&&◌, None, Some, ap, refl}
 use Rattle.std.specs.Prelude.{if◌then◌else◌}
 use Rattle.chunk_plan.specs.Pool.{Pool}
 use Rattle.held_parts.specs.Held.{IsSamePool, held_at}
 use Rattle.part_tables.proofs.Tables.{last_put_counts}
-use Rattle.move_core.proofs.Lent.{taken_back}
-use Rattle.move_core.proofs.SteadyLemmas.{steady_as}
-use Rattle.move_core.specs.Kept.{SeenMoves, with_parts}
+use Rattle.move_laws.proofs.KeptBytes.{bytes_emptied}
+use Rattle.move_laws.proofs.Lent.{taken_back}
+use Rattle.move_laws.proofs.SteadyLemmas.{steady_as}
+use Rattle.move_laws.specs.Kept.{SeenMoves, with_parts}
 use Rattle.move_core.proofs.move_core.MoveCore.take_back.Goals as goal
 
 pub returns-clause-follows : goal.returns-clause-follows
@@ -25,6 +26,16 @@ returns-clause-follows c s events lent =
     ∙ ap (λ (z : SeenMoves). if (c.args.task == x) && (c.args.number == y) then Some None
     else held_at z.parts.slots x y) c.self.view_is)
     (λ x y. c.give_back.ensures.held x y))
+
+pub returns-clause-bytes : goal.returns-clause-bytes
+returns-clause-bytes c =
+    bytes_emptied c.args.task c.args.number None c.args.self.now.parts.slots c.give_back.new.self.slots
+    (last_put_counts c.args.task c.args.number (Some None) None c.args.self.now.parts.slots
+    c.take-part.new.self.slots c.give_back.new.self.slots
+    (λ x y. c.take-part.ensures.held x y
+    ∙ ap (λ (z : SeenMoves). if (c.args.task == x) && (c.args.number == y) then Some None
+    else held_at z.parts.slots x y) c.self.view_is)
+    (λ x y. c.give_back.ensures.held x y)) refl
 
 pub returns-clause-steady : goal.returns-clause-steady
 returns-clause-steady c = steady_as c.args.self.now _ (ap (λ (x : SeenMoves). x.slots) c.self.view_is)

@@ -1,0 +1,10 @@
+pub mod Admits
+pub mod Bytes
+pub mod Calls
+pub mod Cancelling
+pub mod Follows
+pub mod Freed
+pub mod Kept
+pub mod Lending
+pub mod Making
+pub mod Steady
