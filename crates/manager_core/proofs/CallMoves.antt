@@ -5,9 +5,9 @@ use Rattle.manager_moves.proofs.ShareLaws.{act_of}
 use Rattle.manager_moves.specs.Runs.{Events, Shared}
 use Rattle.manager_moves.specs.declared.moves.Move.{Move}
 use Rattle.manager_moves.specs.declared.moves.Move.TheVariants as move
-use Rattle.move_core.specs.Calls.{IsBegun}
-use Rattle.move_core.specs.Follows.{Follows}
-use Rattle.move_core.specs.Kept.{SeenMoves}
+use Rattle.move_laws.specs.Calls.{IsLentFor}
+use Rattle.move_laws.specs.Follows.{Follows}
+use Rattle.move_laws.specs.Kept.{SeenMoves}
 use Rattle.task_acts.specs.declared.acts.Act.TheVariants as act
 use Rattle.task_acts.specs.Kept.{is_file_act}
 use Rattle.manager_core.specs.declared.due.Call.{Call}
@@ -43,7 +43,7 @@ module _ (call : Call) where
   -- how it begins: a Read was lent its part
   module _ (s : Shared) (events : Events) (mv : SeenMoves) where
     abbrev pub Begins : Call → Type 0
-    Begins c = (before : SeenMoves) × IsBegun c.task c.act before mv × Follows s events before
+    Begins c = (before : SeenMoves) × IsLentFor c.task c.act before mv × Follows s events before
 
     as_it_is : (m : Move) (c : Call) → call_in m ≡ Some c → Begins c → call_in m ≡ Some call → Begins call
     as_it_is m c is begins e = subst Begins (same_value (sym is ∙ e)) begins

@@ -6,7 +6,6 @@ use Rattle.std.specs.Prelude.{slice_get}
 use Rattle.manager_moves.specs.Runs.{Events, Shared, outcome_in}
 use Rattle.manager_moves.specs.declared.moves.Move.TheVariants as move
 use Rattle.run_progress.proofs.Progress.{tasks_have_ended}
-use Rattle.s3_model.specs.declared.outcomes.Event.{Event as Entry}
 use Rattle.s3_model.specs.declared.outcomes.Outcome.{Outcome}
 use Rattle.task_acts.specs.declared.work.Work.{Work}
 use Rattle.manager_core.proofs.ReadyJobs.{there_is}
@@ -14,7 +13,7 @@ use Rattle.manager_core.proofs.RunLemmas.{at_due, tells}
 use Rattle.manager_core.specs.declared.due.Due.TheVariants as due
 use Rattle.manager_core.specs.Ended.{AreOutcomes}
 use Rattle.manager_core.specs.Kept.{SeenManager}
-use Rattle.manager_core.specs.Running.{IsAt, IsRunning}
+use Rattle.manager_core.specs.Running.{IsAt, IsRunning, Start}
 
 same_length : {X : Type 0} (xs : List X) → length (map Some xs) ≡ length xs
 same_length [] = refl
@@ -25,10 +24,10 @@ same_item [] n = refl
 same_item (x ∷ xs) zero = refl
 same_item (x ∷ xs) (suc n) = same_item xs n
 
-module _ (planning : List Entry) (s : Shared) (events : Events) (m : SeenManager)
-    (running : IsRunning planning s events m) (is : m.due ≡ due.Next move.End) where
+module _ (start : Start) (s : Shared) (events : Events) (m : SeenManager)
+    (running : IsRunning start s events m) (is : m.due ≡ due.Next move.End) where
   pub end_at : IsAt (due.Next move.End) s events m
-  end_at = at_due planning s events m running (due.Next move.End) is
+  end_at = at_due start s events m running (due.Next move.End) is
 
   its_outcome : (n : ℕ) (w : Work) → slice_get s.works n ≡ Some w
       → get_or m.moves.outcomes n None ≡ outcome_in w n events

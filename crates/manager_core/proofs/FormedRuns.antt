@@ -8,13 +8,12 @@ use Rattle.manager_moves.proofs.HoldLemmas.{same_op}
 use Rattle.manager_moves.proofs.PartLaws.{same_value}
 use Rattle.manager_moves.specs.Runs.{Events, Sent, Shared, share}
 use Rattle.manager_moves.specs.declared.moves.Move.TheVariants as move
-use Rattle.move_core.specs.Follows.{Follows}
-use Rattle.move_core.specs.Kept.{SeenMoves, state_at}
-use Rattle.move_core.specs.Steady.{IsSteady}
-use Rattle.run_promise.specs.Dispatches.{is_op}
+use Rattle.move_laws.specs.Follows.{Follows}
+use Rattle.move_laws.specs.Kept.{SeenMoves, state_at}
+use Rattle.move_laws.specs.Steady.{IsSteady}
+use Rattle.job_terms.specs.Ops.{is_op}
 use Rattle.run_steps.proofs.Giving.{given_again, given_first}
 use Rattle.run_steps.specs.Following.{IsAtOne}
-use Rattle.s3_model.specs.declared.outcomes.Event.{Event as Entry}
 use Rattle.s3_model.specs.declared.requests.Op.{Op}
 use Rattle.s3_model.specs.declared.requests.Op.TheVariants as op
 use Rattle.step_jobs.specs.Shares.{SeenSteps}
@@ -29,33 +28,33 @@ use Rattle.manager_core.proofs.SentRuns.{tags_left, waits}
 use Rattle.manager_core.proofs.TagLemmas.{tags_stay}
 use Rattle.manager_core.specs.declared.due.Due.TheVariants as due
 use Rattle.manager_core.specs.Kept.{SeenManager}
-use Rattle.manager_core.specs.Running.{IsRunning}
+use Rattle.manager_core.specs.Running.{IsRunning, Start}
 
-module _ (planning : List Entry) (s : Shared) (events : Events) (m : SeenManager)
-    (running : IsRunning planning s events m) (task : ℕ) (o : Op) (k lane : ℕ)
+module _ (start : Start) (s : Shared) (events : Events) (m : SeenManager)
+    (running : IsRunning start s events m) (task : ℕ) (o : Op) (k lane : ℕ)
     (is : m.due ≡ due.Next (move.Give task o k lane)) (mv : SeenMoves)
     (follows : Follows s (Sent task o k lane ∷ events) mv) (steady : IsSteady m.moves mv) where
   -- a job that was kept
-  pub again_runs : IsRunning planning s events (with m mv m.steps m.journal (due.Job task o k lane))
+  pub again_runs : IsRunning start s events (with m mv m.steps m.journal (due.Job task o k lane))
   again_runs =
-      let at = its_at planning s events m running task o k lane is in
-      formed_runs planning s events m running task o k lane is mv follows steady.room
+      let at = its_at start s events m running task o k lane is in
+      formed_runs start s events m running task o k lane is mv follows steady.room
       (tags_stay s events m.moves mv steady at.tags (Sent task o k lane) refl) m.steps
       (given_again s events task o k lane m.plan.tasks.items m.steps
-      (sent_in planning s events m running task o k lane is) at.steps)
+      (sent_in start s events m running task o k lane is) at.steps)
 
   abbrev w : Work
-  w = its_work planning s events m running task o k lane is
+  w = its_work start s events m running task o k lane is
 
   -- a job that was not
   module _ (first : kept_job w (share w task events) (act.Send o k) ≡ None) where
     abbrev pub jobs : SeenSteps
-    jobs = (its_jobs planning s events m running task o k lane is).0
+    jobs = (its_jobs start s events m running task o k lane is).0
 
     same_work : (v : Work) → slice_get s.works task ≡ Some v → HasSlot v o k
     same_work v there = subst (λ (x : Work). HasSlot x o k)
-        (same_value (sym (its_there planning s events m running task o k lane is) ∙ there))
-        (shares planning s events m running task o k lane is first).0
+        (same_value (sym (its_there start s events m running task o k lane is) ∙ there))
+        (shares start s events m running task o k lane is first).0
 
     left_of : (x : Option SeenSteps) → IsSomeAnd x (IsTakenFor o k jobs)
         → (left : SeenSteps) × (x ≡ Some left) × IsTakenFor o k jobs left
@@ -66,19 +65,19 @@ module _ (planning : List Entry) (s : Shared) (events : Events) (m : SeenManager
         → ((n : ℕ) → (is_op o op.Complete && (task == n)) ≡ false → state_at new n ≡ state_at mv n)
         → (now : List (Option SeenSteps)) → IsAtOne task m.steps now
         → IsSomeAnd (get_or now task None) (IsTakenFor o k jobs)
-        → IsRunning planning s events (with m new now m.journal (due.Job task o k lane))
+        → IsRunning start s events (with m new now m.journal (due.Job task o k lane))
     first_runs new goes parts others now at_one taken =
-        let at = its_at planning s events m running task o k lane is in
+        let at = its_at start s events m running task o k lane is in
         let left = left_of (get_or now task None) taken in
-        formed_runs planning s events m running task o k lane is new goes
+        formed_runs start s events m running task o k lane is new goes
         (ap (λ (x : SeenParts). x.pool.room) parts ∙ steady.room)
-        (tags_left planning s events m running task o k lane is mv follows steady new others
-        (λ joins. (waits planning s events m running task o k lane is mv follows steady first
+        (tags_left start s events m running task o k lane is mv follows steady new others
+        (λ joins. (waits start s events m running task o k lane is mv follows steady first
         (same_op o op.Complete joins)).1)) now
         (given_first s events task o k lane m.plan.tasks.items m.steps now
-        (sent_in planning s events m running task o k lane is) at.steps at_one (record {
+        (sent_in start s events m running task o k lane is) at.steps at_one (record {
           jobs = jobs;
-          was = (its_jobs planning s events m running task o k lane is).1;
+          was = (its_jobs start s events m running task o k lane is).1;
           left = left.0;
           is = left.1;
           taken = left.2;

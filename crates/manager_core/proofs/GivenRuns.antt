@@ -3,10 +3,10 @@ use Rattle.std.proofs.Common.{◌≡◌, ◌∙◌, ◌≤◌, ◌+◌, ◌++◌
 use Rattle.manager_moves.proofs.PartLaws.{same_value}
 use Rattle.manager_moves.specs.Runs.{Events, Sent, Shared}
 use Rattle.manager_moves.specs.declared.moves.Move.TheVariants as move
-use Rattle.move_core.specs.Admits.{IsRunOf}
-use Rattle.move_core.specs.Follows.{Follows}
-use Rattle.move_core.specs.Kept.{SeenMoves}
-use Rattle.run_promise.specs.Schedule.{job_of}
+use Rattle.move_laws.specs.Admits.{IsRunOf}
+use Rattle.move_laws.specs.Follows.{Follows}
+use Rattle.move_laws.specs.Kept.{SeenMoves}
+use Rattle.job_terms.specs.Jobs.{job_of}
 use Rattle.run_steps.specs.Following.{IsSentIn}
 use Rattle.run_steps.specs.Steps.{HoldSteps}
 use Rattle.s3_model.specs.Lists.{Reserved}
@@ -21,11 +21,11 @@ use Rattle.manager_core.specs.declared.due.Due.{Due}
 use Rattle.manager_core.specs.declared.due.Due.TheVariants as due
 use Rattle.manager_core.specs.Due.{lane_due}
 use Rattle.manager_core.specs.Kept.{SeenManager}
-use Rattle.manager_core.specs.Running.{IsAt, IsRunning}
+use Rattle.manager_core.specs.Running.{IsAt, IsRunning, Start}
 use Rattle.manager_core.specs.Tags.{HoldTags}
 
-module _ (planning : List Entry) (s : Shared) (events : Events) (m : SeenManager)
-    (running : IsRunning planning s events m) (task : ℕ) (o : Op) (k lane : ℕ) where
+module _ (start : Start) (s : Shared) (events : Events) (m : SeenManager)
+    (running : IsRunning start s events m) (task : ℕ) (o : Op) (k lane : ℕ) where
   abbrev after : Events
   after = Sent task o k lane ∷ events
 
@@ -33,7 +33,7 @@ module _ (planning : List Entry) (s : Shared) (events : Events) (m : SeenManager
 
   module _ (is : m.due ≡ due.Next (move.Give task o k lane)) where
     pub give_at : IsAt (due.Next (move.Give task o k lane)) s events m
-    give_at = at_due planning s events m running (due.Next (move.Give task o k lane)) is
+    give_at = at_due start s events m running (due.Next (move.Give task o k lane)) is
 
     pub sent_run : IsRunOf s after
     sent_run = record { run = (give_at.named, give_at.run.run); pieces = give_at.run.pieces }
@@ -44,10 +44,10 @@ module _ (planning : List Entry) (s : Shared) (events : Events) (m : SeenManager
     pub formed_runs : (mv : SeenMoves) → Follows s after mv
         → mv.parts.pool.room ≡ m.moves.parts.pool.room → HoldTags s after mv → (steps : List (Option SeenSteps))
         → HoldSteps s after m.plan.tasks.items steps
-        → IsRunning planning s events (with m mv steps m.journal (due.Job task o k lane))
+        → IsRunning start s events (with m mv steps m.journal (due.Job task o k lane))
     formed_runs mv follows room tags steps hold = record {
-      given = given_by planning s events m running mv steps m.journal (due.Job task o k lane) room;
-      journal = kept_journal planning s events m running mv steps (due.Job task o k lane);
+      given = given_by start s events m running mv steps m.journal (due.Job task o k lane) room;
+      journal = kept_journal start s events m running mv steps (due.Job task o k lane);
       state = record { run = sent_run; follows = follows; named = tt; steps = hold; tags = tags };
     }
 
@@ -55,19 +55,19 @@ module _ (planning : List Entry) (s : Shared) (events : Events) (m : SeenManager
 
   module _ (is : m.due ≡ due.Job task o k lane) where
     job_at : IsAt (due.Job task o k lane) s events m
-    job_at = at_due planning s events m running (due.Job task o k lane) is
+    job_at = at_due start s events m running (due.Job task o k lane) is
 
     pub gave_room : 1 ≤ m.journal.spare
-    gave_room = has_room planning s events m running (entry.Given (job_of task o k) lane) (Sent task o k lane) refl
+    gave_room = has_room start s events m running (entry.Given (job_of task o k) lane) (Sent task o k lane) refl
         job_at.run
 
     pub gave_runs : (journal : Reserved Entry)
         → journal.items ≡ m.journal.items ++ entry.Given (job_of task o k) lane ∷ []
         → journal.spare + 1 ≡ m.journal.spare
-        → IsRunning planning s after (with m m.moves m.steps journal due.Free)
+        → IsRunning start s after (with m m.moves m.steps journal due.Free)
     gave_runs journal items spare = record {
-      given = given_by planning s events m running m.moves m.steps journal due.Free refl;
-      journal = journal_grows planning s events m running (entry.Given (job_of task o k) lane) (Sent task o k lane)
+      given = given_by start s events m running m.moves m.steps journal due.Free refl;
+      journal = journal_grows start s events m running (entry.Given (job_of task o k) lane) (Sent task o k lane)
           refl job_at.run journal items spare m.moves m.steps due.Free;
       state = record {
         run = job_at.run;

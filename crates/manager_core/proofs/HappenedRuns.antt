@@ -9,11 +9,11 @@ use Rattle.manager_moves.specs.Laws.{IsOfTask, MayFollow}
 use Rattle.manager_moves.specs.Moves.{call_of, next_move}
 use Rattle.manager_moves.specs.declared.moves.Move.{Move}
 use Rattle.manager_moves.specs.Runs.{Back, Called, Events, Shared, Stopped, made_count}
-use Rattle.move_core.proofs.NamedMoves.{call_named}
-use Rattle.move_core.specs.Admits.{IsRunOf}
-use Rattle.move_core.specs.Follows.{Follows}
-use Rattle.move_core.specs.Kept.{SeenMoves}
-use Rattle.move_core.specs.Steady.{IsSteady}
+use Rattle.move_laws.proofs.NamedMoves.{call_named}
+use Rattle.move_laws.specs.Admits.{IsRunOf}
+use Rattle.move_laws.specs.Follows.{Follows}
+use Rattle.move_laws.specs.Kept.{SeenMoves}
+use Rattle.move_laws.specs.Steady.{IsSteady}
 use Rattle.run_steps.proofs.Settling.{each_settles, one_settles, slice_within}
 use Rattle.run_steps.specs.Steps.{settled_step, settled_steps}
 use Rattle.s3_model.specs.Lists.{Reserved}
@@ -32,16 +32,16 @@ use Rattle.manager_core.specs.declared.due.Call.{Call}
 use Rattle.manager_core.specs.declared.due.Due.TheVariants as due
 use Rattle.manager_core.specs.Due.{call_due, call_in}
 use Rattle.manager_core.specs.Kept.{SeenManager}
-use Rattle.manager_core.specs.Running.{IsAt, IsRunning}
+use Rattle.manager_core.specs.Running.{IsAt, IsRunning, Start}
 
-module _ (planning : List Entry) (s : Shared) (events : Events) (m : SeenManager)
-    (running : IsRunning planning s events m) where
+module _ (start : Start) (s : Shared) (events : Events) (m : SeenManager)
+    (running : IsRunning start s events m) where
   -- the place of a task of the run
   pub place_within : (t : ℕ) (w : Work) → slice_get s.works t ≡ Some w → length m.steps ≡ length m.plan.tasks.items
       → t < length m.steps
   place_within t w there count =
       let below = slice_within s.works t w there in
-      let same = works_are planning s events m running in
+      let same = works_are start s events m running in
       omega (arith, below, same, count)
 
   -- ---- a call on files
@@ -51,7 +51,7 @@ module _ (planning : List Entry) (s : Shared) (events : Events) (m : SeenManager
     its = due_call call m.due is
 
     call_at : IsAt (due.Next its.0) s events m
-    call_at = at_due planning s events m running (due.Next its.0) its.1
+    call_at = at_due start s events m running (due.Next its.0) its.1
 
     abbrev call_after : Events
     call_after = Called call.task call.act came ∷ events
@@ -73,12 +73,12 @@ module _ (planning : List Entry) (s : Shared) (events : Events) (m : SeenManager
         place_within call.task ready.0 (in_front (made_count events) s.works call.task ready.0 ready.1)
         call_at.steps.count
 
-    pub called_runs : (mv : SeenMoves) → Follows s call_after mv → IsSteady m.moves mv → IsRunning planning s call_after
+    pub called_runs : (mv : SeenMoves) → Follows s call_after mv → IsSteady m.moves mv → IsRunning start s call_after
         (with m mv (settled_steps call.task mv.outcomes m.steps) m.journal due.Free)
     called_runs mv follows steady =
         let steps = settled_steps call.task mv.outcomes m.steps in record {
-          given = given_by planning s events m running mv steps m.journal due.Free steady.room;
-          journal = same_journal planning s events m running (Called call.task call.act came) refl mv steps due.Free;
+          given = given_by start s events m running mv steps m.journal due.Free steady.room;
+          journal = same_journal start s events m running (Called call.task call.act came) refl mv steps due.Free;
           state = record {
             run = call_run;
             follows = follows;
@@ -93,7 +93,7 @@ module _ (planning : List Entry) (s : Shared) (events : Events) (m : SeenManager
 
   module _ (free : m.due ≡ due.Free) where
     pub free_at : IsAt due.Free s events m
-    free_at = at_due planning s events m running due.Free free
+    free_at = at_due start s events m running due.Free free
 
     module _ (lane : ℕ) (c : SeenCarried) (may : MayFollow s events (Back lane c)) where
       abbrev back_after : Events
@@ -113,12 +113,12 @@ module _ (planning : List Entry) (s : Shared) (events : Events) (m : SeenManager
       pub back_runs : (t : ℕ) → c.job.id.task ≡ Some t → t < length m.steps → (mv : SeenMoves)
           → Follows s back_after mv → IsSteady m.moves mv → (journal : Reserved Entry)
           → journal.items ≡ m.journal.items ++ entry.Came c.job.id lane c.tries ∷ []
-          → journal.spare + 1 ≡ m.journal.spare → IsRunning planning s back_after
+          → journal.spare + 1 ≡ m.journal.spare → IsRunning start s back_after
           (with m mv (settled_steps t mv.outcomes m.steps) journal due.Free)
       back_runs t is within mv follows steady journal items spare =
           let steps = settled_steps t mv.outcomes m.steps in record {
-            given = given_by planning s events m running mv steps journal due.Free steady.room;
-            journal = journal_grows planning s events m running (entry.Came c.job.id lane c.tries) (Back lane c) refl
+            given = given_by start s events m running mv steps journal due.Free steady.room;
+            journal = journal_grows start s events m running (entry.Came c.job.id lane c.tries) (Back lane c) refl
                 back_run journal items spare mv steps due.Free;
             state = record {
               run = back_run;
@@ -142,10 +142,10 @@ module _ (planning : List Entry) (s : Shared) (events : Events) (m : SeenManager
       pub stopped_runs : (mv : SeenMoves) → Follows s stopped_after mv → IsSteady m.moves mv
           → (steps : List (Option SeenSteps)) → length steps ≡ length m.steps
           → ((n : ℕ) → n < length m.steps → get_or steps n None ≡ settled_step mv.outcomes n (get_or m.steps n None))
-          → IsRunning planning s stopped_after (with m mv steps m.journal due.Free)
+          → IsRunning start s stopped_after (with m mv steps m.journal due.Free)
       stopped_runs mv follows steady steps count settled = record {
-        given = given_by planning s events m running mv steps m.journal due.Free steady.room;
-        journal = same_journal planning s events m running (Stopped reason) refl mv steps due.Free;
+        given = given_by start s events m running mv steps m.journal due.Free steady.room;
+        journal = same_journal start s events m running (Stopped reason) refl mv steps due.Free;
         state = record {
           run = stopped_run;
           follows = follows;

@@ -10,18 +10,17 @@ use Rattle.manager_moves.proofs.MoveLaws.{in_front}
 use Rattle.manager_moves.proofs.PartLaws.{nothing, same_value}
 use Rattle.manager_moves.specs.Runs.{Events, Made, Shared, made_count}
 use Rattle.manager_moves.specs.declared.moves.Move.TheVariants as move
-use Rattle.move_core.proofs.MadeTasks.{makes_within}
-use Rattle.move_core.proofs.NamedMoves.{make_named}
-use Rattle.move_core.specs.Admits.{Admits, IsRunOf}
-use Rattle.move_core.specs.Follows.{Follows}
-use Rattle.move_core.specs.Kept.{SeenMoves, state_at}
-use Rattle.move_core.specs.Making.{IsNew}
-use Rattle.move_core.specs.Steady.{IsSteadyBut, has_tags}
+use Rattle.move_laws.proofs.MadeTasks.{makes_within}
+use Rattle.move_laws.proofs.NamedMoves.{make_named}
+use Rattle.move_laws.specs.Admits.{Admits, IsRunOf}
+use Rattle.move_laws.specs.Follows.{Follows}
+use Rattle.move_laws.specs.Kept.{SeenMoves, state_at}
+use Rattle.move_laws.specs.Making.{IsNew}
+use Rattle.move_laws.specs.Steady.{IsSteadyBut, has_tags}
 use Rattle.run_steps.proofs.Making.{jobs_made}
 use Rattle.run_steps.specs.Following.{IsAtOne, IsFull}
 use Rattle.run_steps.specs.Steps.{HoldSteps, settled_steps}
 use Rattle.s3_model.specs.declared.list.OutOfMemory.{OutOfMemory}
-use Rattle.s3_model.specs.declared.outcomes.Event.{Event as Entry}
 use Rattle.s3_model.specs.declared.tasks.Task.{Task}
 use Rattle.step_jobs.specs.Shares.{HasAll, SeenSteps}
 use Rattle.task_acts.specs.declared.work.Work.{Work}
@@ -32,7 +31,7 @@ use Rattle.manager_core.proofs.Places.{set_at_one, set_here}
 use Rattle.manager_core.proofs.RunLemmas.{at_due, given_by, same_journal, tells, with, works_are}
 use Rattle.manager_core.specs.declared.due.Due.TheVariants as due
 use Rattle.manager_core.specs.Kept.{SeenManager}
-use Rattle.manager_core.specs.Running.{IsAt, IsRunning}
+use Rattle.manager_core.specs.Running.{IsAt, IsRunning, Start}
 use Rattle.manager_core.specs.Tags.{HoldTags}
 
 -- what is in front of the next, is in front of the one behind it
@@ -44,10 +43,10 @@ take_less (y ∷ ys) zero (suc n) x apart e = absurd (nothing e)
 take_less (y ∷ ys) (suc c) zero x apart e = e
 take_less (y ∷ ys) (suc c) (suc n) x apart e = take_less ys c n x (λ same. apart (ap suc same)) e
 
-module _ (planning : List Entry) (s : Shared) (events : Events) (m : SeenManager)
-    (running : IsRunning planning s events m) (t : ℕ) (is : m.due ≡ due.Next (move.Make t)) where
+module _ (start : Start) (s : Shared) (events : Events) (m : SeenManager)
+    (running : IsRunning start s events m) (t : ℕ) (is : m.due ≡ due.Next (move.Make t)) where
   pub make_at : IsAt (due.Next (move.Make t)) s events m
-  make_at = at_due planning s events m running (due.Next (move.Make t)) is
+  make_at = at_due start s events m running (due.Next (move.Make t)) is
 
   pub make_is : t ≡ made_count events
   make_is = make_named s events t make_at.named
@@ -69,7 +68,7 @@ module _ (planning : List Entry) (s : Shared) (events : Events) (m : SeenManager
   make_in_plan =
       let within = makes_within s events false m.moves (made_run false) make_at.follows in
       let slots = make_at.follows.count in
-      let works = works_are planning s events m running in
+      let works = works_are start s events m running in
       let number = its_number in
       omega (arith, within, slots, works, number)
 
@@ -138,11 +137,11 @@ module _ (planning : List Entry) (s : Shared) (events : Events) (m : SeenManager
     pub made_runs : (now : List (Option SeenSteps)) → IsAtOne t m.steps now
         → (fits ≡ true → (task : Task) (w : Work) → slice_get m.plan.tasks.items t ≡ Some task
         → slice_get s.works t ≡ Some w → IsFull task w (get_or now t None))
-        → IsRunning planning s after (with m mv (settled_steps t mv.outcomes now) m.journal due.Free)
+        → IsRunning start s after (with m mv (settled_steps t mv.outcomes now) m.journal due.Free)
     made_runs now at_one full =
         let steps = settled_steps t mv.outcomes now in record {
-          given = given_by planning s events m running mv steps m.journal due.Free steady.room;
-          journal = same_journal planning s events m running (Made fits) refl mv steps due.Free;
+          given = given_by start s events m running mv steps m.journal due.Free steady.room;
+          journal = same_journal start s events m running (Made fits) refl mv steps due.Free;
           state = record {
             run = made_run fits;
             follows = follows;
@@ -158,18 +157,18 @@ module _ (planning : List Entry) (s : Shared) (events : Events) (m : SeenManager
         }
 
 -- what was made of it, or that memory ran out
-module _ (planning : List Entry) (s : Shared) (events : Events) (m : SeenManager)
-    (running : IsRunning planning s events m) (t : ℕ) (is : m.due ≡ due.Next (move.Make t)) (task : Task)
+module _ (start : Start) (s : Shared) (events : Events) (m : SeenManager)
+    (running : IsRunning start s events m) (t : ℕ) (is : m.due ≡ due.Next (move.Make t)) (task : Task)
     (in_plan : slice_get m.plan.tasks.items t ≡ Some task) where
   pub new_so : (state : Result SeenTask OutOfMemory) → IfOk state (IsBegun task m.config m.limits)
       → IfOk state (IsNew s events)
-  new_so (Ok st) begun = begun_is_new planning s events m running t is task in_plan st begun
+  new_so (Ok st) begun = begun_is_new start s events m running t is task in_plan st begun
   new_so (Err lost) begun = tt
 
   tagged_so : (state : Result SeenTask OutOfMemory) → IfOk state (IsBegun task m.config m.limits) → (t0 : SeenTask)
       (w : Work) → result_ok state ≡ Some t0 → slice_get s.works t ≡ Some w → is_some t0.tags ≡ keeps_tags w
   tagged_so (Ok st) begun t0 w e there = subst (λ (x : SeenTask). is_some x.tags ≡ keeps_tags w) (same_value e)
-      (begun_tags planning s events m running t is task in_plan st begun w there)
+      (begun_tags start s events m running t is task in_plan st begun w there)
   tagged_so (Err lost) begun t0 w e there = absurd (nothing e)
 
   full_so : (state : Result SeenTask OutOfMemory) (slot : Option SeenSteps) (fits : Bool)
@@ -178,18 +177,18 @@ module _ (planning : List Entry) (s : Shared) (events : Events) (m : SeenManager
       → IfErr state (λ lost. fits ≡ false) → fits ≡ true → (other : Task) (w : Work)
       → slice_get m.plan.tasks.items t ≡ Some other → slice_get s.works t ≡ Some w → IsFull other w slot
   full_so (Ok st) slot fits begun full lost fine other w there_too there =
-      begun_full planning s events m running t is task in_plan st begun slot full other w there_too there
+      begun_full start s events m running t is task in_plan st begun slot full other w there_too there
   full_so (Err x) slot fits begun full lost fine other w there_too there = no (sym lost ∙ fine)
 
   pub made_all : (state : Result SeenTask OutOfMemory) (slot : Option SeenSteps) (fits : Bool) (mv : SeenMoves)
       → IfOk state (IsBegun task m.config m.limits)
       → IfOk state (λ st. IsSomeAnd slot (λ j. (j.task ≡ task) × (j.work ≡ st.stages.work) × HasAll j))
       → IfErr state (λ lost. fits ≡ false) → Follows s (Made fits ∷ events) mv
-      → IsSteadyBut (result_ok state) m.moves mv → IsRunning planning s (Made fits ∷ events)
+      → IsSteadyBut (result_ok state) m.moves mv → IsRunning start s (Made fits ∷ events)
       (with m mv (settled_steps t mv.outcomes (set m.steps t slot)) m.journal due.Free)
   made_all state slot fits mv begun full lost follows steady =
-      let within = make_in_steps planning s events m running t is in
-      made_runs planning s events m running t is fits (result_ok state) mv follows steady (tagged_so state begun)
+      let within = make_in_steps start s events m running t is in
+      made_runs start s events m running t is fits (result_ok state) mv follows steady (tagged_so state begun)
       (set m.steps t slot) (set_at_one t m.steps slot within)
       (λ fine other w there_too there. subst (λ (x : Option SeenSteps). IsFull other w x)
       (sym (set_here t m.steps slot within)) (full_so state slot fits begun full lost fine other w there_too there))

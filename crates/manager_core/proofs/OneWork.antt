@@ -9,7 +9,7 @@ use Rattle.s3_model.specs.declared.tasks.Kind.{Kind}
 use Rattle.s3_model.specs.declared.tasks.Task.{Task}
 use Rattle.task_acts.specs.declared.work.Work.{Work}
 use Rattle.task_acts.specs.Work.{IsWorkOf}
-use Rattle.world_laws.proofs.PieceCounts.{pieces_are_one}
+use Rattle.job_terms.proofs.PieceCounts.{pieces_are_one}
 
 module _ (config : Config) (limits : Limits) where
   abbrev made_of : Kind → Bool → Bool → (size piece count attempts : ℕ) → Work

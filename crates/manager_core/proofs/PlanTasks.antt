@@ -7,7 +7,7 @@ use Rattle.std.specs.Prelude.{All, nat_lt, slice_get}
 use Rattle.manager_moves.proofs.CountLemmas.{no}
 use Rattle.manager_moves.proofs.PartLaws.{nothing, same_value}
 use Rattle.run_needs.specs.Needs.{CanBegin}
-use Rattle.run_promise.specs.Schedule.{IsObject, IsSource, Origin, Target}
+use Rattle.job_terms.specs.Jobs.{IsObject, IsSource, Origin, Target}
 use Rattle.s3_model.specs.declared.faults.PlanFault.{PlanFault}
 use Rattle.s3_model.specs.declared.faults.PlanFault.TheVariants as fault
 use Rattle.s3_model.specs.declared.places.Place.{Place}

@@ -16,7 +16,6 @@ use Rattle.part_tables.proofs.Freeing.{kept_jobs_wait}
 use Rattle.run_needs.specs.Needs.{part_bytes}
 use Rattle.run_steps.proofs.Settling.{slice_within}
 use Rattle.run_steps.specs.Steps.{HoldsStep, is_going}
-use Rattle.s3_model.specs.declared.outcomes.Event.{Event as Entry}
 use Rattle.s3_model.specs.declared.outcomes.Outcome.{Outcome}
 use Rattle.s3_model.specs.declared.requests.Op.{Op}
 use Rattle.s3_model.specs.declared.tasks.Task.{Task}
@@ -43,7 +42,7 @@ use Rattle.manager_core.proofs.PlanTasks.{task_objects}
 use Rattle.manager_core.proofs.RunLemmas.{works_are}
 use Rattle.manager_core.specs.declared.due.Due.TheVariants as due
 use Rattle.manager_core.specs.Kept.{SeenManager}
-use Rattle.manager_core.specs.Running.{IsAt, IsRunning}
+use Rattle.manager_core.specs.Running.{IsAt, IsRunning, Start}
 
 pub there_is : {X : Type 0} (xs : List X) (n : ℕ) → n < length xs → (x : X) × (slice_get xs n ≡ Some x)
 there_is [] n below = absurd (omega (arith, below))
@@ -68,11 +67,11 @@ going_by true false (Some x) lost e f g = no (sym g)
 going_by true true ended lost e f g = no (sym f)
 going_by false lacks ended lost e f g = no e
 
-module _ (planning : List Entry) (s : Shared) (events : Events) (m : SeenManager)
-    (running : IsRunning planning s events m) (task : ℕ) (o : Op) (k lane : ℕ)
+module _ (start : Start) (s : Shared) (events : Events) (m : SeenManager)
+    (running : IsRunning start s events m) (task : ℕ) (o : Op) (k lane : ℕ)
     (is : m.due ≡ due.Next (move.Give task o k lane)) where
   abbrev pub its_at : IsAt (due.Next (move.Give task o k lane)) s events m
-  its_at = give_at planning s events m running task o k lane is
+  its_at = give_at start s events m running task o k lane is
 
   abbrev pub found : (w : Work) × (slice_get (made s events) task ≡ Some w)
       × (ready s events task w ≡ Some (act.Send o k))
@@ -123,7 +122,7 @@ module _ (planning : List Entry) (s : Shared) (events : Events) (m : SeenManager
   abbrev pub in_plan : (of_task : Task) × (slice_get m.plan.tasks.items task ≡ Some of_task)
   in_plan =
       let below = slice_within s.works task its_work its_there in
-      let same = works_are planning s events m running in
+      let same = works_are start s events m running in
       there_is m.plan.tasks.items task (omega (arith, below, same))
 
   abbrev pub its_task : Task

@@ -8,14 +8,13 @@ use Rattle.manager_moves.specs.Moves.{next_move}
 use Rattle.manager_moves.specs.Runs.{Event, Events, Lined, Shared, journal_of, lined_count, made_count}
 use Rattle.manager_moves.specs.declared.moves.Move.{Move}
 use Rattle.manager_moves.specs.declared.moves.Move.TheVariants as move
-use Rattle.move_core.proofs.NamedMoves.{IsLineOf, line_named}
-use Rattle.move_core.specs.Admits.{IsRunOf}
-use Rattle.move_core.specs.Follows.{Follows, outcome_at}
-use Rattle.move_core.specs.Kept.{SeenMoves, has_outcome}
-use Rattle.move_core.specs.Steady.{IsSteady}
+use Rattle.move_laws.proofs.NamedMoves.{IsLineOf, line_named}
+use Rattle.move_laws.specs.Admits.{IsRunOf}
+use Rattle.move_laws.specs.Follows.{Follows, outcome_at}
+use Rattle.move_laws.specs.Kept.{SeenMoves, has_outcome}
+use Rattle.move_laws.specs.Steady.{IsSteady}
 use Rattle.run_needs.proofs.EntryCounts.{journals_fit}
 use Rattle.run_needs.specs.Entries.{journal_room}
-use Rattle.run_needs.specs.Needs.{most_bytes}
 use Rattle.run_steps.specs.Following.{TellOutcomes}
 use Rattle.s3_model.specs.Lists.{Reserved}
 use Rattle.s3_model.specs.declared.outcomes.Event.{Event as Entry}
@@ -28,7 +27,7 @@ use Rattle.manager_core.specs.declared.due.Due.{Due}
 use Rattle.manager_core.specs.declared.due.Due.TheVariants as due
 use Rattle.manager_core.specs.Due.{IsSettled}
 use Rattle.manager_core.specs.Kept.{SeenManager}
-use Rattle.manager_core.specs.Running.{FollowsBut, IsAt, IsGivenTo, IsJournal, IsRunning}
+use Rattle.manager_core.specs.Running.{FollowsBut, IsAt, IsGivenTo, IsJournal, IsRunning, Start}
 
 -- another state of moves and jobs, another journal, and something else to be answered
 abbrev pub with : SeenManager → SeenMoves → List (Option SeenSteps) → Reserved Entry → Due → SeenManager
@@ -39,14 +38,17 @@ pub tells : (s : Shared) (events : Events) (mv : SeenMoves) → Follows s events
 tells s events mv follows n w there =
     follows.outcomes n ∙ ap (λ (o : Option Work). outcome_at n o events) there
 
-module _ (planning : List Entry) (s : Shared) (events : Events) (m : SeenManager)
-    (running : IsRunning planning s events m) where
+module _ (start : Start) (s : Shared) (events : Events) (m : SeenManager)
+    (running : IsRunning start s events m) where
   pub at_due : (d : Due) → m.due ≡ d → IsAt d s events m
   at_due d e = subst (λ (x : Due). IsAt x s events m) e running.state
 
   pub given_by : (mv : SeenMoves) (steps : List (Option SeenSteps)) (journal : Reserved Entry) (d : Due)
-      → mv.parts.pool.room ≡ m.moves.parts.pool.room → IsGivenTo s (with m mv steps journal d)
+      → mv.parts.pool.room ≡ m.moves.parts.pool.room → IsGivenTo start s (with m mv steps journal d)
   given_by mv steps journal d room = record {
+    plan_is = running.given.plan_is;
+    config_is = running.given.config_is;
+    limits_are = running.given.limits_are;
     config = running.given.config;
     limits = running.given.limits;
     plan = running.given.plan;
@@ -54,22 +56,23 @@ module _ (planning : List Entry) (s : Shared) (events : Events) (m : SeenManager
     works = running.given.works;
     no_outcome = running.given.no_outcome;
     outcomes = running.given.outcomes;
-    bytes = subst (λ (k : ℕ). most_bytes s.works ≤ k) (sym room) running.given.bytes;
+    bytes = room ∙ running.given.bytes;
   }
 
   pub works_are : length s.works ≡ length m.plan.tasks.items
   works_are = works_count m.config m.limits m.plan.tasks.items s.works running.given.works
 
   pub same_journal : (event : Event) → journal_of (event ∷ events) ≡ journal_of events → (mv : SeenMoves)
-      (steps : List (Option SeenSteps)) (d : Due) → IsJournal planning s (event ∷ events) (with m mv steps m.journal d)
+      (steps : List (Option SeenSteps)) (d : Due)
+      → IsJournal start.planning s (event ∷ events) (with m mv steps m.journal d)
   same_journal event same mv steps d = record {
-    items = running.journal.items ∙ ap (λ (xs : List Entry). planning ++ xs) (sym same);
+    items = running.journal.items ∙ ap (λ (xs : List Entry). start.planning ++ xs) (sym same);
     room = subst (λ (xs : List Entry). journal_room s.works ≤ m.journal.spare + length xs) (sym same)
         running.journal.room;
   }
 
   pub kept_journal : (mv : SeenMoves) (steps : List (Option SeenSteps)) (d : Due)
-      → IsJournal planning s events (with m mv steps m.journal d)
+      → IsJournal start.planning s events (with m mv steps m.journal d)
   kept_journal mv steps d = record { items = running.journal.items; room = running.journal.room }
 
   -- ---- a move that is dropped, and one that is named
@@ -94,7 +97,7 @@ module _ (planning : List Entry) (s : Shared) (events : Events) (m : SeenManager
   drop_at mv (due.Job task o k lane) settled at moved steady = absurd settled
 
   pub dropped_runs : (mv : SeenMoves) → IsSettled m.due → (FollowsBut m.due s events m.moves → Follows s events mv)
-      → IsSteady m.moves mv → IsRunning planning s events (with m mv m.steps m.journal due.Free)
+      → IsSteady m.moves mv → IsRunning start s events (with m mv m.steps m.journal due.Free)
   dropped_runs mv settled moved steady = record {
     given = given_by mv m.steps m.journal due.Free steady.room;
     journal = kept_journal mv m.steps due.Free;
@@ -103,7 +106,7 @@ module _ (planning : List Entry) (s : Shared) (events : Events) (m : SeenManager
 
   pub named_runs : (mv : SeenMoves) (next : Move) → m.due ≡ due.Free → next_move s events ≡ next
       → FollowsBut (due.Next next) s events mv → IsSteady m.moves mv
-      → IsRunning planning s events (with m mv m.steps m.journal (due.Next next))
+      → IsRunning start s events (with m mv m.steps m.journal (due.Next next))
   named_runs mv next free is follows steady =
       let at = at_due due.Free free in record {
         given = given_by mv m.steps m.journal (due.Next next) steady.room;
@@ -141,7 +144,7 @@ module _ (planning : List Entry) (s : Shared) (events : Events) (m : SeenManager
     }
 
     pub lined_runs : (mv : SeenMoves) → (Follows s events m.moves → Follows s (Lined ∷ events) mv)
-        → IsSteady m.moves mv → IsRunning planning s (Lined ∷ events) (with m mv m.steps m.journal due.Free)
+        → IsSteady m.moves mv → IsRunning start s (Lined ∷ events) (with m mv m.steps m.journal due.Free)
     lined_runs mv moved steady = record {
       given = given_by mv m.steps m.journal due.Free steady.room;
       journal = same_journal Lined refl mv m.steps due.Free;
@@ -170,10 +173,10 @@ module _ (planning : List Entry) (s : Shared) (events : Events) (m : SeenManager
 
     pub journal_grows : (journal : Reserved Entry) → journal.items ≡ m.journal.items ++ x ∷ []
         → journal.spare + 1 ≡ m.journal.spare → (mv : SeenMoves) (steps : List (Option SeenSteps)) (d : Due)
-        → IsJournal planning s (event ∷ events) (with m mv steps journal d)
+        → IsJournal start.planning s (event ∷ events) (with m mv steps journal d)
     journal_grows journal items spare mv steps d = record {
       items = items ∙ ap (λ (xs : List Entry). xs ++ x ∷ []) running.journal.items
-          ∙ append_assoc planning (journal_of events) (x ∷ [])
-          ∙ ap (λ (xs : List Entry). planning ++ xs) (sym is);
+          ∙ append_assoc start.planning (journal_of events) (x ∷ [])
+          ∙ ap (λ (xs : List Entry). start.planning ++ xs) (sym is);
       room = let room = running.journal.room in omega (arith, room, spare, longer);
     }

@@ -9,16 +9,15 @@ use Rattle.manager_moves.specs.Moves.{made}
 use Rattle.manager_moves.specs.Parts.{is_kept}
 use Rattle.manager_moves.specs.Runs.{Events, Sent, Shared, share}
 use Rattle.manager_moves.specs.declared.moves.Move.TheVariants as move
-use Rattle.move_core.specs.Follows.{Follows, HoldsTask}
-use Rattle.move_core.specs.Kept.{SeenMoves, state_at}
-use Rattle.move_core.specs.Lending.{IsGoing, tags_in}
-use Rattle.move_core.specs.Steady.{IsSteady, has_tags}
-use Rattle.run_promise.specs.Dispatches.{is_op}
+use Rattle.move_laws.specs.Follows.{Follows, HoldsTask}
+use Rattle.move_laws.specs.Kept.{SeenMoves, state_at}
+use Rattle.move_laws.specs.Lending.{IsGoing, slot_tags}
+use Rattle.move_laws.specs.Steady.{IsSteady, has_tags}
+use Rattle.job_terms.specs.Ops.{is_op}
 use Rattle.run_steps.proofs.Giving.{out_now, sent_share, unended_now}
 use Rattle.run_steps.proofs.Settling.{slice_within}
 use Rattle.run_steps.specs.Following.{IsSentIn}
 use Rattle.s3_model.specs.Lists.{Reserved}
-use Rattle.s3_model.specs.declared.outcomes.Event.{Event as Entry}
 use Rattle.s3_model.specs.declared.requests.Op.{Op}
 use Rattle.s3_model.specs.declared.requests.Op.TheVariants as op
 use Rattle.s3_model.specs.declared.tasks.Kind.{Kind}
@@ -36,13 +35,13 @@ use Rattle.task_acts.specs.Rule.{is_created, is_due, is_each_done, is_named}
 use Rattle.task_acts.specs.Stages.{is_out, may_be_given, stage}
 use Rattle.task_core.specs.Machine.{SeenTask, keeps_tags}
 use Rattle.task_readiness.specs.Readiness.{has_parts}
-use Rattle.task_schedule.specs.Asks.{HasTags}
+use Rattle.kept_jobs.specs.Steps.{HasTags}
 use Rattle.manager_core.proofs.GivenRuns.{sent_in}
 use Rattle.manager_core.proofs.ReadyJobs.{is_ready, its_at, its_there, its_work, made_there, memory, not_kept}
 use Rattle.manager_core.proofs.TagLemmas.{tags_stay}
 use Rattle.manager_core.specs.declared.due.Due.TheVariants as due
 use Rattle.manager_core.specs.Kept.{SeenManager}
-use Rattle.manager_core.specs.Running.{IsRunning}
+use Rattle.manager_core.specs.Running.{IsRunning, Start}
 use Rattle.manager_core.specs.Tags.{HoldTags}
 
 -- ---- what completes an upload goes in parts
@@ -93,16 +92,16 @@ state_there : (room : ℕ) (w : Work) (h : History) (x : Option SeenTask) → Ho
 state_there room w h (Some t) holds e = refl
 state_there room w h None holds e = no (sym e ∙ holds.ended)
 
-tags_so : (x : Option SeenTask) → has_tags x ≡ true → is_some (tags_in x) ≡ true
+tags_so : (x : Option SeenTask) → has_tags x ≡ true → is_some (slot_tags x) ≡ true
 tags_so (Some t) e = e
 tags_so None e = no e
 
-module _ (planning : List Entry) (s : Shared) (events : Events) (m : SeenManager)
-    (running : IsRunning planning s events m) (task : ℕ) (o : Op) (k lane : ℕ)
+module _ (start : Start) (s : Shared) (events : Events) (m : SeenManager)
+    (running : IsRunning start s events m) (task : ℕ) (o : Op) (k lane : ℕ)
     (is : m.due ≡ due.Next (move.Give task o k lane)) (mv : SeenMoves)
     (follows : Follows s (Sent task o k lane ∷ events) mv) (steady : IsSteady m.moves mv) where
   abbrev w : Work
-  w = its_work planning s events m running task o k lane is
+  w = its_work start s events m running task o k lane is
 
   abbrev later : Events
   later = Sent task o k lane ∷ events
@@ -111,21 +110,21 @@ module _ (planning : List Entry) (s : Shared) (events : Events) (m : SeenManager
   h = share w task events
 
   given : IsSentIn s events task o k lane
-  given = sent_in planning s events m running task o k lane is
+  given = sent_in start s events m running task o k lane is
 
   there : slice_get s.works task ≡ Some w
-  there = its_there planning s events m running task o k lane is
+  there = its_there start s events m running task o k lane is
 
   of_made : slice_get (made s events) task ≡ Some w
-  of_made = made_there planning s events m running task o k lane is
+  of_made = made_there start s events m running task o k lane is
 
   -- the task goes on with its job out
   pub still_going : IsGoing s later mv task w
   still_going = record {
     there = of_made;
-    memory = memory planning s events m running task o k lane is;
+    memory = memory start s events m running task o k lane is;
     state = state_there mv.parts.pool.room w (share w task later) (state_at mv task)
-        (follows.tasks task w of_made (memory planning s events m running task o k lane is))
+        (follows.tasks task w of_made (memory start s events m running task o k lane is))
         (unended_now s events task o k lane m.plan.tasks.items given w there);
   }
 
@@ -142,7 +141,7 @@ module _ (planning : List Entry) (s : Shared) (events : Events) (m : SeenManager
     waits =
         let two = and_parts (may_be_given (stage w h (act.Send o k)))
         (is_named w (stage w h) (is_stopped w h) (act.Send o k))
-        (is_ready planning s events m running task o k lane is) in
+        (is_ready start s events m running task o k lane is) in
         let so = completes_so w (stage w h) (is_stopped w h) k
         (subst (λ (p : Op). is_named w (stage w h) (is_stopped w h) (act.Send p k) ≡ true) joins two.1) in (
           so.0,
@@ -150,14 +149,14 @@ module _ (planning : List Entry) (s : Shared) (events : Events) (m : SeenManager
           subst (λ (n : ℕ). stage w h (act.Send op.Complete n) ≡ at.Waiting) so.1
               (subst (λ (p : Op). stage w h (act.Send p k) ≡ at.Waiting) joins
               (waiting_then (stage w h (act.Send o k)) two.0
-              (not_kept planning s events m running task o k lane is first))),
+              (not_kept start s events m running task o k lane is first))),
         )
 
-    pub tags_there : is_some (tags_in (state_at mv task)) ≡ true
+    pub tags_there : is_some (slot_tags (state_at mv task)) ≡ true
     tags_there =
         let goes = still_going.state in
         tags_so (state_at mv task) (steady.tags task goes
-        ∙ (its_at planning s events m running task o k lane is).tags task w of_made waits.0 waits.2
+        ∙ (its_at start s events m running task o k lane is).tags task w of_made waits.0 waits.2
         (steady.went_on task goes))
 
   -- what is said of the task is what was said before
@@ -203,7 +202,7 @@ module _ (planning : List Entry) (s : Shared) (events : Events) (m : SeenManager
     tags_left zero_is n v at_n keeps waiting goes = by (is_op o op.Complete && (task == n)) refl
       where
         before : HoldTags s later mv
-        before = tags_stay s events m.moves mv steady (its_at planning s events m running task o k lane is).tags
+        before = tags_stay s events m.moves mv steady (its_at start s events m running task o k lane is).tags
             (Sent task o k lane) refl
 
         by : (b : Bool) → (is_op o op.Complete && (task == n)) ≡ b → has_tags (state_at new n) ≡ true

@@ -5,8 +5,9 @@ use Rattle.std.proofs.lemmas.List.{append-nil}
 use Rattle.std.specs.Prelude.{slice_get, Some}
 use Rattle.manager_moves.proofs.PartLaws.{nothing}
 use Rattle.manager_moves.specs.Runs.{Shared}
-use Rattle.move_core.specs.Follows.{Follows, IsSharedBy}
-use Rattle.move_core.specs.Kept.{SeenMoves}
+use Rattle.move_core.specs.Means.{IsSharedBy}
+use Rattle.move_laws.specs.Follows.{Follows}
+use Rattle.move_laws.specs.Kept.{SeenMoves}
 use Rattle.move_core.specs.declared.move_core.Means.{Means}
 use Rattle.run_needs.specs.Needs.{AreNeedsOf}
 use Rattle.run_needs.specs.declared.needs.Needs.{Needs}
@@ -29,7 +30,7 @@ use Rattle.task_progress.specs.Progress.{HasPiece}
 use Rattle.manager_core.proofs.OneWork.{work_at, works_count}
 use Rattle.manager_core.proofs.ReadyJobs.{there_is}
 use Rattle.manager_core.specs.declared.due.Due.TheVariants as due
-use Rattle.manager_core.specs.Running.{CanRun, IsRunning, IsSharedOf, lane_depth}
+use Rattle.manager_core.specs.Running.{CanRun, IsRunning, IsSharedOf, Start, lane_depth}
 
 module _ (config : Config) (limits : Limits) (valid : IsValidConfig config) (fit : IsValidLimits limits)
     (plan : Plan) (can : CanRun limits plan.tasks.items) (lanes : ℕ) (some : 1 ≤ lanes) (needs : Needs)
@@ -90,10 +91,14 @@ module _ (config : Config) (limits : Limits) (valid : IsValidConfig config) (fit
     pieces = pieces;
   }
 
+  abbrev pub start_of : List Entry → Start
+  start_of before = record { plan = plan; planning = before; config = config; limits = limits }
+
   pub starts : (before : List Entry) (journal : Reserved Entry) (outcomes : Reserved Outcome) (mv : SeenMoves)
       (steps : List (Option SeenSteps)) → journal.items ≡ before → needs.entries ≤ journal.spare
       → outcomes.items ≡ [] → length tasks ≤ outcomes.spare → Follows shared [] mv
-      → mv.parts.pool.room ≡ needs.bytes → steps ≡ replicate (length tasks) None → IsRunning before shared [] (record {
+      → mv.parts.pool.room ≡ needs.bytes → steps ≡ replicate (length tasks) None
+      → IsRunning (start_of before) shared [] (record {
         plan = plan;
         journal = journal;
         outcomes = outcomes;
@@ -105,6 +110,9 @@ module _ (config : Config) (limits : Limits) (valid : IsValidConfig config) (fit
       })
   starts before journal outcomes mv steps items spare none room follows bytes is = record {
     given = record {
+      plan_is = refl;
+      config_is = refl;
+      limits_are = refl;
       config = valid;
       limits = fit;
       plan = can;
@@ -112,7 +120,7 @@ module _ (config : Config) (limits : Limits) (valid : IsValidConfig config) (fit
       works = are.works_are;
       no_outcome = none;
       outcomes = room;
-      bytes = let same = are.bytes_are in omega (arith, same, bytes);
+      bytes = bytes ∙ are.bytes_are;
     };
     journal = record {
       items = items ∙ sym (append-nil before);

@@ -2,8 +2,8 @@
 use Rattle.std.proofs.Common.{◌≡◌, ◌∙◌, ◌++◌, [], ◌∷◌, ℕ, Some, subst}
 use Rattle.std.specs.Prelude.{slice_get, take}
 use Rattle.manager_moves.specs.Runs.{Event, Events, Shared, made_count, share}
-use Rattle.move_core.specs.Kept.{SeenMoves}
-use Rattle.move_core.specs.Steady.{IsSteady}
+use Rattle.move_laws.specs.Kept.{SeenMoves}
+use Rattle.move_laws.specs.Steady.{IsSteady}
 use Rattle.s3_model.specs.declared.requests.Op.TheVariants as op
 use Rattle.step_laws.proofs.ShareLemmas.{waited_so}
 use Rattle.task_acts.specs.declared.acts.Act.{Act}

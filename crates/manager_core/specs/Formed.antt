@@ -1,27 +1,29 @@
 -- The job that is handed out to be given.
-use Rattle.std.specs.Prelude.{◌≡◌, ℕ, Option, Some, None, is_some, not, slice_get}
+use Rattle.std.specs.Prelude.{◌≡◌, ℕ, Option, Some, None, IfSome, is_some, not, slice_get}
 use Rattle.held_parts.specs.Held.{held_at}
 use Rattle.jobs.specs.Jobs.{SeenJob}
 use Rattle.manager_moves.specs.Runs.{Events, Shared, share}
-use Rattle.move_core.specs.Calls.{IsPartFor}
-use Rattle.run_promise.specs.Dispatches.{is_op}
-use Rattle.run_promise.specs.Schedule.{job_of}
+use Rattle.move_laws.specs.Calls.{IsPartFor}
+use Rattle.job_terms.specs.Ops.{is_op}
+use Rattle.job_terms.specs.Jobs.{job_of}
 use Rattle.s3_model.specs.declared.requests.Op.{Op}
 use Rattle.s3_model.specs.declared.requests.Op.TheVariants as op
 use Rattle.s3_model.specs.declared.tasks.Task.{Task}
 use Rattle.task_acts.specs.declared.acts.Act.TheVariants as act
 use Rattle.task_acts.specs.declared.work.Work.{Work}
 use Rattle.task_acts.specs.Kept.{kept_job}
-use Rattle.task_schedule.specs.Asks.{IsStepOf}
-use Rattle.manager_core.specs.Kept.{SeenManager}
+use Rattle.kept_jobs.specs.Steps.{IsStepOf}
+use Rattle.manager_core.specs.Cells.{IsCellOf}
+use Rattle.manager_core.specs.Kept.{SeenManager, jobs_at}
 
--- A job at its first giving: what it is for is what the history of its task says, with a cell unless it is an Abort,
--- and with the part that its op takes, in which the bytes stand that its piece held.
+-- A job at its first giving: what it is for is what the history of its task says, with the cell of the task
+-- unless it is an Abort, and with the part that its op takes, in which the bytes stand that its piece held.
 pub record IsFirst (task : Task) (w : Work) (s : Shared) (events : Events) (n : ℕ) (of_op : Op) (number : ℕ)
     (m : SeenManager) (job : SeenJob) : Type 0 where
   pub id : job.id ≡ job_of n of_op number
   pub step : IsStepOf task w (share w n events) of_op number job.what
-  pub cell : is_some job.cell ≡ not (is_op of_op op.Abort)
+  pub has_cell : is_some job.cell ≡ not (is_op of_op op.Abort)
+  pub cell : IfSome job.cell (λ holder. IsCellOf holder (jobs_at m n))
   pub had : job.had ≡ 0
   pub part : IsPartFor of_op m.moves.parts.pool.room (held_at m.moves.parts.slots n number) job.part
 

@@ -1,6 +1,6 @@
 -- What contracts see of a run.
-use Rattle.std.specs.Prelude.{List, Option}
-use Rattle.move_core.specs.Kept.{SeenMoves}
+use Rattle.std.specs.Prelude.{ℕ, List, Option, None, get_or, set}
+use Rattle.move_laws.specs.Kept.{SeenMoves}
 use Rattle.s3_model.specs.Lists.{Reserved}
 use Rattle.s3_model.specs.declared.outcomes.Event.{Event as Entry}
 use Rattle.s3_model.specs.declared.outcomes.Outcome.{Outcome}
@@ -21,3 +21,10 @@ pub record SeenManager : Type 0 where
   pub moves : SeenMoves
   pub steps : List (Option SeenSteps)
   pub due : Due
+
+-- the jobs of a task, where it is made and has not ended
+abbrev pub jobs_at : SeenManager → (task : ℕ) → Option SeenSteps
+jobs_at m task = get_or m.steps task None
+
+abbrev pub with_jobs : (task : ℕ) → Option SeenSteps → SeenManager → SeenManager
+with_jobs task jobs m = record m { steps = set m.steps task jobs }

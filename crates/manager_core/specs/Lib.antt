@@ -1,8 +1,10 @@
 pub mod Answers
+pub mod Cells
 pub mod Due
 pub mod Ended
 pub mod Formed
 pub mod Kept
 pub mod Running
+pub mod Shown
 pub mod Steps
 pub mod Tags

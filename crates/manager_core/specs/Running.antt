@@ -4,10 +4,10 @@ use Rattle.held_parts.specs.Held.{IsHere, held_at}
 use Rattle.manager_moves.specs.Moves.{next_move}
 use Rattle.manager_moves.specs.Runs.{Event, Events, Shared, journal_of}
 use Rattle.manager_moves.specs.declared.moves.Move.TheVariants as move
-use Rattle.move_core.specs.Admits.{IsRunOf}
-use Rattle.move_core.specs.Follows.{Follows}
-use Rattle.move_core.specs.Kept.{SeenMoves}
-use Rattle.move_core.specs.Lending.{IsLentIn}
+use Rattle.move_laws.specs.Admits.{IsRunOf}
+use Rattle.move_laws.specs.Follows.{Follows}
+use Rattle.move_laws.specs.Kept.{SeenMoves}
+use Rattle.move_laws.specs.Lending.{IsLentIn}
 use Rattle.run_needs.specs.Entries.{journal_room}
 use Rattle.run_needs.specs.Needs.{AreWorksOf, most_bytes}
 use Rattle.run_progress.specs.RunProgress.{HasMeans}
@@ -15,6 +15,7 @@ use Rattle.s3_model.specs.Validity.{IsValidConfig, IsValidLimits}
 use Rattle.s3_model.specs.declared.outcomes.Event.{Event as Entry}
 use Rattle.s3_model.specs.declared.settings.Config.{Config}
 use Rattle.s3_model.specs.declared.settings.Limits.{Limits}
+use Rattle.s3_model.specs.declared.tasks.Plan.{Plan}
 use Rattle.s3_model.specs.declared.tasks.Task.{Task}
 use Rattle.sync_plan.specs.Fit.{IsFit}
 use Rattle.manager_core.specs.declared.due.Due.{Due}
@@ -25,6 +26,13 @@ use Rattle.run_steps.specs.Steps.{HoldSteps}
 use Rattle.manager_core.specs.Tags.{HoldTags}
 
 -- ---- what a run is given
+
+-- the plan and the journal of the planning, with the settings and limits
+pub record Start : Type 0 where
+  pub plan : Plan
+  pub planning : List Entry
+  pub config : Config
+  pub limits : Limits
 
 -- a plan that can be carried out; each of its tasks may replace its destination
 pub record CanRun (limits : Limits) (tasks : List Task) : Type 0 where
@@ -72,8 +80,11 @@ pub record IsJournal (planning : List Entry) (s : Shared) (events : Events) (m :
   pub items : m.journal.items ≡ planning ++ journal_of events
   pub room : journal_room s.works ≤ m.journal.spare + length (journal_of events)
 
--- what was given to the run at its start
-pub record IsGivenTo (s : Shared) (m : SeenManager) : Type 0 where
+-- what was given to the run at its start, which stays
+pub record IsGivenTo (start : Start) (s : Shared) (m : SeenManager) : Type 0 where
+  pub plan_is : m.plan ≡ start.plan
+  pub config_is : m.config ≡ start.config
+  pub limits_are : m.limits ≡ start.limits
   pub config : IsValidConfig m.config
   pub limits : IsValidLimits m.limits
   pub plan : CanRun m.limits m.plan.tasks.items
@@ -81,15 +92,20 @@ pub record IsGivenTo (s : Shared) (m : SeenManager) : Type 0 where
   pub works : AreWorksOf m.config m.limits m.plan.tasks.items s.works
   pub no_outcome : m.outcomes.items ≡ []
   pub outcomes : length m.plan.tasks.items ≤ m.outcomes.spare
-  pub bytes : most_bytes s.works ≤ m.moves.parts.pool.room
+  pub bytes : m.moves.parts.pool.room ≡ most_bytes s.works
 
 -- These events have happened, by the rule.
-pub record IsRunning (planning : List Entry) (s : Shared) (events : Events) (m : SeenManager) : Type 0 where
-  pub given : IsGivenTo s m
-  pub journal : IsJournal planning s events m
+pub record IsRunning (start : Start) (s : Shared) (events : Events) (m : SeenManager) : Type 0 where
+  pub given : IsGivenTo start s m
+  pub journal : IsJournal start.planning s events m
   pub state : IsAt m.due s events m
 
+-- whatever had happened, nothing else has happened
+abbrev pub KeepsRun : (m new : SeenManager) → Type 0
+KeepsRun m new = (start : Start) (s : Shared) (events : Events) → IsRunning start s events m
+    → IsRunning start s events new
+
 -- whatever had happened, that event has happened too
-abbrev pub GoesOn : Event → (m new : SeenManager) → Type 0
-GoesOn event m new = (planning : List Entry) (s : Shared) (events : Events) → IsRunning planning s events m
-    → IsRunning planning s (event ∷ events) new
+abbrev pub RunsOn : Event → (m new : SeenManager) → Type 0
+RunsOn event m new = (start : Start) (s : Shared) (events : Events) → IsRunning start s events m
+    → IsRunning start s (event ∷ events) new

@@ -2,8 +2,8 @@
 use Rattle.std.specs.Prelude.{◌≡◌, ℕ, true, Some, is_some, slice_get}
 use Rattle.manager_moves.specs.Moves.{made}
 use Rattle.manager_moves.specs.Runs.{Events, Shared, share}
-use Rattle.move_core.specs.Kept.{SeenMoves, state_at}
-use Rattle.move_core.specs.Steady.{has_tags}
+use Rattle.move_laws.specs.Kept.{SeenMoves, state_at}
+use Rattle.move_laws.specs.Steady.{has_tags}
 use Rattle.s3_model.specs.declared.requests.Op.TheVariants as op
 use Rattle.task_acts.specs.declared.acts.Act.TheVariants as act
 use Rattle.task_acts.specs.declared.acts.Stage.TheVariants as at

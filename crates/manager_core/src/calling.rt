@@ -4,11 +4,12 @@ ghost use Rattle.std.specs.Option.{option_map};
 ghost use Rattle.std.specs.Prelude.{◌≡◌, ◌∷◌, ℕ, List, Some};
 ghost use Rattle.held_parts.specs.Held.{with_more};
 ghost use Rattle.manager_moves.specs.Runs.{Called, Events, Shared};
-ghost use Rattle.manager_core.specs.Answers.{HasRoomFor, IsCallDue, IsDue, placed_part, read_part};
+ghost use Rattle.move_laws.specs.Bytes.{KeepsBytes, no_part};
+ghost use Rattle.manager_core.specs.Answers.{FitsInPart, IsCallDue, IsDue, placed_part, read_at, read_part};
+ghost use Rattle.manager_core.specs.Cells.{KeepsCells};
 ghost use Rattle.manager_core.specs.Due.{call_due};
-ghost use Rattle.manager_core.specs.Running.{IsRunning};
+ghost use Rattle.manager_core.specs.Running.{IsRunning, KeepsRun, Start};
 ghost use Rattle.manager_core.specs.declared.due.Call.{Call as OneCall};
-ghost use Rattle.s3_model.specs.declared.outcomes.Event.{Event as Entry};
 
 use crate::due::{Call, Due, due_call, due_place, due_read};
 use crate::manager::Manager;
@@ -20,9 +21,11 @@ impl Manager {
     /// Adds bytes to the part of the piece that is read, as the next move was.
     pub fn fill(&mut self, piece: &[u8])
         requires due { (task number : ℕ) × IsDue (Move.Read task number) self.old }
-        requires fits { HasRoomFor piece.now (read_part self.old) }
-        ensures running { (planning : List Entry) (s : Shared) (events : Events) → IsRunning planning s events self.old
-            → IsRunning planning s events self.new }
+        requires fits { FitsInPart piece.now (read_part self.old) }
+        ensures running { KeepsRun self.old self.new }
+        ensures cells { KeepsCells self.old self.new }
+        ensures bytes { KeepsBytes (read_at self.new.moves.parts.slots self.new.due) self.old.moves.parts.slots
+            self.new.moves.parts.slots }
         ensures grown { read_part self.new ≡ option_map (with_more piece.now) (read_part self.old) }
         ensures due { self.new.due ≡ self.old.due }
     {
@@ -45,9 +48,11 @@ impl Manager {
     /// The call on files was made that the next move was, and came back so.
     pub fn file_came(&mut self, came: FileCame)
         requires { IsCallDue came self.old }
-        ensures running { (planning : List Entry) (s : Shared) (events : Events) (call : OneCall)
-            → IsRunning planning s events self.old → call_due self.old.due ≡ Some call
-            → IsRunning planning s (Called call.task call.act came ∷ events) self.new }
+        ensures running { (start : Start) (s : Shared) (events : Events) (call : OneCall)
+            → IsRunning start s events self.old → call_due self.old.due ≡ Some call
+            → IsRunning start s (Called call.task call.act came ∷ events) self.new }
+        ensures cells { KeepsCells self.old self.new }
+        ensures bytes { KeepsBytes no_part self.old.moves.parts.slots self.new.moves.parts.slots }
         ensures free { self.new.due ≡ Due.Free }
     {
         let Call { task, act } = due_call(self.due);

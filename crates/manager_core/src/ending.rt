@@ -1,12 +1,15 @@
 //! Lines, cancels, and the end of a run.
 
 ghost use Rattle.std.specs.Prelude.{◌≡◌, ◌≢◌, ◌≤◌, ◌<◌, ◌+◌, ◌++◌, [], ◌∷◌, ℕ, None, Some, IsSome, List, get_or};
-ghost use Rattle.std.specs.Prelude.{length, map};
+ghost use Rattle.std.specs.Prelude.{OnErr, OnOk, length, map};
 ghost use Rattle.manager_moves.specs.Runs.{Events, Lined, Shared, Stopped};
+ghost use Rattle.move_laws.specs.Bytes.{KeepsBytes, no_part};
 ghost use Rattle.manager_core.specs.Answers.{CanGoOn, IsDue};
+ghost use Rattle.manager_core.specs.Cells.{KeepsCells};
 ghost use Rattle.manager_core.specs.Ended.{AreOutcomes};
-ghost use Rattle.manager_core.specs.Running.{GoesOn, IsRunning};
-ghost use Rattle.s3_model.specs.declared.outcomes.Event.{Event as Entry};
+ghost use Rattle.manager_core.specs.Kept.{jobs_at, with_jobs};
+ghost use Rattle.manager_core.specs.Running.{IsRunning, KeepsRun, RunsOn, Start};
+ghost use Rattle.manager_core.specs.Steps.{HeardBy};
 
 use crate::due::Due;
 use crate::manager::Manager;
@@ -42,7 +45,9 @@ impl Manager {
     /// The line was due that the next move was.
     pub fn lined(&mut self)
         requires { (task : ℕ) × IsDue (Move.Line task) self.old }
-        ensures running { GoesOn Lined self.old self.new }
+        ensures running { RunsOn Lined self.old self.new }
+        ensures cells { KeepsCells self.old self.new }
+        ensures parts { self.new.moves.parts ≡ self.old.moves.parts }
         ensures free { self.new.due ≡ Due.Free }
     {
         self.due = Due::Free;
@@ -53,7 +58,9 @@ impl Manager {
     pub fn cancel_all(&mut self, reason: Reason)
         requires goes_on { CanGoOn self.old }
         requires reason { reason ≢ Reason.TaskFailed }
-        ensures running { GoesOn (Stopped reason) self.old self.new }
+        ensures running { RunsOn (Stopped reason) self.old self.new }
+        ensures cells { KeepsCells self.old self.new }
+        ensures bytes { KeepsBytes no_part self.old.moves.parts.slots self.new.moves.parts.slots }
         ensures free { self.new.due ≡ Due.Free }
     {
         self.drop_move();
@@ -67,9 +74,10 @@ impl Manager {
     /// changed.
     pub fn cancel_cell(&mut self, task: u32, reason: Reason) -> Result<(), OutOfMemory>
         requires { task < length self.old.steps }
-        ensures running { (planning : List Entry) (s : Shared) (events : Events) → IsRunning planning s events self.old
-            → IsRunning planning s events self.new }
-        ensures due { self.new.due ≡ self.old.due }
+        ensures kept { OnErr result (self.new ≡ self.old) }
+        ensures heard { OnOk result (HeardBy (jobs_at self.old task) (jobs_at self.new task)) }
+        ensures others { self.new ≡ with_jobs task (jobs_at self.new task) self.old }
+        ensures running { KeepsRun self.old self.new }
     {
         self.steps[task as usize].cancel(self.alloc, reason)
     }
@@ -78,7 +86,7 @@ impl Manager {
     pub fn finish(self) -> (Plan, Outcomes, Journal)
         requires { IsDue Move.End self }
         ensures plan { result.0 ≡ self.plan }
-        ensures outcomes { (planning : List Entry) (s : Shared) (events : Events) → IsRunning planning s events self
+        ensures outcomes { (start : Start) (s : Shared) (events : Events) → IsRunning start s events self
             → AreOutcomes s events result.1.items }
         ensures journal { result.2 ≡ self.journal }
     {

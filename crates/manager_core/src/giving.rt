@@ -2,18 +2,19 @@
 
 ghost use Rattle.std.specs.Prelude.{◌≡◌, ◌==◌, ◌&&◌, ◌^◌, ◌<◌, ◌∷◌, ℕ, false, List, IsSome};
 ghost use Rattle.manager_moves.specs.Runs.{Events, Sent, Shared, share};
-ghost use Rattle.move_core.specs.Follows.{Follows};
-ghost use Rattle.move_core.specs.Kept.{state_at};
-ghost use Rattle.move_core.specs.Lending.{IsGoing, tags_in};
-ghost use Rattle.run_promise.specs.Dispatches.{is_op};
-ghost use Rattle.run_promise.specs.Schedule.{job_of};
+ghost use Rattle.move_laws.specs.Follows.{Follows};
+ghost use Rattle.move_laws.specs.Kept.{state_at};
+ghost use Rattle.move_laws.specs.Lending.{IsGoing, slot_tags};
+ghost use Rattle.job_terms.specs.Ops.{is_op};
+ghost use Rattle.job_terms.specs.Jobs.{job_of};
+ghost use Rattle.move_laws.specs.Bytes.{KeepsBytes, no_part};
 ghost use Rattle.manager_core.specs.Answers.{IsDue, IsJobDue};
+ghost use Rattle.manager_core.specs.Cells.{KeepsCells};
 ghost use Rattle.manager_core.specs.Formed.{IsJobFor};
-ghost use Rattle.manager_core.specs.Running.{IsRunning};
-ghost use Rattle.s3_model.specs.declared.outcomes.Event.{Event as Entry};
+ghost use Rattle.manager_core.specs.Running.{IsRunning, KeepsRun, Start};
 ghost use Rattle.s3_model.specs.declared.requests.Op.{Op as OneOp};
 ghost use Rattle.task_acts.specs.declared.work.Work.{Work};
-ghost use Rattle.task_schedule.specs.Asks.{HasTags};
+ghost use Rattle.kept_jobs.specs.Steps.{HasTags};
 
 use crate::due::{Due, due_lane};
 use crate::manager::Manager;
@@ -41,7 +42,7 @@ fn see_size(task: &Task)
 
 /// The entity tags that a job joins, if it joins parts.
 fn tags_for(moves: &mut MoveCore, task: u32, op: Op) -> Option<Texts>
-    requires { op ≡ Op.Complete → IsSome (tags_in (state_at moves.old task)) }
+    requires { op ≡ Op.Complete → IsSome (slot_tags (state_at moves.old task)) }
     ensures tags { (s : Shared) (events : Events) (w : Work) → Follows s events moves.old
         → IsGoing s events moves.old task w → HasTags w (share w task events) op result }
     ensures follows { (s : Shared) (events : Events) → Follows s events moves.old → Follows s events moves.new }
@@ -61,10 +62,11 @@ impl Manager {
     /// the part that it takes.
     pub fn job(&mut self, task: u32, op: Op, number: u32) -> Job
         requires { (lane : ℕ) × IsDue (Move.Give task op number lane) self.old }
-        ensures running { (planning : List Entry) (s : Shared) (events : Events) → IsRunning planning s events self.old
-            → IsRunning planning s events self.new }
-        ensures job { (planning : List Entry) (s : Shared) (events : Events) → IsRunning planning s events self.old
+        ensures running { KeepsRun self.old self.new }
+        ensures job { (start : Start) (s : Shared) (events : Events) → IsRunning start s events self.old
             → IsJobFor s events task op number self.old result }
+        ensures cells { KeepsCells self.old self.new }
+        ensures bytes { KeepsBytes no_part self.old.moves.parts.slots self.new.moves.parts.slots }
         ensures due { (lane : ℕ) → self.old.due ≡ Due.Next (Move.Give task op number lane)
             → self.new.due ≡ Due.Job task op number lane }
     {
@@ -96,9 +98,11 @@ impl Manager {
     /// The job that was formed was given to that lane.
     pub fn gave(&mut self, lane: u32)
         requires { IsJobDue lane self.old }
-        ensures running { (planning : List Entry) (s : Shared) (events : Events) (task number : ℕ) (of_op : OneOp)
-            → IsRunning planning s events self.old → self.old.due ≡ Due.Job task of_op number lane
-            → IsRunning planning s (Sent task of_op number lane ∷ events) self.new }
+        ensures running { (start : Start) (s : Shared) (events : Events) (task number : ℕ) (of_op : OneOp)
+            → IsRunning start s events self.old → self.old.due ≡ Due.Job task of_op number lane
+            → IsRunning start s (Sent task of_op number lane ∷ events) self.new }
+        ensures cells { KeepsCells self.old self.new }
+        ensures moves { self.new.moves ≡ self.old.moves }
         ensures free { self.new.due ≡ Due.Free }
     {
         let Due::Job {

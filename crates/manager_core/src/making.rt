@@ -1,11 +1,12 @@
 //! Tasks that are made.
 
-ghost use Rattle.std.specs.Prelude.{◌≡◌, ◌<◌, ◌∷◌, false, Bool, IfOk, IsSomeAnd, List, length, set};
+ghost use Rattle.std.specs.Prelude.{◌≡◌, ◌<◌, ◌∷◌, false, Bool, IfOk, IfSome, IsSomeAnd, None, length, set};
 ghost use Rattle.manager_moves.specs.Runs.{Events, Made, Shared};
 ghost use Rattle.manager_core.specs.Answers.{IsDue};
-ghost use Rattle.manager_core.specs.Running.{IsRunning};
+ghost use Rattle.manager_core.specs.Cells.{KeepsCellsBut};
+ghost use Rattle.manager_core.specs.Kept.{jobs_at};
+ghost use Rattle.manager_core.specs.Running.{IsRunning, Start};
 ghost use Rattle.run_steps.specs.Steps.{settled_steps};
-ghost use Rattle.s3_model.specs.declared.outcomes.Event.{Event as Entry};
 ghost use Rattle.s3_model.specs.Validity.{IsValidConfig, IsValidLimits};
 ghost use Rattle.step_jobs.specs.Shares.{HasAll};
 ghost use Rattle.task_works.specs.Works.{IsBegun, IsWithinObject};
@@ -38,6 +39,7 @@ fn make_both(
     ensures begun { IfOk result (λ both. IsBegun task.now config.now limits.now both.0) }
     ensures steps { IfOk result (λ both. IsSomeAnd both.1
         (λ j. (j.task ≡ task.now) × (j.work ≡ both.0.stages.work) × HasAll j)) }
+    ensures unheard { IfOk result (λ both. IfSome both.1 (λ j. j.cell.known ≡ None)) }
 {
     let state = task_works::begin(alloc, task, config, limits)?;
     let steps = StepSlot::make(alloc, task, state.work())?;
@@ -53,6 +55,7 @@ fn begin(alloc: Global, task: &Task, config: &Config, limits: &Limits) -> Begun
     ensures begun { IfOk result.state (IsBegun task.now config.now limits.now) }
     ensures steps { IfOk result.state (λ st. IsSomeAnd result.steps
         (λ j. (j.task ≡ task.now) × (j.work ≡ st.stages.work) × HasAll j)) }
+    ensures unheard { IfSome result.steps (λ j. j.cell.known ≡ None) }
 {
     match make_both(alloc, task, config, limits) {
         Ok((state, steps)) => Begun {
@@ -90,8 +93,11 @@ impl Manager {
     /// The next task is made, as the next move was. Where memory runs out for it, it has failed for that.
     pub fn made(&mut self, task: u32)
         requires { IsDue (Move.Make task) self.old }
-        ensures running { (planning : List Entry) (s : Shared) (events : Events) → IsRunning planning s events self.old
-            → (fits : Bool) × IsRunning planning s (Made fits ∷ events) self.new }
+        ensures running { (start : Start) (s : Shared) (events : Events) → IsRunning start s events self.old
+            → (fits : Bool) × IsRunning start s (Made fits ∷ events) self.new }
+        ensures cells { KeepsCellsBut task self.old self.new }
+        ensures unheard { IfSome (jobs_at self.new task) (λ j. j.cell.known ≡ None) }
+        ensures parts { self.new.moves.parts ≡ self.old.moves.parts }
         ensures free { self.new.due ≡ Due.Free }
     {
         self.due = Due::Free;

@@ -3,7 +3,8 @@
 ghost use Rattle.std.specs.Prelude.{◌≡◌, ◌≤◌, [], None, IfErr, IfOk, OnOk, replicate};
 ghost use Rattle.manager_core.specs.Running.{CanRun, IsRunning, IsSharedOf, lane_depth};
 ghost use Rattle.manager_moves.specs.Runs.{Shared};
-ghost use Rattle.move_core.specs.Follows.{Follows, IsSharedBy};
+ghost use Rattle.move_core.specs.Means.{IsSharedBy};
+ghost use Rattle.move_laws.specs.Follows.{Follows};
 ghost use Rattle.s3_model.specs.Validity.{IsValidConfig, IsValidLimits};
 
 use crate::due::Due;
@@ -156,8 +157,12 @@ impl Manager {
         requires some { 1 ≤ lanes }
         requires few { lanes ≤ 65535 }
         ensures running { IfOk result (λ m. (s : Shared) × IsSharedOf config.now limits.now lanes plan.tasks.items s
-            × IsRunning before.items s [] m) }
-        ensures plan { IfOk result (λ m. m.plan ≡ plan) }
+            × IsRunning (record {
+              plan = plan;
+              planning = before.items;
+              config = config.now;
+              limits = limits.now;
+            }) s [] m) }
         ensures back { IfErr result (λ back. (back.0 ≡ plan) × (back.1.items ≡ before.items)) }
         ensures free { IfOk result (λ m. m.due ≡ Due.Free) }
     {

@@ -3,19 +3,17 @@
 ghost use Rattle.std.specs.Option.{option_copied};
 ghost use Rattle.std.specs.Prelude.{◌≡◌, ◌<◌, List, Some, get_or, length, slice_get};
 ghost use Rattle.manager_moves.specs.Runs.{Events, Shared};
-ghost use Rattle.move_core.specs.Follows.{outcome_at};
-ghost use Rattle.move_core.specs.Kept.{state_at};
-ghost use Rattle.move_core.specs.Lending.{failing_in};
-ghost use Rattle.manager_core.specs.Answers.{HasPieceAt};
+ghost use Rattle.move_laws.specs.Follows.{outcome_at};
 ghost use Rattle.manager_core.specs.Due.{told};
-ghost use Rattle.manager_core.specs.Running.{IsRunning};
-ghost use Rattle.s3_model.specs.declared.outcomes.Event.{Event as Entry};
-ghost use Rattle.step_jobs.specs.Formed.{range_at};
+ghost use Rattle.manager_core.specs.Running.{IsRunning, Start};
+ghost use Rattle.manager_core.specs.Shown.{HasPieceAt, HasTaskAt, is_failing, range_in};
 ghost use Rattle.task_acts.specs.declared.work.Work.{Work};
 
 use crate::due::Due;
 use crate::manager::Manager;
 use s3_model::{Journal, Outcome, Task};
+use step_jobs::range_of;
+use task_works::work_of;
 
 impl Manager {
     /// What was given to lanes and came back, behind the journal of the planning.
@@ -42,20 +40,24 @@ impl Manager {
         task
     }
 
-    /// The place and the length in bytes of a piece of a task that is made and has not ended, or of the whole where the
-    /// number is 0.
+    /// The place and the length in bytes of a piece of a task, or of the whole where the number is 0.
     pub fn range(&self, task: u32, number: u32) -> (u64, u64)
         requires { HasPieceAt task number self.now }
-        ensures { (planning : List Entry) (s : Shared) (events : Events) (w : Work)
-            → IsRunning planning s events self.now → slice_get s.works task ≡ Some w → result ≡ range_at w number }
+        ensures { (start : Start) (s : Shared) (events : Events) (w : Work) → IsRunning start s events self.now
+            → slice_get s.works task ≡ Some w → result ≡ range_in w number }
     {
-        self.steps[task as usize].range(number)
+        let task = self.task(task);
+        if number == 0 {
+            (0, task.size)
+        } else {
+            range_of(&work_of(task, &self.config, &self.limits), number)
+        }
     }
 
     /// How a task ended, None where it has not.
     pub fn outcome(&self, task: u32) -> Option<&Outcome>
         ensures kept { option_copied result ≡ get_or self.now.moves.outcomes task None }
-        ensures follows { (planning : List Entry) (s : Shared) (events : Events) → IsRunning planning s events self.now
+        ensures follows { (start : Start) (s : Shared) (events : Events) → IsRunning start s events self.now
             → option_copied result ≡ outcome_at task (slice_get s.works task) (told self.now.due events) }
     {
         self.moves.outcome(task)
@@ -63,9 +65,10 @@ impl Manager {
 
     /// Whether something failed of a task that is made and has not ended.
     pub fn failing(&self, task: u32) -> bool
-        requires { task < length self.now.moves.slots }
-        ensures { result ≡ failing_in (state_at self.now.moves task) }
+        requires { HasTaskAt task self.now }
+        ensures { (start : Start) (s : Shared) (events : Events) (w : Work) → IsRunning start s events self.now
+            → slice_get s.works task ≡ Some w → result ≡ is_failing w task (told self.now.due events) }
     {
-        self.moves.failing(task)
+        self.steps[task as usize].has_jobs() && self.moves.failing(task)
     }
 }

@@ -1,10 +1,11 @@
 //! The place for the jobs of one task.
 
-ghost use Rattle.std.specs.Prelude.{◌≡◌, ◌^◌, ◌+◌, ◌<◌, None, Some, IfOk, IsSomeAnd};
-ghost use Rattle.step_jobs.specs.Formed.{IsFormed, range_at};
+ghost use Rattle.std.specs.Prelude.{◌≡◌, ◌^◌, ◌+◌, ◌<◌, None, Some, IfOk, IfSome, IsSomeAnd, OnErr, OnOk, is_some};
+ghost use Rattle.step_jobs.specs.Formed.{IsFormed};
 ghost use Rattle.step_jobs.specs.Shares.{HasAll, SeenSteps};
 ghost use Rattle.step_laws.specs.Following.{IsTakenFor};
-ghost use Rattle.manager_core.specs.Steps.{CanForm, CanRange, HeardBy};
+ghost use Rattle.manager_core.specs.Cells.{CellStays};
+ghost use Rattle.manager_core.specs.Steps.{CanForm, HeardBy};
 
 use jobs::Job;
 use s3_model::{OutOfMemory, Reason, Task};
@@ -41,7 +42,9 @@ impl StepSlot {
     /// The jobs of a task of that work, of which none was formed.
     pub(crate) fn make(alloc: Global, task: &Task, work: Work) -> Result<StepSlot, OutOfMemory>
         requires { work.count + 1 < 2 ^ 32 }
-        ensures { IfOk result (λ slot. IsSomeAnd slot (λ j. (j.task ≡ task.now) × (j.work ≡ work) × HasAll j)) }
+        ensures whole { IfOk result (λ slot. IsSomeAnd slot
+            (λ j. (j.task ≡ task.now) × (j.work ≡ work) × HasAll j)) }
+        ensures unheard { IfOk result (λ slot. IfSome slot (λ j. j.cell.known ≡ None)) }
     {
         let jobs = StepJobs::make(alloc, task, work)?;
         Ok(StepSlot {
@@ -55,6 +58,7 @@ impl StepSlot {
         ensures formed { (j : SeenSteps) → self.old ≡ Some j → IsFormed j given result }
         ensures taken { (j : SeenSteps) → self.old ≡ Some j
             → IsSomeAnd self.new (IsTakenFor given.id.op given.id.number j) }
+        ensures cell { CellStays self.old self.new }
     {
         let Some(jobs) = &mut self.jobs else {
             unreachable!()
@@ -62,20 +66,17 @@ impl StepSlot {
         jobs.form(given)
     }
 
-    /// The place and the length in bytes of a piece of the task, or of the whole where the number is 0.
-    pub(crate) fn range(&self, number: u32) -> (u64, u64)
-        requires { CanRange self.now number }
-        ensures { (j : SeenSteps) → self.now ≡ Some j → result ≡ range_at j.work number }
+    /// Whether the task is made and has not ended.
+    pub(crate) fn has_jobs(&self) -> bool
+        ensures { result ≡ is_some self.now }
     {
-        let Some(jobs) = &self.jobs else {
-            unreachable!()
-        };
-        jobs.range(number)
+        self.jobs.is_some()
     }
 
     /// The jobs of the task that are out hear that reason, unless they heard another. Without jobs nothing hears it.
     pub(crate) fn cancel(&mut self, alloc: Global, reason: Reason) -> Result<(), OutOfMemory>
-        ensures { HeardBy self.old self.new }
+        ensures kept { OnErr result (self.new ≡ self.old) }
+        ensures heard { OnOk result (HeardBy self.old self.new) }
     {
         match &mut self.jobs {
             Some(jobs) => jobs.cancel(alloc, reason),

@@ -4,7 +4,7 @@ use Rattle.std.proofs.Common.{refl, sym, subst, inl, inr, arith, not}
 use Rattle.std.proofs.lemmas.Bool.{and_parts}
 use Rattle.std.specs.Prelude.{is_some}
 use Rattle.jobs.specs.Jobs.{HasBytes, HasRange, IsDelete, IsOfKind, asked_range, ends_of, stated_content}
-use Rattle.run_promise.specs.Schedule.{Origin, Target}
+use Rattle.job_terms.specs.Jobs.{Origin, Target}
 use Rattle.s3_model.specs.Lists.{Reserved}
 use Rattle.s3_model.specs.Parts.{HasPieces, IsTransfer, piece_count, piece_range}
 use Rattle.s3_model.specs.Validity.{IsValidConfig, IsValidLimits}
@@ -28,10 +28,9 @@ use Rattle.task_acts.specs.Work.{IsWorkOf, is_piece}
 use Rattle.task_progress.proofs.Begun.{begun_calls, is_false}
 use Rattle.task_progress.proofs.Endings.{decided_or, no}
 use Rattle.task_progress.proofs.Quiet.{done_has_begun}
-use Rattle.task_schedule.specs.Asks.{HasTags}
-use Rattle.task_schedule.proofs.AskRows.{is_zero, of_part, only_piece, one_piece}
-use Rattle.world_laws.proofs.PieceCounts.{in_parts}
-use Rattle.world_laws.proofs.Pieces.{begins_inside}
+use Rattle.kept_jobs.specs.Steps.{HasTags}
+use Rattle.task_progress.proofs.PieceNumbers.{is_zero, of_part, only_piece, one_piece}
+use Rattle.job_terms.proofs.PieceCounts.{in_parts, begins_inside}
 use Rattle.step_jobs.specs.Requests.{BeginsWithin, HasObjects, HasRequest, ReadyStepsHaveRequests}
 use Rattle.step_jobs.proofs.Uploads.{upload_read, upload_there}
 

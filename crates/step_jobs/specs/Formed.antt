@@ -4,7 +4,7 @@ use Rattle.std.specs.Arc.{arc_value}
 use Rattle.jobs.specs.Jobs.{HasPart, SeenJob}
 use Rattle.jobs.specs.declared.what.What.{What}
 use Rattle.jobs.specs.declared.what.What.TheVariants as what
-use Rattle.run_promise.specs.Dispatches.{is_op}
+use Rattle.job_terms.specs.Ops.{is_op}
 use Rattle.s3_model.specs.Parts.{piece_range}
 use Rattle.s3_model.specs.declared.requests.Op.TheVariants as op
 use Rattle.s3_model.specs.declared.tasks.Task.{Task}
@@ -13,7 +13,7 @@ use Rattle.step_jobs.specs.declared.step_jobs.Given.{Given}
 use Rattle.step_jobs.specs.Requests.{BeginsWithin, HasRequest}
 use Rattle.step_jobs.specs.Shares.{SeenSteps}
 
--- the place and the length of a piece, or of the whole where the number is 0
+-- the place and the length of a piece; number 0 is that of the first one, the whole of a task with one piece
 abbrev pub range_at : Work → (number : ℕ) → ℕ × ℕ
 range_at w number = piece_range w.size w.piece number
 

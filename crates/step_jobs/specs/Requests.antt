@@ -1,7 +1,7 @@
 -- Each step of a task that is ready has a request.
 use Rattle.std.specs.Prelude.{◌≡◌, ◌-◌, ◌*◌, ◌<◌, ◌≤◌, ◌^◌, ℕ, true, List, Option}
 use Rattle.jobs.specs.Jobs.{HasRange, IsOfTask, IsStepAsk}
-use Rattle.run_promise.specs.Schedule.{Origin, Target}
+use Rattle.job_terms.specs.Jobs.{Origin, Target}
 use Rattle.s3_model.specs.Lists.{Reserved}
 use Rattle.s3_model.specs.Parts.{piece_range}
 use Rattle.s3_model.specs.Validity.{IsValidConfig, IsValidLimits}
@@ -18,7 +18,7 @@ use Rattle.task_acts.specs.Histories.{History}
 use Rattle.task_acts.specs.Kept.{IsHistory, upload_of}
 use Rattle.task_acts.specs.Rule.{is_ready_in}
 use Rattle.task_acts.specs.Work.{IsWorkOf}
-use Rattle.task_schedule.specs.Asks.{HasTags}
+use Rattle.kept_jobs.specs.Steps.{HasTags}
 
 -- the objects that the requests of a task of that kind name
 abbrev pub HasObjects : Kind → Task → Type 0
@@ -36,7 +36,7 @@ pub record HasRequest (task : Task) (range : ℕ × ℕ) (upload : Option (List 
   pub asks : IsStepAsk task range upload etags of_op number asked
   pub has_range : HasRange of_op number range
 
--- the piece of that number begins within the size; number 0 is of the whole
+-- the piece of that number begins within the size; number 0 is of the first one
 abbrev pub BeginsWithin : Work → (number : ℕ) → Type 0
 BeginsWithin w number = (number - 1) * w.piece ≤ w.size
 

@@ -1,5 +1,6 @@
 -- What the jobs of a task share: the task and its cancel cell.
 use Rattle.std.specs.Prelude.{◌≡◌, ◌+◌, ◌^◌, ◌<◌, ℕ, List, Option, None, IfSome, IsSome, get_or, length}
+use Rattle.jobs.specs.Cells.{Keeps}
 use Rattle.jobs.specs.Holders.{Holder}
 use Rattle.kept_jobs.specs.Slots.{HasSlot, slot, slots}
 use Rattle.s3_model.specs.declared.requests.Op.{Op}
@@ -17,6 +18,11 @@ pub record SeenSteps : Type 0 where
   pub work : Work
   pub cell : Holder
   pub shares : List (Option SeenShare)
+
+-- the cell knows a reason now, the one that it knew before if there was one, and nothing else changed
+pub record HearsReason (s new : SeenSteps) : Type 0 where
+  pub rest : new ≡ record s { cell = new.cell }
+  pub cell : Keeps s.cell new.cell
 
 abbrev pub share_of : Task → Holder → SeenShare
 share_of task cell = record { task = task; cell = cell.cell }

@@ -5,4 +5,4 @@ mod law;
 mod step_jobs;
 
 pub use law::ready_steps_have_requests;
-pub use step_jobs::{Given, StepJobs};
+pub use step_jobs::{Given, StepJobs, range_of};

@@ -1,14 +1,15 @@
 //! What is made with a task for its jobs, and the jobs that are formed of it.
 
-ghost use Rattle.std.specs.Prelude.{◌≡◌, ◌<◌, ◌+◌, ◌^◌, ℕ, IfOk, IfSome, IsSome, None, Option, Some, get_or, is_some, length, not, replicate, set};
+ghost use Rattle.std.specs.Prelude.{◌≡◌, ◌<◌, ◌+◌, ◌^◌, ℕ, IfOk, IfSome, IsSome, None, OnErr, Option, Some, get_or};
+ghost use Rattle.std.specs.Prelude.{is_some, length, not, replicate, set};
 ghost use Rattle.std.specs.Arc.{arc_value};
 ghost use Rattle.kept_jobs.specs.Slots.{HasSlot, slot, slots};
-ghost use Rattle.run_promise.specs.Dispatches.{is_op};
+ghost use Rattle.job_terms.specs.Ops.{is_op};
 ghost use Rattle.s3_model.specs.declared.requests.Op.{Op};
 ghost use Rattle.s3_model.specs.declared.requests.Op.TheVariants as op_of;
 ghost use Rattle.step_jobs.specs.Formed.{FitsJob, IsFormed, range_at};
 ghost use Rattle.step_jobs.specs.Requests.{BeginsWithin};
-ghost use Rattle.step_jobs.specs.Shares.{HasAll, HasShare, IsShareOf, SeenShare, share_at, share_of};
+ghost use Rattle.step_jobs.specs.Shares.{HasAll, HasShare, HearsReason, IsShareOf, SeenShare, share_at, share_of};
 ghost use Rattle.task_acts.specs.Histories.{is_act};
 ghost use Rattle.task_acts.specs.declared.acts.Act.TheVariants as act;
 
@@ -100,8 +101,8 @@ fn make_shares(
     Ok(shares)
 }
 
-/// The place and the length of a piece, or of the whole where the number is 0.
-fn range_of(work: &Work, number: u32) -> (u64, u64)
+/// The place and the length in bytes of a piece of a task of that work; where the number is 0, of the first one.
+pub fn range_of(work: &Work, number: u32) -> (u64, u64)
     requires { BeginsWithin work.now number }
     ensures { result ≡ range_at work.now number }
 {
@@ -149,22 +150,11 @@ impl StepJobs {
         &self.task
     }
 
-    /// The place and the length in bytes of a piece, or of the whole where the number is 0.
-    pub fn range(&self, number: u32) -> (u64, u64)
-        requires { BeginsWithin self.now.work number }
-        ensures { result ≡ range_at self.now.work number }
-    {
-        range_of(&self.work, number)
-    }
-
     /// Gives the cell of the task this reason, unless it has one: its jobs that are out hear it. After want of memory
     /// nothing has changed.
     pub fn cancel(&mut self, alloc: Global, reason: Reason) -> Result<(), OutOfMemory>
-        ensures task { self.new.task ≡ self.old.task }
-        ensures work { self.new.work ≡ self.old.work }
-        ensures cell { self.new.cell.cell ≡ self.old.cell.cell }
-        ensures shares { self.new.shares ≡ self.old.shares }
-        ensures heard { IfOk result (λ _. IsSome self.new.cell.known) }
+        ensures kept { OnErr result (self.new ≡ self.old) }
+        ensures heard { IfOk result (λ _. HearsReason self.old self.new) }
     {
         self.cell.cancel(alloc, reason)
     }

@@ -1,6 +1,6 @@
 use Rattle.std.proofs.Common.{◌∙◌, ℕ, List, None, replicate, sym, subst, ap, arith}
 use Rattle.std.specs.Prelude.{All}
-use Rattle.move_core.specs.Follows.{IsSharedBy}
+use Rattle.move_core.specs.Means.{IsSharedBy}
 use Rattle.move_core.specs.declared.move_core.Means.{Means}
 use Rattle.run_needs.specs.Needs.{AreNeedsOf, CanBegin}
 use Rattle.s3_model.specs.declared.tasks.Task.{Task}

@@ -15,6 +15,6 @@ unreachable-requires c =
     let is : c.args.self.now.due ≡ due.Next (move.Place task number) =
     ap (λ (x : SeenManager). x.due) (sym c.self.view_is) ∙ c.due_place-task.ensures in
     let here = subst (λ (x : SeenManager). IsHere (held_at x.moves.parts.slots task number)) (sym c.self.view_is)
-    (placed_here r.planning r.s r.events c.args.self.now r.running task number is) in
+    (placed_here r.start r.s r.events c.args.self.now r.running task number is) in
     not_none (held_at c.self.inside.moves.parts.slots task number) here
     (sym c.part.ensures ∙ ap option_copied c.in_default.is)
