@@ -1,0 +1,4 @@
+pub mod Buffers
+pub mod Ended
+pub mod Given
+pub mod Witness
