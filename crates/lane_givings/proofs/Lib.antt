@@ -1,0 +1,4 @@
+pub mod Holding
+pub mod InLanes
+pub mod Kept
+pub mod Staying
