@@ -5,8 +5,8 @@ use Rattle.jobs.specs.Holders.{Holder}
 use Rattle.jobs.specs.Jobs.{HasPart, HasRange, IsDelete, IsOfKind, IsOfTask, IsStepAsk, asked_range, ends_of, stated_content}
 use Rattle.jobs.specs.declared.ending.Ending.{Ending}
 use Rattle.jobs.specs.declared.ending.Ending.TheVariants as ending
-use Rattle.run_promise.specs.Buffers.{holds_buffer}
-use Rattle.run_promise.specs.Schedule.{IsObject, IsSource, Origin, Target}
+use Rattle.job_terms.specs.Buffers.{holds_buffer}
+use Rattle.job_terms.specs.Jobs.{IsObject, IsSource, Origin, Target}
 use Rattle.s3_model.specs.Lists.{Reserved}
 use Rattle.s3_model.specs.declared.answers.Reply.{Reply}
 use Rattle.s3_model.specs.declared.answers.Reply.TheVariants as reply

@@ -8,7 +8,7 @@ use crate::endings::ended_as;
 use crate::jobs_back::job_back;
 use crate::shown::state_shown;
 use s3_model::{Kind, Op, OutOfMemory, Outcome, Reason, Texts, UploadId};
-use std::alloc::Global;
+use std::alloc::{AllocError, Global};
 use std::marker::Model;
 use task_acts::{Act, FileCame, Stage, Work};
 use task_core::TaskState;
@@ -74,7 +74,7 @@ impl Driver {
     }
 
     /// What is shown of the task.
-    pub(crate) fn shown(&self, alloc: Global) -> Result<String, OutOfMemory> {
+    pub(crate) fn shown(&self, alloc: Global) -> Result<String, AllocError> {
         state_shown(alloc, self.state.ready(), self.state.outcome())
     }
 

@@ -3,7 +3,7 @@
 ghost use Rattle.std.specs.Prelude.{◌≡◌, ◌≤◌, true, IfOk, IfSome, is_some, length};
 ghost use Rattle.std.specs.Arc.{arc_value};
 ghost use Rattle.jobs.specs.Jobs.{HasPart};
-ghost use Rattle.run_promise.specs.Buffers.{holds_buffer};
+ghost use Rattle.job_terms.specs.Buffers.{holds_buffer};
 ghost use Rattle.task_acts.specs.declared.acts.Act.TheVariants as act;
 ghost use Rattle.task_acts.specs.Histories.{sent};
 ghost use Rattle.task_rows.specs.Rows.{IsAnObject, IsEndedBy, IsTaskFor, body_of, can_end, is_step, kind_for};

@@ -25,16 +25,13 @@ mod shown;
 mod works;
 
 use rows::answer_of;
-use std::alloc::AllocError;
 use std::io;
 
 fn main(rt: HostRuntime) -> io::Result<()> {
     let alloc = rt.alloc();
     for line in rt.lines(alloc) {
         let line = line?;
-        let Ok(answer) = answer_of(alloc, line.as_str()) else {
-            return Err(AllocError.into());
-        };
+        let answer = answer_of(alloc, line.as_str())?;
         println!(rt; "{line} => {answer}")?;
     }
     Ok(())

@@ -1,63 +1,82 @@
 //! Acts and outcomes as text.
 
-use s3_model::{Cause, OutOfMemory, Outcome};
-use std::alloc::Global;
+use s3_model::{Cause, Op, Outcome, Why};
+use std::alloc::{AllocError, Global};
+use std::fmt::Debug;
 use task_acts::Act;
 
-fn act_shown(alloc: Global, act: Act) -> Result<String, OutOfMemory> {
-    let text = match act {
-        Act::Send { op, number } => format!(in alloc; "{op:?} {number}")?,
-        Act::Read { number } => format!(in alloc; "Read {number}")?,
-        Act::Place { number } => format!(in alloc; "Place {number}")?,
-        _ => format!(in alloc; "{act:?}")?,
-    };
-    Ok(text)
+/// A word and a value behind it.
+fn with_value<T: Debug>(alloc: Global, word: &str, value: &T) -> Result<String, AllocError> {
+    format!(in alloc; "{word} {value:?}")
 }
 
-fn cause_shown(alloc: Global, cause: &Cause) -> Result<String, OutOfMemory> {
-    let text = match cause {
-        Cause::Service { op, code, .. } => {
-            format!(in alloc; "Service {op:?} {}", code.as_str())?
-        }
-        Cause::Lost { op, why } => format!(in alloc; "Lost {op:?} {why:?}")?,
-        Cause::Changed => String::from_str(alloc, "Changed")?,
-        Cause::BadReply { op } => format!(in alloc; "BadReply {op:?}")?,
-        Cause::Files { call } => format!(in alloc; "Files {call:?}")?,
-        Cause::Blocked { length } => format!(in alloc; "Blocked {length}")?,
-        Cause::Cancelled { reason } => format!(in alloc; "Cancelled {reason:?}")?,
-        Cause::Memory => String::from_str(alloc, "Memory")?,
-    };
-    Ok(text)
+fn job_shown(alloc: Global, op: Op, number: u32) -> Result<String, AllocError> {
+    format!(in alloc; "{op:?} {number}")
 }
 
-fn ended_shown(alloc: Global, name: &str, cause: &Cause) -> Result<String, OutOfMemory> {
+/// The name of an act that has no number.
+fn name_shown(alloc: Global, act: Act) -> Result<String, AllocError> {
+    format!(in alloc; "{act:?}")
+}
+
+fn act_shown(alloc: Global, act: Act) -> Result<String, AllocError> {
+    match act {
+        Act::Send { op, number } => job_shown(alloc, op, number),
+        Act::Read { number } => with_value(alloc, "Read", &number),
+        Act::Place { number } => with_value(alloc, "Place", &number),
+        _ => name_shown(alloc, act),
+    }
+}
+
+fn refusal_shown(alloc: Global, op: Op, code: &str) -> Result<String, AllocError> {
+    format!(in alloc; "Service {op:?} {code}")
+}
+
+fn lost_shown(alloc: Global, op: Op, why: Why) -> Result<String, AllocError> {
+    format!(in alloc; "Lost {op:?} {why:?}")
+}
+
+fn cause_shown(alloc: Global, cause: &Cause) -> Result<String, AllocError> {
+    match cause {
+        Cause::Service { op, code, .. } => refusal_shown(alloc, *op, code.as_str()),
+        Cause::Lost { op, why } => lost_shown(alloc, *op, *why),
+        Cause::Changed => String::from_str(alloc, "Changed"),
+        Cause::BadReply { op } => with_value(alloc, "BadReply", op),
+        Cause::Files { call } => with_value(alloc, "Files", call),
+        Cause::Blocked { length } => with_value(alloc, "Blocked", length),
+        Cause::Cancelled { reason } => with_value(alloc, "Cancelled", reason),
+        Cause::Memory => String::from_str(alloc, "Memory"),
+    }
+}
+
+fn ended_shown(alloc: Global, name: &str, cause: &Cause) -> Result<String, AllocError> {
     let cause = cause_shown(alloc, cause)?;
-    let text = format!(in alloc; "{name} {cause}")?;
-    Ok(text)
+    let cause = cause.as_str();
+    format!(in alloc; "{name} {cause}")
 }
 
-fn outcome_shown(alloc: Global, outcome: &Outcome) -> Result<String, OutOfMemory> {
+fn outcome_shown(alloc: Global, outcome: &Outcome) -> Result<String, AllocError> {
     match outcome {
         Outcome::Copied(cause) => ended_shown(alloc, "Copied", cause),
         Outcome::Failed(cause) => ended_shown(alloc, "Failed", cause),
         Outcome::Unknown(cause) => ended_shown(alloc, "Unknown", cause),
-        Outcome::Done => Ok(String::from_str(alloc, "Done")?),
-        Outcome::Dry | Outcome::Skipped => Ok(String::from_str(alloc, "no outcome of a task")?),
+        Outcome::Done => String::from_str(alloc, "Done"),
+        Outcome::Dry | Outcome::Skipped => String::from_str(alloc, "no outcome of a task"),
     }
 }
 
 /// The act that is ready, or that a return is waited for.
-fn going_on_shown(alloc: Global, ready: Option<Act>) -> Result<String, OutOfMemory> {
+fn going_on_shown(alloc: Global, ready: Option<Act>) -> Result<String, AllocError> {
     match ready {
         Some(act) => act_shown(alloc, act),
-        None => Ok(String::from_str(alloc, "wait")?),
+        None => String::from_str(alloc, "wait"),
     }
 }
 
 /// The outcome, behind which no act is ready.
-fn settled_shown(alloc: Global, outcome: &Outcome, is_ready: bool) -> Result<String, OutOfMemory> {
+fn settled_shown(alloc: Global, outcome: &Outcome, is_ready: bool) -> Result<String, AllocError> {
     if is_ready {
-        return Ok(String::from_str(alloc, "ready though it has ended")?);
+        return String::from_str(alloc, "ready though it has ended");
     }
     outcome_shown(alloc, outcome)
 }
@@ -67,7 +86,7 @@ pub(crate) fn state_shown(
     alloc: Global,
     ready: Option<Act>,
     outcome: Option<&Outcome>,
-) -> Result<String, OutOfMemory> {
+) -> Result<String, AllocError> {
     match outcome {
         Some(outcome) => settled_shown(alloc, outcome, ready.is_some()),
         None => going_on_shown(alloc, ready),
