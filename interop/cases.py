@@ -6,8 +6,8 @@ from typing import NamedTuple
 import commands
 import fronts
 import listings
-from lines import STORED, WRONG_SIGNATURE, lost, refused
-from programs import LARGE, line_of
+from lines import SKEWED, STORED, WRONG_SIGNATURE, lost, refused
+from programs import CLOCK, LARGE, has_clock, line_of
 from service import free_ports
 
 BUCKET = "backups"
@@ -49,17 +49,26 @@ class Answer(NamedTuple):
 TAKEN = Answer(200)
 WRONG_REGION = "The authorization header is malformed; the region 'eu-west-1' is wrong; expecting 'us-east-1'"
 
+# Both allow for 15 minutes.
+LATE_OR_EARLY = {
+    "moto": TAKEN,
+    "swift": Answer(403, "RequestTimeTooSkewed", SKEWED),
+    "ceph": Answer(403, "RequestTimeTooSkewed"),
+}
+
+
 class Refusal(NamedTuple):
-    """What each service answers where the bucket is another one, or the settings, or the user."""
+    """What each service answers where the bucket is another one, or the settings, or the user, or the program's clock."""
 
     name: str
     answers: dict[str, Answer]
     settings: dict[str, str] = {}
     bucket: str = BUCKET
     is_other: bool = False
+    clock: str = ""
 
 
-# moto looks at no keys and no signature. Ceph's gateway says no message, and does not look at the region.
+# moto looks at no keys, no signature and no clock. Ceph's gateway says no message, and does not look at the region.
 REFUSALS = [
     Refusal(
         "an absent bucket",
@@ -98,6 +107,8 @@ REFUSALS = [
         {"moto": TAKEN, "swift": Answer(400, "AuthorizationHeaderMalformed", WRONG_REGION), "ceph": TAKEN},
         {"AWS_REGION": "eu-west-1"},
     ),
+    Refusal("a clock an hour ahead", LATE_OR_EARLY, clock="+1h"),
+    Refusal("a clock an hour behind", LATE_OR_EARLY, clock="-1h"),
 ]
 
 
@@ -125,12 +136,15 @@ def uploads(checks, runs, service, client):
 
 def refusals(checks, runs, service, client):
     for row in REFUSALS:
+        if row.clock and not has_clock():
+            print(f"skipped: {row.name}; {CLOCK} is not on this machine, which sets the clock that a program sees")
+            continue
         answer = row.answers[service.name]
         keys = {**(service.other_keys if row.is_other else service.keys), **row.settings}
         for file in ("a.txt", "large.bin"):
             uri = f"s3://{row.bucket}/{file}"
             before = state(client)
-            shown = runs.copy(file, uri, service.url, keys)
+            shown = runs.copy(file, uri, service.url, keys, clock=row.clock)
             due = answer.outcome().shown(file, uri)
             checks.check(f"{row.name}, {file}: status and line", shown == due, line_of(shown))
             if answer != TAKEN:

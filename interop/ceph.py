@@ -69,7 +69,7 @@ rgw run sync thread = false
 class Ceph(Cluster):
     name = "ceph"
     title = "Ceph"
-    packages = ("ceph-mon", "ceph-osd", "ceph-common", "radosgw")
+    packages = ("ceph-mon", "ceph-osd", "ceph-common", "radosgw", "faketime")
     keys = KEYS
     other_keys = OTHER_KEYS
 

@@ -10,7 +10,7 @@ from concurrent.futures import ThreadPoolExecutor
 from datetime import datetime, timezone
 from typing import Callable, NamedTuple
 
-from lines import STORED, WRONG_SIGNATURE, Outcome, lost, refused, unknown
+from lines import SKEWED, STORED, WRONG_SIGNATURE, Outcome, lost, refused, unknown
 from programs import LARGE, line_of
 from service import KEYS
 
@@ -304,7 +304,6 @@ END = b"0\r\n\r\n"
 DENIED = denies(ERROR)
 DENIED_CHUNKED = chunked(FORBIDDEN, ERROR_CHUNK, END)
 REFUSED = refused(403, "AccessDenied", "Access Denied.")
-SKEWED = "The difference between the request time and the current time is too large."
 TOO_SKEWED = denies(error("RequestTimeTooSkewed", SKEWED))
 BUSY = denies(error("SlowDown", "Reduce your rate."), "503 Slow Down")
 NO_MATCH = denies(error("SignatureDoesNotMatch", WRONG_SIGNATURE))

@@ -6,6 +6,7 @@ MESSAGES = {400: "Bad Request", 403: "Forbidden", 404: "Not Found", 412: "Precon
 WRONG_SIGNATURE = (
     "The request signature we calculated does not match the signature you provided. Check your key and signing method."
 )
+SKEWED = "The difference between the request time and the current time is too large."
 
 
 class Outcome(NamedTuple):

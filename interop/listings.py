@@ -6,7 +6,8 @@ import datetime
 import hostile
 import service
 from hostile import head
-from programs import line_of
+from lines import SKEWED
+from programs import has_clock, line_of
 
 LISTED, BARE = "listed", "bare"
 KEYS = 2_500
@@ -118,12 +119,25 @@ def nothing_listed(checks, runs, running, client):
             checks.check(f"{' '.join(('ls', *more))}, {name}: status and lines", shown == expected, line_of(shown))
 
 
+def other_clocks(checks, runs, running):
+    """The program's clock differs from the service's; moto looks at none."""
+    said = {"swift": SKEWED, "ceph": ""}
+    if running.name not in said or not has_clock():
+        return
+    for name, clock in (("an hour ahead", "+1h"), ("an hour behind", "-1h")):
+        words = ("ls", f"s3://{LISTED}", "--endpoint-url", running.url)
+        shown = runs.run(words, running.keys, clock=clock)
+        expected = refused_by("RequestTimeTooSkewed", said[running.name])
+        checks.check(f"ls, a clock {name}: status and lines", shown == expected, line_of(shown))
+
+
 def try_listings(checks, runs, running, client):
     refused = store(client)
     print(f"{refused} of {KEYS} keys are not taken by the service")
     whole_listings(checks, runs, running, client)
     buckets(checks, runs, running, client)
     nothing_listed(checks, runs, running, client)
+    other_clocks(checks, runs, running)
 
 
 # ---- servers that misbehave

@@ -1,10 +1,14 @@
 """Runs of the built program, and the checks that are made of them."""
 
 import os
+import shutil
 import subprocess
 import threading
 
 SECONDS = 60
+
+# The command that runs a program under a clock that is off, of the Debian package of that name.
+CLOCK = "faketime"
 
 # The largest file that the program copies today.
 LARGE = (bytes(range(251)) * 33_422)[:8_388_607]
@@ -35,6 +39,11 @@ def line_of(shown):
     return f"{status}: " + (line if len(line) <= 200 else line[:120] + " .. " + line[-70:])
 
 
+def has_clock():
+    """Whether this machine can run a program under a clock that is off."""
+    return shutil.which(CLOCK) is not None
+
+
 class Runs:
     """Runs a program in a folder; a run that is still there when the block is left is ended."""
 
@@ -54,13 +63,17 @@ class Runs:
             for child in self.children:
                 child.kill()
 
-    def run(self, words, env, stdout=subprocess.PIPE, seconds=SECONDS):
-        """The status of a run and what it wrote to its two outputs; no status where it takes longer than this."""
+    def run(self, words, env, stdout=subprocess.PIPE, seconds=SECONDS, clock=""):
+        """The status of a run and what it wrote to its two outputs; no status where it takes longer than this.
+
+        Under a clock as `+1h` the program sees a time that much later.
+        """
+        set_clock = [CLOCK, "--exclude-monotonic", "-f", clock] if clock else []
         with self.lock:
             if self.ended:
                 return None, "", "it was not run"
             child = subprocess.Popen(
-                [self.program, *words],
+                [*set_clock, self.program, *words],
                 cwd=self.folder,
                 env={"PATH": os.environ["PATH"], **env},
                 stdin=subprocess.DEVNULL,

@@ -92,7 +92,7 @@ error_suppression_limit = 1000000
 class Swift(Cluster):
     name = "swift"
     title = "OpenStack Swift"
-    packages = ("swift-proxy", "swift-account", "swift-container", "swift-object", "python3-swift", "memcached")
+    packages = ("swift-proxy", "swift-account", "swift-container", "swift-object", "python3-swift", "memcached", "faketime")
     keys = {"AWS_ACCESS_KEY_ID": "test:tester", "AWS_SECRET_ACCESS_KEY": "testing", "AWS_REGION": "us-east-1"}
     other_keys = {"AWS_ACCESS_KEY_ID": "test:reader", "AWS_SECRET_ACCESS_KEY": "reading", "AWS_REGION": "us-east-1"}
 
