@@ -1,7 +1,7 @@
 //! What requests send behind their heads.
 
 ghost use Rattle.std.specs.Prelude.{◌≡◌, [], IfOk};
-ghost use Rattle.s3_signing.specs.Signing.{hex_sha256};
+ghost use Rattle.s3_signing.specs.Signing.{IsHashOf, hex_sha256};
 ghost use Rattle.attempts.specs.Payloads.{body_of, content_of};
 
 use s3_model::{Ask, Bytes, OutOfMemory};
@@ -46,27 +46,50 @@ impl Content<'_> {
     }
 }
 
-/// The content of a request: an object's bytes for Put and Part, else its document.
-fn content_for<'a>(alloc: Global, ask: &Ask, bytes: &'a [u8]) -> Result<Content<'a>, OutOfMemory>
-    ensures { IfOk result (λ content. content_of content ≡ body_of ask.now bytes.now) }
+/// The hash of these bytes, which is made where it is not known.
+fn hash_of(bytes: &[u8], known: &mut Option<HexHash>) -> HexHash
+    requires { IsHashOf known.old bytes.now }
+    ensures hash { result ≡ hex_sha256 bytes.now }
+    ensures known { IsHashOf known.new bytes.now }
 {
-    match ask {
-        Ask::Put { .. } | Ask::Part { .. } => Ok(Content::Lent(bytes)),
-        _ => match body_text(alloc, ask) {
-            Ok(document) => Ok(Content::Document(document)),
-            Err(fault) => Err(fault),
-        },
+    match known {
+        Some(hash) => *hash,
+        None => {
+            let hash = payload_hash(bytes);
+            *known = Some(hash);
+            hash
+        }
     }
 }
 
 impl<'a> Payload<'a> {
     /// What a request sends: these bytes where it is a Put or a Part, the document of a Complete, else nothing.
-    pub fn of(alloc: Global, ask: &Ask, bytes: &'a [u8]) -> Result<Payload<'a>, OutOfMemory>
-        ensures { IfOk result (λ payload. payload ≡ body_of ask.now bytes.now) }
+    ///
+    /// The hash of the bytes is made where it is not known, and is known then; that of a document is made each time.
+    pub fn of(
+        alloc: Global,
+        ask: &Ask,
+        bytes: &'a [u8],
+        known: &mut Option<HexHash>,
+    ) -> Result<Payload<'a>, OutOfMemory>
+        requires { IsHashOf known.old bytes.now }
+        ensures payload { IfOk result (λ payload. payload ≡ body_of ask.now bytes.now) }
+        ensures known { IsHashOf known.new bytes.now }
     {
-        let content = content_for(alloc, ask, bytes)?;
-        let hash = payload_hash(content.as_slice());
-        Ok(Payload { content, hash })
+        match ask {
+            Ask::Put { .. } | Ask::Part { .. } => Ok(Payload {
+                content: Content::Lent(bytes),
+                hash: hash_of(bytes, known),
+            }),
+            _ => {
+                let document = body_text(alloc, ask)?;
+                let hash = payload_hash(document.as_slice());
+                Ok(Payload {
+                    content: Content::Document(document),
+                    hash,
+                })
+            }
+        }
     }
 
     /// What a request sends that has no body.

@@ -1,5 +1,5 @@
 -- What a job asks, and what it needs for it.
-use Rattle.std.specs.Prelude.{◌≡◌, ◌⊎◌, ◌+◌, ◌-◌, ◌^◌, ◌<◌, ◌≤◌, ◌==◌, ℕ, true, List, Option, Some, None, IsSome}
+use Rattle.std.specs.Prelude.{◌≡◌, ◌⊎◌, ◌+◌, ◌-◌, ◌^◌, ◌<◌, ◌≤◌, ◌==◌, ℕ, true, List, [], Option, Some, None, IsSome}
 use Rattle.std.specs.Prelude.{if◌then◌else◌}
 use Rattle.std.specs.Arc.{arc_value}
 use Rattle.s3_model.specs.declared.bytes.Part.{Part}
@@ -12,6 +12,7 @@ use Rattle.s3_model.specs.declared.tasks.Kind.{Kind}
 use Rattle.s3_model.specs.declared.tasks.Kind.TheVariants as kind
 use Rattle.s3_model.specs.declared.tasks.Task.{Task}
 use Rattle.s3_model.specs.Lists.{Reserved}
+use Rattle.s3_signing.specs.Signing.{IsHashOf}
 use Rattle.job_terms.specs.Jobs.{IsSourceDelete, Origin, Target}
 use Rattle.job_terms.specs.Ops.{op_of, IsPlanning}
 use Rattle.jobs.specs.Holders.{Holder}
@@ -122,9 +123,15 @@ abbrev pub range_of : What → ℕ × ℕ
 range_of (what.Plan planned) = (0, 0)
 range_of (what.Step task range upload etags) = range
 
+-- the bytes of a part, none where there is no part
+abbrev pub bytes_of : Option Part → List ℕ
+bytes_of None = []
+bytes_of (Some part) = part.bytes.bytes
+
 -- what is true of every job
-pub record IsJob (id : JobId) (for : What) (part : Option Part) (had : ℕ) : Type 0 where
+pub record IsJob (id : JobId) (for : What) (part : Option Part) (hash : Option (List ℕ)) (had : ℕ) : Type 0 where
   pub asks : (asked : Ask) × IsAskOf id for asked
   pub has_range : HasRange id.op id.number (range_of for)
   pub has_part : HasPart id.op (range_of for).1 part
+  pub hashed : IsHashOf hash (bytes_of part)
   pub had_few : had ≤ 9

@@ -3,6 +3,7 @@
 use crate::cell::CancelCell;
 use crate::what::What;
 use s3_model::{JobId, Part};
+use s3_signing::HexHash;
 use std::marker::Model;
 
 /// One request of the planning or of a task, with all that it needs.
@@ -18,6 +19,8 @@ pub struct Job {
     pub what: What,
     /// The bytes to send, or the room for the bytes that come.
     pub part: Option<Part>,
+    /// The SHA-256 of the part's bytes in hexadecimal digits, where it was made. Contracts leave it out.
+    pub hash: Option<HexHash>,
     /// The cell by which it is cancelled, if it may be.
     pub cell: Option<CancelCell>,
     /// How many attempts were made where it was given before, else 0; at most 9.
@@ -31,5 +34,5 @@ impl Model for Job {
 
     ghost view = { λ j. record { id = j.id; what = j.what; part = j.part; cell = j.cell; had = j.had } };
 
-    ghost invariant = { λ j. IsJob j.id j.what j.part j.had };
+    ghost invariant = { λ j. IsJob j.id j.what j.part j.hash j.had };
 }

@@ -1,7 +1,7 @@
 -- What the attempts of a job say of its ending.
 use Rattle.shared_lemmas.proofs.Clashes.{none_is_some, some_is}
-use Rattle.std.proofs.Common.{◌≡◌, ◌≢◌, ◌∙◌, ◌⊎◌, ◌+◌, ◌<◌, ◌≤◌, ◌++◌, ℕ, zero, suc, Bool, true, false, List, [], ◌∷◌, Option, Some, None, refl, sym, ap, subst, inl, inr, map, length, slice_get, arith}
-use Rattle.std.specs.Prelude.{All, IfSome, IsSome}
+use Rattle.std.proofs.Common.{◌≡◌, ◌≢◌, ◌∙◌, ◌+◌, ◌<◌, ◌≤◌, ℕ, suc, true, false, List, [], ◌∷◌, Option, Some, None, refl, sym, ap, subst, inl, inr, map, length, slice_get, arith}
+use Rattle.std.specs.Prelude.{IfSome, IsSome}
 use Rattle.std.specs.Arc.{arc_value}
 use Rattle.std.proofs.lemmas.List.Elements.{All-cons, All-nil}
 use Rattle.s3_model.specs.declared.answers.Answered.{Answered}
@@ -34,12 +34,12 @@ use Rattle.attempts.specs.Attempts.{IsGet, IsOfSomeTalk, SignedRequest}
 use Rattle.attempts.specs.Payloads.{body_of}
 use Rattle.jobs.specs.Endings.{EndIn, HasBody, HaveNoSuccess, IsEnded, IsReplyTo}
 use Rattle.jobs.specs.Holders.{Holder}
-use Rattle.jobs.specs.Jobs.{HasPart, IsAskOf, IsDelete, IsJob, IsStepAsk, range_of}
+use Rattle.jobs.specs.Jobs.{HasPart, IsAskOf, IsDelete, IsJob, IsStepAsk, bytes_of, range_of}
+use Rattle.s3_signing.specs.Signing.{IsHashOf}
 use Rattle.jobs.specs.declared.ending.Ending.{Ending}
-use Rattle.jobs.specs.declared.ending.Ending.TheVariants as ending
 use Rattle.jobs.specs.declared.what.What.{What}
 use Rattle.jobs.specs.declared.what.What.TheVariants as what
-use Rattle.lane_jobs.specs.Lanes.{Carries, EndsByCell, EndsByClass, EndsByMemory, IsGained, IsPlace, KeepsPart, SeenCarrier, bytes_of, class_ending, limit_of, reason_of, request_for, request_to}
+use Rattle.lane_jobs.specs.Lanes.{Carries, IsGained, IsPlace, KeepsPart, SeenCarrier, class_ending, limit_of, reason_of, request_for, request_to}
 
 false_is_true : false ≡ true → ⊥
 false_is_true e = cc
@@ -165,8 +165,8 @@ is_get : (asked : Ask) → IsGet asked → op_of asked ≡ op.Get
 is_get (ask.Get b k e r) h = refl
 is_get asked h = absurd h
 
-pub has_place : (id : JobId) (for : What) (part : Option Part) (had : ℕ) (asked : Ask) → IsJob id for part had → IsAskOf id for asked → IsGet asked → HasPart op.Get (range_of for).1 part
-has_place id for part had asked j asks get =
+pub has_place : (id : JobId) (for : What) (part : Option Part) (hash : Option (List ℕ)) (had : ℕ) (asked : Ask) → IsJob id for part hash had → IsAskOf id for asked → IsGet asked → HasPart op.Get (range_of for).1 part
+has_place id for part hash had asked j asks get =
     let is = sym (asked_op id for asked asks) ∙ is_get asked get in
     subst (λ (o : Op). HasPart o (range_of for).1 part) is j.has_part
 
@@ -181,9 +181,14 @@ keep_part op.Get room (Some before) None kept has = absurd kept
 keep_part of_op room before after kept has = subst (λ (p : Option Part). HasPart of_op room p) (sym kept) has
 
 -- the job stays one with its part
-pub still_job : (id : JobId) (for : What) (before after : Option Part) (had : ℕ) → IsJob id for before had → KeepsPart id.op before after → IsJob id for after had
-still_job id for before after had j kept =
-    record { asks = j.asks; has_range = j.has_range; has_part = keep_part id.op (range_of for).1 before after kept j.has_part; had_few = j.had_few }
+pub still_job : (id : JobId) (for : What) (before after : Option Part) (was hash : Option (List ℕ)) (had : ℕ) → IsJob id for before was had → KeepsPart id.op before after → IsHashOf hash (bytes_of after) → IsJob id for after hash had
+still_job id for before after was hash had j kept hashed = record {
+  asks = j.asks;
+  has_range = j.has_range;
+  has_part = keep_part id.op (range_of for).1 before after kept j.has_part;
+  hashed = hashed;
+  had_few = j.had_few;
+}
 
 pub keeps_by_op : (id : JobId) (for : What) (asked : Ask) (before after : Option Part) → IsAskOf id for asked → KeepsPart (op_of asked) before after → KeepsPart id.op before after
 keeps_by_op id for asked before after asks kept = subst (λ (o : Op). KeepsPart o before after) (asked_op id for asked asks) kept
@@ -196,6 +201,19 @@ placed_there asked part = tt
 pub get_request : (carrier : SeenCarrier) (asked : Ask) (part : Option Part) (size : ℕ) → IsGet asked → request_to carrier asked (body_of asked []) (Some size) ≡ request_for carrier asked part size
 get_request carrier (ask.Get b k e r) part size get = refl
 get_request carrier asked part size get = absurd get
+
+pub no_get : (asked : Ask) → ((bucket key etag : List ℕ) (range : Option (ℕ × ℕ)) → asked ≡ ask.Get bucket key etag range → ⊥) → IsGet asked → ⊥
+no_get (ask.Get b k e r) other get = other b k e r refl
+no_get asked other get = get
+
+-- any other request sends its body, without a limit
+pub other_request : (carrier : SeenCarrier) (asked : Ask) (part : Option Part) (size : ℕ) → (IsGet asked → ⊥) → request_to carrier asked (body_of asked (bytes_of part)) None ≡ request_for carrier asked part size
+other_request carrier (ask.Get b k e r) part size other = absurd (other tt)
+other_request carrier asked part size other = refl
+
+pub other_place : (asked : Ask) (part : Option Part) (place : List ℕ) → (IsGet asked → ⊥) → IsPlace asked part place
+other_place (ask.Get b k e r) part place other = absurd (other tt)
+other_place asked part place other = tt
 
 -- ---- the ending
 

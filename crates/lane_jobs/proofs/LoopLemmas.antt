@@ -1,7 +1,7 @@
 -- The attempts of a job so far, and how they end.
-use Rattle.shared_lemmas.proofs.Clashes.{none_is_some, some_is}
-use Rattle.std.proofs.Common.{◌≡◌, ◌∙◌, ◌⊎◌, ◌+◌, ◌<◌, ◌≤◌, ◌++◌, ℕ, Bool, true, false, List, [], ◌∷◌, Option, Some, None, refl, sym, ap, subst, inl, inr, map, length, append_assoc, append-nil, arith}
-use Rattle.std.specs.Prelude.{IfSome, IsSome, max, unwrap_or}
+use Rattle.shared_lemmas.proofs.Clashes.{none_is_some}
+use Rattle.std.proofs.Common.{◌≡◌, ◌∙◌, ◌⊎◌, ◌+◌, ◌<◌, ◌≤◌, ◌++◌, ℕ, true, false, List, [], ◌∷◌, Option, Some, None, refl, sym, ap, subst, inl, inr, map, length, append-nil, arith}
+use Rattle.std.specs.Prelude.{IfSome, IsSome, unwrap_or}
 use Rattle.s3_model.specs.declared.answers.Class.{Class}
 use Rattle.s3_model.specs.declared.answers.Class.TheVariants as class
 use Rattle.s3_model.specs.declared.outcomes.Reason.{Reason}

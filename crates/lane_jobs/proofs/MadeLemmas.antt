@@ -1,6 +1,6 @@
 -- Attempts one after the other, and one more behind them.
 use Rattle.shared_lemmas.proofs.Clashes.{none_is_some, some_is}
-use Rattle.std.proofs.Common.{◌≡◌, ◌∙◌, ◌⊎◌, ◌+◌, ◌<◌, ◌≤◌, ◌++◌, ℕ, zero, suc, Bool, true, false, List, [], ◌∷◌, Option, Some, None, refl, sym, ap, subst, inl, inr, map, length, slice_get, append_assoc, append-nil, arith}
+use Rattle.std.proofs.Common.{◌≡◌, ◌∙◌, ◌+◌, ◌<◌, ◌++◌, ℕ, zero, suc, true, false, List, [], ◌∷◌, Option, Some, None, refl, sym, ap, subst, inl, inr, map, length, slice_get, append_assoc, append-nil, arith}
 use Rattle.std.proofs.lemmas.List.{length-append, map-append}
 use Rattle.s3_model.specs.declared.answers.Class.{Class}
 use Rattle.s3_model.specs.declared.answers.Class.TheVariants as class
@@ -8,7 +8,7 @@ use Rattle.s3_model.specs.Classes.{is_tried_again}
 use Rattle.s3_model.specs.Talks.{Talk, Note}
 use Rattle.job_terms.specs.Attempts.{mark_of}
 use Rattle.job_terms.specs.Dispatches.{last_of}
-use Rattle.attempts.specs.Attempts.{HasClass, IsInPlace, IsOneTalk, SignedRequest}
+use Rattle.attempts.specs.Attempts.{HasClass, IsInPlace, SignedRequest}
 use Rattle.lane_jobs.specs.Lanes.{AreMade, IsMade}
 
 false_is_true : false ≡ true → ⊥

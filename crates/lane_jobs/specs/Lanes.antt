@@ -25,7 +25,7 @@ use Rattle.attempts.specs.declared.send.Judged.{Judged}
 use Rattle.jobs.specs.Cells.{Hears, IsSameCell}
 use Rattle.jobs.specs.Endings.{SeenCarried}
 use Rattle.jobs.specs.Holders.{Holder}
-use Rattle.jobs.specs.Jobs.{IsAskOf, SeenJob, range_of}
+use Rattle.jobs.specs.Jobs.{IsAskOf, SeenJob, bytes_of, range_of}
 use Rattle.jobs.specs.declared.ending.Ending.{Ending}
 use Rattle.jobs.specs.declared.ending.Ending.TheVariants as ending
 
@@ -156,10 +156,6 @@ pub record Carries (r : SignedRequest) (had most : ℕ) (gave : Option Reason) (
   pub shared : Gains before after (IsShare r had place classes ended)
 
 -- ---- the job
-
-abbrev pub bytes_of : Option Part → List ℕ
-bytes_of None = []
-bytes_of (Some part) = part.bytes.bytes
 
 -- the body of a Get goes to the part, up to the length of its range
 abbrev pub limit_of : Ask → (length : ℕ) → Option ℕ

@@ -6,7 +6,8 @@ ghost use Rattle.attempts.specs.Payloads.{body_of};
 ghost use Rattle.s3_model.specs.Validity.{IsWithin};
 ghost use Rattle.s3_model.specs.declared.requests.Op.TheVariants as op;
 ghost use Rattle.job_terms.specs.Ops.{op_of};
-ghost use Rattle.jobs.specs.Jobs.{HasPart, range_of};
+ghost use Rattle.jobs.specs.Jobs.{HasPart, bytes_of, range_of};
+ghost use Rattle.s3_signing.specs.Signing.{IsHashOf};
 ghost use Rattle.jobs.specs.declared.ending.Ending.TheVariants as ending;
 ghost use Rattle.lane_jobs.specs.Lanes.{
   Carries,
@@ -16,7 +17,6 @@ ghost use Rattle.lane_jobs.specs.Lanes.{
   IsSameJob,
   KeepsCell,
   KeepsPart,
-  bytes_of,
   most_attempts,
   reason_of,
   request_for,
@@ -28,6 +28,7 @@ use attempts::{Client, Payload};
 use jobs::{CancelCell, Carried, Ending, Job, What, ask_of};
 use s3_model::{Ask, Bytes, Endpoint, Keys, OutOfMemory, Part, Tries};
 use s3_outside::Wire;
+use s3_signing::HexHash;
 use std::alloc::Global;
 use std::marker::Model;
 
@@ -125,21 +126,24 @@ impl Carrier {
         wire: &mut W,
         ask: &Ask,
         part: &Option<Part>,
+        hash: &mut Option<HexHash>,
         cell: &mut Option<CancelCell>,
         had: u32,
     ) -> Went
-        requires { had ≤ 9 }
+        requires hash { IsHashOf hash.old (bytes_of part.now) }
+        requires had { had ≤ 9 }
         ensures carried { (place : List ℕ) × Carries (request_to self.old ask.now
             (body_of ask.now (bytes_of part.now)) None) had
             (most_attempts self.old.attempts had) (reason_of cell.new) place (W.seen wire.old)
             (W.seen wire.new) result.tries result.ending }
         ensures stopped { IsSome (reason_of cell.old) → result.tries ≡ [] }
+        ensures hash { IsHashOf hash.new (bytes_of part.now) }
         ensures cell { KeepsCell cell.old cell.new }
         ensures carrier { IsSameCarrier self.old self.new }
         ensures later { W.faults wire.old ≤ W.faults wire.new }
     {
         let most = self.most(had);
-        match Payload::of(self.alloc, ask, bytes_of(part)) {
+        match Payload::of(self.alloc, ask, bytes_of(part), hash) {
             Ok(payload) => make_attempts(
                 self.alloc,
                 wire,
@@ -179,7 +183,7 @@ impl Carrier {
         ensures later { W.faults wire.old ≤ W.faults wire.new }
     {
         let most = self.most(had);
-        match Payload::of(self.alloc, ask, &[]) {
+        match Payload::of(self.alloc, ask, &[], &mut None) {
             Ok(payload) => make_attempts(
                 self.alloc,
                 wire,
@@ -203,16 +207,19 @@ impl Carrier {
         ask: &Ask,
         length: u64,
         part: &mut Option<Part>,
+        hash: &mut Option<HexHash>,
         cell: &mut Option<CancelCell>,
         had: u32,
     ) -> Went
         requires part { IsGet ask.now → HasPart op.Get length part.old }
+        requires hash { IsHashOf hash.old (bytes_of part.old) }
         requires had { had ≤ 9 }
         ensures carried { (place : List ℕ) × IsPlace ask.now part.new place × Carries (request_for self.old ask.now
             part.old length) had (most_attempts self.old.attempts had) (reason_of cell.new) place
             (W.seen wire.old) (W.seen wire.new) result.tries result.ending }
         ensures stopped { IsSome (reason_of cell.old) → result.tries ≡ [] }
         ensures part { KeepsPart (op_of ask.now) part.old part.new }
+        ensures hash { IsHashOf hash.new (bytes_of part.new) }
         ensures cell { KeepsCell cell.old cell.new }
         ensures carrier { IsSameCarrier self.old self.new }
         ensures later { W.faults wire.old ≤ W.faults wire.new }
@@ -220,19 +227,20 @@ impl Carrier {
         match ask {
             Ask::Get { .. } => {
                 let Some(part) = part else { unreachable!() };
+                *hash = None;
                 self.fetch(wire, ask, length, part, cell, had)
             }
-            _ => self.send(wire, ask, part, cell, had),
+            _ => self.send(wire, ask, part, hash, cell, had),
         }
     }
 
     /// Carries a job: makes its attempts over the wire, and hands it back with their marks and its ending.
     ///
-    /// Each attempt is one talk with the endpoint, signed at its moment; the body is hashed once. An attempt that lost
-    /// its answer, or was refused with the code `SlowDown`, `ServiceUnavailable` or `RequestTimeout`, is made again, up
-    /// to the carrier's number of attempts in all; before attempt n + 1 it waits for min(20, 2^(n-1)) seconds. A
-    /// cell of the job is looked at before each attempt and the pause ahead of it; a job without one goes on to its
-    /// end.
+    /// Each attempt is one talk with the endpoint, signed at its moment. The bytes of a part are hashed once, also where
+    /// the job is given again. An attempt that lost its answer, or was refused with the code `SlowDown`,
+    /// `ServiceUnavailable` or `RequestTimeout`, is made again, up to the carrier's number of attempts in all; before
+    /// attempt n + 1 it waits for min(20, 2^(n-1)) seconds. A cell of the job is looked at before each attempt and the
+    /// pause ahead of it; a job without one goes on to its end.
     pub fn carry<W: Wire>(&mut self, wire: &mut W, job: Job) -> Carried
         ensures carried { IsCarriedBy self.old job (W.seen wire.old) (W.seen wire.new) result }
         ensures stopped { IsSome (reason_of job.cell) → result.tries ≡ [] }
@@ -251,16 +259,20 @@ impl Carrier {
             id,
             what,
             mut part,
+            mut hash,
             mut cell,
             had,
         } = job;
         let length = length_of(&what);
-        let Went { tries, ending } = self.serve(wire, &ask, length, &mut part, &mut cell, had);
+        let Went { tries, ending } = self.serve(
+            wire, &ask, length, &mut part, &mut hash, &mut cell, had,
+        );
         Carried {
             job: Job {
                 id,
                 what,
                 part,
+                hash,
                 cell,
                 had,
             },

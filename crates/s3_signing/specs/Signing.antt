@@ -1,6 +1,6 @@
 -- AWS Signature Version 4 (Amazon S3 API Reference, "Authenticating Requests: Using the Authorization Header").
 use Rattle.std.specs.Prelude.{◌++◌, ◌∷◌, ◌==◌, ◌||◌, ◌≡◌, ℕ, Bool, false, List, [], All, length, map, filter, not}
-use Rattle.std.specs.Prelude.{codes, if◌then◌else◌}
+use Rattle.std.specs.Prelude.{codes, if◌then◌else◌, IfSome, Option}
 use Rattle.std.specs.Cmp.Lexicographic.{slice_cmp}
 use Rattle.std.specs.List.{flat_map, join_with_byte, list_any, slice_split, AllAdjacentBelow}
 use Rattle.std.specs.Char.{is_ascii_alphanumeric, is_ascii_uppercase}
@@ -70,6 +70,10 @@ canonical_request method path query headers payload_hash = join_with_byte 10 (
 -- the SHA-256 of some bytes in lower-case hexadecimal digits
 unfoldable pub hex_sha256 : List ℕ → List ℕ
 hex_sha256 bytes = encode_lower (sha256 bytes)
+
+-- a hash that is known is that of these bytes
+abbrev pub IsHashOf : (known : Option (List ℕ)) → (bytes : List ℕ) → Type 0
+IsHashOf known bytes = IfSome known (λ hash. hash ≡ hex_sha256 bytes)
 
 -- date/region/s3/aws4_request
 unfoldable pub credential_scope : (date region : List ℕ) → List ℕ

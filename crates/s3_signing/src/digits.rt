@@ -6,7 +6,7 @@ ghost use Rattle.hex.specs.Hex.{encode_lower};
 use std::marker::Model;
 
 /// A hash of 32 bytes in 64 lower-case hexadecimal digits, in place. Contracts see the digits.
-#[derive(Drop)]
+#[derive(Clone, Copy)]
 pub struct HexHash {
     digits: [u8; 64],
 }
@@ -19,6 +19,8 @@ impl Model for HexHash {
     ghost view = { λ h. h.digits };
 
     ghost invariant = { λ h. IsUtf8 h.digits };
+
+    ghost inverse = { λ digits. record { digits = digits } };
 }
 
 impl HexHash {

@@ -118,7 +118,7 @@ fn send_by<W: Wire>(
     ask: &Ask,
     bytes: &[u8],
 ) -> Result<Answer, OutOfMemory> {
-    let payload = Payload::of(alloc, ask, bytes)?;
+    let payload = Payload::of(alloc, ask, bytes, &mut None)?;
     let mut into = Bytes::make(alloc, ROOM)?;
     let class = class_of(alloc, wire, client, ask, &payload, &mut into)?;
     Ok(Answer { class, bytes: into })

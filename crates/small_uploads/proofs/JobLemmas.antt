@@ -4,10 +4,10 @@ use Rattle.shared_lemmas.proofs.Clashes.{none_is_some}
 use Rattle.attempts.specs.Attempts.{SignedRequest}
 use Rattle.jobs.specs.Endings.{SeenCarried}
 use Rattle.jobs.specs.Holders.{Holder}
-use Rattle.jobs.specs.Jobs.{IsAskOf, IsOfKind, IsOfTask, IsStepAsk, SeenJob, range_of}
+use Rattle.jobs.specs.Jobs.{IsAskOf, IsOfKind, IsOfTask, IsStepAsk, SeenJob, bytes_of, range_of}
 use Rattle.jobs.specs.declared.what.What.{What}
 use Rattle.jobs.specs.declared.what.What.TheVariants as what
-use Rattle.lane_jobs.specs.Lanes.{Carries, Ends, IsCarriedBy, IsSameJob, IsShare, KeepsCell, SeenCarrier, bytes_of, most_attempts, reason_of, request_for}
+use Rattle.lane_jobs.specs.Lanes.{Carries, Ends, IsCarriedBy, IsSameJob, IsShare, KeepsCell, SeenCarrier, most_attempts, reason_of, request_for}
 use Rattle.job_terms.specs.Gains.{Gains}
 use Rattle.job_terms.proofs.GainLemmas.{gains_as}
 use Rattle.job_terms.specs.Jobs.{IsObject}

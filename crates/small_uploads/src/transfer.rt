@@ -112,6 +112,7 @@ fn job_of(task: Arc<Task, Global>, size: u64, bytes: Bytes) -> Job
             etags: None,
         },
         part: Some(Part { bytes }),
+        hash: None,
         cell: None,
         had: 0,
     }

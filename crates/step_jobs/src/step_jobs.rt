@@ -201,6 +201,7 @@ impl StepJobs {
                 etags,
             },
             part,
+            hash: None,
             cell: cell_for(id.op, cell),
             had: 0,
         }

@@ -20,6 +20,7 @@ fn behind(job: Job, tries: usize) -> Job
         id,
         what,
         part,
+        hash,
         had,
         ..
     } = job;
@@ -27,6 +28,7 @@ fn behind(job: Job, tries: usize) -> Job
         id,
         what,
         part,
+        hash,
         cell: None,
         had: had + tries as u32,
     }

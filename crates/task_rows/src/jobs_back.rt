@@ -145,6 +145,7 @@ fn job_for(
         id,
         what,
         part,
+        hash: None,
         cell,
         had: 0,
     })

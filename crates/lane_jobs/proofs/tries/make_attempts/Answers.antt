@@ -1,5 +1,4 @@
-use Rattle.std.proofs.Common.{◌≡◌, ◌∙◌, ◌+◌, ◌++◌, ◌∷◌, [], List, Option, Some, None, ap, arith, inr, refl, subst, sym}
-use Rattle.s3_model.specs.declared.answers.Class.{Class}
+use Rattle.std.proofs.Common.{◌≡◌, ◌∙◌, ◌+◌, ◌++◌, ◌∷◌, [], List, Some, ap, arith, inr, subst, sym}
 use Rattle.s3_model.specs.declared.tries.Mark.{Mark}
 use Rattle.attempts.specs.Attempts.{SignedRequest}
 use Rattle.attempts.specs.declared.send.Attempted.TheVariants as attempted

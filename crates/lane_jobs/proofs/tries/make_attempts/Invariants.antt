@@ -1,5 +1,4 @@
-use Rattle.std.proofs.Common.{◌≡◌, ◌⊎◌, ◌≤◌, [], Option, None}
-use Rattle.attempts.specs.Attempts.{SignedRequest}
+use Rattle.std.proofs.Common.{◌≡◌, ◌⊎◌, ◌≤◌, [], None}
 use Rattle.lane_jobs.specs.Lanes.{reason_of}
 use Rattle.lane_jobs.proofs.LoopLemmas.{Underway}
 use Rattle.lane_jobs.proofs.tries.make_attempts.Given as goal

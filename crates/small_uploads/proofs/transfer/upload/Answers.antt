@@ -5,7 +5,7 @@ use Rattle.s3_model.specs.declared.outcomes.Cause.{Cause}
 use Rattle.job_terms.specs.Gains.{Gains}
 use Rattle.upload_promise.specs.Uploads.{WantsJournal}
 use Rattle.small_uploads.specs.Uploading.{Uploads, put_ask}
-use Rattle.lane_jobs.specs.Lanes.{bytes_of}
+use Rattle.jobs.specs.Jobs.{bytes_of}
 use Rattle.s3_model.specs.declared.outcomes.Event.{Event}
 use Rattle.upload_promise.specs.Uploads.{put_events}
 use Rattle.small_uploads.proofs.JobLemmas.{given, no_cell}

@@ -8,5 +8,6 @@ invariant_of-result c = record {
   asks = asks (arc_value c.in_ok-task.task) (0, 1) c.upload_id-upload.result c.make-etags.result c.args.id.number c.args.id.op c.requires.step c.in_ok-task.ensures;
   has_range = some_bytes c.args.id.op c.args.id.number;
   has_part = c.requires.part;
+  hashed = tt;
   had_few = omega arith;
 }

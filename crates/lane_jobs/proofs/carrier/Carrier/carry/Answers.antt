@@ -1,8 +1,8 @@
 use Rattle.std.proofs.Common.{refl, subst, sym}
 use Rattle.s3_model.specs.declared.requests.Op.{Op}
 use Rattle.jobs.specs.Endings.{IsEnded}
-use Rattle.jobs.specs.Jobs.{IsAskOf, SeenJob}
-use Rattle.lane_jobs.specs.Lanes.{IsSameJob, bytes_of}
+use Rattle.jobs.specs.Jobs.{IsAskOf, SeenJob, bytes_of}
+use Rattle.lane_jobs.specs.Lanes.{IsSameJob}
 use Rattle.lane_jobs.proofs.EndingLemmas.{asked_op, ended_so, keeps_by_op, placed_there}
 use Rattle.lane_jobs.proofs.LoopLemmas.{nothing_tried, one_left}
 use Rattle.lane_jobs.proofs.carrier.Carrier.carry.Goals as goal
