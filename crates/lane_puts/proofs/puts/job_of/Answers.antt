@@ -8,5 +8,6 @@ invariant_of-result c = record {
   asks = put_asks (arc_value c.args.task) c.requires (0, c.args.size);
   has_range = tt;
   has_part = refl;
+  hashed = tt;
   had_few = omega arith;
 }
