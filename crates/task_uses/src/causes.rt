@@ -1,8 +1,9 @@
 //! Causes and stages, run.
 
 use jobs::Ending;
-use s3_model::{Cause, FileCall, Kind, Op, Reply, Text, Why};
+use s3_model::{Cause, FileCall, Kind, Op, OutOfMemory, Reply, Text, Why};
 use s3_outside::FileFault;
+use std::alloc::Global;
 use std::test::Fail;
 use task_acts::{Act, FileCame, Stage, Work};
 use task_causes::{ended_cause, file_cause, file_stage, given_stage};
@@ -18,6 +19,34 @@ const WHOLE: Work = Work {
     attempts: 3,
 };
 
+/// A name of each cause that a row wants.
+fn name_of(cause: &Option<Cause>) -> &'static str {
+    match cause {
+        None => "none",
+        Some(Cause::Changed) => "changed",
+        Some(Cause::Service { .. }) => "refused",
+        Some(Cause::BadReply { op: Op::Get }) => "bad Get",
+        Some(
+            Cause::Lost {
+                op: Op::Put,
+                why: Why::EndedEarly,
+            },
+        ) => "lost Put",
+        Some(
+            Cause::Files {
+                call: FileCall::Rename,
+            },
+        ) => "failed rename",
+        Some(Cause::Blocked { length: 3 }) => "blocked at 3",
+        Some(_) => "another",
+    }
+}
+
+/// The name of the cause that the ending of the first job of that op shows.
+fn ended_name(op: Op, ending: Ending) -> &'static str {
+    name_of(&ended_cause(&WHOLE, op, 0, ending))
+}
+
 fn got(status: u16, length: u64) -> Ending {
     Ending::Gained(Reply::Got {
         status,
@@ -28,62 +57,61 @@ fn got(status: u16, length: u64) -> Ending {
 
 #[test]
 fn replies_are_what_was_asked_for(rt: HostRuntime) {
-    assert!(rt; ended_cause(&WHOLE, Op::Get, 0, got(200, 5)).is_none());
-    for (status, length) in [(206, 5), (200, 4)] {
-        let cause = ended_cause(&WHOLE, Op::Get, 0, got(status, length));
-        assert!(rt; matches!(&cause, Some(Cause::BadReply { op: Op::Get })));
+    let rows = [(200, 5, "none"), (206, 5, "bad Get"), (200, 4, "bad Get")];
+    for (status, length, name) in rows {
+        assert_eq!(rt; ended_name(Op::Get, got(status, length)), name);
     }
+}
+
+fn refusal(alloc: Global, status: u16, code: &str) -> Result<Ending, OutOfMemory> {
+    let code = Text::of(alloc, code)?;
+    let message = Text::of(alloc, "m")?;
+    Ok(Ending::Refused {
+        status,
+        code,
+        message,
+    })
 }
 
 #[test]
 fn refusals_say_that_the_source_has_changed(rt: HostRuntime) -> Result<(), Fail> {
     let rows = [
-        (Op::Get, 412, "InvalidRequest", true),
-        (Op::Copy, 409, "PreconditionFailed", true),
-        (Op::PartCopy, 403, "412", false),
-        (Op::Put, 412, "PreconditionFailed", false),
+        (Op::Get, 412, "InvalidRequest", "changed"),
+        (Op::Copy, 409, "PreconditionFailed", "changed"),
+        (Op::PartCopy, 403, "412", "refused"),
+        (Op::Put, 412, "PreconditionFailed", "refused"),
     ];
-    for (op, status, code, changed) in rows {
-        let ending = Ending::Refused {
-            status,
-            code: Text::of(rt.alloc(), code)?,
-            message: Text::of(rt.alloc(), "m")?,
-        };
-        let cause = ended_cause(&WHOLE, op, 0, ending);
-        assert_eq!(rt; matches!(&cause, Some(Cause::Changed)), changed);
-        assert_eq!(rt; matches!(&cause, Some(Cause::Service { .. })), !changed);
+    for (op, status, code, name) in rows {
+        let refused = refusal(rt.alloc(), status, code)?;
+        assert_eq!(rt; ended_name(op, refused), name);
     }
-    let lost = ended_cause(&WHOLE, Op::Put, 0, Ending::Uncertain(Why::EndedEarly));
-    assert!(rt;
-        matches!(
-            &lost,
-            Some(Cause::Lost {
-                op: Op::Put,
-                why: Why::EndedEarly
-            })
-        )
-    );
     Ok(())
+}
+
+#[test]
+fn an_answer_is_lost(rt: HostRuntime) {
+    let lost = Ending::Uncertain(Why::EndedEarly);
+    assert_eq!(rt; ended_name(Op::Put, lost), "lost Put");
 }
 
 #[test]
 fn calls_on_files_show_causes(rt: HostRuntime) {
     let failed = FileCame::Fault(FileFault::Failed);
-    let cause = file_cause(Act::Rename, failed);
-    assert!(rt;
-        matches!(
-            &cause,
-            Some(Cause::Files {
-                call: FileCall::Rename
-            })
-        )
+    let blocked = FileCame::Fault(FileFault::Blocked { length: 3 });
+    let rows = [
+        (Act::Rename, failed, "failed rename"),
+        (Act::Stamp, failed, "none"),
+        (Act::Assemble, blocked, "blocked at 3"),
+    ];
+    for (act, came, name) in rows {
+        assert_eq!(rt; name_of(&file_cause(act, came)), name);
+    }
+}
+
+#[test]
+fn acts_go_on_in_stages(rt: HostRuntime) {
+    assert_eq!(rt;
+        [file_stage(FileCame::Fine), given_stage(Stage::Kept)],
+        [Stage::Fine, Stage::Again]
     );
-    assert!(rt; file_cause(Act::Stamp, failed).is_none());
-    let blocked = file_cause(
-        Act::Assemble,
-        FileCame::Fault(FileFault::Blocked { length: 3 }),
-    );
-    assert!(rt; matches!(&blocked, Some(Cause::Blocked { length: 3 })));
-    assert_eq!(rt; file_stage(FileCame::Fine), Stage::Fine);
-    assert_eq!(rt; given_stage(Stage::Kept), Stage::Again);
 }

@@ -2,7 +2,7 @@
 
 ghost use Rattle.std.specs.Prelude.{◌≡◌, ◌≤◌, false, IfOk};
 
-use s3_model::{Config, Kind, Limits, Op, Place, Task, Text};
+use s3_model::{Config, Kind, Limits, Op, OutOfMemory, Place, Task, Text};
 use std::alloc::Global;
 use std::test::Fail;
 use task_acts::{Act, Work};
@@ -27,72 +27,111 @@ const CONFIG: Config = Config {
     attempts: 3,
 };
 
+/// A task of that many MiB, to that file.
+fn task_to(kind: Kind, mebibytes: u64, path: Text, etag: Text) -> Task
+    requires few { mebibytes ≤ 1000000 }
+    ensures size { result.size ≤ 1099511627776 }
+    ensures replaces { result.fresh ≡ false }
+{
+    Task {
+        kind,
+        moves: true,
+        source: None,
+        dest: Place::File { path },
+        size: mebibytes * MIB,
+        etag,
+        micros: 0,
+        content: None,
+        fresh: false,
+    }
+}
+
 /// A task of that many MiB.
-fn task(alloc: Global, kind: Kind, mebibytes: u64) -> Result<Task, Fail>
+fn task(alloc: Global, kind: Kind, mebibytes: u64) -> Result<Task, OutOfMemory>
     requires few { mebibytes ≤ 1000000 }
     ensures size { IfOk result (λ task. task.size ≤ 1099511627776) }
     ensures replaces { IfOk result (λ task. task.fresh ≡ false) }
 {
-    Ok(Task {
-        kind,
-        moves: true,
-        source: None,
-        dest: Place::File {
-            path: Text::of(alloc, "f")?,
-        },
-        size: mebibytes * MIB,
-        etag: Text::of(alloc, "")?,
-        micros: 0,
-        content: None,
-        fresh: false,
-    })
+    let path = Text::of(alloc, "f")?;
+    let etag = Text::of(alloc, "")?;
+    Ok(task_to(kind, mebibytes, path, etag))
 }
 
 /// The work of a task of that many MiB.
-fn work(alloc: Global, kind: Kind, mebibytes: u64) -> Result<Work, Fail>
+fn work(alloc: Global, kind: Kind, mebibytes: u64) -> Result<Work, OutOfMemory>
     requires { mebibytes ≤ 1000000 }
 {
     let task = task(alloc, kind, mebibytes)?;
     Ok(work_of(&task, &CONFIG, &LIMITS))
 }
 
+/// Whether a task of that many MiB goes in one piece, the length of its pieces, and how many they are.
+fn pieces(alloc: Global, kind: Kind, mebibytes: u64) -> Result<(bool, u64, u32), OutOfMemory>
+    requires { mebibytes ≤ 1000000 }
+{
+    let work = work(alloc, kind, mebibytes)?;
+    Ok((work.small, work.piece, work.count))
+}
+
 #[test]
 fn small_and_large_tasks(rt: HostRuntime) -> Result<(), Fail> {
-    let below = work(rt.alloc(), Kind::Upload, 7)?;
-    assert_eq!(rt; (below.small, below.piece, below.count), (true, 7 * MIB, 1));
-    let at = work(rt.alloc(), Kind::Upload, 8)?;
-    assert_eq!(rt; (at.small, at.piece, at.count), (false, 8 * MIB, 1));
-    let ranges = work(rt.alloc(), Kind::Download, 20)?;
+    let alloc = rt.alloc();
+    let seen = [
+        pieces(alloc, Kind::Upload, 7)?,
+        pieces(alloc, Kind::Upload, 8)?,
+        pieces(alloc, Kind::Download, 20)?,
+        pieces(alloc, Kind::Copy, 100_000)?,
+        pieces(alloc, Kind::RemoveObject, 20)?,
+    ];
     assert_eq!(rt;
-        (ranges.small, ranges.piece, ranges.count),
-        (false, 8 * MIB, 3)
+        seen,
+        [
+            (true, 7 * MIB, 1),
+            (false, 8 * MIB, 1),
+            (false, 8 * MIB, 3),
+            (false, 16 * MIB, 6_250),
+            (false, 0, 1)
+        ]
     );
-    let doubled = work(rt.alloc(), Kind::Copy, 100_000)?;
-    assert_eq!(rt;
-        (doubled.piece, doubled.count, doubled.attempts),
-        (16 * MIB, 6_250, 3)
-    );
-    let removal = work(rt.alloc(), Kind::RemoveObject, 20)?;
-    assert_eq!(rt; (removal.piece, removal.count, removal.moves), (0, 1, true));
     Ok(())
 }
 
 #[test]
+fn attempts_and_moves(rt: HostRuntime) -> Result<(), Fail> {
+    let large = work(rt.alloc(), Kind::Copy, 100_000)?;
+    let removal = work(rt.alloc(), Kind::RemoveObject, 20)?;
+    assert_eq!(rt; (large.attempts, removal.moves), (3, true));
+    Ok(())
+}
+
+/// The act that a task of that many MiB begins with.
+fn first_act(alloc: Global, kind: Kind, mebibytes: u64) -> Result<Option<Act>, OutOfMemory>
+    requires { mebibytes ≤ 1000000 }
+{
+    let task = task(alloc, kind, mebibytes)?;
+    let state = begin(alloc, &task, &CONFIG, &LIMITS)?;
+    Ok(state.ready())
+}
+
+#[test]
 fn the_first_act_of_a_task(rt: HostRuntime) -> Result<(), Fail> {
-    let small = task(rt.alloc(), Kind::Upload, 7)?;
-    let upload = begin(rt.alloc(), &small, &CONFIG, &LIMITS)?;
-    assert_eq!(rt; upload.ready(), Some(Act::Read { number: 0 }));
-    let large = task(rt.alloc(), Kind::Upload, 20)?;
-    let in_parts = begin(rt.alloc(), &large, &CONFIG, &LIMITS)?;
+    let alloc = rt.alloc();
+    let acts = [
+        first_act(alloc, Kind::Upload, 7)?,
+        first_act(alloc, Kind::Upload, 20)?,
+        first_act(alloc, Kind::RemoveFile, 20)?,
+    ];
+    let create = Act::Send {
+        op: Op::Create,
+        number: 0,
+    };
     assert_eq!(rt;
-        in_parts.ready(),
-        Some(Act::Send {
-            op: Op::Create,
-            number: 0
-        })
+        acts,
+        [
+            Some(Act::Read { number: 0 }),
+            Some(create),
+            Some(Act::Remove)
+        ]
     );
-    let removal = task(rt.alloc(), Kind::RemoveFile, 20)?;
-    let gone = begin(rt.alloc(), &removal, &CONFIG, &LIMITS)?;
-    assert_eq!(rt; gone.ready(), Some(Act::Remove));
     Ok(())
 }
