@@ -1,7 +1,7 @@
 pub mod CallMoves
 pub mod CellLemmas
 pub mod EndedRuns
-pub mod FirstGivings
+pub mod FirstJobs
 pub mod FormedJobs
 pub mod FormedRuns
 pub mod GivenRuns

@@ -5,6 +5,7 @@ pub mod Ended
 pub mod Formed
 pub mod Kept
 pub mod Running
+pub mod Sending
 pub mod Shown
 pub mod Steps
 pub mod Tags

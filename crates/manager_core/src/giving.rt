@@ -1,6 +1,6 @@
 //! Jobs that are given to lanes.
 
-ghost use Rattle.std.specs.Prelude.{◌≡◌, ◌==◌, ◌&&◌, ◌^◌, ◌<◌, ◌∷◌, ℕ, false, List, IsSome};
+ghost use Rattle.std.specs.Prelude.{◌≡◌, ◌==◌, ◌&&◌, ◌^◌, ◌<◌, ◌∷◌, ℕ, false, List, IsSome, None, get_or};
 ghost use Rattle.manager_moves.specs.Runs.{Events, Sent, Shared, share};
 ghost use Rattle.move_laws.specs.Follows.{Follows};
 ghost use Rattle.move_laws.specs.Kept.{state_at};
@@ -9,19 +9,22 @@ ghost use Rattle.job_terms.specs.Ops.{is_op};
 ghost use Rattle.job_terms.specs.Jobs.{job_of};
 ghost use Rattle.move_laws.specs.Bytes.{KeepsBytes, no_part};
 ghost use Rattle.manager_core.specs.Answers.{IsDue, IsJobDue};
-ghost use Rattle.manager_core.specs.Cells.{KeepsCells};
+ghost use Rattle.manager_core.specs.Cells.{CellStays, KeepsCells};
 ghost use Rattle.manager_core.specs.Formed.{IsJobFor};
+ghost use Rattle.manager_core.specs.Kept.{SeenManager};
 ghost use Rattle.manager_core.specs.Running.{IsRunning, KeepsRun, Start};
+ghost use Rattle.manager_core.specs.Sending.{CanBeFormed, HasSentFirst};
 ghost use Rattle.s3_model.specs.declared.requests.Op.{Op as OneOp};
 ghost use Rattle.task_acts.specs.declared.work.Work.{Work};
 ghost use Rattle.kept_jobs.specs.Steps.{HasTags};
 
 use crate::due::{Due, due_lane};
 use crate::manager::Manager;
+use crate::steps::StepSlot;
 use jobs::Job;
 use manager_moves::Move;
 use move_core::{Given, MoveCore};
-use s3_model::{Event, JobId, Op, Task, Texts};
+use s3_model::{Event, JobId, Op, Part, Task, Texts};
 
 fn id_of(task: u32, op: Op, number: u32) -> JobId
     ensures { result ≡ job_of task op number }
@@ -57,6 +60,37 @@ fn tags_for(moves: &mut MoveCore, task: u32, op: Op) -> Option<Texts>
     }
 }
 
+/// The job at its first giving, with the part that it takes.
+fn first_job(
+    moves: &mut MoveCore,
+    steps: &mut Vec<StepSlot>,
+    task: u32,
+    op: Op,
+    number: u32,
+    part: Option<Part>,
+) -> Job
+    requires { CanBeFormed task op number part moves.old steps.old.items }
+    ensures running { (start : Start) (s : Shared) (events : Events) (lane : ℕ) (m : SeenManager)
+        → HasSentFirst start s events task op number lane part m moves.old steps.old.items
+        → IsRunning start s events
+        (record m { moves = moves.new; steps = steps.new.items; due = Due.Job task op number lane }) }
+    ensures job { (start : Start) (s : Shared) (events : Events) (lane : ℕ) (m : SeenManager)
+        → HasSentFirst start s events task op number lane part m moves.old steps.old.items
+        → IsJobFor s events task op number m result }
+    ensures cells { (n : ℕ) → CellStays (get_or steps.old.items n None) (get_or steps.new.items n None) }
+    ensures parts { moves.new.parts ≡ moves.old.parts }
+{
+    let id = id_of(task, op, number);
+    let upload = moves.upload(task);
+    let etags = tags_for(moves, task, op);
+    steps[task as usize].form(step_jobs::Given {
+        id,
+        part,
+        upload,
+        etags,
+    })
+}
+
 impl Manager {
     /// The job that is to be given, as the next move was: the one that was kept of a first giving, or a new one, with
     /// the part that it takes.
@@ -82,15 +116,7 @@ impl Manager {
         match given {
             Given::Again(job) => job,
             Given::First(part) => {
-                let id = id_of(task, op, number);
-                let upload = self.moves.upload(task);
-                let etags = tags_for(&mut self.moves, task, op);
-                self.steps[task as usize].form(step_jobs::Given {
-                    id,
-                    part,
-                    upload,
-                    etags,
-                })
+                first_job(&mut self.moves, &mut self.steps, task, op, number, part)
             }
         }
     }

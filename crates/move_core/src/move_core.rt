@@ -93,6 +93,42 @@ pub struct Means {
     pub room: u64,
 }
 
+/// What is out in the lanes of a run, and what its tasks are ready for.
+#[derive(Drop)]
+struct Queues {
+    lanes: LaneQueues,
+    acts: ActQueues,
+}
+
+fn make_queues(alloc: Global, count: u32, means: Means) -> Result<Queues, OutOfMemory>
+    requires some { 1 ≤ means.lanes }
+    requires few { means.lanes ≤ 65535 }
+    requires shallow { means.depth ≤ 64 }
+    ensures lanes { IfOk result (λ queues.
+        queues.lanes ≡ record { depth = means.depth; jobs = replicate means.lanes [] }) }
+    ensures acts { IfOk result (λ queues. queues.acts ≡ replicate count None) }
+{
+    let lanes = LaneQueues::make(alloc, means.lanes, means.depth)?;
+    let acts = ActQueues::make(alloc, count)?;
+    Ok(Queues { lanes, acts })
+}
+
+/// A place for the state of each task, and one for its outcome.
+#[derive(Drop)]
+struct Places {
+    slots: Vec<TaskSlot>,
+    outcomes: Vec<Option<Outcome>>,
+}
+
+fn make_places(alloc: Global, count: u32) -> Result<Places, OutOfMemory>
+    ensures slots { IfOk result (λ places. places.slots.items ≡ replicate count None) }
+    ensures outcomes { IfOk result (λ places. places.outcomes.items ≡ replicate count None) }
+{
+    let slots = empty_slots(alloc, count)?;
+    let outcomes = no_outcomes(alloc, count)?;
+    Ok(Places { slots, outcomes })
+}
+
 impl MoveCore {
     /// A run of so many tasks, of which nothing happened. It takes all the memory that it needs but that of the tasks'
     /// states.
@@ -103,13 +139,16 @@ impl MoveCore {
         ensures follows { IfOk result (λ core. (s : Shared) → IsSharedBy count means s → Follows s [] core) }
         ensures room { IfOk result (λ core. core.parts.pool.room ≡ means.room) }
     {
+        let queues = make_queues(alloc, count, means)?;
+        let places = make_places(alloc, count)?;
+        let parts = HeldParts::make(alloc, means.parts, means.room)?;
         Ok(MoveCore {
             queue: means.queue,
-            lanes: LaneQueues::make(alloc, means.lanes, means.depth)?,
-            acts: ActQueues::make(alloc, count)?,
-            slots: empty_slots(alloc, count)?,
-            outcomes: no_outcomes(alloc, count)?,
-            parts: HeldParts::make(alloc, means.parts, means.room)?,
+            lanes: queues.lanes,
+            acts: queues.acts,
+            slots: places.slots,
+            outcomes: places.outcomes,
+            parts,
             made: 0,
             lined: 0,
             unfinished: 0,

@@ -64,7 +64,6 @@ impl MoveCore {
     /// fails, but for jobs that are out.
     pub fn back(&mut self, lane: u32, carried: Carried)
         requires admitted { Admits (Back lane carried) self.old }
-        requires first { is_some carried.job.cell ≡ true → carried.job.had ≡ 0 }
         requires room { IfSome carried.job.part (λ part. self.old.parts.pool.room ≤ part.bytes.room) }
         ensures goes_on { GoesOn (Back lane carried) self.old self.new }
         ensures bytes { KeepsBytes (part_by carried) self.old.parts.slots self.new.parts.slots }

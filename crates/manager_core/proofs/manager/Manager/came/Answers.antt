@@ -9,7 +9,6 @@ use Rattle.s3_model.specs.declared.tries.Mark.{Mark}
 use Rattle.s3_model.specs.declared.bytes.Part.{Part}
 use Rattle.s3_model.specs.declared.outcomes.Event.TheVariants as entry
 use Rattle.s3_model.specs.declared.outcomes.JobId.{JobId}
-use Rattle.manager_core.proofs.FirstGivings.{had_none}
 use Rattle.manager_core.proofs.HappenedRuns.{back_run, back_runs, back_task, free_at, place_within}
 use Rattle.manager_core.proofs.RunLemmas.{has_room, with}
 use Rattle.manager_core.specs.declared.due.Due.{Due}
@@ -46,15 +45,6 @@ back-requires-clause-admitted c =
       follows = subst (λ (x : SeenManager). Follows r.s r.events x.moves) (sym c.self.view_is)
           (free_at r.start r.s r.events m running free).follows;
     }
-
-pub back-requires-clause-first : goal.back-requires-clause-first
-back-requires-clause-first c =
-    let r = c.requires.may in
-    let m = c.drop_move.new.self in
-    let running = c.drop_move.ensures.running r.start r.s r.events r.running in
-    had_none r.s r.events c.args.carried
-    (back_run r.start r.s r.events m running c.drop_move.ensures.free c.args.lane c.args.carried r.may).run.1
-    c.args.carried.job.id.task r.may.1
 
 pub back-requires-clause-room : goal.back-requires-clause-room
 back-requires-clause-room c =

@@ -9,7 +9,10 @@ use Rattle.task_acts.specs.Histories.{sent}
 use Rattle.task_acts.specs.Stages.{is_out}
 use Rattle.task_core.specs.Machine.{SeenTask, Stands}
 use Rattle.task_stages.specs.Stages.{stage_by}
+use Rattle.lane_givings.proofs.Kept.{had_none}
+use Rattle.manager_moves.proofs.ShareLaws.{shares_are_histories}
 use Rattle.manager_moves.specs.Laws.{IsOfTask}
+use Rattle.manager_moves.specs.Runs.{share}
 use Rattle.move_laws.proofs.JobsBack as returning
 use Rattle.move_laws.proofs.KeptBytes.{bytes_freed_where, bytes_then}
 use Rattle.move_laws.proofs.Open.{is_counted}
@@ -49,6 +52,14 @@ came-part-requires-clause-out c =
     (ap (λ (i : JobId). i.task) (sym c.id_of-id.ensures) ∙ c.in-Some.is)
     c.take_state-state.result.value
     (ap (λ (x : SeenMoves). state_at x c.in-Some.task) (sym c.pop.ensures) ∙ c.take_state-state.ensures.state))
+
+pub came-part-requires-clause-first : goal.came-part-requires-clause-first
+came-part-requires-clause-first c has =
+    let a = c.requires.admitted in
+    let its = subst (λ (o : Option ℕ). IsOfTask a.s a.events o c.args.carried)
+    (ap (λ (i : JobId). i.task) (sym c.id_of-id.ensures) ∙ c.in-Some.is) a.run.run.0.1 in
+    had_none its.0 (share its.0 c.in-Some.task a.events) c.args.carried
+    (shares_are_histories a.s a.events c.in-Some.task its.0 its.1 a.run.run.1) its.2 has
 
 pub bring-requires-clause-away : goal.bring-requires-clause-away
 bring-requires-clause-away c some =
