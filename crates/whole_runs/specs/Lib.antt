@@ -1,4 +1,5 @@
 pub mod Buffers
+pub mod Carried
 pub mod Ended
 pub mod Given
 pub mod Witness

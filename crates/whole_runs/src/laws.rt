@@ -1,6 +1,7 @@
 //! The laws, functions that do nothing.
 
 ghost use Rattle.whole_runs.specs.Buffers.{JournalsKeepParts};
+ghost use Rattle.whole_runs.specs.Carried.{CarriedJobsAreAsked, CarriedRunsAreAsked};
 ghost use Rattle.whole_runs.specs.Ended.{PlacesTellCancels, RunsAreWhole, RunsEndOver, RunsKeepWholeSchedule};
 ghost use Rattle.whole_runs.specs.Ended.{TasksKeepSchedule};
 ghost use Rattle.whole_runs.specs.Given.{JobsAreAsked, JobsAreFormed, JobsGoOn};
@@ -16,6 +17,13 @@ pub fn jobs_are_asked()
     ensures asked { JobsAreAsked }
     ensures go_on { JobsGoOn }
     ensures met { GivenAgainIsMet }
+{}
+
+/// A dispatch of a job that a lane carried asks what the job's task says, where the job was formed as the task says and
+/// its part had the bytes of its piece.
+pub fn carried_jobs_are_asked()
+    ensures jobs { CarriedJobsAreAsked }
+    ensures runs { CarriedRunsAreAsked }
 {}
 
 /// A run that the rule ends is over: each task was made, has its outcome and its line, and each job that was sent came

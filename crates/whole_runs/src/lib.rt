@@ -3,4 +3,4 @@
 
 mod laws;
 
-pub use laws::{ended_runs_keep_schedule, jobs_are_asked, runs_end_over};
+pub use laws::{carried_jobs_are_asked, ended_runs_keep_schedule, jobs_are_asked, runs_end_over};

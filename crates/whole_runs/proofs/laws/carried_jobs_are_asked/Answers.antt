@@ -1,0 +1,5 @@
+use Rattle.whole_runs.proofs.Carried.{carried_jobs_are_asked, carried_runs_are_asked}
+use Rattle.whole_runs.proofs.laws.carried_jobs_are_asked.Goals as goal
+
+pub returns : goal.returns
+returns c = record { jobs = carried_jobs_are_asked; runs = carried_runs_are_asked }
