@@ -54,6 +54,32 @@ fn time_listings<R: Runtime>(rt: &R, alloc: Global, reads: u32) -> io::Result<u8
     Ok(0)
 }
 
+/// How often a pattern was read, and how long that took in nanoseconds.
+fn time_reads<R: Runtime>(
+    rt: &R,
+    alloc: Global,
+    text: &str,
+    rounds: u32,
+) -> io::Result<Option<(u32, u128)>> {
+    let begun = Instant::now(rt)?;
+    let Ok(reads) = patterns::read_again(alloc, text, rounds) else {
+        return Ok(None);
+    };
+    Ok(Some((reads, begun.elapsed(rt)?.as_nanos())))
+}
+
+/// How often a pattern matched a path, and how long that took in nanoseconds.
+fn time_matches<R: Runtime>(
+    rt: &R,
+    pattern: &Pattern,
+    path: &str,
+    rounds: u32,
+) -> io::Result<(u32, u128)> {
+    let begun = Instant::now(rt)?;
+    let matched = patterns::match_again(pattern, path, rounds);
+    Ok((matched, begun.elapsed(rt)?.as_nanos()))
+}
+
 /// Prints how long it took to read a pattern that often, and to match it with a path.
 fn time_patterns<R: Runtime>(
     rt: &R,
@@ -62,24 +88,20 @@ fn time_patterns<R: Runtime>(
     path: &str,
     rounds: u32,
 ) -> io::Result<u8> {
-    let begun = Instant::now(rt)?;
-    let (Ok(reads), Ok(pattern)) = (
-        patterns::read_again(alloc, text, rounds),
-        Pattern::read(alloc, text),
-    ) else {
+    let Ok(pattern) = Pattern::read(alloc, text) else {
         return Ok(REFUSED);
     };
-    let read = begun.elapsed(rt)?.as_nanos();
-    let begun = Instant::now(rt)?;
-    let matched = patterns::match_again(&pattern, path, rounds);
-    let took = begun.elapsed(rt)?.as_nanos();
+    let Some((reads, read)) = time_reads(rt, alloc, text, rounds)? else {
+        return Ok(REFUSED);
+    };
+    let (matched, took) = time_matches(rt, &pattern, path, rounds)?;
     println!(rt; "{reads} {read} {took} {matched}")?;
     Ok(0)
 }
 
 fn show_listing<R: Runtime>(rt: &R, alloc: Global) -> io::Result<u8> {
     let text = listing(alloc)?;
-    println!(rt; "{text}")?;
+    rt.println(text.as_str())?;
     Ok(0)
 }
 
@@ -99,34 +121,66 @@ fn show_both<R: Runtime + Threads + Wait + Send + 'static>(
     }
 }
 
+fn word(words: &[String], place: usize) -> &str {
+    match words.get(place) {
+        Some(word) => word.as_str(),
+        None => "",
+    }
+}
+
+fn run_listings<R: Runtime>(rt: &R, alloc: Global, reads: &str) -> io::Result<u8> {
+    match reads.parse() {
+        Ok(reads) => time_listings(rt, alloc, reads),
+        Err(_) => Ok(REFUSED),
+    }
+}
+
+fn run_handovers<R: Runtime + Threads + Wait + Send + 'static>(
+    rt: &R,
+    alloc: Global,
+    lanes: &str,
+    jobs: &str,
+) -> io::Result<u8> {
+    match (lanes.parse(), jobs.parse()) {
+        (Ok(lanes), Ok(jobs)) => time_handovers(rt, alloc, lanes, jobs),
+        _ => Ok(REFUSED),
+    }
+}
+
+fn run_patterns<R: Runtime>(rt: &R, alloc: Global, words: &[String]) -> io::Result<u8> {
+    let (text, path) = (word(words, 1), word(words, 2));
+    match word(words, 3).parse() {
+        Ok(rounds) => time_patterns(rt, alloc, text, path, rounds),
+        Err(_) => Ok(REFUSED),
+    }
+}
+
+/// What the words ask for, by their number and the first of them.
 fn run<R: Runtime + Threads + Wait + Send + 'static>(
     rt: &R,
     alloc: Global,
     words: &[String],
 ) -> io::Result<u8> {
-    match words {
-        [] => show_both(rt, alloc),
-        [what] if what.as_str() == "listing" => show_listing(rt, alloc),
-        [what, reads] if what.as_str() == "listings" => match reads.parse() {
-            Ok(reads) => time_listings(rt, alloc, reads),
-            Err(_) => Ok(REFUSED),
-        },
-        [what, text, path, rounds] if what.as_str() == "patterns" => match rounds.parse() {
-            Ok(rounds) => time_patterns(rt, alloc, text.as_str(), path.as_str(), rounds),
-            Err(_) => Ok(REFUSED),
-        },
-        [what, lanes, jobs] if what.as_str() == "handovers" => match (lanes.parse(), jobs.parse()) {
-            (Ok(lanes), Ok(jobs)) => time_handovers(rt, alloc, lanes, jobs),
-            _ => Ok(REFUSED),
-        },
+    match (words.len(), word(words, 0)) {
+        (0, _) => show_both(rt, alloc),
+        (1, "listing") => show_listing(rt, alloc),
+        (2, "listings") => run_listings(rt, alloc, word(words, 1)),
+        (3, "handovers") => run_handovers(rt, alloc, word(words, 1), word(words, 2)),
+        (4, "patterns") => run_patterns(rt, alloc, words),
         _ => Ok(REFUSED),
     }
 }
 
-fn main(rt: HostRuntime) -> io::Result<ExitCode> {
+fn words_of(rt: &HostRuntime) -> io::Result<Vec<String>> {
     let mut words = Vec::new(rt.alloc());
-    for word in env::args(&rt)?.skip(1) {
+    for word in env::args(rt)?.skip(1) {
         words.push(word)?;
     }
-    Ok(ExitCode::from(run(&rt, rt.alloc(), &words)?))
+    Ok(words)
+}
+
+fn main(rt: HostRuntime) -> io::Result<ExitCode> {
+    let words = words_of(&rt)?;
+    let status = run(&rt, rt.alloc(), &words)?;
+    Ok(ExitCode::from(status))
 }
