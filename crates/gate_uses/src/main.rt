@@ -30,12 +30,15 @@ fn service(alloc: Global) -> Result<SharedTable, OutOfMemory> {
     table.share()
 }
 
-/// A gate that any request closes, and any request of another wire opens.
+/// What any request closes, and any request of another wire opens.
+fn gate(alloc: Global) -> Result<Gate, OutOfMemory> {
+    let first = Text::of(alloc, "")?;
+    let second = Text::of(alloc, "")?;
+    Ok(Gate { first, second })
+}
+
 fn gates(alloc: Global) -> Result<Vec<Gate>, OutOfMemory> {
-    let gate = Gate {
-        first: Text::of(alloc, "")?,
-        second: Text::of(alloc, "")?,
-    };
+    let gate = gate(alloc)?;
     Ok(vec![in alloc; gate]?)
 }
 
@@ -47,23 +50,89 @@ struct Wires<R: Wait + Clock> {
     table: SharedTable,
 }
 
+/// What became of both uploads.
+#[derive(Clone, Copy)]
+struct Ends {
+    one: &'static str,
+    two: &'static str,
+}
+
+/// The wire with the gate.
+fn gate_wire<R>(rt: &R, alloc: Global, table: &SharedTable) -> Result<GateWire<R>, OutOfMemory>
+where
+    R: Wait + Clock + Clone + Drop,
+{
+    let gates = gates(alloc)?;
+    let table = Arc::try_clone(table)?;
+    let runtime = rt.clone()?;
+    GateWire::make(alloc, runtime, table, MOMENT, gates)
+}
+
+/// The wire without one.
+fn plain_wire<R>(rt: &R, alloc: Global, table: &SharedTable) -> Result<MemWire<R>, OutOfMemory>
+where
+    R: Wait + Clone + Drop,
+{
+    let table = Arc::try_clone(table)?;
+    let runtime = rt.clone()?;
+    Ok(MemWire::make(alloc, runtime, table, MOMENT))
+}
+
 impl<R: Wait + Clock + Clone + Drop> Wires<R> {
     fn make(rt: &R, alloc: Global) -> Result<Wires<R>, OutOfMemory> {
         let table = service(alloc)?;
-        let (one, two) = (Arc::try_clone(&table)?, Arc::try_clone(&table)?);
+        let first = gate_wire(rt, alloc, &table)?;
+        let second = plain_wire(rt, alloc, &table)?;
         Ok(Wires {
-            first: GateWire::make(alloc, rt.clone()?, one, MOMENT, gates(alloc)?)?,
-            second: MemWire::make(alloc, rt.clone()?, two, MOMENT),
+            first,
+            second,
             table,
         })
     }
 
-    /// What the wires and the service show.
-    fn shown(&self, rt: &R, alloc: Global) -> Result<String, OutOfMemory> {
-        let (talks, faults) = (self.first.talks().len(), self.first.faults());
-        let (beside, requests) = (self.second.talks().len(), self.table.lock(rt).requests());
-        Ok(format!(in alloc; "talks {talks} and {beside} faults {faults} requests {requests}")?)
+    /// Both uploads at once, and what became of each.
+    fn upload_at_once(&mut self, rt: &R, alloc: Global) -> Ends
+    where
+        R: Threads + Send + Sync,
+    {
+        let (first, second) = (&mut self.first, &mut self.second);
+        let (one, two) = join(
+            rt,
+            || uploaded(alloc, first, "1"),
+            || uploaded(alloc, second, "2"),
+        );
+        Ends { one, two }
     }
+
+    /// One upload after the other, and what became of each.
+    fn upload_in_turn(&mut self, alloc: Global) -> Ends {
+        let one = uploaded(alloc, &mut self.first, "1");
+        let two = uploaded(alloc, &mut self.second, "2");
+        Ends { one, two }
+    }
+
+    /// How many requests the service had.
+    fn requests(&self, rt: &R) -> u64 {
+        self.table.lock(rt).requests()
+    }
+
+    /// What the wires and the service show.
+    fn shown(&self, rt: &R, alloc: Global) -> Result<String, AllocError> {
+        let (talks, beside) = (self.first.talks().len(), self.second.talks().len());
+        let (faults, requests) = (self.first.faults(), self.requests(rt));
+        format!(in alloc; "talks {talks} and {beside} faults {faults} requests {requests}")
+    }
+
+    /// What became of both uploads, and what the wires and the service show.
+    fn told(&self, rt: &R, alloc: Global, how: &str, ends: Ends) -> Result<String, AllocError> {
+        let shown = self.shown(rt, alloc)?;
+        line(alloc, how, ends, shown.as_str())
+    }
+}
+
+fn line(alloc: Global, how: &str, ends: Ends, shown: &str) -> Result<String, AllocError> {
+    let Ends { one, two } = ends;
+    format!(in alloc; "{how}: {one}, {two}, {shown}")
 }
 
 /// Both uploads at once.
@@ -72,30 +141,26 @@ where
     R: Threads + Wait + Clock + Clone + Send + Sync + Drop,
 {
     let mut wires = Wires::make(rt, alloc)?;
-    let (first, second) = (&mut wires.first, &mut wires.second);
-    let (one, two) = join(
-        rt,
-        || uploaded(alloc, first, "1"),
-        || uploaded(alloc, second, "2"),
-    );
-    let shown = wires.shown(rt, alloc)?;
-    Ok(format!(in alloc; "in threads: {one}, {two}, {shown}")?)
+    let ends = wires.upload_at_once(rt, alloc);
+    Ok(wires.told(rt, alloc, "in threads", ends)?)
 }
 
 /// One upload after the other.
 fn in_turn<R: Wait + Clock + Clone + Drop>(rt: &R, alloc: Global) -> Result<String, OutOfMemory> {
     let mut wires = Wires::make(rt, alloc)?;
-    let one = uploaded(alloc, &mut wires.first, "1");
-    let two = uploaded(alloc, &mut wires.second, "2");
-    let shown = wires.shown(rt, alloc)?;
-    Ok(format!(in alloc; "in turn: {one}, {two}, {shown}")?)
+    let ends = wires.upload_in_turn(alloc);
+    Ok(wires.told(rt, alloc, "in turn", ends)?)
+}
+
+/// Prints a line that was made.
+fn show(rt: &HostRuntime, line: Result<String, OutOfMemory>) -> io::Result<()> {
+    match line {
+        Ok(line) => println!(rt; "{line}"),
+        Err(OutOfMemory) => Err(AllocError.into()),
+    }
 }
 
 fn main(rt: HostRuntime) -> io::Result<()> {
-    let alloc = rt.alloc();
-    let (Ok(beside), Ok(after)) = (in_threads(&rt, alloc), in_turn(&rt, alloc)) else {
-        return Err(AllocError.into());
-    };
-    println!(rt; "{beside}")?;
-    println!(rt; "{after}")
+    show(&rt, in_threads(&rt, rt.alloc()))?;
+    show(&rt, in_turn(&rt, rt.alloc()))
 }
