@@ -31,7 +31,6 @@ use Rattle.step_jobs.specs.declared.step_jobs.Given.{Given}
 use Rattle.step_laws.specs.Following.{HoldsShares, IsTakenFor}
 use Rattle.task_acts.specs.declared.acts.Act.TheVariants as act
 use Rattle.task_acts.specs.declared.work.Work.{Work}
-use Rattle.task_acts.specs.Histories.{History}
 use Rattle.task_acts.specs.Kept.{kept_job, upload_of}
 use Rattle.manager_core.proofs.FormedJobs.{can_form, first_job}
 use Rattle.manager_core.proofs.FormedRuns.{again_runs, first_runs}

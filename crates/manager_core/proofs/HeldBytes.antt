@@ -1,6 +1,6 @@
 -- Which parts pieces have here after the calls of a run.
-use Rattle.std.proofs.Common.{◌≡◌, ◌∙◌, ◌==◌, ◌&&◌, ◌≤◌, ◌*◌, ◌-◌, ℕ, Bool, true, false, List, Option, Some, None}
-use Rattle.std.proofs.Common.{IfSome, refl, sym, subst, ap, arith, if◌then◌else◌}
+use Rattle.std.proofs.Common.{◌≡◌, ◌∙◌, ◌==◌, ◌&&◌, ◌≤◌, ℕ, Bool, Option, Some, None}
+use Rattle.std.proofs.Common.{IfSome, sym, subst, ap, arith, if◌then◌else◌}
 use Rattle.std.specs.Option.{option_or}
 use Rattle.held_parts.specs.Held.{here_at, held_at, inner}
 use Rattle.manager_moves.proofs.HoldLemmas.{same_number}

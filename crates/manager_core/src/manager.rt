@@ -90,9 +90,9 @@ fn make_rooms(alloc: Global, count: u32, means: Means) -> Result<Rooms, OutOfMem
     ensures outcomes { IfOk result (λ rooms. count ≤ rooms.outcomes.spare) }
 {
     Ok(Rooms {
-        moves: MoveCore::make(alloc, count, means)?,
         steps: no_steps(alloc, count)?,
         outcomes: no_outcomes(alloc, count)?,
+        moves: MoveCore::make(alloc, count, means)?,
     })
 }
 

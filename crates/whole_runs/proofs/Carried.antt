@@ -1,6 +1,6 @@
 -- What a lane asks for a job that was formed as its task says.
-use Rattle.std.proofs.Common.{◌≡◌, ◌∙◌, ◌==◌, ◌&&◌, ◌*◌, ◌-◌, ◌<◌, ◌≤◌, ℕ, Bool, true, false, List, Option, Some, None}
-use Rattle.std.proofs.Common.{refl, sym, subst, ap, arith, inl, inr, min, nat_lt, slice_get, if◌then◌else◌}
+use Rattle.std.proofs.Common.{◌≡◌, ◌∙◌, ◌==◌, ◌*◌, ◌-◌, ◌<◌, ℕ, Bool, true, false, List, Option, Some, None}
+use Rattle.std.proofs.Common.{refl, sym, subst, ap, arith, inl, inr, min, if◌then◌else◌}
 use Rattle.std.proofs.lemmas.Bool.{and_parts, eqb-true, ltb-true}
 use Rattle.std.specs.Arc.{arc_value}
 use Rattle.std.specs.Prelude.{unwrap_or}
@@ -36,7 +36,7 @@ use Rattle.task_acts.specs.declared.acts.Act.{Act}
 use Rattle.task_acts.specs.declared.acts.Act.TheVariants as act
 use Rattle.task_acts.specs.declared.acts.Stage.{Stage}
 use Rattle.task_acts.specs.declared.work.Work.{Work}
-use Rattle.task_progress.proofs.Endings.{chosen, no, skipped}
+use Rattle.task_progress.proofs.Endings.{no}
 use Rattle.task_progress.proofs.PieceNumbers.{of_part}
 use Rattle.task_schedule.specs.Asks.{IsBodyOf}
 use Rattle.whole_runs.proofs.Asked.{jobs_are_formed}

@@ -1,4 +1,4 @@
-use Rattle.std.proofs.Common.{◌≡◌, ◌∙◌, ◌∷◌, List, Option, None, refl, sym, subst, arith, get_or}
+use Rattle.std.proofs.Common.{◌∙◌, ◌∷◌, Option, None, refl, sym, subst, arith}
 use Rattle.manager_moves.specs.Runs.{Sent}
 use Rattle.step_jobs.specs.Shares.{SeenSteps}
 use Rattle.step_jobs.specs.declared.step_jobs.Given.{Given}
