@@ -1,20 +1,20 @@
 //! Workers are in threads of their own: two jobs that wait for each other both end.
 
-ghost use Rattle.std.specs.Prelude.{◌≡◌, ◌≤◌};
+ghost use Rattle.std.specs.Prelude.{◌≡◌, ◌≤◌, IfOk, vec_len};
 ghost use Rattle.bounded_executor.specs.Desk.{SameDesk};
 
-use super::carriers::take_all;
+use crate::carriers::take_all;
 use bounded_executor::{Boss, Desk, Worker, with_workers};
+use std::alloc::{AllocError, Global};
 use std::sync::atomic::{AtomicU32, Ordering};
 use std::sync::{Arc, Wait};
-use std::test::Fail;
-use std::thread;
+use std::thread::{self, Threads};
 use std::time::Duration;
 
 // Waits until both jobs were begun, for at most 20,000 turns of a millisecond, and says whether they were.
 #[derive(Drop)]
 struct Meeter {
-    rt: HostRuntime,
+    clock: HostRuntime,
     begun: Arc<AtomicU32>,
 }
 
@@ -31,7 +31,7 @@ impl Worker for Meeter {
             if self.begun.load(Ordering::SeqCst) == 2 {
                 return true;
             }
-            thread::sleep(&self.rt, Duration::from_millis(1));
+            thread::sleep(&self.clock, Duration::from_millis(1));
         }
         false
     }
@@ -56,23 +56,33 @@ impl Boss<Meeter> for OneEach {
     }
 }
 
-#[test]
-fn two_jobs_that_wait_for_each_other_meet(rt: HostRuntime) -> Result<(), Fail> {
-    let alloc = rt.alloc();
+fn meeters(alloc: Global, clock: HostRuntime) -> Result<Vec<Meeter>, AllocError>
+    ensures { IfOk result (λ workers. vec_len workers ≡ 2) }
+{
     let begun = Arc::new(alloc, AtomicU32::new(0))?;
     let mut workers = Vec::new(alloc);
-    for _made in 0..2 {
+    for _made in 0..2u32 {
         let begun = Arc::try_clone(&begun)?;
-        workers.push(Meeter { rt, begun })?;
+        workers.push(Meeter { clock, begun })?;
     }
-    assert!(rt; workers.len() == 2);
+    Ok(workers)
+}
+
+fn outcomes_shown(alloc: Global, taken: &[(u32, bool)]) -> Result<String, AllocError> {
+    let met = taken.iter().all(|(_, met)| *met);
+    format!(in alloc; "{} met {met}", taken.len())
+}
+
+/// How many jobs came back, and whether each has met the other.
+pub(crate) fn meet<R: Threads + Wait + Clone + Send + Drop + 'static>(
+    rt: &R,
+    alloc: Global,
+    clock: HostRuntime,
+) -> Result<String, AllocError> {
+    let mut workers = meeters(alloc, clock)?;
     let mut boss = OneEach {
         taken: Vec::new(alloc),
     };
-    with_workers(&rt, alloc, &mut workers, 1, &mut boss)?;
-    assert_eq!(rt; boss.taken.len(), 2);
-    for (lane, met) in &boss.taken {
-        assert!(rt; *met, "the job of lane {lane} was alone");
-    }
-    Ok(())
+    with_workers(rt, alloc, &mut workers, 1, &mut boss)?;
+    outcomes_shown(alloc, &boss.taken)
 }

@@ -1,4 +1,4 @@
-//! Workers of the tests, and what takes their outcomes back.
+//! Workers that double, and what takes their outcomes back.
 
 ghost use Rattle.std.specs.Prelude.{◌≡◌, ◌*◌, IfOk, vec_len};
 ghost use Rattle.bounded_executor.specs.Desk.{SameDesk, all_out};
@@ -9,8 +9,8 @@ use std::sync::Wait;
 
 /// Keeps each job, and answers it doubled.
 #[derive(Debug, Drop)]
-pub(super) struct Doubler {
-    pub(super) seen: Vec<u32>,
+pub(crate) struct Doubler {
+    pub(crate) seen: Vec<u32>,
 }
 
 impl Worker for Doubler {
@@ -26,7 +26,7 @@ impl Worker for Doubler {
     }
 }
 
-pub(super) fn doublers(alloc: Global, count: u32) -> Result<Vec<Doubler>, AllocError>
+pub(crate) fn doublers(alloc: Global, count: u32) -> Result<Vec<Doubler>, AllocError>
     ensures { IfOk result (λ workers. vec_len workers ≡ count) }
 {
     let mut workers = Vec::new(alloc);
@@ -39,7 +39,7 @@ pub(super) fn doublers(alloc: Global, count: u32) -> Result<Vec<Doubler>, AllocE
 }
 
 /// Takes an outcome, if a job is out, with the number of its lane.
-pub(super) fn take_one<R: Wait, W: Worker>(
+pub(crate) fn take_one<R: Wait, W: Worker>(
     rt: &R,
     desk: &mut Desk<W>,
     taken: &mut Vec<(u32, W::Done)>,
@@ -51,7 +51,7 @@ pub(super) fn take_one<R: Wait, W: Worker>(
     }
 }
 
-pub(super) fn take_all<R: Wait, W: Worker>(
+pub(crate) fn take_all<R: Wait, W: Worker>(
     rt: &R,
     desk: &mut Desk<W>,
     taken: &mut Vec<(u32, W::Done)>,

@@ -1,5 +1,5 @@
 use Rattle.bounded_executor.specs.Desk.{SameDesk}
-use Rattle.executor_uses.proofs.tests.lanes.InTurnBossDoubler.direct.Given as goal
+use Rattle.executor_rows.proofs.lanes.ByNumberBossDoubler.direct.Given as goal
 
 abbrev pub invariant-loop-job : goal.invariant-loop-job
 invariant-loop-job g l = SameDesk l.initial.desk l.desk
