@@ -1,8 +1,9 @@
 //! Environments.
 
-use crate::lines::{no_memory, numbers, push_answer, word_and_rest};
+use crate::lines::{Called, answers_of, numbers, word_and_rest};
 use outside_memory::MemEnv;
 use outside_system::RealEnv;
+use s3_model::OutOfMemory;
 use s3_outside::{Env, EnvFault, S3_LIMITS};
 use std::alloc::{AllocError, Global};
 use std::{fs, io};
@@ -20,60 +21,96 @@ fn length<E: Env>(env: &mut E, alloc: Global, path: &str) -> Result<Option<usize
     Ok(env.file(alloc, path)?.map(|bytes| bytes.len()))
 }
 
+fn file<E: Env>(env: &mut E, alloc: Global, path: &str) -> Result<String, AllocError> {
+    format!(in alloc; "{:?}", length(env, alloc, path))
+}
+
+fn parts<E: Env>(env: &mut E, alloc: Global) -> Result<String, AllocError> {
+    format!(in alloc; "{}", env.limits().max_parts)
+}
+
 fn answer_of<E: Env>(env: &mut E, alloc: Global, call: &str) -> Result<String, AllocError> {
     let (name, text) = word_and_rest(call);
     match name {
         "word" => word(env, alloc, text),
-        "file" => format!(in alloc; "{:?}", length(env, alloc, text)),
-        "parts" => format!(in alloc; "{}", env.limits().max_parts),
+        "file" => file(env, alloc, text),
+        "parts" => parts(env, alloc),
         _ => String::from_str(alloc, "?"),
     }
 }
 
-/// Sets a variable, or puts a file of so many bytes.
-fn prepare(env: &mut MemEnv, alloc: Global, call: &str) -> io::Result<bool> {
-    let (name, rest) = word_and_rest(call);
-    let (key, value) = word_and_rest(rest);
-    match name {
-        "set" => env.set(alloc, key, value).map_err(no_memory)?,
-        "put" => {
-            let bytes = vec![in alloc; 7u8; value.parse::<usize>().unwrap_or(0)]?;
-            env.put_file(alloc, key, bytes).map_err(no_memory)?;
-        }
-        _ => return Ok(false),
-    }
-    Ok(true)
+/// An environment in memory.
+#[derive(Drop)]
+struct InMemory {
+    env: MemEnv,
 }
 
-fn memory_answer(env: &mut MemEnv, alloc: Global, call: &str) -> io::Result<String> {
-    if prepare(env, alloc, call)? {
-        return Ok(String::from_str(alloc, "made")?);
+impl InMemory {
+    /// Sets a variable.
+    fn set(&mut self, alloc: Global, given: &str) -> Result<(), OutOfMemory> {
+        let (name, value) = word_and_rest(given);
+        self.env.set(alloc, name, value)
     }
-    if call == "asked" {
-        return Ok(format!(in alloc; "{}", env.asked().len())?);
+
+    /// Puts a file of so many bytes.
+    fn put(&mut self, alloc: Global, given: &str) -> Result<(), OutOfMemory> {
+        let (path, count) = word_and_rest(given);
+        let bytes = vec![in alloc; 7u8; count.parse::<usize>().unwrap_or(0)]?;
+        self.env.put_file(alloc, path, bytes)
     }
-    Ok(answer_of(env, alloc, call)?)
+
+    fn asked(&self, alloc: Global) -> Result<String, AllocError> {
+        format!(in alloc; "{}", self.env.asked().len())
+    }
+}
+
+fn made(alloc: Global, came: Result<(), OutOfMemory>) -> Result<String, AllocError> {
+    match came {
+        Ok(()) => String::from_str(alloc, "made"),
+        Err(OutOfMemory) => Err(AllocError),
+    }
+}
+
+impl Called for InMemory {
+    fn answer(&mut self, alloc: Global, call: &str) -> io::Result<String> {
+        let (name, given) = word_and_rest(call);
+        let answer = match name {
+            "set" => made(alloc, self.set(alloc, given)),
+            "put" => made(alloc, self.put(alloc, given)),
+            "asked" => self.asked(alloc),
+            _ => answer_of(&mut self.env, alloc, call),
+        };
+        Ok(answer?)
+    }
+}
+
+/// The environment of the system.
+#[derive(Drop)]
+struct OfTheSystem {
+    env: RealEnv<HostRuntime>,
+}
+
+impl Called for OfTheSystem {
+    fn answer(&mut self, alloc: Global, call: &str) -> io::Result<String> {
+        Ok(answer_of(&mut self.env, alloc, call)?)
+    }
 }
 
 fn in_memory(alloc: Global, failing: &str, calls: &str) -> io::Result<String> {
-    let mut env = MemEnv::make_failing(alloc, S3_LIMITS, numbers(alloc, failing)?);
-    let mut shown = String::new(alloc);
-    for call in calls.split("; ") {
-        let answer = memory_answer(&mut env, alloc, call)?;
-        push_answer(&mut shown, call, answer.as_str())?;
-    }
-    Ok(shown)
+    let failing = numbers(alloc, failing)?;
+    let mut memory = InMemory {
+        env: MemEnv::make_failing(alloc, S3_LIMITS, failing),
+    };
+    answers_of(&mut memory, alloc, calls)
 }
 
 /// The environment of the system, in which a settings file is made.
 fn of_the_system(rt: &HostRuntime, calls: &str) -> io::Result<String> {
     fs::write(rt, "settings.bin", "hello")?;
-    let mut env = RealEnv::new(rt.clone()?);
-    let mut shown = String::new(rt.alloc());
-    for call in calls.split("; ") {
-        let answer = answer_of(&mut env, rt.alloc(), call)?;
-        push_answer(&mut shown, call, answer.as_str())?;
-    }
+    let mut system = OfTheSystem {
+        env: RealEnv::new(rt.clone()?),
+    };
+    let shown = answers_of(&mut system, rt.alloc(), calls)?;
     fs::remove_file(rt, "settings.bin")?;
     Ok(shown)
 }

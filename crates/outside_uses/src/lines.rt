@@ -1,12 +1,7 @@
 //! What lines spell, and how answers are shown.
 
-use s3_model::OutOfMemory;
 use std::alloc::{AllocError, Global};
 use std::io;
-
-pub(crate) fn no_memory(_: OutOfMemory) -> io::Error {
-    AllocError.into()
-}
 
 /// The word in front of the first space, and the rest.
 pub(crate) fn word_and_rest(text: &str) -> (&str, &str) {
@@ -26,15 +21,7 @@ pub(crate) fn numbers(alloc: Global, text: &str) -> Result<Vec<usize>, AllocErro
 
 /// The text with each `¶` as the end of a line of HTTP.
 pub(crate) fn http(alloc: Global, text: &str) -> Result<String, AllocError> {
-    let mut out = String::new(alloc);
-    for letter in text.chars() {
-        if letter == '¶' {
-            out.push_str("\r\n")?;
-        } else {
-            out.push(letter)?;
-        }
-    }
-    Ok(out)
+    text.replace(alloc, '¶', "\r\n")
 }
 
 /// Bytes that came, where a call succeeded.
@@ -51,4 +38,23 @@ pub(crate) fn push_answer(shown: &mut String, call: &str, answer: &str) -> Resul
         shown.push_str(piece)?;
     }
     Ok(())
+}
+
+/// What a line calls.
+pub(crate) trait Called {
+    fn answer(&mut self, alloc: Global, call: &str) -> io::Result<String>;
+}
+
+/// Calls in their order, each with its answer.
+pub(crate) fn answers_of<C: Called>(
+    called: &mut C,
+    alloc: Global,
+    calls: &str,
+) -> io::Result<String> {
+    let mut shown = String::new(alloc);
+    for call in calls.split("; ") {
+        let answer = called.answer(alloc, call)?;
+        push_answer(&mut shown, call, answer.as_str())?;
+    }
+    Ok(shown)
 }

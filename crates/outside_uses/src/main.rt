@@ -35,7 +35,7 @@ fn main(rt: HostRuntime) -> io::Result<()> {
     for line in rt.lines(rt.alloc()) {
         let line = line?;
         let row = row_of(&rt, line.as_str())?;
-        println!(rt; "{row}")?;
+        rt.println(row.as_str())?;
     }
     Ok(())
 }

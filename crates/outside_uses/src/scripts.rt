@@ -1,8 +1,8 @@
 //! Wires that play a script.
 
-use crate::lines::{bytes_shown, push_answer, word_and_rest};
+use crate::lines::{Called, answers_of, bytes_shown, word_and_rest};
 use crate::wires::{MOMENT, answer_of};
-use outside_memory::{ScriptWire, TalkEnding, WireCall};
+use outside_memory::{ScriptWire, TalkRecord, WireCall};
 use std::alloc::{AllocError, Global};
 use std::io;
 
@@ -25,43 +25,69 @@ fn made(alloc: Global, failing: &str) -> Result<ScriptWire, AllocError> {
     Ok(ScriptWire::make(alloc, answers, calls, MOMENT))
 }
 
-/// What came in a talk.
-fn got(wire: &ScriptWire, alloc: Global, text: &str) -> Result<String, AllocError> {
-    match wire.talks().get(text.parse::<usize>().unwrap_or(0)) {
-        Some(talk) => bytes_shown(alloc, talk.got.as_slice()),
-        None => String::from_str(alloc, "None"),
+/// A wire in memory, as a line calls it.
+#[derive(Drop)]
+struct Script {
+    wire: ScriptWire,
+}
+
+impl Script {
+    /// The talk of that number.
+    fn talk(&self, number: &str) -> Option<&TalkRecord> {
+        self.wire.talks().get(number.parse::<usize>().unwrap_or(0))
+    }
+
+    /// What came in a talk.
+    fn got(&self, alloc: Global, number: &str) -> Result<String, AllocError> {
+        match self.talk(number) {
+            Some(talk) => bytes_shown(alloc, talk.got.as_slice()),
+            None => String::from_str(alloc, "None"),
+        }
+    }
+
+    /// How a talk ended.
+    fn ending(&self, alloc: Global, number: &str) -> Result<String, AllocError> {
+        let ending = match self.talk(number) {
+            Some(talk) => Some(talk.ending),
+            None => None,
+        };
+        format!(in alloc; "{ending:?}")
+    }
+
+    fn alive(&self) -> &'static str {
+        if self.wire.is_alive() {
+            "true"
+        } else {
+            "false"
+        }
+    }
+
+    fn notes(&self, alloc: Global) -> Result<String, AllocError> {
+        format!(in alloc; "{}", self.wire.notes().len())
     }
 }
 
-/// How a talk ended.
-fn ending(wire: &ScriptWire, text: &str) -> Option<TalkEnding> {
-    match wire.talks().get(text.parse::<usize>().unwrap_or(0)) {
-        Some(talk) => Some(talk.ending),
-        None => None,
-    }
-}
-
-fn script_answer(wire: &mut ScriptWire, alloc: Global, call: &str) -> Result<String, AllocError> {
-    let (name, text) = word_and_rest(call);
-    match name {
-        "alive" => format!(in alloc; "{}", wire.is_alive()),
-        "notes" => format!(in alloc; "{}", wire.notes().len()),
-        "got" => got(wire, alloc, text),
-        "ending" => format!(in alloc; "{:?}", ending(wire, text)),
-        _ => answer_of(wire, alloc, ("localhost", 9000), call),
+impl Called for Script {
+    fn answer(&mut self, alloc: Global, call: &str) -> io::Result<String> {
+        let (name, text) = word_and_rest(call);
+        let answer = match name {
+            "alive" => String::from_str(alloc, self.alive()),
+            "notes" => self.notes(alloc),
+            "got" => self.got(alloc, text),
+            "ending" => self.ending(alloc, text),
+            _ => answer_of(&mut self.wire, alloc, ("localhost", 9000), call),
+        };
+        Ok(answer?)
     }
 }
 
 /// The answers of a wire in whose script a call fails, or which moves at most two bytes at a time.
 pub(crate) fn answers(alloc: Global, how: &str, calls: &str) -> io::Result<String> {
-    let mut wire = made(alloc, how)?;
+    let mut script = Script {
+        wire: made(alloc, how)?,
+    };
     if how == "short" {
-        wire.move_at_most(2);
+        script.wire.move_at_most(2);
     }
-    let mut shown = String::new(alloc);
-    for call in calls.split("; ") {
-        let answer = script_answer(&mut wire, alloc, call)?;
-        push_answer(&mut shown, call, answer.as_str())?;
-    }
-    Ok(shown)
+    answers_of(&mut script, alloc, calls)
 }

@@ -1,6 +1,6 @@
 //! Wires over sockets. The system completes a connection before it is accepted, so one thread plays both sides.
 
-use crate::lines::{bytes_shown, http, push_answer, word_and_rest};
+use crate::lines::{Called, answers_of, bytes_shown, http, word_and_rest};
 use crate::wires::answer_of;
 use outside_system::SocketWire;
 use s3_outside::Wire;
@@ -8,10 +8,10 @@ use std::alloc::Global;
 use std::io::{self, Read, Write};
 use std::net::{TcpListener, TcpStream};
 
-/// A service on this machine, and the connection that it took last.
+/// A service on this machine, and the connection that it took last. Where it does not listen, connections are refused.
 #[derive(Drop)]
 struct Service {
-    listener: TcpListener,
+    listener: Option<TcpListener>,
     port: u16,
     peer: Option<TcpStream>,
 }
@@ -20,7 +20,7 @@ fn started(rt: &HostRuntime) -> io::Result<Service> {
     let listener = TcpListener::bind(rt, "127.0.0.1:0")?;
     let port = listener.local_addr()?.port();
     Ok(Service {
-        listener,
+        listener: Some(listener),
         port,
         peer: None,
     })
@@ -28,8 +28,10 @@ fn started(rt: &HostRuntime) -> io::Result<Service> {
 
 impl Service {
     fn accept(&mut self) -> io::Result<()> {
-        let (peer, _) = self.listener.accept()?;
-        self.peer = Some(peer);
+        if let Some(listener) = &self.listener {
+            let (peer, _) = listener.accept()?;
+            self.peer = Some(peer);
+        }
         Ok(())
     }
 
@@ -49,97 +51,93 @@ impl Service {
             None => Ok(()),
         }
     }
+
+    fn close(&mut self) {
+        self.peer = None;
+    }
+
+    /// Says this and closes with bytes unread, which resets the connection.
+    fn refuse(&mut self, said: &str) -> io::Result<()> {
+        self.accept()?;
+        self.say(said.as_bytes())?;
+        self.close();
+        Ok(())
+    }
 }
 
-/// Has the service say this and close with bytes unread, which resets the connection.
-fn refuse(service: &mut Service, said: &str) -> io::Result<()> {
-    service.accept()?;
-    service.say(said.as_bytes())?;
-    service.peer = None;
-    Ok(())
+/// A wire, and the service that it talks with.
+#[derive(Drop)]
+struct Played {
+    wire: SocketWire<HostRuntime>,
+    service: Service,
 }
 
-/// Whether bytes count as sent and the front of what the service said comes, after it has refused early.
-fn is_heard<W: Wire>(wire: &mut W, service: &mut Service, said: &str) -> io::Result<bool> {
-    let begun = wire.begin("127.0.0.1", service.port).is_ok() && wire.send(b"ping").is_ok();
-    refuse(service, said)?;
+fn has_begun<W: Wire>(wire: &mut W, port: u16) -> bool {
+    wire.begin("127.0.0.1", port).is_ok() && wire.send(b"ping").is_ok()
+}
+
+/// Whether bytes count as sent, and what comes is the front of what the service said.
+fn is_answered<W: Wire>(wire: &mut W, said: &str) -> bool {
     let sent = wire.send(b"pong");
     let mut into = [0u8; 12];
     let got = wire.take(&mut into);
     wire.finish(true);
-    Ok(begun && sent == Ok(4) && got == Ok(12) && said.as_bytes().starts_with(&into))
+    sent == Ok(4) && got == Ok(12) && said.as_bytes().starts_with(&into)
 }
 
-/// Has the service act; false where the call is none of its own.
-fn act(service: &mut Service, call: &str) -> io::Result<bool> {
-    let (name, text) = word_and_rest(call);
-    match name {
-        "accept" => service.accept()?,
-        "say" => service.say(text.as_bytes())?,
-        "close" => service.peer = None,
-        _ => return Ok(false),
+impl Played {
+    /// Whether the front of what the service said comes, after it has refused early.
+    fn heard(&mut self, alloc: Global, text: &str) -> io::Result<String> {
+        let said = http(alloc, text)?;
+        let begun = has_begun(&mut self.wire, self.service.port);
+        self.service.refuse(said.as_str())?;
+        let heard = begun && is_answered(&mut self.wire, said.as_str());
+        Ok(String::from_str(alloc, if heard { "true" } else { "false" })?)
     }
-    Ok(true)
+
+    /// What the wire answers.
+    fn called(&mut self, alloc: Global, call: &str) -> io::Result<String> {
+        let service = ("127.0.0.1", self.service.port);
+        Ok(answer_of(&mut self.wire, alloc, service, call)?)
+    }
 }
 
-fn socket_answer<W: Wire>(
-    wire: &mut W,
-    alloc: Global,
-    service: &mut Service,
-    call: &str,
-) -> io::Result<String> {
-    if act(service, call)? {
-        return Ok(String::from_str(alloc, "done")?);
-    }
-    let (name, text) = word_and_rest(call);
-    match name {
-        "hear" => service.hear(alloc),
-        "heard" => {
-            let said = http(alloc, text)?;
-            let heard = is_heard(wire, service, said.as_str())?;
-            Ok(format!(in alloc; "{heard}")?)
+fn done(alloc: Global, came: io::Result<()>) -> io::Result<String> {
+    came?;
+    Ok(String::from_str(alloc, "done")?)
+}
+
+impl Called for Played {
+    fn answer(&mut self, alloc: Global, call: &str) -> io::Result<String> {
+        let (name, text) = word_and_rest(call);
+        match name {
+            "accept" => done(alloc, self.service.accept()),
+            "say" => done(alloc, self.service.say(text.as_bytes())),
+            "close" => {
+                self.service.close();
+                done(alloc, Ok(()))
+            }
+            "hear" => self.service.hear(alloc),
+            "heard" => self.heard(alloc, text),
+            _ => self.called(alloc, call),
         }
-        _ => Ok(answer_of(wire, alloc, ("127.0.0.1", service.port), call)?),
     }
 }
 
-fn wire_of(rt: &HostRuntime, how: &str) -> io::Result<SocketWire<HostRuntime>> {
-    let rt = rt.clone()?;
-    Ok(match how {
+fn wire_of(rt: HostRuntime, how: &str) -> SocketWire<HostRuntime> {
+    match how {
         "impatient" => SocketWire::with_limit(rt, 1),
         _ => SocketWire::new(rt),
-    })
-}
-
-fn played(rt: &HostRuntime, how: &str, service: &mut Service, calls: &str) -> io::Result<String> {
-    let alloc = rt.alloc();
-    let mut wire = wire_of(rt, how)?;
-    let mut shown = String::new(alloc);
-    for call in calls.split("; ") {
-        let answer = socket_answer(&mut wire, alloc, service, call)?;
-        push_answer(&mut shown, call, answer.as_str())?;
     }
-    Ok(shown)
-}
-
-/// The calls of a wire whose service does not listen.
-fn refused(rt: &HostRuntime, port: u16, calls: &str) -> io::Result<String> {
-    let alloc = rt.alloc();
-    let mut wire = wire_of(rt, "")?;
-    let mut shown = String::new(alloc);
-    for call in calls.split("; ") {
-        let answer = answer_of(&mut wire, alloc, ("127.0.0.1", port), call)?;
-        push_answer(&mut shown, call, answer.as_str())?;
-    }
-    Ok(shown)
 }
 
 pub(crate) fn answers(rt: &HostRuntime, how: &str, calls: &str) -> io::Result<String> {
-    let mut service = started(rt)?;
+    let mut played = Played {
+        wire: wire_of(rt.clone()?, how),
+        service: started(rt)?,
+    };
     if how == "refused" {
-        let port = service.port;
-        drop(service);
-        return refused(rt, port, calls);
+        played.service.listener = None;
     }
-    played(rt, how, &mut service, calls)
+    answers_of(&mut played, rt.alloc(), calls)
 }

@@ -28,6 +28,27 @@ fn quiet<W: Wire>(wire: &mut W, alloc: Global, call: &str) -> Result<String, All
     String::from_str(alloc, "done")
 }
 
+fn begin<W: Wire>(wire: &mut W, alloc: Global, service: (&str, u16)) -> Result<String, AllocError> {
+    let (host, port) = service;
+    format!(in alloc; "{:?}", wire.begin(host, port))
+}
+
+fn send<W: Wire>(wire: &mut W, alloc: Global, text: &str) -> Result<String, AllocError> {
+    format!(in alloc; "{:?}", wire.send(text.as_bytes()))
+}
+
+fn moment<W: Wire>(wire: &mut W, alloc: Global) -> Result<String, AllocError> {
+    format!(in alloc; "{}", wire.moment())
+}
+
+fn is_later<W: Wire>(wire: &mut W) -> &'static str {
+    if wire.moment() > MOMENT {
+        "true"
+    } else {
+        "false"
+    }
+}
+
 /// What a call of a wire answers, whose talks are with that service.
 pub(crate) fn answer_of<W: Wire>(
     wire: &mut W,
@@ -37,11 +58,11 @@ pub(crate) fn answer_of<W: Wire>(
 ) -> Result<String, AllocError> {
     let (name, text) = word_and_rest(call);
     match name {
-        "begin" => format!(in alloc; "{:?}", wire.begin(service.0, service.1)),
-        "send" => format!(in alloc; "{:?}", wire.send(text.as_bytes())),
+        "begin" => begin(wire, alloc, service),
+        "send" => send(wire, alloc, text),
         "take" => take(wire, alloc, text),
-        "moment" => format!(in alloc; "{}", wire.moment()),
-        "later" => format!(in alloc; "{}", wire.moment() > MOMENT),
+        "moment" => moment(wire, alloc),
+        "later" => String::from_str(alloc, is_later(wire)),
         _ => quiet(wire, alloc, call),
     }
 }
