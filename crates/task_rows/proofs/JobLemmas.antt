@@ -21,7 +21,8 @@ use Rattle.s3_model.specs.declared.tasks.Kind.{Kind}
 use Rattle.s3_model.specs.declared.tasks.Kind.TheVariants as kind
 use Rattle.s3_model.specs.declared.tasks.Task.{Task}
 use Rattle.s3_model.specs.declared.tries.Mark.{Mark}
-use Rattle.task_rows.specs.Rows.{IsAnObject, IsAnObjectIn, IsEndedBy, IsTaskFor, body_of, can_end, is_step, kind_for}
+use Rattle.row_words.specs.Endings.{IsEndedBy, can_end}
+use Rattle.task_rows.specs.Rows.{IsAnObject, IsAnObjectIn, IsTaskFor, body_of, is_step, kind_for}
 
 clash : false ≡ true → ⊥
 clash e = cc

@@ -1,6 +1,5 @@
 -- What the jobs are that come back.
-use Rattle.std.specs.Prelude.{◌≡◌, [], ℕ, Bool, true, false, List, Option, Some, None}
-use Rattle.jobs.specs.Endings.{EndIn, HaveNoSuccess, IsReplyTo}
+use Rattle.std.specs.Prelude.{◌≡◌, ℕ, Bool, true, false, Option, Some, None}
 use Rattle.jobs.specs.declared.ending.Ending.{Ending}
 use Rattle.jobs.specs.declared.ending.Ending.TheVariants as ending
 use Rattle.s3_model.specs.declared.answers.Reply.TheVariants as reply
@@ -11,8 +10,6 @@ use Rattle.s3_model.specs.declared.requests.Op.TheVariants as op
 use Rattle.s3_model.specs.declared.tasks.Kind.{Kind}
 use Rattle.s3_model.specs.declared.tasks.Kind.TheVariants as kind
 use Rattle.s3_model.specs.declared.tasks.Task.{Task}
-use Rattle.s3_model.specs.declared.tries.Mark.{Mark}
-use Rattle.s3_model.specs.declared.tries.Mark.TheVariants as mark
 
 abbrev pub is_step : Op → Bool
 is_step op.Head = false
@@ -41,20 +38,7 @@ pub record IsTaskFor (of_op : Op) (task : Task) : Type 0 where
   pub source : IsAnObjectIn task.source
   pub dest : IsAnObject task.dest
 
--- how a job of that op ends after these attempts
-abbrev pub IsEndedBy : Ending → Op → List Mark → Type 0
-IsEndedBy (ending.Gained said) of_op tries = EndIn mark.Success tries × IsReplyTo of_op said
-IsEndedBy (ending.Refused status code message) of_op tries = EndIn mark.Refusal tries
-IsEndedBy (ending.Uncertain reason) of_op tries = EndIn mark.Uncertain tries
-IsEndedBy (ending.Cancelled reason) of_op tries = tries ≡ []
-IsEndedBy ending.Memory of_op tries = HaveNoSuccess tries
-
 -- how many bytes stand in the part of a job that ended so
 abbrev pub body_of : Ending → ℕ
 body_of (ending.Gained (reply.Got status range count)) = count
 body_of ended = 4
-
--- only a job that has a cell is cancelled by one
-abbrev pub can_end : Ending → (has_cell : Bool) → Bool
-can_end (ending.Cancelled reason) has_cell = has_cell
-can_end ended has_cell = true

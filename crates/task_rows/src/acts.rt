@@ -1,8 +1,7 @@
-//! The acts that a line names, and what came of calls on files.
+//! The acts that a line names.
 
-use s3_model::{Op, Reason};
-use s3_outside::FileFault;
-use task_acts::{Act, FileCame};
+use s3_model::Op;
+use task_acts::Act;
 
 /// An act, and what a line says came of it.
 #[derive(Clone, Copy)]
@@ -57,28 +56,4 @@ pub(crate) fn told_act(text: &str) -> Option<Told<'_>> {
     let (number, came) = came.split_once(' ')?;
     let act = numbered_act(name, number.parse().ok()?)?;
     Some(Told { act, came })
-}
-
-/// What came of a call on files.
-pub(crate) fn file_came(word: &str) -> Option<FileCame> {
-    match word {
-        "fine" => Some(FileCame::Fine),
-        "short" => Some(FileCame::Short),
-        "fault" => Some(FileCame::Fault(FileFault::Failed)),
-        "memory" => Some(FileCame::Fault(FileFault::Memory)),
-        _ => {
-            let length = word.strip_prefix("blocked/")?.parse().ok()?;
-            Some(FileCame::Fault(FileFault::Blocked { length }))
-        }
-    }
-}
-
-pub(crate) fn reason_of(word: &str) -> Option<Reason> {
-    match word {
-        "TaskFailed" => Some(Reason::TaskFailed),
-        "OutputFailed" => Some(Reason::OutputFailed),
-        "ListingEnded" => Some(Reason::ListingEnded),
-        "OutOfMemory" => Some(Reason::OutOfMemory),
-        _ => None,
-    }
 }

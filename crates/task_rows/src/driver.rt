@@ -4,9 +4,9 @@ ghost use Rattle.std.specs.Prelude.{◌≡◌, ◌<◌, ◌≤◌, ◌+◌, ◌^
 ghost use Rattle.task_acts.specs.Stages.{is_out};
 ghost use Rattle.task_core.specs.Machine.{IsNumbered, keeps_tags};
 
-use crate::endings::ended_as;
 use crate::jobs_back::job_back;
 use crate::shown::state_shown;
+use row_words::ended_as;
 use s3_model::{Kind, Op, OutOfMemory, Outcome, Reason, Texts, UploadId};
 use std::alloc::{AllocError, Global};
 use std::marker::Model;

@@ -6,10 +6,11 @@ ghost use Rattle.jobs.specs.Jobs.{HasPart};
 ghost use Rattle.job_terms.specs.Buffers.{holds_buffer};
 ghost use Rattle.task_acts.specs.declared.acts.Act.TheVariants as act;
 ghost use Rattle.task_acts.specs.Histories.{sent};
-ghost use Rattle.task_rows.specs.Rows.{IsAnObject, IsEndedBy, IsTaskFor, body_of, can_end, is_step, kind_for};
+ghost use Rattle.row_words.specs.Endings.{IsEndedBy, can_end};
+ghost use Rattle.task_rows.specs.Rows.{IsAnObject, IsTaskFor, body_of, is_step, kind_for};
 
-use crate::endings::Ended;
 use jobs::{CancelCell, Carried, Ending, Job, What};
+use row_words::{Ended, can_end};
 use s3_model::{
     Bytes, JobId, Kind, Op, OutOfMemory, Part, Place, Reply, Task, Text, Texts, UploadId,
 };
@@ -149,16 +150,6 @@ fn job_for(
         cell,
         had: 0,
     })
-}
-
-/// Whether a job with or without a cell can end so.
-fn can_end(ending: &Ending, has_cell: bool) -> bool
-    ensures { result ≡ can_end ending.now has_cell }
-{
-    match ending {
-        Ending::Cancelled(_) => has_cell,
-        _ => true,
-    }
 }
 
 /// A job that comes back with that ending.

@@ -6,8 +6,9 @@
 //!
 //! - `give`: the act that is ready is given;
 //! - an act with its number, if it has one, and what came of it: of a call on files `fine`, `short`, `fault`, `memory` or
-//!   `blocked/LENGTH`; of a job its attempts, `lost` and `refused/STATUS/CODE`, the last of them also `ok`, a Get's
-//!   `got/STATUS/LENGTH` or `got/STATUS/FIRST-LAST/SIZE`, or in place of it `memory` or, without attempts, `cut/REASON`;
+//!   `blocked/LENGTH`; of a job its attempts, `lost` and `refused/STATUS/CODE`, the last of them also `ok`,
+//!   `lost/WHY` or a Get's `got/STATUS/LENGTH` or `got/STATUS/FIRST-LAST/SIZE`, or in place of it `memory` or, without
+//!   attempts, `cut/REASON`;
 //! - `cancel REASON`;
 //! - a question: `failing`, `upload` or `tags`, which gives the entity tags of the parts away.
 //!
@@ -18,7 +19,6 @@
 
 mod acts;
 mod driver;
-mod endings;
 mod jobs_back;
 mod rows;
 mod shown;

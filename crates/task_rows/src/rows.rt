@@ -1,8 +1,9 @@
 //! Lines, and what is printed of them.
 
-use crate::acts::{Told, file_came, reason_of, told_act};
+use crate::acts::{Told, told_act};
 use crate::driver::Driver;
 use crate::works::work_named;
+use row_words::{file_came, reason_of};
 use s3_model::{OutOfMemory, Texts};
 use std::alloc::{AllocError, Global};
 use task_acts::Act;

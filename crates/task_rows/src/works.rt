@@ -3,7 +3,8 @@
 ghost use Rattle.std.specs.Prelude.{◌≡◌, ◌≤◌, ◌<◌, ◌+◌, ◌^◌, IfOk, IfSome, false};
 ghost use Rattle.task_core.specs.Machine.{IsNumbered};
 
-use s3_model::{Config, Kind, Limits, OutOfMemory, Place, Task, Text};
+use row_words::{Wish, wish_of};
+use s3_model::{Config, Limits, OutOfMemory, Place, Task, Text};
 use std::alloc::Global;
 use task_acts::Work;
 use task_works::work_of;
@@ -23,41 +24,6 @@ const LIMITS: Limits = Limits {
     max_parts: 4,
     max_object: 256,
 };
-
-/// What a line says of its task.
-#[derive(Clone, Copy)]
-struct Wish {
-    kind: Kind,
-    moves: bool,
-    size: u64,
-}
-
-fn kind_of(word: &str) -> Option<Kind> {
-    match word {
-        "upload" => Some(Kind::Upload),
-        "download" => Some(Kind::Download),
-        "copy" => Some(Kind::Copy),
-        "remove-object" => Some(Kind::RemoveObject),
-        "remove-file" => Some(Kind::RemoveFile),
-        _ => None,
-    }
-}
-
-fn wish_of(text: &str) -> Option<Wish>
-    ensures { IfSome result (λ wish. wish.size ≤ 256) }
-{
-    let (moves, text) = match text.strip_prefix("move ") {
-        Some(rest) => (true, rest),
-        None => (false, text),
-    };
-    let (kind, size) = text.split_once(' ')?;
-    let kind = kind_of(kind)?;
-    let size: u64 = size.parse().ok()?;
-    if size > LIMITS.max_object {
-        return None;
-    }
-    Some(Wish { kind, moves, size })
-}
 
 fn task_of(alloc: Global, wish: &Wish) -> Result<Task, OutOfMemory>
     ensures { IfOk result (λ task. (task.size ≡ wish.now.size) × (task.fresh ≡ false)) }

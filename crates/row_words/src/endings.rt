@@ -1,11 +1,11 @@
-//! What a line says of the attempts of a job.
+//! What rows say of the attempts of a job.
 
-ghost use Rattle.std.specs.Prelude.{◌≡◌, ◌≢◌, ◌<◌, IfOk, IfSome, length};
+ghost use Rattle.std.specs.Prelude.{◌≡◌, ◌≢◌, ◌<◌, ◌≤◌, IfOk, IfSome, length};
 ghost use Rattle.jobs.specs.Endings.{EndIn, HaveNoSuccess, IsReplyTo};
 ghost use Rattle.s3_model.specs.declared.requests.Op.{Op};
 ghost use Rattle.s3_model.specs.declared.requests.Op.TheVariants as op;
 ghost use Rattle.s3_model.specs.declared.tries.Mark.TheVariants as mark;
-ghost use Rattle.task_rows.specs.Rows.{IsEndedBy};
+ghost use Rattle.row_words.specs.Endings.{IsEndedBy, can_end};
 
 use crate::acts::reason_of;
 use jobs::Ending;
@@ -14,7 +14,7 @@ use std::alloc::Global;
 
 /// The attempts of a job, and its ending.
 #[derive(Drop)]
-pub(crate) struct Ended {
+pub struct Ended {
     pub tries: Tries,
     pub ending: Ending,
 }
@@ -117,7 +117,8 @@ fn reply_to(alloc: Global, op: Op, number: u32, words: &str) -> Result<Option<Re
 fn with(mut tries: Tries, last: Mark) -> Tries
     requires few { length tries < 10 }
     requires none { HaveNoSuccess tries }
-    ensures { EndIn last result }
+    ensures ends { EndIn last result }
+    ensures few { length result ≤ 10 }
 {
     tries.add(last);
     tries
@@ -126,7 +127,8 @@ fn with(mut tries: Tries, last: Mark) -> Tries
 fn refused(alloc: Global, tries: Tries, words: &str) -> Result<Option<Ended>, OutOfMemory>
     requires few { length tries < 10 }
     requires none { HaveNoSuccess tries }
-    ensures { (of_op : Op) → IfOk result (λ ended. IfSome ended (λ e. IsEndedBy e.ending of_op e.tries)) }
+    ensures ends { (of_op : Op) → IfOk result (λ ended. IfSome ended (λ e. IsEndedBy e.ending of_op e.tries)) }
+    ensures few { IfOk result (λ ended. IfSome ended (λ e. length e.tries ≤ 10)) }
 {
     let Some((status, code)) = words.split_once('/') else {
         return Ok(None);
@@ -150,7 +152,8 @@ fn gained(tries: Tries, op: Op, reply: Option<Reply>) -> Option<Ended>
     requires few { length tries < 10 }
     requires none { HaveNoSuccess tries }
     requires reply { IfSome reply (IsReplyTo op) }
-    ensures { IfSome result (λ e. IsEndedBy e.ending op e.tries) }
+    ensures ends { IfSome result (λ e. IsEndedBy e.ending op e.tries) }
+    ensures few { IfSome result (λ e. length e.tries ≤ 10) }
 {
     match reply {
         Some(reply) => Some(Ended {
@@ -161,20 +164,46 @@ fn gained(tries: Tries, op: Op, reply: Option<Reply>) -> Option<Ended>
     }
 }
 
-fn lost(tries: Tries) -> Ended
+fn why_of(word: &str) -> Option<Why> {
+    match word {
+        "" => Some(Why::EndedEarly),
+        "WireFailed" => Some(Why::WireFailed),
+        "NotHttp" => Some(Why::NotHttp),
+        "Memory" => Some(Why::Memory),
+        _ => None,
+    }
+}
+
+fn lost(tries: Tries, word: &str) -> Option<Ended>
     requires few { length tries < 10 }
     requires none { HaveNoSuccess tries }
-    ensures { (of_op : Op) → IsEndedBy result.ending of_op result.tries }
+    ensures ends { (of_op : Op) → IfSome result (λ e. IsEndedBy e.ending of_op e.tries) }
+    ensures few { IfSome result (λ e. length e.tries ≤ 10) }
+{
+    let why = why_of(word)?;
+    Some(Ended {
+        tries: with(tries, Mark::Uncertain),
+        ending: Ending::Uncertain(why),
+    })
+}
+
+/// No memory was left for one more.
+fn without_memory(tries: Tries) -> Ended
+    requires few { length tries < 10 }
+    requires none { HaveNoSuccess tries }
+    ensures ends { (of_op : Op) → IsEndedBy result.ending of_op result.tries }
+    ensures few { length result.tries ≤ 10 }
 {
     Ended {
-        tries: with(tries, Mark::Uncertain),
-        ending: Ending::Uncertain(Why::EndedEarly),
+        tries,
+        ending: Ending::Memory,
     }
 }
 
 /// Its cell gave that reason before it made an attempt.
 fn cut(word: &str) -> Option<Ended>
-    ensures { (of_op : Op) → IfSome result (λ e. IsEndedBy e.ending of_op e.tries) }
+    ensures ends { (of_op : Op) → IfSome result (λ e. IsEndedBy e.ending of_op e.tries) }
+    ensures few { IfSome result (λ e. length e.tries ≤ 10) }
 {
     Some(Ended {
         tries: Tries::none(),
@@ -182,14 +211,19 @@ fn cut(word: &str) -> Option<Ended>
     })
 }
 
-/// What a line says came of a job, or None where it cannot come of one.
-pub(crate) fn ended_as(
+/// What a row says came of a job. None where it cannot come of one of that op.
+///
+/// Before the last attempt stand those that were `lost` or `refused/STATUS/CODE`. The last is one of these, `ok`, of a
+/// Get `got/STATUS/LENGTH` or `got/STATUS/FIRST-LAST/SIZE`, or `lost/WHY`. In its place stands `memory`, and in place of
+/// all of them `cut/REASON`.
+pub fn ended_as(
     alloc: Global,
     op: Op,
     number: u32,
     came: &str,
 ) -> Result<Option<Ended>, OutOfMemory>
-    ensures { IfOk result (λ ended. IfSome ended (λ e. IsEndedBy e.ending op e.tries)) }
+    ensures ends { IfOk result (λ ended. IfSome ended (λ e. IsEndedBy e.ending op e.tries)) }
+    ensures few { IfOk result (λ ended. IfSome ended (λ e. length e.tries ≤ 10)) }
 {
     let (front, last) = came.rsplit_once(' ').unwrap_or(("", came));
     let Some(tries) = earlier(front) else {
@@ -199,12 +233,19 @@ pub(crate) fn ended_as(
     match name {
         "ok" | "got" => Ok(gained(tries, op, reply_to(alloc, op, number, words)?)),
         "refused" => refused(alloc, tries, words),
-        "lost" => Ok(Some(lost(tries))),
+        "lost" => Ok(lost(tries, words)),
         "cut" => Ok(cut(words)),
-        "memory" => Ok(Some(Ended {
-            tries,
-            ending: Ending::Memory,
-        })),
+        "memory" => Ok(Some(without_memory(tries))),
         _ => Ok(None),
+    }
+}
+
+/// Whether a job with or without a cell can end so.
+pub fn can_end(ending: &Ending, has_cell: bool) -> bool
+    ensures { result ≡ can_end ending.now has_cell }
+{
+    match ending {
+        Ending::Cancelled(_) => has_cell,
+        _ => true,
     }
 }

@@ -3,7 +3,7 @@ use Rattle.std.proofs.lemmas.List.Elements.{All-push}
 use Rattle.jobs.specs.Endings.{HaveNoSuccess}
 use Rattle.s3_model.specs.declared.tries.Mark.{Mark}
 use Rattle.s3_model.specs.declared.tries.Mark.TheVariants as mark
-use Rattle.task_rows.proofs.endings.add_earlier.Goals as goal
+use Rattle.row_words.proofs.endings.add_earlier.Goals as goal
 
 pub returns-clause-none : goal.returns-clause-none
 returns-clause-none c =
