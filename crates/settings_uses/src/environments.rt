@@ -1,27 +1,27 @@
 //! Settings of environments in memory.
 
-use crate::files::{fault_shown, shown};
-use crate::spelled::{bytes_of, no_memory};
+use crate::shown::{fault_shown, settings_shown};
+use crate::spelled::{bytes_of, field_and_rest, option, text_of, word_and_rest};
 use env_settings::{SettingsFault, read_settings};
 use outside_memory::MemEnv;
-use s3_model::{OutOfMemory, Settings, Text};
+use s3_model::{OutOfMemory, Settings};
 use s3_outside::S3_LIMITS;
 use std::alloc::{AllocError, Global};
-use std::io;
 
-/// An environment of which these reads fail.
-fn empty(alloc: Global, failing: &str) -> Result<MemEnv, AllocError> {
+/// The numbers of a list, parted by commas.
+fn numbers(alloc: Global, text: &str) -> Result<Vec<usize>, AllocError> {
     let mut numbers = Vec::new(alloc);
-    for number in failing.split(',') {
+    for number in text.split(',') {
         if let Ok(number) = number.parse::<usize>() {
             numbers.push(number)?;
         }
     }
-    Ok(MemEnv::make_failing(alloc, S3_LIMITS, numbers))
+    Ok(numbers)
 }
 
-fn set_all(alloc: Global, env: &mut MemEnv, variables: &str) -> Result<(), OutOfMemory> {
-    for word in variables.split(' ') {
+fn set_all(alloc: Global, env: &mut MemEnv, spelled: &str) -> Result<(), OutOfMemory> {
+    let variables = bytes_of(alloc, spelled)?;
+    for word in text_of(&variables).split(' ') {
         if let Some((name, value)) = word.split_once('=') {
             env.set(alloc, name, value)?;
         }
@@ -29,8 +29,8 @@ fn set_all(alloc: Global, env: &mut MemEnv, variables: &str) -> Result<(), OutOf
     Ok(())
 }
 
-fn put_all(alloc: Global, env: &mut MemEnv, files: &[&str]) -> Result<(), OutOfMemory> {
-    for file in files {
+fn put_all(alloc: Global, env: &mut MemEnv, files: &str) -> Result<(), OutOfMemory> {
+    for file in files.split(" | ") {
         if let Some((path, text)) = file.split_once('=') {
             env.put_file(alloc, path, bytes_of(alloc, text)?)?;
         }
@@ -38,39 +38,46 @@ fn put_all(alloc: Global, env: &mut MemEnv, files: &[&str]) -> Result<(), OutOfM
     Ok(())
 }
 
-fn option(alloc: Global, word: &str) -> Result<Option<Text>, OutOfMemory> {
-    if word == "-" {
-        return Ok(None);
-    }
-    Ok(Some(Text::of(alloc, word)?))
-}
-
 fn read(alloc: Global, env: &mut MemEnv, named: &str) -> Result<Settings, SettingsFault> {
-    let (region, profile) = named.split_once(' ').unwrap_or((named, "-"));
-    read_settings(alloc, env, option(alloc, region)?, option(alloc, profile)?)
+    let (region, profile) = word_and_rest(named);
+    read_settings(alloc, env, option(alloc, region), option(alloc, profile))
 }
 
-fn answered(alloc: Global, found: &Result<Settings, SettingsFault>) -> Result<String, AllocError> {
+fn answered(alloc: Global, found: Result<Settings, SettingsFault>) -> Result<String, AllocError> {
     match found {
-        Ok(settings) => shown(alloc, settings),
+        Ok(settings) => settings_shown(alloc, &settings),
         Err(SettingsFault::EnvRead) => String::from_str(alloc, "read"),
-        Err(SettingsFault::Profile(fault)) => fault_shown(alloc, fault),
+        Err(SettingsFault::Profile(fault)) => fault_shown(alloc, &fault),
         Err(SettingsFault::Memory) => String::from_str(alloc, "memory"),
     }
 }
 
-/// What an environment gives, and how many files were asked for.
-pub(crate) fn answer(
+/// An environment with these variables and files, of which these reads fail.
+fn environment(
     alloc: Global,
     variables: &str,
-    named: &str,
     failing: &str,
-    files: &[&str],
-) -> io::Result<String> {
-    let mut env = empty(alloc, failing)?;
-    set_all(alloc, &mut env, variables).map_err(no_memory)?;
-    put_all(alloc, &mut env, files).map_err(no_memory)?;
-    let found = read(alloc, &mut env, named);
-    let shown = answered(alloc, &found)?;
-    Ok(format!(in alloc; "{shown} asked {}", env.asked().len())?)
+    files: &str,
+) -> Result<MemEnv, OutOfMemory> {
+    let failing = numbers(alloc, failing)?;
+    let mut env = MemEnv::make_failing(alloc, S3_LIMITS, failing);
+    set_all(alloc, &mut env, variables)?;
+    put_all(alloc, &mut env, files)?;
+    Ok(env)
+}
+
+fn read_and_asked(alloc: Global, env: &mut MemEnv, named: &str) -> Result<String, AllocError> {
+    let shown = answered(alloc, read(alloc, env, named))?;
+    format!(in alloc; "{shown} asked {}", env.asked().len())
+}
+
+/// What an environment gives, and how many files were asked for.
+pub(crate) fn answer(alloc: Global, fields: &str) -> Result<String, AllocError> {
+    let (variables, fields) = field_and_rest(fields);
+    let (named, fields) = field_and_rest(fields);
+    let (failing, files) = field_and_rest(fields);
+    match environment(alloc, variables, failing, files) {
+        Ok(mut env) => read_and_asked(alloc, &mut env, named),
+        Err(OutOfMemory) => Err(AllocError),
+    }
 }

@@ -8,37 +8,27 @@
 
 mod environments;
 mod files;
+mod shown;
 mod spelled;
 
-use spelled::{bytes_of, text_of};
-use std::alloc::Global;
+use spelled::word_and_rest;
+use std::alloc::{AllocError, Global};
 use std::io;
 
 /// What a case gives.
-fn answer_of(alloc: Global, name: &str, fields: &[&str]) -> io::Result<String> {
-    match (name, fields) {
-        ("words", [words, config, credentials]) => {
-            let config = bytes_of(alloc, config)?;
-            let credentials = bytes_of(alloc, credentials)?;
-            files::answer(alloc, words, &config, &credentials)
-        }
-        ("places", [variables, named, failing, files @ ..]) => {
-            let variables = bytes_of(alloc, variables)?;
-            environments::answer(alloc, text_of(&variables), named, failing, files)
-        }
-        _ => Ok(String::from_str(alloc, "?")?),
+fn answer_of(alloc: Global, case: &str) -> Result<String, AllocError> {
+    let (name, fields) = word_and_rest(case);
+    match name {
+        "words" => files::answer(alloc, fields),
+        _ => environments::answer(alloc, fields),
     }
 }
 
-fn row_of(alloc: Global, line: &str) -> io::Result<String> {
-    let (number, rest) = line.split_once(' ').unwrap_or((line, ""));
-    let (name, rest) = rest.split_once(' ').unwrap_or((rest, ""));
-    let mut fields = Vec::new(alloc);
-    for field in rest.split(" | ") {
-        fields.push(field)?;
-    }
-    let answer = answer_of(alloc, name, &fields)?;
-    Ok(format!(in alloc; "{number} {answer}")?)
+/// The number of a case, and what the case gives.
+fn row_of(alloc: Global, line: &str) -> Result<String, AllocError> {
+    let (number, case) = word_and_rest(line);
+    let answer = answer_of(alloc, case)?;
+    format!(in alloc; "{number} {answer}")
 }
 
 fn main(rt: HostRuntime) -> io::Result<()> {
@@ -46,7 +36,7 @@ fn main(rt: HostRuntime) -> io::Result<()> {
     for line in rt.lines(alloc) {
         let line = line?;
         let row = row_of(alloc, line.as_str())?;
-        println!(rt; "{row}")?;
+        rt.println(row.as_str())?;
     }
     Ok(())
 }
