@@ -33,26 +33,17 @@ pub(crate) fn written(alloc: Global, spelled: &str) -> Result<String, AllocError
     Ok(text)
 }
 
-/// The values of all fields of that name.
-pub(crate) fn all<'a>(alloc: Global, row: &'a str, name: &str) -> Result<Vec<&'a str>, AllocError> {
-    let mut values = Vec::new(alloc);
-    for field in row.split("; ") {
-        if let Some((named, value)) = field.split_once('=') {
-            if named == name {
-                values.push(value)?;
-            }
-        }
-    }
-    Ok(values)
+/// The value of a field, if it has that name.
+pub(crate) fn value_in<'a>(field: &'a str, name: &str) -> Option<&'a str> {
+    let (named, value) = field.split_once('=')?;
+    if named == name { Some(value) } else { None }
 }
 
-/// The value of the field of that name; an empty one where there is none.
+/// The value of the first field of that name; an empty one where there is none.
 pub(crate) fn value<'a>(row: &'a str, name: &str) -> &'a str {
     for field in row.split("; ") {
-        if let Some((named, value)) = field.split_once('=') {
-            if named == name {
-                return value;
-            }
+        if let Some(value) = value_in(field, name) {
+            return value;
         }
     }
     ""

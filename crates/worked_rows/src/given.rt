@@ -1,6 +1,6 @@
 //! What a run is given: a wire, files, an environment and outputs in memory.
 
-use crate::fields::{all, value};
+use crate::fields::{value, value_in};
 use outside_memory::{FileTable, MemEnv, MemFile, MemFiles, MemSink, ScriptWire};
 use s3_model::OutOfMemory;
 use s3_outside::S3_LIMITS;
@@ -17,29 +17,50 @@ static VARIABLES: [(&str, &str); 3] = [
     ("AWS_REGION", "us-east-1"),
 ];
 
+fn push_answer(alloc: Global, answers: &mut Vec<Vec<u8>>, answer: &str) -> Result<(), AllocError> {
+    let bytes = answer.as_bytes().to_vec(alloc)?;
+    answers.push(bytes)?;
+    Ok(())
+}
+
+/// An answer for each talk.
+fn answers(alloc: Global, row: &str) -> Result<Vec<Vec<u8>>, AllocError> {
+    let mut answers = Vec::new(alloc);
+    for field in row.split("; ") {
+        if let Some(answer) = value_in(field, "answer") {
+            push_answer(alloc, &mut answers, answer)?;
+        }
+    }
+    Ok(answers)
+}
+
 /// One wire, which gives an answer for each talk.
 pub(crate) fn wires(alloc: Global, row: &str) -> Result<Vec<ScriptWire>, AllocError> {
-    let mut answers = Vec::new(alloc);
-    for answer in all(alloc, row, "answer")?.as_slice() {
-        answers.push(answer.as_bytes().to_vec(alloc)?)?;
-    }
+    let answers = answers(alloc, row)?;
     let wire = ScriptWire::make(alloc, answers, Vec::new(alloc), MOMENT);
     Ok(vec![in alloc; wire]?)
 }
 
-pub(crate) fn words_of(alloc: Global, line: &str) -> Result<Vec<String>, AllocError> {
+fn push_word(alloc: Global, words: &mut Vec<String>, word: &str) -> Result<(), AllocError> {
+    let word = word.to_string(alloc)?;
+    words.push(word)?;
+    Ok(())
+}
+
+fn words_of(alloc: Global, line: &str) -> Result<Vec<String>, AllocError> {
     let mut words = Vec::new(alloc);
     for word in line.split(' ') {
-        words.push(word.to_string(alloc)?)?;
+        push_word(alloc, &mut words, word)?;
     }
     Ok(words)
 }
 
 fn put(alloc: Global, env: &mut MemEnv, path: &str, text: &str) -> Result<(), OutOfMemory> {
-    if !text.is_empty() {
-        env.put_file(alloc, path, text.as_bytes().to_vec(alloc)?)?;
+    if text.is_empty() {
+        return Ok(());
     }
-    Ok(())
+    let bytes = text.as_bytes().to_vec(alloc)?;
+    env.put_file(alloc, path, bytes)
 }
 
 /// An environment whose first settings file cannot be read where the row says so.
@@ -51,35 +72,99 @@ fn empty(alloc: Global, row: &str) -> Result<MemEnv, AllocError> {
     Ok(MemEnv::make_failing(alloc, S3_LIMITS, failing))
 }
 
-/// The variables and the settings files of a row, which stand below `/h`.
-pub(crate) fn environment(alloc: Global, row: &str) -> Result<MemEnv, OutOfMemory> {
-    let mut env = empty(alloc, row)?;
+/// Sets the variables of a row.
+fn set_variables(alloc: Global, env: &mut MemEnv, row: &str) -> Result<(), OutOfMemory> {
     env.set(alloc, "HOME", "/h")?;
     let count = value(row, "variables").parse::<usize>().unwrap_or(3);
     for (name, value) in VARIABLES.iter().take(count) {
         env.set(alloc, name, value)?;
     }
-    put(alloc, &mut env, "/h/.aws/config", value(row, "config"))?;
-    put(
-        alloc,
-        &mut env,
-        "/h/.aws/credentials",
-        value(row, "credentials"),
-    )?;
+    Ok(())
+}
+
+/// Puts the settings files of a row, which stand below `/h`.
+fn put_settings(alloc: Global, env: &mut MemEnv, row: &str) -> Result<(), OutOfMemory> {
+    put(alloc, env, "/h/.aws/config", value(row, "config"))?;
+    put(alloc, env, "/h/.aws/credentials", value(row, "credentials"))
+}
+
+fn fill(alloc: Global, env: &mut MemEnv, row: &str) -> Result<(), OutOfMemory> {
+    set_variables(alloc, env, row)?;
+    put_settings(alloc, env, row)
+}
+
+/// The variables and the settings files of a row.
+fn environment(alloc: Global, row: &str) -> Result<MemEnv, OutOfMemory> {
+    let mut env = empty(alloc, row)?;
+    fill(alloc, &mut env, row)?;
     Ok(env)
 }
 
+fn file_of(alloc: Global, bytes: &[u8]) -> Result<MemFile, AllocError> {
+    Ok(MemFile::new(bytes.to_vec(alloc)?, 7))
+}
+
+fn put_file(
+    alloc: Global,
+    table: &mut FileTable,
+    path: &str,
+    bytes: &[u8],
+) -> Result<(), OutOfMemory> {
+    let file = file_of(alloc, bytes)?;
+    table.put_file(alloc, path, file)
+}
+
+/// Puts the files of all rows.
+fn put_files(alloc: Global, table: &mut FileTable) -> Result<(), OutOfMemory> {
+    put_file(alloc, table, "a.txt", b"hello")?;
+    put_file(alloc, table, "d/b.txt", b"")?;
+    table.add_other(alloc, "dev")
+}
+
 /// The files of all rows.
-pub(crate) fn files(alloc: Global) -> Result<MemFiles, OutOfMemory> {
+fn files(alloc: Global) -> Result<MemFiles, OutOfMemory> {
     let mut table = FileTable::make(alloc);
-    let file = MemFile::new(b"hello".to_vec(alloc)?, 7);
-    table.put_file(alloc, "a.txt", file)?;
-    table.put_file(alloc, "d/b.txt", MemFile::new(Vec::new(alloc), 7))?;
-    table.add_other(alloc, "dev")?;
+    put_files(alloc, &mut table)?;
     Ok(MemFiles::make(alloc, table, Vec::new(alloc), Vec::new(alloc)))
 }
 
-pub(crate) fn output(alloc: Global, row: &str) -> MemSink {
+fn output(alloc: Global, row: &str) -> MemSink {
     let room = value(row, "room").parse::<usize>().unwrap_or(usize::MAX);
     MemSink::make_failing(alloc, Vec::new(alloc), room)
+}
+
+/// What a run is given beside its wire.
+#[derive(Drop)]
+pub(crate) struct Given {
+    pub words: Vec<String>,
+    pub env: MemEnv,
+    pub files: MemFiles,
+    pub out: MemSink,
+    pub err: MemSink,
+}
+
+fn with_outputs(
+    alloc: Global,
+    row: &str,
+    words: Vec<String>,
+    env: MemEnv,
+    files: MemFiles,
+) -> Given {
+    Given {
+        words,
+        env,
+        files,
+        out: output(alloc, row),
+        err: output(alloc, row),
+    }
+}
+
+impl Given {
+    /// What a row gives to the command of that line.
+    pub(crate) fn make(alloc: Global, row: &str, line: &str) -> Result<Given, OutOfMemory> {
+        let words = words_of(alloc, line)?;
+        let env = environment(alloc, row)?;
+        let files = files(alloc)?;
+        Ok(with_outputs(alloc, row, words, env, files))
+    }
 }

@@ -12,37 +12,107 @@ mod given;
 mod play;
 mod shown;
 
-use fields::{all, written};
+use fields::{value_in, written};
 use given::wires;
+use outside_memory::ScriptWire;
 use play::play;
+use s3_model::OutOfMemory;
 use shown::push_talks;
-use std::alloc::Global;
+use std::alloc::{AllocError, Global};
 use std::io;
 use std::sync::Wait;
 use std::thread::Threads;
 
-/// What the commands of a line came to, and what the wire then sent.
-fn row_of<R>(rt: &R, alloc: Global, line: &str) -> io::Result<String>
+/// Runs the command of a line over the wires of its row, and adds what it came to.
+fn push_play<R>(
+    rt: &R,
+    alloc: Global,
+    shown: &mut String,
+    row: &str,
+    line: &str,
+    wires: &mut Vec<ScriptWire>,
+) -> Result<(), OutOfMemory>
 where
     R: Threads + Wait + Clone + Send + Sync + Drop + 'static,
 {
-    let line = written(alloc, line)?;
-    let (number, row) = line.as_str().split_once(' ').unwrap_or((line.as_str(), ""));
-    let mut shown = String::from_str(alloc, number)?;
-    let mut wires = wires(alloc, row)?;
-    for words in all(alloc, row, "words")?.as_slice() {
-        let seen = play(rt, alloc, row, words, &mut wires)?;
-        shown.push_str(seen.as_str())?;
+    let seen = play(rt, alloc, row, line, wires)?;
+    Ok(shown.push_str(seen.as_str())?)
+}
+
+/// Runs the commands of a row over its wires, and adds what each came to.
+fn push_plays<R>(
+    rt: &R,
+    alloc: Global,
+    shown: &mut String,
+    row: &str,
+    wires: &mut Vec<ScriptWire>,
+) -> Result<(), OutOfMemory>
+where
+    R: Threads + Wait + Clone + Send + Sync + Drop + 'static,
+{
+    for field in row.split("; ") {
+        if let Some(line) = value_in(field, "words") {
+            push_play(rt, alloc, shown, row, line, wires)?;
+        }
     }
-    push_talks(alloc, &mut shown, &wires)?;
+    Ok(())
+}
+
+/// Adds what the commands of a row came to over its wires, and what these then sent.
+fn push_runs<R>(
+    rt: &R,
+    alloc: Global,
+    shown: &mut String,
+    row: &str,
+    wires: &mut Vec<ScriptWire>,
+) -> Result<(), OutOfMemory>
+where
+    R: Threads + Wait + Clone + Send + Sync + Drop + 'static,
+{
+    push_plays(rt, alloc, shown, row, wires)?;
+    push_talks(alloc, shown, wires.as_slice())
+}
+
+fn push_row<R>(rt: &R, alloc: Global, shown: &mut String, row: &str) -> Result<(), OutOfMemory>
+where
+    R: Threads + Wait + Clone + Send + Sync + Drop + 'static,
+{
+    let mut wires = wires(alloc, row)?;
+    push_runs(rt, alloc, shown, row, &mut wires)
+}
+
+/// What is printed of a line.
+fn row_of<R>(rt: &R, alloc: Global, line: &str) -> Result<String, OutOfMemory>
+where
+    R: Threads + Wait + Clone + Send + Sync + Drop + 'static,
+{
+    let (number, row) = line.split_once(' ').unwrap_or((line, ""));
+    let mut shown = String::from_str(alloc, number)?;
+    push_row(rt, alloc, &mut shown, row)?;
     Ok(shown)
+}
+
+/// What is printed of a line as it is spelled.
+fn answer_of<R>(rt: &R, alloc: Global, spelled: &str) -> Result<String, OutOfMemory>
+where
+    R: Threads + Wait + Clone + Send + Sync + Drop + 'static,
+{
+    let line = written(alloc, spelled)?;
+    row_of(rt, alloc, line.as_str())
+}
+
+/// Prints what was made of a line.
+fn show(rt: &HostRuntime, row: Result<String, OutOfMemory>) -> io::Result<()> {
+    match row {
+        Ok(row) => println!(rt; "{row}"),
+        Err(OutOfMemory) => Err(AllocError.into()),
+    }
 }
 
 fn main(rt: HostRuntime) -> io::Result<()> {
     for line in rt.lines(rt.alloc()) {
         let line = line?;
-        let row = row_of(&rt, rt.alloc(), line.as_str())?;
-        println!(rt; "{row}")?;
+        show(&rt, answer_of(&rt, rt.alloc(), line.as_str()))?;
     }
     Ok(())
 }
