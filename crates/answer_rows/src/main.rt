@@ -15,56 +15,63 @@ mod shown;
 use answer_classes::{again, classify, is_head};
 use http_exchange::{AnswerRoom, exchange};
 use outside_memory::ScriptWire;
-use requests::request_named;
+use requests::{request_named, text};
 use row_bytes::bytes_of;
-use s3_model::{Ask, Bytes, Class, Endpoint, OutOfMemory, Text};
-use shown::push_class;
+use s3_model::{Ask, Bytes, Class, Endpoint, OutOfMemory, Talked};
+use shown::class_shown;
 use std::alloc::{AllocError, Global};
-use std::io;
+use std::{io, mem};
 
-fn endpoint(alloc: Global) -> Result<Endpoint, AllocError> {
-    Ok(Endpoint {
-        host: Text::from(String::from_str(alloc, "localhost")?),
-        port: 9000,
-        written: Text::from(String::from_str(alloc, "localhost:9000")?),
-    })
+/// A service, and the room in which its answers are read.
+#[derive(Drop)]
+struct Session {
+    room: AnswerRoom,
+    endpoint: Endpoint,
 }
 
 /// A place for a body within the limit.
-fn place_for(alloc: Global, limit: Option<u64>) -> Result<Bytes, OutOfMemory>
+fn place_for(alloc: Global, limit: Option<u64>) -> Result<Bytes, AllocError>
     ensures { IfOk result (λ place. IfSome limit (λ most. most ≤ place.room)) }
 {
-    match limit {
-        Some(most) => Bytes::make(alloc, most),
-        None => Bytes::make(alloc, 0),
+    match Bytes::make(alloc, limit.unwrap_or(0)) {
+        Ok(place) => Ok(place),
+        Err(OutOfMemory) => Err(AllocError),
     }
 }
 
-/// The class of an answer, which is read from a wire that plays it.
-fn class_of(
-    alloc: Global,
-    room: &mut AnswerRoom,
-    ask: &Ask,
-    limit: Option<u64>,
-    answer: Vec<u8>,
-) -> Result<Class, OutOfMemory> {
-    let endpoint = endpoint(alloc)?;
-    let answers = vec![in alloc; answer]?;
-    let mut wire = ScriptWire::make(alloc, answers, Vec::new(alloc), 0);
-    let mut into = place_for(alloc, limit)?;
-    let talked = exchange(
-        alloc,
-        &mut wire,
-        room,
-        &endpoint,
-        b"",
-        b"",
-        is_head(ask),
-        true,
-        limit,
-        &mut into,
-    );
-    Ok(classify(alloc, ask, talked))
+impl Session {
+    fn make(alloc: Global) -> Result<Session, OutOfMemory> {
+        let room = AnswerRoom::make(alloc)?;
+        let endpoint = Endpoint {
+            host: text(alloc, "localhost"),
+            port: 9000,
+            written: text(alloc, "localhost:9000"),
+        };
+        Ok(Session { room, endpoint })
+    }
+
+    /// What an exchange with the service comes to.
+    fn talk(
+        &mut self,
+        alloc: Global,
+        wire: &mut ScriptWire,
+        is_head: bool,
+        limit: Option<u64>,
+    ) -> Result<Talked, AllocError> {
+        let mut into = place_for(alloc, limit)?;
+        Ok(exchange(
+            alloc,
+            wire,
+            &mut self.room,
+            &self.endpoint,
+            b"",
+            b"",
+            is_head,
+            true,
+            limit,
+            &mut into,
+        ))
+    }
 }
 
 /// How many bytes the request of an operation takes into a place of its own.
@@ -75,38 +82,93 @@ fn limit_of(operation: &str) -> Option<u64> {
     }
 }
 
-/// What a row means; no more than its name where it is none.
-fn answer_of(alloc: Global, room: &mut AnswerRoom, line: &str) -> Result<String, OutOfMemory> {
+/// A wire that plays an answer.
+fn wire_of(alloc: Global, written: &str) -> Result<ScriptWire, AllocError> {
+    let answer = bytes_of(alloc, written)?;
+    let answers = vec![in alloc; answer]?;
+    Ok(ScriptWire::make(alloc, answers, Vec::new(alloc), 0))
+}
+
+/// What an exchange comes to whose answer is played.
+fn talked(
+    alloc: Global,
+    session: &mut Session,
+    is_head: bool,
+    limit: Option<u64>,
+    written: &str,
+) -> Result<Talked, AllocError> {
+    let mut wire = wire_of(alloc, written)?;
+    session.talk(alloc, &mut wire, is_head, limit)
+}
+
+/// The class of an answer to a request.
+fn class_for(
+    alloc: Global,
+    session: &mut Session,
+    ask: &Ask,
+    limit: Option<u64>,
+    written: &str,
+) -> Result<Class, AllocError> {
+    let talked = talked(alloc, session, is_head(ask), limit, written)?;
+    Ok(classify(alloc, ask, talked))
+}
+
+/// The class of an answer to the request of an operation.
+fn class_of(
+    alloc: Global,
+    session: &mut Session,
+    operation: &str,
+    written: &str,
+) -> Result<Class, AllocError> {
+    let ask = request_named(alloc, operation);
+    let class = class_for(alloc, session, &ask, limit_of(operation), written);
+    mem::drop(ask);
+    class
+}
+
+/// A class, and whether the request would be tried again.
+fn class_and_again(alloc: Global, class: &Class) -> Result<String, AllocError> {
+    let mut shown = class_shown(alloc, class)?;
+    if again(class) {
+        shown.push_str(" (again)")?;
+    }
+    Ok(shown)
+}
+
+/// What an answer means for its request.
+fn meaning(
+    alloc: Global,
+    session: &mut Session,
+    operation: &str,
+    written: &str,
+) -> Result<String, AllocError> {
+    let class = class_of(alloc, session, operation, written)?;
+    let shown = class_and_again(alloc, &class);
+    mem::drop(class);
+    shown
+}
+
+/// A row with its meaning in place of the answer.
+fn row_of(alloc: Global, session: &mut Session, line: &str) -> Result<String, AllocError> {
     let (name, rest) = line.split_once(' ').unwrap_or((line, ""));
     let (operation, written) = rest.split_once(' ').unwrap_or((rest, ""));
-    let mut text = format!(in alloc; "{name} {operation}")?;
-    let Some(ask) = request_named(alloc, operation) else {
-        return Ok(text);
-    };
-    let ask = ask?;
-    let Some(answer) = bytes_of(alloc, written)? else {
-        return Ok(text);
-    };
-    let class = class_of(alloc, room, &ask, limit_of(operation), answer)?;
-    text.push_str(" => ")?;
-    push_class(alloc, &mut text, &class)?;
-    if again(&class) {
-        text.push_str(" (again)")?;
+    let meaning = meaning(alloc, session, operation, written)?;
+    format!(in alloc; "{name} {operation} => {meaning}")
+}
+
+fn print_rows(rt: &HostRuntime, session: &mut Session) -> io::Result<()> {
+    let alloc = rt.alloc();
+    for line in rt.lines(alloc) {
+        let line = line?;
+        let row = row_of(alloc, session, line.as_str())?;
+        rt.println(row.as_str())?;
     }
-    Ok(text)
+    Ok(())
 }
 
 fn main(rt: HostRuntime) -> io::Result<()> {
-    let alloc = rt.alloc();
-    let Ok(mut room) = AnswerRoom::make(alloc) else {
+    let Ok(mut session) = Session::make(rt.alloc()) else {
         return Err(AllocError.into());
     };
-    for line in rt.lines(alloc) {
-        let line = line?;
-        let Ok(answer) = answer_of(alloc, &mut room, line.as_str()) else {
-            return Err(AllocError.into());
-        };
-        println!(rt; "{answer}")?;
-    }
-    Ok(())
+    print_rows(&rt, &mut session)
 }

@@ -1,121 +1,148 @@
 //! Classes as text.
 
-use s3_model::{Class, Entry, Listed, Reply, Text};
+use s3_model::{Class, Entries, Entry, Listed, Reply, Text, Why};
 use std::alloc::{AllocError, Global};
 
-/// Bytes as they are written in a row.
-fn push_written(alloc: Global, out: &mut String, text: &Text) -> Result<(), AllocError> {
+fn push_byte(alloc: Global, out: &mut String, byte: u8) -> Result<(), AllocError> {
+    let escape = format!(in alloc; "\\x{byte:02x}")?;
+    out.push_str(escape.as_str())
+}
+
+/// A text as its bytes are written in a row.
+fn written(alloc: Global, text: &Text) -> Result<String, AllocError> {
+    let mut out = String::new(alloc);
     for byte in text.as_str().bytes() {
         match byte {
-            b'\\' => out.push_str("\\x5c")?,
+            b'\\' => push_byte(alloc, &mut out, byte)?,
             b' '..=b'~' => out.push(char::from(byte))?,
-            _ => out.push_str(format!(in alloc; "\\x{byte:02x}")?.as_str())?,
+            _ => push_byte(alloc, &mut out, byte)?,
         }
     }
-    Ok(())
+    Ok(out)
 }
 
-fn push_number(alloc: Global, out: &mut String, number: u64) -> Result<(), AllocError> {
-    out.push_str(format!(in alloc; " {number}")?.as_str())
+/// An entry with its key, size, entity tag and time in microseconds since 1970.
+fn entry_shown(alloc: Global, entry: &Entry) -> Result<String, AllocError> {
+    let key = written(alloc, &entry.key)?;
+    let etag = written(alloc, &entry.etag)?;
+    format!(in alloc; " [{key} {} {etag} {}]", entry.size, entry.micros)
 }
 
-/// Each entry with its key, size, entity tag and time in microseconds since 1970.
 fn push_entries(alloc: Global, out: &mut String, entries: &[Entry]) -> Result<(), AllocError> {
     for entry in entries {
-        out.push_str(" [")?;
-        push_written(alloc, out, &entry.key)?;
-        push_number(alloc, out, entry.size)?;
-        out.push_str(" ")?;
-        push_written(alloc, out, &entry.etag)?;
-        push_number(alloc, out, entry.micros)?;
-        out.push_str("]")?;
+        let entry = entry_shown(alloc, entry)?;
+        out.push_str(entry.as_str())?;
     }
     Ok(())
 }
 
-fn push_page(alloc: Global, out: &mut String, page: &Listed) -> Result<(), AllocError> {
-    out.push_str(if page.more { "more" } else { "last" })?;
+fn prefix_shown(alloc: Global, prefix: &Text) -> Result<String, AllocError> {
+    let prefix = written(alloc, prefix)?;
+    format!(in alloc; " {{{prefix}}}")
+}
+
+fn push_prefixes(alloc: Global, out: &mut String, prefixes: &[Text]) -> Result<(), AllocError> {
+    for prefix in prefixes {
+        let prefix = prefix_shown(alloc, prefix)?;
+        out.push_str(prefix.as_str())?;
+    }
+    Ok(())
+}
+
+fn token_shown(alloc: Global, token: &Text) -> Result<String, AllocError> {
+    let token = written(alloc, token)?;
+    format!(in alloc; " then {token}")
+}
+
+fn page_shown(alloc: Global, page: &Listed) -> Result<String, AllocError> {
+    let mut out = String::from_str(alloc, if page.more { "page more" } else { "page last" })?;
     if let Some(token) = &page.token {
-        out.push_str(" then ")?;
-        push_written(alloc, out, token)?;
+        let token = token_shown(alloc, token)?;
+        out.push_str(token.as_str())?;
     }
-    push_entries(alloc, out, page.entries.as_slice())?;
-    for prefix in page.prefixes.as_slice() {
-        out.push_str(" {")?;
-        push_written(alloc, out, prefix)?;
-        out.push_str("}")?;
-    }
-    Ok(())
+    push_entries(alloc, &mut out, page.entries.as_slice())?;
+    push_prefixes(alloc, &mut out, page.prefixes.as_slice())?;
+    Ok(out)
 }
 
-fn push_range(alloc: Global, out: &mut String, range: (u64, u64, u64)) -> Result<(), AllocError> {
+fn buckets_shown(alloc: Global, buckets: &Entries) -> Result<String, AllocError> {
+    let mut out = String::from_str(alloc, "buckets")?;
+    push_entries(alloc, &mut out, buckets.as_slice())?;
+    Ok(out)
+}
+
+fn found_shown(alloc: Global, size: u64, etag: &Text, micros: u64) -> Result<String, AllocError> {
+    let etag = written(alloc, etag)?;
+    format!(in alloc; "found {size} {etag} {micros}")
+}
+
+fn range_shown(alloc: Global, range: (u64, u64, u64)) -> Result<String, AllocError> {
     let (first, last, size) = range;
-    out.push_str(format!(in alloc; " {first}-{last}/{size}")?.as_str())
+    format!(in alloc; " {first}-{last}/{size}")
 }
 
-/// What a reply about one object says.
-fn push_object(alloc: Global, out: &mut String, reply: &Reply) -> Result<(), AllocError> {
+fn got_shown(
+    alloc: Global,
+    status: u16,
+    length: u64,
+    range: Option<(u64, u64, u64)>,
+) -> Result<String, AllocError> {
+    let range = match range {
+        Some(range) => range_shown(alloc, range)?,
+        None => String::new(alloc),
+    };
+    format!(in alloc; "got {status} {length}{range}")
+}
+
+fn created_shown(alloc: Global, upload: &str) -> Result<String, AllocError> {
+    format!(in alloc; "created {upload}")
+}
+
+fn part_shown(alloc: Global, etag: &Text) -> Result<String, AllocError> {
+    let etag = written(alloc, etag)?;
+    format!(in alloc; "part {etag}")
+}
+
+fn plain_name(reply: &Reply) -> &'static str {
     match reply {
-        Reply::Found { size, etag, micros } => {
-            out.push_str("found")?;
-            push_number(alloc, out, *size)?;
-            out.push_str(" ")?;
-            push_written(alloc, out, etag)?;
-            push_number(alloc, out, *micros)
-        }
+        Reply::Stored => "stored",
+        Reply::Gone => "gone",
+        Reply::Copied => "copied",
+        _ => "completed",
+    }
+}
+
+fn reply_shown(alloc: Global, reply: &Reply) -> Result<String, AllocError> {
+    match reply {
+        Reply::Found { size, etag, micros } => found_shown(alloc, *size, etag, *micros),
         Reply::Got {
             status,
             range,
             length,
-        } => {
-            out.push_str("got")?;
-            push_number(alloc, out, u64::from(*status))?;
-            push_number(alloc, out, *length)?;
-            match range {
-                Some(range) => push_range(alloc, out, *range),
-                None => Ok(()),
-            }
-        }
-        _ => Ok(()),
+        } => got_shown(alloc, *status, *length, *range),
+        Reply::Created { upload } => created_shown(alloc, upload.as_str()),
+        Reply::PartStored { etag } => part_shown(alloc, etag),
+        Reply::Listed(page) => page_shown(alloc, page),
+        Reply::BucketList(buckets) => buckets_shown(alloc, buckets),
+        _ => String::from_str(alloc, plain_name(reply)),
     }
 }
 
-fn push_reply(alloc: Global, out: &mut String, reply: &Reply) -> Result<(), AllocError> {
-    match reply {
-        Reply::Found { .. } | Reply::Got { .. } => push_object(alloc, out, reply),
-        Reply::Stored => out.push_str("stored"),
-        Reply::Gone => out.push_str("gone"),
-        Reply::Copied => out.push_str("copied"),
-        Reply::Completed => out.push_str("completed"),
-        Reply::Created { upload } => {
-            out.push_str("created ")?;
-            out.push_str(upload.as_str())
-        }
-        Reply::PartStored { etag } => {
-            out.push_str("part ")?;
-            push_written(alloc, out, etag)
-        }
-        Reply::Listed(page) => {
-            out.push_str("page ")?;
-            push_page(alloc, out, page)
-        }
-        Reply::BucketList(buckets) => {
-            out.push_str("buckets")?;
-            push_entries(alloc, out, buckets.as_slice())
-        }
-    }
+fn refusal_shown(alloc: Global, code: &Text, message: &Text) -> Result<String, AllocError> {
+    let code = written(alloc, code)?;
+    let message = written(alloc, message)?;
+    format!(in alloc; "refused {code}: {message}")
+}
+
+fn open_shown(alloc: Global, why: Why) -> Result<String, AllocError> {
+    format!(in alloc; "open: {why:?}")
 }
 
 /// What an answer means.
-pub(crate) fn push_class(alloc: Global, out: &mut String, class: &Class) -> Result<(), AllocError> {
+pub(crate) fn class_shown(alloc: Global, class: &Class) -> Result<String, AllocError> {
     match class {
-        Class::Success(reply) => push_reply(alloc, out, reply),
-        Class::Refusal { code, message } => {
-            out.push_str("refused ")?;
-            push_written(alloc, out, code)?;
-            out.push_str(": ")?;
-            push_written(alloc, out, message)
-        }
-        Class::Uncertain(why) => out.push_str(format!(in alloc; "open: {why:?}")?.as_str()),
+        Class::Success(reply) => reply_shown(alloc, reply),
+        Class::Refusal { code, message } => refusal_shown(alloc, code, message),
+        Class::Uncertain(why) => open_shown(alloc, *why),
     }
 }
