@@ -1,34 +1,14 @@
 //! Two wires to one service in memory, each with an upload of its own: the first wire takes its answer only once the
-//! second sent its request. Prints what both show, once with each upload in a thread of its own, and once with one
-//! after the other, where the first wire waits in vain and counts a fault.
-#![tactic(auto)]
+//! second sent its request.
 
-mod uploads;
-
-use s3_fakes::{Gate, GateWire, MemTable, MemWire, SharedTable};
-use s3_model::{Limits, OutOfMemory, Text};
+use crate::objects::{MOMENT, service};
+use crate::uploads::end_of_upload;
+use s3_fakes::{Gate, GateWire, MemWire, SharedTable};
+use s3_model::{OutOfMemory, Text};
 use std::alloc::{AllocError, Global};
-use std::io;
 use std::rt::Clock;
 use std::sync::{Arc, Wait};
 use std::thread::{Threads, join};
-use uploads::uploaded;
-
-const LIMITS: Limits = Limits {
-    min_part: 4,
-    max_part: 64,
-    max_parts: 4,
-    max_object: 256,
-};
-
-const MOMENT: u64 = 1_369_353_600;
-
-/// A service with one bucket.
-fn service(alloc: Global) -> Result<SharedTable, OutOfMemory> {
-    let mut table = MemTable::make(alloc, LIMITS, MOMENT);
-    table.add_bucket("b")?;
-    table.share()
-}
 
 /// What any request closes, and any request of another wire opens.
 fn gate(alloc: Global) -> Result<Gate, OutOfMemory> {
@@ -98,16 +78,16 @@ impl<R: Wait + Clock + Clone + Drop> Wires<R> {
         let (first, second) = (&mut self.first, &mut self.second);
         let (one, two) = join(
             rt,
-            || uploaded(alloc, first, "1"),
-            || uploaded(alloc, second, "2"),
+            || end_of_upload(alloc, first, "1"),
+            || end_of_upload(alloc, second, "2"),
         );
         Ends { one, two }
     }
 
     /// One upload after the other, and what became of each.
     fn upload_in_turn(&mut self, alloc: Global) -> Ends {
-        let one = uploaded(alloc, &mut self.first, "1");
-        let two = uploaded(alloc, &mut self.second, "2");
+        let one = end_of_upload(alloc, &mut self.first, "1");
+        let two = end_of_upload(alloc, &mut self.second, "2");
         Ends { one, two }
     }
 
@@ -117,50 +97,40 @@ impl<R: Wait + Clock + Clone + Drop> Wires<R> {
     }
 
     /// What the wires and the service show.
-    fn shown(&self, rt: &R, alloc: Global) -> Result<String, AllocError> {
+    fn counts(&self, rt: &R, alloc: Global) -> Result<String, AllocError> {
         let (talks, beside) = (self.first.talks().len(), self.second.talks().len());
         let (faults, requests) = (self.first.faults(), self.requests(rt));
         format!(in alloc; "talks {talks} and {beside} faults {faults} requests {requests}")
     }
 
     /// What became of both uploads, and what the wires and the service show.
-    fn told(&self, rt: &R, alloc: Global, how: &str, ends: Ends) -> Result<String, AllocError> {
-        let shown = self.shown(rt, alloc)?;
-        line(alloc, how, ends, shown.as_str())
+    fn line_of(&self, rt: &R, alloc: Global, how: &str, ends: Ends) -> Result<String, AllocError> {
+        let counts = self.counts(rt, alloc)?;
+        line(alloc, how, ends, counts.as_str())
     }
 }
 
-fn line(alloc: Global, how: &str, ends: Ends, shown: &str) -> Result<String, AllocError> {
+fn line(alloc: Global, how: &str, ends: Ends, counts: &str) -> Result<String, AllocError> {
     let Ends { one, two } = ends;
-    format!(in alloc; "{how}: {one}, {two}, {shown}")
+    format!(in alloc; "{how}: {one}, {two}, {counts}")
 }
 
 /// Both uploads at once.
-fn in_threads<R>(rt: &R, alloc: Global) -> Result<String, OutOfMemory>
+pub(crate) fn in_threads<R>(rt: &R, alloc: Global) -> Result<String, OutOfMemory>
 where
     R: Threads + Wait + Clock + Clone + Send + Sync + Drop,
 {
     let mut wires = Wires::make(rt, alloc)?;
     let ends = wires.upload_at_once(rt, alloc);
-    Ok(wires.told(rt, alloc, "in threads", ends)?)
+    Ok(wires.line_of(rt, alloc, "in threads", ends)?)
 }
 
 /// One upload after the other.
-fn in_turn<R: Wait + Clock + Clone + Drop>(rt: &R, alloc: Global) -> Result<String, OutOfMemory> {
+pub(crate) fn in_turn<R: Wait + Clock + Clone + Drop>(
+    rt: &R,
+    alloc: Global,
+) -> Result<String, OutOfMemory> {
     let mut wires = Wires::make(rt, alloc)?;
     let ends = wires.upload_in_turn(alloc);
-    Ok(wires.told(rt, alloc, "in turn", ends)?)
-}
-
-/// Prints a line that was made.
-fn show(rt: &HostRuntime, line: Result<String, OutOfMemory>) -> io::Result<()> {
-    match line {
-        Ok(line) => println!(rt; "{line}"),
-        Err(OutOfMemory) => Err(AllocError.into()),
-    }
-}
-
-fn main(rt: HostRuntime) -> io::Result<()> {
-    show(&rt, in_threads(&rt, rt.alloc()))?;
-    show(&rt, in_turn(&rt, rt.alloc()))
+    Ok(wires.line_of(rt, alloc, "in turn", ends)?)
 }

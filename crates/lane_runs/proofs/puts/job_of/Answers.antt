@@ -1,7 +1,7 @@
 use Rattle.std.proofs.Common.{refl, arith}
 use Rattle.std.specs.Arc.{arc_value}
 use Rattle.small_uploads.proofs.JobLemmas.{put_asks}
-use Rattle.lane_puts.proofs.puts.job_of.Goals as goal
+use Rattle.lane_runs.proofs.puts.job_of.Goals as goal
 
 pub invariant_of-result : goal.invariant_of-result
 invariant_of-result c = record {
