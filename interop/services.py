@@ -278,6 +278,11 @@ BY_HAND = [
     ("page 1", "ok"), ("List b - - -", f'page more token-8 k,5,"1",{MICROS}'),
     ("List b - - token-8", f'page parts,6,"6",{MICROS}'),
     ("Buckets", f"buckets b,0,,{MICROS}"), ("Head none k", "refused 404"), ("Put x none k", "refused NoSuchBucket"),
+    # an upload that ended is completed again by its own list alone; each part but the last has a least length
+    ("Complete b parts upload-3 5,4", "refused NoSuchUpload"),
+    ("Create b small", "created upload-9"), ("Part abc b small upload-9 1", 'part "10"'),
+    ("Part d b small upload-9 2", 'part "11"'), ("Complete b small upload-9 10,11", "refused EntityTooSmall"),
+    ("show b small", "none"),
     # an answer is lost, then the request is refused: nobody can know what it did
     ("new", "ok"), ("bucket b", "ok"), ("script lost-before 1 PUT /b/a.txt", "ok"),
     ("script refuse:403:AccessDenied 2 PUT /b/a.txt", "ok"),
