@@ -136,10 +136,10 @@ module _ (endpoint : Endpoint) (keys : Keys) where
     no_fault = closed_failed;
   }
 
-  shows : Shows small_put.ask 8388608 talk (class.Success reply.Stored) []
+  pub shows : Shows small_put.ask 8388608 talk (class.Success reply.Stored) []
   shows = inl (answered, ([], is_answer), succeeded reply.Stored (omega arith, omega arith) tt)
 
-  one_talk : IsOneTalk r (class.Success reply.Stored) [] (talk ∷ []) (Moment 0 ∷ Began ∷ [])
+  pub one_talk : IsOneTalk r (class.Success reply.Stored) [] (talk ∷ []) (Moment 0 ∷ Began ∷ [])
   one_talk = record {
     talk = talk;
     moment = 0;

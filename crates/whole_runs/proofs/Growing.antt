@@ -6,7 +6,7 @@ use Rattle.shared_lemmas.proofs.Lists.{head_is, no_middle, tail_is}
 use Rattle.whole_runs.specs.Given.{AreHandedOut, ComeAsGiven, ComesAsGiven, HandsOutItsJob, Jobs, JobsGoOn}
 
 -- what holds of the newest event behind its past, and of each earlier one, holds of each
-grown : (Holds : Event → Events → Type 0) (e : Event) (before : Events) → Holds e before
+pub grown : (Holds : Event → Events → Type 0) (e : Event) (before : Events) → Holds e before
     → ((later past : Events) (x : Event) → before ≡ later ++ x ∷ past → Holds x past)
     → (later past : Events) (x : Event) → e ∷ before ≡ later ++ x ∷ past → Holds x past
 grown Holds e before here rest [] past x is =

@@ -2,6 +2,7 @@ pub mod Asked
 pub mod Buffers
 pub mod Cancels
 pub mod Carried
+pub mod CarriedPut
 pub mod Growing
 pub mod Over
 pub mod Whole

@@ -44,7 +44,7 @@ one_task zero task w e f = (some_is small_task task e, some_is upload w f)
 one_task (suc n) task w e f = absurd (none_is_some task e)
 
 module _ (P : Task → Work → Type 0) where
-  of_one : P small_task upload → (n : ℕ) (task : Task) (w : Work) → slice_get tasks n ≡ Some task
+  pub of_one : P small_task upload → (n : ℕ) (task : Task) (w : Work) → slice_get tasks n ≡ Some task
       → slice_get given.works n ≡ Some w → P task w
   of_one p n task w e f =
       let is = one_task n task w e f in
@@ -87,28 +87,29 @@ module _ (jobs : Jobs) where
         what = what;
       }
 
-module _ (for : What) (cell : Holder) (part : Part)
-    (step : IsStepOf small_task upload (share upload 0 read_run) op.Put 0 for) where
+module _ (for : What) (cell : Holder) (part : Part) where
   -- ---- one giving
 
   abbrev once : Jobs
   once = put_jobs for cell part
 
-  put_handed : AreHandedOut given tasks (put_run for cell part) once
-  put_handed = handed_next once Lined _ (handed_next once _ _ (handed_next once _ read_run (handed_read once)
-      (of_one (λ (t : Task) (v : Work). IsKeptOrFormed (kept_job v (share v 0 read_run) (act.Send op.Put 0)) t v
-      (share v 0 read_run) op.Put 0 (put_job for cell part)) step 0)) tt) tt
-
-  put_comes : ComeAsGiven (put_run for cell part) once
+  pub put_comes : ComeAsGiven (put_run for cell part) once
   put_comes = come_next once Lined _ (come_next once _ _ (come_next once _ read_run (come_read once) tt)
       (λ n task. came once n 0 _ [] read_run refl refl task)) tt
+
+module _ (for : What) (cell : Holder) (part : Part)
+    (step : IsStepOf small_task upload (share upload 0 read_run) op.Put 0 for) where
+  put_handed : AreHandedOut given tasks (put_run for cell part) (once for cell part)
+  put_handed = handed_next _ Lined _ (handed_next _ _ _ (handed_next _ _ read_run (handed_read (once for cell part))
+      (of_one (λ (t : Task) (v : Work). IsKeptOrFormed (kept_job v (share v 0 read_run) (act.Send op.Put 0)) t v
+      (share v 0 read_run) op.Put 0 (put_job for cell part)) step 0)) tt) tt
 
   module _ (asks : IsAskOf (job_of 0 op.Put 0) for small_put.ask) where
     put_asked : IsAskedBy small_setting small_task upload (put_job for cell part) small_put
     put_asked = record { asks = asks; body = refl; size = refl; limit = refl }
 
     pub carried_out : ShowOne ShowsStored × IsCarriedRun ShowsStored no_text [] 0 given small_setting []
-        (put_run for cell part) logs notes once (small_put ∷ []) (small_put ∷ [])
+        (put_run for cell part) logs notes (once for cell part) (small_put ∷ []) (small_put ∷ [])
     carried_out =
         let met = whole_run_is_met for cell part step asks in
         let r = met.1 in (
@@ -118,7 +119,7 @@ module _ (for : What) (cell : Holder) (part : Part)
             handed = put_handed;
             shown = record {
               journaled = r.journaled;
-              come = put_comes;
+              come = put_comes for cell part;
               asked = λ c n lane task w later before known is_task of_plan is at.
                   subst (λ (x : Dispatched). IsAskedBy small_setting task w (put_job for cell part) x) (only c known)
                   (of_one (λ (t : Task) (v : Work). IsAskedBy small_setting t v (put_job for cell part) small_put)

@@ -5,7 +5,7 @@ ghost use Rattle.whole_runs.specs.Carried.{CarriedJobsAreAsked, CarriedRunsAreAs
 ghost use Rattle.whole_runs.specs.Ended.{PlacesTellCancels, RunsAreWhole, RunsEndOver, RunsKeepWholeSchedule};
 ghost use Rattle.whole_runs.specs.Ended.{TasksKeepSchedule};
 ghost use Rattle.whole_runs.specs.Given.{JobsAreAsked, JobsAreFormed, JobsGoOn};
-ghost use Rattle.whole_runs.specs.Witness.{CarriedRunIsMet, GivenAgainIsMet};
+ghost use Rattle.whole_runs.specs.Witness.{CarriedJobIsMet, CarriedRunIsMet, CarriedRunsAreMet, GivenAgainIsMet};
 
 use world_laws::{Command, Reading};
 
@@ -20,10 +20,13 @@ pub fn jobs_are_asked()
 {}
 
 /// A dispatch of a job that a lane carried asks what the job's task says, where the job was formed as the task says and
-/// its part had the bytes of its piece.
+/// its part had the bytes of its piece. Some Put meets it that a lane carried, over a wire that gained its talk, and so
+/// does the run of that Put.
 pub fn carried_jobs_are_asked()
     ensures jobs { CarriedJobsAreAsked }
     ensures runs { CarriedRunsAreAsked }
+    ensures met { CarriedJobIsMet }
+    ensures met_in_run { CarriedRunsAreMet }
 {}
 
 /// A run that the rule ends is over: each task was made, has its outcome and its line, and each job that was sent came
