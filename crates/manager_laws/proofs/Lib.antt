@@ -1,1 +1,4 @@
 pub mod Ends
+pub mod MetKept
+pub mod MetRun
+pub mod MetStates
