@@ -31,7 +31,7 @@ use Rattle.task_acts.specs.declared.acts.Act.TheVariants as act
 use Rattle.task_acts.specs.declared.acts.FileCame.TheVariants as file
 use Rattle.task_acts.specs.declared.acts.Stage.TheVariants as at
 use Rattle.task_acts.specs.declared.work.Work.{Work}
-use Rattle.task_acts.specs.Histories.{Gave, Returned}
+use Rattle.task_acts.specs.Histories.{Gave}
 use Rattle.task_core.proofs.Standing.{gave, returned, starts}
 use Rattle.task_core.specs.Machine.{IsSettled, SeenTask, Stands, settled_by}
 use Rattle.task_ends.specs.Causes.{no_causes}
