@@ -9,6 +9,7 @@ use jobs::{Carried, Ending, Job, What};
 use row_words::{Ended, can_end, ended_as};
 use s3_model::{JobId, Op, OutOfMemory, Part, Reply, Tries};
 use std::alloc::{AllocError, Global};
+use std::mem;
 
 /// What a Get asks for, in the words in which a row says that it came.
 fn got_words(
@@ -157,16 +158,41 @@ fn carried(job: Job, ended: Ended) -> Carried
     Carried { job, tries, ending }
 }
 
+/// Whether a job can have that ending, and has room for what it brought.
+fn can_end_so(job: &Job, ending: &Ending) -> bool
+    ensures fits { result ≡ true → FitsIn (length_of ending.now) job.now.part }
+    ensures can { result ≡ true → can_end ending.now (is_some job.now.cell) ≡ true }
+{
+    can_end(ending, has_cell(job)) && fits(job, ending)
+}
+
 /// The job with that ending, if it can have it and has room for what it brought.
 fn carried_as(job: Job, ended: Ended) -> Option<Carried>
     requires ended { IsEndedBy ended.ending job.id.op ended.tries }
     requires few { length ended.tries ≤ 10 }
     ensures { IfSome result (ComesOf job) }
 {
-    if can_end(&ended.ending, has_cell(&job)) && fits(&job, &ended.ending) {
+    if can_end_so(&job, &ended.ending) {
         Some(carried(job, ended))
     } else {
+        mem::drop(ended);
+        mem::drop(job);
         None
+    }
+}
+
+/// The job with its ending, if it has one.
+fn carried_by(job: Job, ended: Option<Ended>) -> Option<Carried>
+    requires ended { IfSome ended (λ e. IsEndedBy e.ending job.id.op e.tries) }
+    requires few { IfSome ended (λ e. length e.tries ≤ 10) }
+    ensures { IfSome result (ComesOf job) }
+{
+    match ended {
+        Some(ended) => carried_as(job, ended),
+        None => {
+            mem::drop(job);
+            None
+        }
     }
 }
 
@@ -184,8 +210,11 @@ fn ended_by(alloc: Global, job: &Job, came: &str) -> Result<Option<Ended>, OutOf
 pub fn come_back(alloc: Global, job: Job, came: &str) -> Result<Option<Carried>, OutOfMemory>
     ensures { IfOk result (λ back. IfSome back (ComesOf job)) }
 {
-    match ended_by(alloc, &job, came)? {
-        Some(ended) => Ok(carried_as(job, ended)),
-        None => Ok(None),
+    match ended_by(alloc, &job, came) {
+        Ok(ended) => Ok(carried_by(job, ended)),
+        Err(OutOfMemory) => {
+            mem::drop(job);
+            Err(OutOfMemory)
+        }
     }
 }
