@@ -1,8 +1,8 @@
 //! One pass over the words behind the command.
 
-ghost use Rattle.std.specs.Prelude.{◌≡◌, ◌≢◌, ◌+◌, [], length, map, string_bytes, OnOk, IfOk, IfErr, Some, None};
+ghost use Rattle.std.specs.Prelude.{◌≡◌, ◌≢◌, ◌+◌, ◌++◌, [], ◌∷◌, length, map, string_bytes, OnOk, IfOk, IfErr, Some, None};
 ghost use Rattle.s3_words.specs.Faults.{first_fault, option_fault, role_fault, text_fault};
-ghost use Rattle.s3_words.specs.Roles.{Path, Value, role_of, roles};
+ghost use Rattle.s3_words.specs.Roles.{Path, Value, next, role_of, roles};
 ghost use Rattle.s3_words.specs.Shown.{Follows, IsReader, Keeps, read, shown};
 ghost use Rattle.s3_words.specs.declared.roles.Expected.TheVariants.{Anything};
 
@@ -86,6 +86,19 @@ impl<'a> Reader<'a> {
         }
     }
 
+    /// Adds what a word is behind the others.
+    fn push(&mut self, role: Role<'a>) -> Result<(), WordFault>
+        ensures verb { self.new.verb ≡ self.old.verb }
+        ensures expected { self.new.expected ≡ next self.old.expected (shown role.entry) }
+        ensures words { OnOk result (read self.new ≡ read self.old ++ shown role.entry ∷ []) }
+        ensures places { self.new.places.items ≡ self.old.places.items }
+        ensures endpoint { self.new.endpoint ≡ self.old.endpoint }
+        ensures fault { IfErr result (λ fault. fault ≡ WordFault.Memory) }
+    {
+        self.expected = self.expected.next(role);
+        self.roles.push(role).map_err(|_| WordFault::Memory)
+    }
+
     /// Takes the next word; `last` says that no word follows.
     fn take(&mut self, alloc: Global, word: &'a str, last: bool) -> Result<(), WordFault>
         ensures right { OnOk result (role_fault self.old.verb (length (read self.old) + 1) (read self.old) last
@@ -101,8 +114,7 @@ impl<'a> Reader<'a> {
             return Err(fault);
         }
         self.keep(alloc, at, role)?;
-        self.expected = self.expected.next(role);
-        self.roles.push(role).map_err(|_| WordFault::Memory)
+        self.push(role)
     }
 
     /// Reads all words behind the command, up to the first that has a fault.
