@@ -2,7 +2,7 @@
 
 ghost use Rattle.std.specs.Prelude.{◌≡◌, ◌≢◌, ◌≤◌, Err, IfErr, IfOk, IsSome, None, Ok, Some, is_some, length, option_map, if◌then◌else◌};
 ghost use Rattle.s3_model.specs.Validity.{IsValidConfig};
-ghost use Rattle.aws_profile.specs.Answers.{access_key, answer, key_of_words, settings_by};
+ghost use Rattle.aws_profile.specs.Answers.{access_key, answer, key_of_words, keys_made, settings_by};
 ghost use Rattle.aws_profile.specs.ShownAnswers.{IsWithoutText};
 ghost use Rattle.aws_profile.specs.ShownKeys.{key_shown};
 ghost use Rattle.aws_profile.specs.Taken.{KeepsWords, key_taken, key_with, region_with};
@@ -12,6 +12,7 @@ use crate::answers::{Choice, decide, owned};
 use crate::keys::{AccessKey, has_key, has_region, is_visible, token_of};
 use s3_model::{Config, EnvWords, Keys, OutOfMemory, ProfileFault, Settings, Text};
 use std::alloc::Global;
+use std::mem;
 
 /// An access key that owns its texts. It has no `Debug`, so that no secret is printed.
 #[derive(Drop)]
@@ -29,6 +30,30 @@ struct Copies {
     config: Config,
 }
 
+/// A copy of a key's id and secret.
+fn id_and_secret(alloc: Global, key: AccessKey<'_>) -> Result<(Text, Text), OutOfMemory>
+    ensures id { IfOk result (λ both. both.0 ≡ key.entry.id.now) }
+    ensures secret { IfOk result (λ both. both.1 ≡ key.entry.secret.now) }
+{
+    let id = Text::of(alloc, key.id)?;
+    let secret = Text::of(alloc, key.secret)?;
+    Ok((id, secret))
+}
+
+fn texts_of(alloc: Global, key: AccessKey<'_>) -> Result<KeyTexts, OutOfMemory>
+    ensures { IfOk result (λ texts. key_taken texts ≡ key_shown key.entry) }
+{
+    let (id, secret) = id_and_secret(alloc, key)?;
+    match token_of(alloc, key.token) {
+        Ok(token) => Ok(KeyTexts { id, secret, token }),
+        Err(OutOfMemory) => {
+            mem::drop(id);
+            mem::drop(secret);
+            Err(OutOfMemory)
+        }
+    }
+}
+
 /// A copy of a key, unless the words have it.
 fn copy_key(
     alloc: Global,
@@ -41,11 +66,10 @@ fn copy_key(
     if has_key(words) {
         return Ok(None);
     }
-    Ok(Some(KeyTexts {
-        id: Text::of(alloc, key.id)?,
-        secret: Text::of(alloc, key.secret)?,
-        token: token_of(alloc, key.token)?,
-    }))
+    match texts_of(alloc, key) {
+        Ok(texts) => Ok(Some(texts)),
+        Err(OutOfMemory) => Err(OutOfMemory),
+    }
 }
 
 /// A copy of a region, unless the words have it.
@@ -65,11 +89,18 @@ fn copy_choice(alloc: Global, words: &EnvWords, choice: Choice<'_>) -> Result<Co
     ensures region { IfOk result (λ copies. region_with words.now copies.region ≡ Some choice.entry.region.now) }
     ensures config { IfOk result (λ copies. copies.config ≡ choice.entry.config) }
 {
-    Ok(Copies {
-        key: copy_key(alloc, words, choice.key)?,
-        region: copy_region(alloc, words, choice.region)?,
-        config: choice.config,
-    })
+    let key = copy_key(alloc, words, choice.key)?;
+    match copy_region(alloc, words, choice.region) {
+        Ok(region) => Ok(Copies {
+            key,
+            region,
+            config: choice.config,
+        }),
+        Err(OutOfMemory) => {
+            mem::drop(key);
+            Err(OutOfMemory)
+        }
+    }
 }
 
 /// The text, where it can stand in a header.
@@ -95,29 +126,46 @@ fn take_key(id: Option<Text>, secret: Option<Text>, token: Option<Text>) -> Opti
     }
 }
 
-/// The settings of words and of what was copied beside them.
-fn join(words: EnvWords, copies: Copies) -> Settings
-    requires key { IsSome (key_with words copies.key) }
-    requires region { IsSome (region_with words copies.region) }
-    ensures { settings_by (key_with words copies.key) (region_with words copies.region) copies.config ≡ Ok result }
+/// The key of these words, unless the command line named the profile.
+fn key_of(
+    named: bool,
+    id: Option<Text>,
+    secret: Option<Text>,
+    token: Option<Text>,
+) -> Option<KeyTexts>
+    ensures { option_map key_taken result ≡
+        (if named then None else access_key (usable id) (usable secret) (usable token)) }
+{
+    if named {
+        mem::drop(id);
+        mem::drop(secret);
+        mem::drop(token);
+        None
+    } else {
+        take_key(id, secret, token)
+    }
+}
+
+/// The key and the region of the words.
+fn key_and_region(words: EnvWords) -> (Option<KeyTexts>, Option<Text>)
+    ensures key { option_map key_taken result.0 ≡ key_of_words words }
+    ensures region { result.1 ≡ usable words.region }
 {
     let EnvWords {
         id,
         secret,
         token,
         region,
+        profile,
         named,
-        ..
     } = words;
-    let taken = if named {
-        None
-    } else {
-        take_key(id, secret, token)
-    };
-    let (Some(key), Some(region)) = (taken.or(copies.key), take_usable(region).or(copies.region))
-    else {
-        unreachable!()
-    };
+    mem::drop(profile);
+    (key_of(named, id, secret, token), take_usable(region))
+}
+
+fn settings_of(key: KeyTexts, region: Text, config: Config) -> Settings
+    ensures { result ≡ record { keys = keys_made (key_taken key) region; config = config } }
+{
     let KeyTexts { id, secret, token } = key;
     Settings {
         keys: Keys {
@@ -126,8 +174,29 @@ fn join(words: EnvWords, copies: Copies) -> Settings
             token,
             region,
         },
-        config: copies.config,
+        config,
     }
+}
+
+/// The settings of words and of what was copied beside them.
+fn join(words: EnvWords, copies: Copies) -> Settings
+    requires key { IsSome (key_with words copies.key) }
+    requires region { IsSome (region_with words copies.region) }
+    ensures { settings_by (key_with words copies.key) (region_with words copies.region) copies.config ≡ Ok result }
+{
+    let (taken_key, taken_region) = key_and_region(words);
+    let Copies {
+        key,
+        region,
+        config,
+    } = copies;
+    let Some(key) = taken_key.or(key) else {
+        unreachable!()
+    };
+    let Some(region) = taken_region.or(region) else {
+        unreachable!()
+    };
+    settings_of(key, region, config)
 }
 
 /// The settings of a run, as `settings` answers them. They take the texts of the words over, and those of the files are
@@ -149,10 +218,17 @@ pub fn take_settings(
 {
     let copies = match decide(&words, config, credentials) {
         Ok(choice) => copy_choice(alloc, &words, choice),
-        Err(refusal) => return Err(owned(alloc, refusal)),
+        Err(refusal) => {
+            let fault = owned(alloc, refusal);
+            mem::drop(words);
+            return Err(fault);
+        }
     };
     match copies {
         Ok(copies) => Ok(join(words, copies)),
-        Err(_) => Err(ProfileFault::Memory),
+        Err(OutOfMemory) => {
+            mem::drop(words);
+            Err(ProfileFault::Memory)
+        }
     }
 }
