@@ -3,13 +3,24 @@
 ghost use Rattle.std.specs.Prelude.{◌≡◌, ◌≢◌, ◌≤◌, ◌||◌, Err, IfErr, IfOk, Ok, codes, length};
 ghost use Rattle.std.specs.Str.{bytes_eq};
 ghost use Rattle.s3_model.specs.Validity.{IsValidConfig};
-ghost use Rattle.aws_profile.specs.Answers.{answer, profile_of};
+ghost use Rattle.aws_profile.specs.Answers.{
+  answer,
+  config_of,
+  first_misread,
+  key_from,
+  profile_of,
+  region_from,
+  setting_fault,
+  settings_by,
+  unless,
+};
 ghost use Rattle.aws_profile.specs.Taken.{KeepsWords};
+ghost use Rattle.aws_profile.specs.ShownValues.{config_shown, keys_shown};
 ghost use Rattle.aws_profile.specs.ShownAnswers.{IsWithoutText, choice_shown, decided_shown, refusal_shown};
 
 use crate::keys::{AccessKey, key_from, keys_of, region_from};
 use crate::limits::config_of;
-use crate::values::{read_config, read_keys};
+use crate::values::{ConfigValues, KeyValues, read_config, read_keys};
 use s3_model::{Config, EnvWords, OutOfMemory, ProfileFault, Settings, Text};
 use std::alloc::Global;
 
@@ -82,6 +93,40 @@ impl Refusal<'_> {
     }
 }
 
+/// What the environment's words and the values of a profile make.
+fn choose<'a>(
+    words: &'a EnvWords,
+    values: &ConfigValues<'a>,
+    keys: &KeyValues<'a>,
+) -> Result<Choice<'a>, Refusal<'a>>
+    ensures choice { decided_shown result ≡ unless (setting_fault (first_misread (config_shown values.now)))
+        (settings_by (key_from words.now (keys_shown keys.now)) (region_from words.now (config_shown values.now))
+        (config_of (config_shown values.now))) }
+    ensures words { IfOk result (KeepsWords words.now) }
+    ensures valid { IfOk result (λ choice. IsValidConfig choice.config) }
+{
+    let config = match config_of(values) {
+        Ok(config) => config,
+        Err(bad) => {
+            return Err(Refusal::BadSetting {
+                line: bad.line,
+                name: bad.name,
+            });
+        }
+    };
+    let Some(key) = key_from(words, keys) else {
+        return Err(Refusal::NoKeys);
+    };
+    let Some(region) = region_from(words, values) else {
+        return Err(Refusal::NoRegion);
+    };
+    Ok(Choice {
+        key,
+        region,
+        config,
+    })
+}
+
 /// What the environment's words and the bytes of the AWS CLI's config and credentials files make, without memory (AWS CLI
 /// User Guide, "Configuration and credential file settings" and "Environment variables").
 ///
@@ -121,26 +166,7 @@ pub fn decide<'a>(
     if !is_known(profile, values.has_section, keys.has_section) {
         return Err(Refusal::NoProfile(profile));
     }
-    let config = match config_of(&values) {
-        Ok(config) => config,
-        Err(bad) => {
-            return Err(Refusal::BadSetting {
-                line: bad.line,
-                name: bad.name,
-            });
-        }
-    };
-    let Some(key) = key_from(words, &keys) else {
-        return Err(Refusal::NoKeys);
-    };
-    let Some(region) = region_from(words, &values) else {
-        return Err(Refusal::NoRegion);
-    };
-    Ok(Choice {
-        key,
-        region,
-        config,
-    })
+    choose(words, &values, &keys)
 }
 
 /// The settings of a run: an owned copy of what `decide` answers. Only texts want memory.
