@@ -1,6 +1,6 @@
 //! The tasks of a row.
 
-ghost use Rattle.std.specs.Prelude.{◌≡◌, ◌+◌, ◌++◌, ◌≤◌, false, IfOk, IfSome, OnOk, length};
+ghost use Rattle.std.specs.Prelude.{◌≡◌, ◌+◌, ◌++◌, ◌≤◌, None, false, IfOk, IfSome, OnOk, length};
 ghost use Rattle.std.specs.Fmt.{decimal};
 ghost use Rattle.sync_plan.specs.Fit.{IsFit};
 ghost use Rattle.run_scripts.specs.Tasks.{AreTasks, EachReplaces, GoesFrom, GoesTo, IsFile, IsObject, IsTaskOf, can_move};
@@ -8,6 +8,7 @@ ghost use Rattle.run_scripts.specs.Tasks.{AreTasks, EachReplaces, GoesFrom, Goes
 use row_words::{Wish, wish_of};
 use s3_model::{Kind, OutOfMemory, Place, Task, Tasks, Text};
 use std::alloc::Global;
+use std::mem;
 
 /// The most tasks of a plan.
 const MOST_TASKS: usize = 1_000_000;
@@ -75,15 +76,34 @@ fn moves_of(wish: Wish) -> bool
     }
 }
 
-fn task_of(alloc: Global, wish: Wish, number: u32) -> Result<Task, OutOfMemory>
-    requires { wish.size ≤ 256 }
-    ensures { IfOk result (IsTaskOf 256 number) }
+/// Where a task goes from and to.
+fn places_of(alloc: Global, kind: Kind, number: u32) -> Result<(Option<Place>, Place), OutOfMemory>
+    ensures from { IfOk result (λ places. GoesFrom number kind places.0) }
+    ensures to { IfOk result (λ places. GoesTo number kind places.1) }
 {
-    let source = source_of(alloc, wish.kind, number)?;
-    let dest = dest_of(alloc, wish.kind, number)?;
-    let etag = Text::of(alloc, "e")?;
+    let source = source_of(alloc, kind, number)?;
+    match dest_of(alloc, kind, number) {
+        Ok(dest) => Ok((source, dest)),
+        Err(OutOfMemory) => {
+            mem::drop(source);
+            Err(OutOfMemory)
+        }
+    }
+}
+
+fn task_with(wish: Wish, source: Option<Place>, dest: Place, etag: Text) -> Task
+    ensures kind { result.kind ≡ wish.kind }
+    ensures moves { can_move wish.kind ≡ false → result.moves ≡ false }
+    ensures source { result.source ≡ source }
+    ensures dest { result.dest ≡ dest }
+    ensures size { result.size ≡ wish.size }
+    ensures etag { result.etag ≡ etag }
+    ensures micros { result.micros ≡ 0 }
+    ensures content { result.content ≡ None }
+    ensures fresh { result.fresh ≡ false }
+{
     let moves = moves_of(wish);
-    Ok(Task {
+    Task {
         kind: wish.kind,
         moves,
         source,
@@ -93,7 +113,22 @@ fn task_of(alloc: Global, wish: Wish, number: u32) -> Result<Task, OutOfMemory>
         micros: 0,
         content: None,
         fresh: false,
-    })
+    }
+}
+
+fn task_of(alloc: Global, wish: Wish, number: u32) -> Result<Task, OutOfMemory>
+    requires { wish.size ≤ 256 }
+    ensures { IfOk result (IsTaskOf 256 number) }
+{
+    let (source, dest) = places_of(alloc, wish.kind, number)?;
+    match Text::of(alloc, "e") {
+        Ok(etag) => Ok(task_with(wish, source, dest, etag)),
+        Err(_) => {
+            mem::drop(source);
+            mem::drop(dest);
+            Err(OutOfMemory)
+        }
+    }
 }
 
 /// Puts a task behind the others.
