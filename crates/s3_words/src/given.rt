@@ -11,7 +11,7 @@ use crate::options::OptionName;
 use crate::roles::Role;
 use crate::values::seconds;
 use path_filters::{Filters, Pattern};
-use s3_model::{Mode, Text, Times, WordFault};
+use s3_model::{Mode, OutOfMemory, Text, Times, WordFault};
 use std::alloc::Global;
 
 /// In seconds.
@@ -74,8 +74,10 @@ pub(crate) fn copy_of(
     let Some(text) = value_of(roles, option) else {
         return Ok(None);
     };
-    let copy = Text::of(alloc, text).map_err(|_| WordFault::Memory)?;
-    Ok(Some(copy))
+    match Text::of(alloc, text) {
+        Ok(copy) => Ok(Some(copy)),
+        Err(OutOfMemory) => Err(WordFault::Memory),
+    }
 }
 
 pub(crate) fn times_of(roles: &[Role<'_>]) -> Times
