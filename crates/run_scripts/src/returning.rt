@@ -1,13 +1,12 @@
 //! How a job comes back.
 
 ghost use Rattle.std.specs.Prelude.{◌≡◌, ◌≤◌, true, IfOk, IfSome, is_some, length};
-ghost use Rattle.jobs.specs.Endings.{IsEnded};
 ghost use Rattle.row_words.specs.Endings.{IsEndedBy, can_end};
 ghost use Rattle.run_scripts.specs.Returning.{ComesOf, FitsIn, HasLength, IsSameJob, length_of, room_of};
 
 use jobs::{Carried, Ending, Job, What};
 use row_words::{Ended, can_end, ended_as};
-use s3_model::{JobId, Op, OutOfMemory, Part, Reply, Tries};
+use s3_model::{JobId, Op, OutOfMemory, Part, Reply};
 use std::alloc::{AllocError, Global};
 use std::mem;
 
