@@ -14,10 +14,11 @@ use lane_jobs::Carrier;
 use result_lines::line_of;
 use run_report::{Executed, Fatal, Run, end_early, list_of};
 use run_start::Service;
-use s3_model::{Journal, Mode, OutOfMemory, Outcomes, Place, Plan, Task, Tasks, Warnings};
+use s3_model::{Journal, Mode, OutOfMemory, Outcome, Outcomes, Place, Plan, Task, Tasks, Warnings};
 use s3_outside::{Files, Wire};
 use small_uploads::upload;
 use std::alloc::Global;
+use std::mem;
 use std::sync::Arc;
 use task_copies::share;
 
@@ -61,6 +62,40 @@ pub(crate) struct Prepared {
     pub shared: Arc<Task, Global>,
 }
 
+/// The task as its jobs share it, and the lists that its run fills.
+fn share_with_lists(alloc: Global, task: &Task) -> Result<(Arc<Task, Global>, Lists), OutOfMemory>
+    ensures shared { IfOk result (λ made. arc_value made.0 ≡ task.now) }
+    ensures room { IfOk result (λ made. HasRoom made.1) }
+{
+    let shared = share(alloc, task)?;
+    match make_lists(alloc) {
+        Ok(lists) => Ok((shared, lists)),
+        Err(fault) => {
+            mem::drop(shared);
+            Err(fault)
+        }
+    }
+}
+
+/// What a task wants of memory before it begins, behind its carrier.
+fn prepare_behind(alloc: Global, carrier: Carrier, task: &Task) -> Result<Prepared, OutOfMemory>
+    ensures carrier { IfOk result (λ made. made.carrier ≡ carrier) }
+    ensures shared { IfOk result (λ made. arc_value made.shared ≡ task.now) }
+    ensures room { IfOk result (λ made. HasRoom made.lists) }
+{
+    match share_with_lists(alloc, task) {
+        Ok((shared, lists)) => Ok(Prepared {
+            lists,
+            carrier,
+            shared,
+        }),
+        Err(fault) => {
+            mem::drop(carrier);
+            Err(fault)
+        }
+    }
+}
+
 /// Makes all that a task wants of memory before it begins.
 fn prepare(alloc: Global, service: Service, task: &Task) -> Result<Prepared, OutOfMemory>
     requires { IsWithin 1 service.attempts 10 }
@@ -71,13 +106,39 @@ fn prepare(alloc: Global, service: Service, task: &Task) -> Result<Prepared, Out
     ensures room { IfOk result (λ made. HasRoom made.lists) }
 {
     let carrier = Carrier::make(alloc, service.endpoint, service.keys, service.attempts)?;
-    let shared = share(alloc, task)?;
-    let lists = make_lists(alloc)?;
-    Ok(Prepared {
-        lists,
-        carrier,
-        shared,
-    })
+    prepare_behind(alloc, carrier, task)
+}
+
+/// The run of a task that came to this outcome.
+fn run_of(alloc: Global, lists: Lists, task: Task, outcome: Outcome) -> Run
+    requires no_task { lists.tasks.items ≡ [] }
+    requires for_task { 1 ≤ lists.tasks.spare }
+    requires no_outcome { lists.outcomes.items ≡ [] }
+    requires for_outcome { 1 ≤ lists.outcomes.spare }
+    ensures status { result.status ≡ 0 }
+    ensures tasks { result.plan.tasks.items ≡ task ∷ [] }
+    ensures skips { result.plan.warnings.items ≡ [] }
+    ensures outcomes { result.outcomes.items ≡ outcome ∷ [] }
+    ensures journal { result.journal ≡ lists.journal }
+    ensures warnings { result.warnings.items ≡ [] }
+    ensures fatal { result.fatal ≡ None }
+{
+    let Lists {
+        mut tasks,
+        mut outcomes,
+        journal,
+    } = lists;
+    tasks.push(task);
+    outcomes.push(outcome);
+    let warnings = Warnings::make(alloc);
+    Run {
+        status: 0,
+        plan: Plan { tasks, warnings },
+        outcomes,
+        journal,
+        warnings: Warnings::make(alloc),
+        fatal: None,
+    }
 }
 
 /// Does the task of a run.
@@ -108,15 +169,10 @@ fn do_task<F: Files, W: Wire>(
     ensures wire_later { W.faults wire.old ≤ W.faults wire.new }
 {
     let Prepared {
-        lists,
+        mut lists,
         mut carrier,
         shared,
     } = prepared;
-    let Lists {
-        mut tasks,
-        mut outcomes,
-        mut journal,
-    } = lists;
     let outcome = upload(
         alloc,
         files,
@@ -125,23 +181,12 @@ fn do_task<F: Files, W: Wire>(
         shared,
         source_of(&task),
         task.size,
-        &mut journal,
+        &mut lists.journal,
     );
+    mem::drop(carrier);
     let line = line_of(alloc, &task, &outcome, mode);
-    tasks.push(task);
-    outcomes.push(outcome);
-    let warnings = Warnings::make(alloc);
-    Executed {
-        run: Run {
-            status: 0,
-            plan: Plan { tasks, warnings },
-            outcomes,
-            journal,
-            warnings: Warnings::make(alloc),
-            fatal: None,
-        },
-        line,
-    }
+    let run = run_of(alloc, lists, task, outcome);
+    Executed { run, line }
 }
 
 /// Uploads the file of a command.
@@ -168,6 +213,9 @@ pub fn execute_upload<W: Wire, F: Files>(
 {
     match prepare(alloc, service, &task) {
         Ok(prepared) => do_task(alloc, mode, prepared, task, files, wire),
-        Err(_) => end_early(alloc, words, Fatal::Memory),
+        Err(_) => {
+            mem::drop(task);
+            end_early(alloc, words, Fatal::Memory)
+        }
     }
 }
