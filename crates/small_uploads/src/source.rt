@@ -43,7 +43,6 @@ fn read_more<F: Files>(
 }
 
 /// Fills a place with the first bytes of a file.
-#[tactic(auto, using(upload_promise::proofs::SourceLemmas::looks_both))]
 fn fill_from<F: Files>(files: &mut F, path: &str, place: &mut [u8]) -> Result<(), ReadFault>
     ensures length { length place.new ≡ length place.old }
     ensures bytes { IfSome (F.seen files.new)

@@ -25,6 +25,7 @@ use s3_model::{
 };
 use s3_outside::{Files, Wire};
 use std::alloc::Global;
+use std::mem;
 use std::sync::Arc;
 
 /// The only job of an upload of one piece.
@@ -131,7 +132,8 @@ fn end_of(carried: Carried) -> Ended
     ensures outcome { result.outcome ≡ outcome_of carried.tries carried.ending }
     ensures wants { carried.job.cell ≡ None → WantsPut result.outcome result.tries }
 {
-    let Carried { tries, ending, .. } = carried;
+    let Carried { job, tries, ending } = carried;
+    mem::drop(job);
     let outcome = outcome_of(&tries, ending);
     Ended { tries, outcome }
 }
