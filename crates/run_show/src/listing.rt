@@ -14,13 +14,11 @@ use listing_commands::{Shown, show_listing};
 use listings::ListingFault;
 use result_lines::Line;
 use run_report::{Executed, Fatal, Run, Worked, ending_line};
-use run_start::Start;
-use s3_model::{
-    BadListing, Endpoint, Journal, Keys, Outcomes, Place, Plan, Settings, Tasks, Warnings,
-};
+use run_start::{Service, Start, service_of};
+use s3_model::{BadListing, Endpoint, Journal, Keys, Outcomes, Place, Plan, Tasks, Warnings};
 use s3_outside::Wire;
-use s3_words::Command;
 use std::alloc::Global;
+use std::mem;
 
 /// How a listing that has no end ends a run.
 fn fatal_for(fault: ListingFault) -> Fatal
@@ -123,14 +121,16 @@ fn ask<W: Wire>(
     ensures later { W.faults wire.old ≤ W.faults wire.new }
 {
     let mut client = Client::make(alloc, endpoint, keys)?;
-    show_listing(alloc, wire, &mut client, at, recursive, journal)
+    let shown = show_listing(alloc, wire, &mut client, at, recursive, journal);
+    mem::drop(client);
+    shown
 }
 
 /// Lists what a command asks for.
 pub fn execute_listing<W: Wire>(
     alloc: Global,
     words: &[String],
-    start: Start,
+    mut start: Start,
     wire: &mut W,
 ) -> Worked
     requires { IsListed start.command.from }
@@ -140,15 +140,11 @@ pub fn execute_listing<W: Wire>(
     ensures lists { result.lists ≡ true }
     ensures later { W.faults wire.old ≤ W.faults wire.new }
 {
-    let Start { command, settings } = start;
-    let Command {
-        from,
-        endpoint,
-        recursive,
-        ..
-    } = command;
-    let Settings { keys, .. } = settings;
+    let from = start.command.from.take();
+    let recursive = start.command.recursive;
+    let Service { endpoint, keys, .. } = service_of(start);
     let mut journal = Journal::make(alloc);
     let listed = ask(alloc, endpoint, keys, &from, recursive, &mut journal, wire);
+    mem::drop(from);
     end_listing(alloc, words, listed, journal)
 }

@@ -12,8 +12,8 @@ use run_start::Start;
 use s3_model::{OutOfMemory, Place, Text};
 use s3_outside::Wire;
 use s3_paths::S3Uri;
-use s3_words::Command;
 use std::alloc::Global;
+use std::mem;
 
 fn uri_of(place: Option<Place>) -> S3Uri
     requires { IsObject place }
@@ -26,22 +26,24 @@ fn uri_of(place: Option<Place>) -> S3Uri
 }
 
 /// The line of the URL of a command's object, from a moment on.
-fn url_line(alloc: Global, start: Start, moment: u64) -> Result<Text, OutOfMemory>
+fn url_line(alloc: Global, mut start: Start, moment: u64) -> Result<Text, OutOfMemory>
     requires object { NamesObject start.command }
     requires least { 1 ≤ start.command.expires }
     requires most { start.command.expires ≤ 604800 }
     requires moment { moment < 253402300800 }
     ensures { IfOk result (λ line. line ≡ url_line start.command start.settings moment) }
 {
-    let Start { command, settings } = start;
-    let Command {
-        from,
-        endpoint,
-        expires,
-        ..
-    } = command;
-    let uri = uri_of(from);
-    let made = presign(alloc, &uri, &endpoint, &settings.keys, moment, expires);
+    let uri = uri_of(start.command.from.take());
+    let made = presign(
+        alloc,
+        &uri,
+        &start.command.endpoint,
+        &start.settings.keys,
+        moment,
+        start.command.expires,
+    );
+    mem::drop(uri);
+    mem::drop(start);
     match made {
         Ok(url) => Text::joined(alloc, &[url.as_str(), "\n"]),
         Err(PresignFault::Memory) => Err(OutOfMemory),

@@ -13,11 +13,11 @@ use Rattle.run_show.proofs.listing.ask.Goals as goal
 
 pub returns-clause-shown : goal.returns-clause-shown
 returns-clause-shown g c =
-    let result = c.show_listing.result in
-    let Shows : Endpoint → Keys → Type 0 = λ endpoint keys. Gains (g.W.Wire.seen c.args.wire.now) (g.W.Wire.seen c.show_listing.new.wire) (ShowsListing endpoint keys c.args.at.now c.args.recursive
-    c.args.journal.now.items c.show_listing.new.journal.items result) in
+    let result = c.show_listing-shown.result in
+    let Shows : Endpoint → Keys → Type 0 = λ endpoint keys. Gains (g.W.Wire.seen c.args.wire.now) (g.W.Wire.seen c.show_listing-shown.new.wire) (ShowsListing endpoint keys c.args.at.now c.args.recursive
+    c.args.journal.now.items c.show_listing-shown.new.journal.items result) in
     subst (λ (endpoint : Endpoint). Shows endpoint c.args.keys) c.in_ok-client.ensures.endpoint
-    (subst (λ (keys : Keys). Shows c.in_ok-client.client.endpoint keys) c.in_ok-client.ensures.keys c.show_listing.ensures.shown)
+    (subst (λ (keys : Keys). Shows c.in_ok-client.client.endpoint keys) c.in_ok-client.ensures.keys c.show_listing-shown.ensures.shown)
 
 pub returns-in_err-client-clause-shown : goal.returns-in_err-client-clause-shown
 returns-in_err-client-clause-shown g c =
@@ -28,9 +28,9 @@ returns-in_err-client-clause-shown g c =
 
 pub returns-clause-some : goal.returns-clause-some
 returns-clause-some g c =
-    let Shows : Endpoint → Keys → Type 0 = λ endpoint keys. OfSomeTalks (ShowsListing endpoint keys c.args.at.now c.args.recursive c.args.journal.now.items c.show_listing.new.journal.items c.show_listing.result) in
+    let Shows : Endpoint → Keys → Type 0 = λ endpoint keys. OfSomeTalks (ShowsListing endpoint keys c.args.at.now c.args.recursive c.args.journal.now.items c.show_listing-shown.new.journal.items c.show_listing-shown.result) in
     subst (λ (endpoint : Endpoint). Shows endpoint c.args.keys) c.in_ok-client.ensures.endpoint
-    (subst (λ (keys : Keys). Shows c.in_ok-client.client.endpoint keys) c.in_ok-client.ensures.keys c.show_listing.ensures.some)
+    (subst (λ (keys : Keys). Shows c.in_ok-client.client.endpoint keys) c.in_ok-client.ensures.keys c.show_listing-shown.ensures.some)
 
 pub returns-in_err-client-clause-some : goal.returns-in_err-client-clause-some
 returns-in_err-client-clause-some g c =
