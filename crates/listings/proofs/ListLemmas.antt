@@ -14,7 +14,7 @@ use Rattle.job_terms.specs.Ops.{op_of}
 use Rattle.s3_model.specs.declared.places.Endpoint.{Endpoint}
 use Rattle.s3_model.specs.declared.settings.Keys.{Keys}
 use Rattle.s3_model.specs.Talks.{Note, Talk, WireLog}
-use Rattle.attempts.specs.Attempts.{IsOneTalk, Makes, tries_of}
+use Rattle.attempts.specs.Attempts.{Makes, tries_of}
 use Rattle.job_terms.specs.Gains.{Gains}
 use Rattle.attempts.specs.declared.send.Attempted.{Attempted}
 use Rattle.attempts.specs.declared.send.Attempted.TheVariants as attempted_as
@@ -23,7 +23,7 @@ use Rattle.job_terms.proofs.GainLemmas.{gains_as, gains_both, gains_nothing}
 use Rattle.list_walk.specs.Pages.{Gathered, IsSound, Walk, count_of, gathered_with, new_walk, next_ask, refusal_of, total_of, with_page}
 use Rattle.list_walk.proofs.LawLemmas.{taken_where_sound}
 use Rattle.listings.specs.Asked.{IsGiven, OfSomeTalks, request_for}
-use Rattle.listings.specs.Pages.{IsNext, Listing, Lists, TakesClass}
+use Rattle.listings.specs.Pages.{IsNext, Listing, Lists, TakesAnswer}
 use Rattle.listings.specs.declared.fault.ListingFault.{ListingFault}
 use Rattle.listings.specs.declared.fault.ListingFault.TheVariants as fault
 use Rattle.listings.proofs.SomeLemmas.{journals, some_as, some_both}
@@ -56,34 +56,32 @@ asked_next walk given a open_before is some =
     let asked : Ask = ask.List walk.bucket walk.prefix walk.delimited walk.token in
     some_is a asked (sym some ∙ is ∙ ap (λ (over : Bool). if over then None else Some asked) open_before)
 
--- the request was the next, and its answer was taken
-module _ (endpoint : Endpoint) (keys : Keys) (number : ℕ) (walk after_walk : Walk) (before after : List Event) (result : Result Bool ListingFault) (found : Option Ask) (a : Ask) (given : Option Class) (shown : Class)
-    (open_before : walk.over ≡ false) (found_is : found ≡ next_ask walk) (some : found ≡ Some a) (given_is : given ≡ Some shown) (takes : TakesClass walk shown after_walk result) where
-  abbrev Given : List Talk → List Note → Type 0
-  Given = IsGiven endpoint keys a number before after given
+-- the request of an open walk was given
+module _ (endpoint : Endpoint) (keys : Keys) (number : ℕ) (walk : Walk) (before after : List Event) (found : Option Ask) (a : Ask) (given : Option Class)
+    (open_before : walk.over ≡ false) (found_is : found ≡ next_ask walk) (some : found ≡ Some a) where
+  abbrev Given : Ask → List Talk → List Note → Type 0
+  Given asked = IsGiven endpoint keys asked number before after given
 
-  is_next : (talks : List Talk) (notes : List Note) → Given talks notes → IsNext endpoint keys number walk after_walk before after result talks notes
-  is_next talks notes gives = record {
-    given = Some shown;
-    gives =
-        subst (λ (asked : Ask). IsGiven endpoint keys asked number before after (Some shown) talks notes) (asked_next walk found a open_before found_is some)
-        (subst (λ (o : Option Class). IsGiven endpoint keys a number before after o talks notes) given_is gives);
-    takes = takes;
-  }
+  pub gains_given : (was now : Option WireLog) → Gains was now (Given a) → Gains was now (Given (ask.List walk.bucket walk.prefix walk.delimited walk.token))
+  gains_given was now gained = subst (λ (asked : Ask). Gains was now (Given asked)) (asked_next walk found a open_before found_is some) gained
 
-  pub gains_next : (was now : Option WireLog) → Gains was now Given → Gains was now (IsNext endpoint keys number walk after_walk before after result)
-  gains_next was now gained = gains_as Given (IsNext endpoint keys number walk after_walk before after result) is_next was now gained
+  pub some_given : OfSomeTalks (Given a) → OfSomeTalks (Given (ask.List walk.bucket walk.prefix walk.delimited walk.token))
+  some_given of_some = subst (λ (asked : Ask). OfSomeTalks (Given asked)) (asked_next walk found a open_before found_is some) of_some
 
-  pub some_next : OfSomeTalks Given → OfSomeTalks (IsNext endpoint keys number walk after_walk before after result)
-  some_next of_some = some_as Given (IsNext endpoint keys number walk after_walk before after result) is_next of_some
+-- the next request was given, and its answer was taken
+module _ (endpoint : Endpoint) (keys : Keys) (number : ℕ) (walk after_walk : Walk) (before after : List Event) (result : Result Bool ListingFault) (given : Option Class)
+    (takes : TakesAnswer walk given after_walk result) where
+  abbrev GivenNext : List Talk → List Note → Type 0
+  GivenNext = IsGiven endpoint keys (ask.List walk.bucket walk.prefix walk.delimited walk.token) number before after given
 
-pub none_next_some : (endpoint : Endpoint) (keys : Keys) (number : ℕ) (walk : Walk) (events : List Event) → OfSomeTalks (IsNext endpoint keys number walk walk events events (Err fault.Memory))
-none_next_some endpoint keys number walk events = ([], [], record { given = None; gives = inl (refl, refl, refl); takes = refl })
+  is_next : (talks : List Talk) (notes : List Note) → GivenNext talks notes → IsNext endpoint keys number walk after_walk before after result talks notes
+  is_next talks notes gives = record { given = given; gives = gives; takes = takes }
 
-pub none_next : (endpoint : Endpoint) (keys : Keys) (number : ℕ) (walk : Walk) (events : List Event) (seen : Option WireLog)
-    → Gains seen seen (IsNext endpoint keys number walk walk events events (Err fault.Memory))
-none_next endpoint keys number walk events seen =
-    gains_nothing (IsNext endpoint keys number walk walk events events (Err fault.Memory)) seen (record { given = None; gives = inl (refl, refl, refl); takes = refl })
+  pub gains_next : (was now : Option WireLog) → Gains was now GivenNext → Gains was now (IsNext endpoint keys number walk after_walk before after result)
+  gains_next was now gained = gains_as GivenNext (IsNext endpoint keys number walk after_walk before after result) is_next was now gained
+
+  pub some_next : OfSomeTalks GivenNext → OfSomeTalks (IsNext endpoint keys number walk after_walk before after result)
+  some_next of_some = some_as GivenNext (IsNext endpoint keys number walk after_walk before after result) is_next of_some
 
 pub none_listed : (l : Listing) (events : List Event) (seen : Option WireLog) (result : Result Walk ListingFault) → result ≡ Err fault.Memory → Gains seen seen (Lists l events events result)
 none_listed l events seen result failed = subst (λ (r : Result Walk ListingFault). Gains seen seen (Lists l events events r)) (sym failed)

@@ -1,19 +1,20 @@
 //! All pages of a listing.
 
-ghost use Rattle.std.specs.Prelude.{◌≡◌, ◌≤◌, ◌+◌, false, IfErr, IfOk, length};
+ghost use Rattle.std.specs.Prelude.{◌≡◌, ◌≤◌, ◌+◌, false, IfErr, IfOk, IfSome, length};
 ghost use Rattle.answer_dates.specs.Dates.{AreDated, HasDates};
 ghost use Rattle.job_terms.specs.Gains.{Gains};
-ghost use Rattle.listings.specs.Asked.{OfSomeTalks};
+ghost use Rattle.listings.specs.Asked.{IsGiven, OfSomeTalks};
 ghost use Rattle.listings.specs.Faults.{IsNoCancel};
-ghost use Rattle.listings.specs.Pages.{IsNext, Listing, Lists, TakesClass, TakesPage, TookPage};
+ghost use Rattle.listings.specs.Pages.{IsNext, Listing, Lists, TakesAnswer, TakesPage, TookPage};
 
 use crate::fault::{ListingFault, fault_of};
 use crate::one::give;
 use attempts::Client;
 use list_walk::Pages;
-use s3_model::{BadListing, Class, Journal, Listed, Op, Reply};
+use s3_model::{Ask, BadListing, Class, Journal, Listed, Op, Reply};
 use s3_outside::Wire;
 use std::alloc::Global;
+use std::mem;
 
 /// Takes a page, and answers whether more follow.
 #[tactic(auto, using(crate::proofs::DatedLemmas::page_dated))]
@@ -31,18 +32,54 @@ fn take_page(pages: &mut Pages, page: &Listed) -> Result<bool, ListingFault>
     }
 }
 
-/// Takes the page that an answer has, and answers whether more follow.
-fn take_class(pages: &mut Pages, class: Class) -> Result<bool, ListingFault>
+/// Takes the page that an answer has, if one came, and answers whether more follow.
+fn take_answer(pages: &mut Pages, given: Option<Class>) -> Result<bool, ListingFault>
     requires before { AreDated pages.old.gathered.entries }
-    requires class { HasDates class }
-    ensures takes { TakesClass pages.old class pages.new result }
+    requires class { IfSome given HasDates }
+    ensures takes { TakesAnswer pages.old given pages.new result }
     ensures took { IfOk result (TookPage pages.old pages.new) }
     ensures dated { IfOk result (λ _. AreDated pages.new.gathered.entries) }
     ensures no_cancel { IfErr result IsNoCancel }
 {
-    match class {
-        Class::Success(Reply::Listed(page)) => take_page(pages, &page),
-        other => Err(fault_of(Op::List, other)),
+    match given {
+        Some(Class::Success(Reply::Listed(page))) => take_page(pages, &page),
+        Some(other) => Err(fault_of(Op::List, other)),
+        None => Err(ListingFault::Memory),
+    }
+}
+
+/// Asks for the next page: the class of its answer, or None where memory ran out before it.
+fn ask_next<W: Wire>(
+    alloc: Global,
+    wire: &mut W,
+    client: &mut Client,
+    pages: &Pages,
+    number: u32,
+    journal: &mut Journal,
+) -> Option<Class>
+    requires open { pages.now.over ≡ false }
+    ensures given { Gains (W.seen wire.old) (W.seen wire.new) (IsGiven client.old.endpoint client.old.signer
+        (Ask.List pages.now.bucket pages.now.prefix pages.now.delimited pages.now.token) number journal.old.items
+        journal.new.items result) }
+    ensures some { OfSomeTalks (IsGiven client.old.endpoint client.old.signer
+        (Ask.List pages.now.bucket pages.now.prefix pages.now.delimited pages.now.token) number journal.old.items
+        journal.new.items result) }
+    ensures dated { IfSome result HasDates }
+    ensures few { length journal.new.items ≤ length journal.old.items + 2 }
+    ensures later { W.faults wire.old ≤ W.faults wire.new }
+    ensures endpoint { client.new.endpoint ≡ client.old.endpoint }
+    ensures keys { client.new.signer ≡ client.old.signer }
+{
+    match pages.ask() {
+        Ok(Some(ask)) => {
+            let given = give(alloc, wire, client, &ask, Op::List, number, journal);
+            mem::drop(ask);
+            given
+        }
+        other => {
+            mem::drop(other);
+            None
+        }
     }
 }
 
@@ -69,13 +106,8 @@ fn next_page<W: Wire>(
     ensures endpoint { client.new.endpoint ≡ client.old.endpoint }
     ensures keys { client.new.signer ≡ client.old.signer }
 {
-    let Ok(Some(ask)) = pages.ask() else {
-        return Err(ListingFault::Memory);
-    };
-    match give(alloc, wire, client, &ask, Op::List, number, journal) {
-        Some(class) => take_class(pages, class),
-        None => Err(ListingFault::Memory),
-    }
+    let given = ask_next(alloc, wire, client, pages, number, journal);
+    take_answer(pages, given)
 }
 
 /// Asks for all pages of the listing of a prefix in a bucket, one after the other, and gathers them (Amazon S3 API,
