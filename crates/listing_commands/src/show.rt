@@ -1,11 +1,19 @@
 //! The requests of `ls`, and its rows.
 
-ghost use Rattle.std.specs.Prelude.{◌≡◌, ◌≤◌, IfErr};
+ghost use Rattle.std.specs.Prelude.{◌≡◌, ◌≤◌, IfErr, IfOk, Ok};
+ghost use Rattle.answer_dates.specs.Dates.{AreDated};
 ghost use Rattle.job_terms.specs.Gains.{Gains};
 ghost use Rattle.listings.specs.Asked.{OfSomeTalks};
 ghost use Rattle.listings.specs.Faults.{IsNoCancel};
 ghost use Rattle.upload_plans.specs.Commands.{IsListed};
-ghost use Rattle.listing_commands.specs.Commands.{ShowsBuckets, ShowsListing, ShowsPages, finds_nothing};
+ghost use Rattle.listing_commands.specs.Commands.{
+  IsShownBy,
+  IsShownWalk,
+  ShowsBuckets,
+  ShowsListing,
+  ShowsPages,
+  finds_nothing,
+};
 
 use attempts::Client;
 use list_walk::Pages;
@@ -14,6 +22,7 @@ use listings::{ListingFault, list_buckets, list_pages};
 use s3_model::{Journal, Place, Text};
 use s3_outside::Wire;
 use std::alloc::Global;
+use std::mem;
 
 /// What `ls` has to show.
 #[derive(Debug, Drop)]
@@ -53,6 +62,41 @@ fn finds_nothing(key: &str, pages: &Pages) -> bool
     !key.is_empty() && pages.entries().is_empty() && pages.prefixes().is_empty()
 }
 
+/// A row of each prefix and of each object of pages.
+fn shown_of(alloc: Global, pages: &Pages, key: &str, recursive: bool) -> Result<Shown, ListingFault>
+    requires { AreDated pages.now.gathered.entries }
+    ensures shown { IsShownBy (IsShownWalk key.now recursive) (Ok pages.now) result }
+    ensures no_cancel { IfErr result IsNoCancel }
+{
+    let text = listing_text(alloc, pages, recursive)?;
+    Ok(Shown {
+        text,
+        missed: finds_nothing(key, pages),
+    })
+}
+
+/// What is shown of a bucket that was listed so.
+fn show_listed(
+    alloc: Global,
+    listed: Result<Pages, ListingFault>,
+    key: &str,
+    recursive: bool,
+) -> Result<Shown, ListingFault>
+    requires dated { IfOk listed (λ walk. AreDated walk.gathered.entries) }
+    requires no_cancel { IfErr listed IsNoCancel }
+    ensures shown { IsShownBy (IsShownWalk key.now recursive) listed result }
+    ensures no_cancel { IfErr result IsNoCancel }
+{
+    match listed {
+        Ok(pages) => {
+            let shown = shown_of(alloc, &pages, key, recursive);
+            mem::drop(pages);
+            shown
+        }
+        Err(fault) => Err(fault),
+    }
+}
+
 /// A row of each prefix and of each object of a bucket.
 fn show_pages<W: Wire>(
     alloc: Global,
@@ -70,12 +114,8 @@ fn show_pages<W: Wire>(
     ensures no_cancel { IfErr result IsNoCancel }
     ensures later { W.faults wire.old ≤ W.faults wire.new }
 {
-    let pages = list_pages(alloc, wire, client, bucket, key, !recursive, 0, journal)?;
-    let text = listing_text(alloc, &pages, recursive)?;
-    Ok(Shown {
-        text,
-        missed: finds_nothing(key, &pages),
-    })
+    let listed = list_pages(alloc, wire, client, bucket, key, !recursive, 0, journal);
+    show_listed(alloc, listed, key, recursive)
 }
 
 /// What `ls` shows (AWS CLI Command Reference, `s3 ls`): the buckets of the service where `at` is None, else what has
