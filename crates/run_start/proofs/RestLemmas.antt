@@ -1,8 +1,6 @@
 -- What is left of a command says what the words say, but for its region and its profile.
-use Rattle.std.proofs.Common.{◌≡◌, ◌∙◌, ℕ, List, Option, Some, ap, sym}
-use Rattle.s3_model.specs.declared.places.Place.{Place}
+use Rattle.std.proofs.Common.{◌≡◌, ◌∙◌, ℕ, List, Some, ap, sym}
 use Rattle.s3_words.specs.declared.commands.Command.{Command}
-use Rattle.s3_words.specs.declared.commands.Verb.{Verb}
 use Rattle.s3_words.specs.declared.options.OptionName.TheVariants.{Recursive}
 use Rattle.s3_words.specs.Commands.{arguments_of, first_of, mode_of, verb_of}
 use Rattle.s3_words.specs.Given.{is_given}

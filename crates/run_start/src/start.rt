@@ -1,7 +1,7 @@
 //! What comes before the files are looked at: the words, and then the settings.
 
-ghost use Rattle.std.specs.Prelude.{◌≡◌, ◌≤◌, ◌⊎◌, true, false, IfOk, IfErr, IfSome, map, string_bytes};
-ghost use Rattle.upload_plans.specs.Commands.{CopiesUp, IsListed, NamesObject, is_listing, is_presign};
+ghost use Rattle.std.specs.Prelude.{◌≡◌, ◌≢◌, ◌≤◌, ◌⊎◌, true, false, IfOk, IfErr, IfSome, map, string_bytes};
+ghost use Rattle.upload_plans.specs.Commands.{CopiesUp, IsListed, NamesObject, is_listing, is_presign, is_unbuilt};
 ghost use Rattle.run_start.specs.Begun.{IsBegun, IsRead, RefusedFor, StopsInSettings, StopsInWords};
 ghost use Rattle.run_start.specs.Settings.{AreSettings, AsksOnly, settings_fatal, without_settings};
 ghost use Rattle.s3_model.specs.Validity.{IsValidConfig, IsWithin};
@@ -12,6 +12,7 @@ use s3_model::{Endpoint, Keys, Settings, WordFault};
 use s3_outside::Env;
 use s3_words::{Command, read_words};
 use std::alloc::Global;
+use std::mem;
 use upload_plans::is_unbuilt;
 
 /// A command that the program does, and its settings.
@@ -47,16 +48,39 @@ pub fn service_of(start: Start) -> Service
     }
 }
 
+/// How a fault of the words ends a run.
+fn words_fatal(fault: WordFault) -> Fatal
+    ensures memory { fault ≡ WordFault.Memory → result ≡ Fatal.Memory }
+    ensures other { fault ≢ WordFault.Memory → result ≡ Fatal.Words fault }
+{
+    match fault {
+        WordFault::Memory => Fatal::Memory,
+        other => Fatal::Words(other),
+    }
+}
+
+/// The command, unless it is not built yet.
+fn if_built(command: Command) -> Result<Command, Fatal>
+    ensures same { IfOk result (λ same. same ≡ command) }
+    ensures built { IfOk result (λ _. is_unbuilt command ≡ false) }
+    ensures fatal { IfErr result (λ why. why ≡ Fatal.NotYet) }
+    ensures unbuilt { IfErr result (λ _. is_unbuilt command ≡ true) }
+{
+    if is_unbuilt(&command) {
+        mem::drop(command);
+        return Err(Fatal::NotYet);
+    }
+    Ok(command)
+}
+
 /// The command of the words; a fault of them ends the run, and so does a command that is not built yet.
 fn read_command(alloc: Global, words: &[String]) -> Result<Command, Fatal>
     ensures read { IfOk result (IsRead (map string_bytes words.now)) }
     ensures stops { IfErr result (StopsInWords (map string_bytes words.now)) }
 {
     match read_words(alloc, words) {
-        Ok(command) if is_unbuilt(&command) => Err(Fatal::NotYet),
-        Ok(command) => Ok(command),
-        Err(WordFault::Memory) => Err(Fatal::Memory),
-        Err(fault) => Err(Fatal::Words(fault)),
+        Ok(command) => if_built(command),
+        Err(fault) => Err(words_fatal(fault)),
     }
 }
 
@@ -110,6 +134,11 @@ pub fn read_start<E: Env>(alloc: Global, words: &[String], env: &mut E) -> Resul
     ensures later { E.faults env.old ≤ E.faults env.new }
 {
     let mut command = read_command(alloc, words)?;
-    let settings = settings_for(alloc, env, &mut command)?;
-    Ok(Start { command, settings })
+    match settings_for(alloc, env, &mut command) {
+        Ok(settings) => Ok(Start { command, settings }),
+        Err(fatal) => {
+            mem::drop(command);
+            Err(fatal)
+        }
+    }
 }
