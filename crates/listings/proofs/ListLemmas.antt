@@ -1,5 +1,5 @@
 -- A listing goes on by one page, or ends, as its wire gains; and it cannot go on for ever.
-use Rattle.std.proofs.Common.{◌≡◌, ◌∙◌, ◌==◌, ◌+◌, ◌*◌, ◌<◌, ◌≤◌, ◌++◌, ℕ, Bool, true, false, List, [], ◌∷◌, Option, Some, None, refl, sym, ap, subst, inl, arith, length-append}
+use Rattle.std.proofs.Common.{◌≡◌, ◌∙◌, ◌==◌, ◌+◌, ◌*◌, ◌<◌, ◌≤◌, ◌++◌, ℕ, Bool, true, false, List, [], ◌∷◌, Option, Some, None, refl, sym, ap, subst, inl, inr, arith, length, length-append}
 use Rattle.shared_lemmas.proofs.Clashes.{some_is, true_is_false}
 use Rattle.std.specs.Prelude.{◌||◌, if◌then◌else◌, not, Result, Ok, Err}
 use Rattle.s3_model.specs.declared.requests.Ask.{Ask}
@@ -14,7 +14,7 @@ use Rattle.job_terms.specs.Ops.{op_of}
 use Rattle.s3_model.specs.declared.places.Endpoint.{Endpoint}
 use Rattle.s3_model.specs.declared.settings.Keys.{Keys}
 use Rattle.s3_model.specs.Talks.{Note, Talk, WireLog}
-use Rattle.attempts.specs.Attempts.{Makes, tries_of}
+use Rattle.attempts.specs.Attempts.{Makes, SignedRequest, tries_of}
 use Rattle.job_terms.specs.Gains.{Gains}
 use Rattle.attempts.specs.declared.send.Attempted.{Attempted}
 use Rattle.attempts.specs.declared.send.Attempted.TheVariants as attempted_as
@@ -49,6 +49,22 @@ made_given endpoint keys asked of_op number before reserved first after tries at
     let events = journals endpoint keys asked of_op number before reserved first after tries attempted op_is reserved_is first_is after_is tries_are (attempted_as.Made judged) made in
     gains_as (Makes (request_for endpoint keys asked) (attempted_as.Made judged) place) (IsGiven endpoint keys asked number before after (Some judged.class))
     (λ talks notes made_one. (place, made_one.0, events)) was now with_class
+
+-- one was given and came, with no talk
+pub silent_given : (endpoint : Endpoint) (keys : Keys) (asked : Ask) (of_op : Op) (number : ℕ) (before reserved first after : List Event) (tries : List Mark) (attempted : Attempted) (body place : List ℕ)
+    (was now : Option WireLog) → of_op ≡ op_of asked → reserved ≡ before → first ≡ reserved ++ entry.Given (record { task = None; op = of_op; number = number }) 0 ∷ []
+    → after ≡ first ++ entry.Came (record { task = None; op = of_op; number = number }) 0 tries ∷ [] → tries ≡ tries_of attempted → attempted ≡ attempted_as.Memory
+    → Gains was now (Makes (record { endpoint = endpoint; keys = keys; asked = asked; body = body; limit = None }) attempted place)
+    → Gains was now (IsGiven endpoint keys asked number before after None)
+silent_given endpoint keys asked of_op number before reserved first after tries attempted body place was now op_is reserved_is first_is after_is tries_are memory gained =
+    let request : SignedRequest = record { endpoint = endpoint; keys = keys; asked = asked; body = body; limit = None } in
+    let silent = subst (λ (a : Attempted). Gains was now (Makes request a place)) memory gained in
+    let events = journals endpoint keys asked of_op number before reserved first after tries attempted op_is reserved_is first_is after_is tries_are attempted_as.Memory memory in
+    gains_as (Makes request attempted_as.Memory place) (IsGiven endpoint keys asked number before after None) (λ talks notes none. inr (events, none)) was now silent
+
+pub two_more : (before reserved first after : List Event) (given came : Event) → reserved ≡ before → first ≡ reserved ++ given ∷ [] → after ≡ first ++ came ∷ [] → length after ≤ length before + 2
+two_more before reserved first after given came same one two =
+    omega (arith, ap length same, ap length one, ap length two, length-append reserved (given ∷ []), length-append first (came ∷ []))
 
 -- what a walk that is open asks next
 asked_next : (walk : Walk) (given : Option Ask) (a : Ask) → walk.over ≡ false → given ≡ next_ask walk → given ≡ Some a → a ≡ ask.List walk.bucket walk.prefix walk.delimited walk.token

@@ -1,5 +1,5 @@
 use Rattle.std.proofs.Common.{rules}
-use Rattle.listings.proofs.ListLemmas.{made_given, none_given}
+use Rattle.listings.proofs.ListLemmas.{made_given, none_given, silent_given, two_more}
 use Rattle.listings.proofs.SomeLemmas.{made_of_some, none_of_some, silent_of_some}
 use Rattle.listings.proofs.one.give.Goals as goal
 
@@ -26,3 +26,13 @@ returns-in-Made-clause-some g c =
 pub returns-clause-some : goal.returns-clause-some
 returns-clause-some g c =
     silent_of_some c.args.client.now.endpoint c.args.client.now.signer _ _ _ _ _ _ _ _ _ c.requires c.reserve.ensures.items c.push.ensures.items c.push-2.ensures.items c.tries_of-tries.ensures.marks c.in-Memory.is
+
+pub returns-clause-given : goal.returns-clause-given
+returns-clause-given g c =
+    silent_given _ _ _ _ _ _ _ _ _ _ _ _ _ _ _ c.requires c.reserve.ensures.items c.push.ensures.items c.push-2.ensures.items c.tries_of-tries.ensures.marks c.in-Memory.is c.attempt-attempted.ensures.gained
+
+pub returns-clause-few : goal.returns-clause-few
+returns-clause-few g c = two_more _ _ _ _ _ _ c.reserve.ensures.items c.push.ensures.items c.push-2.ensures.items
+
+pub returns-in-Made-clause-few : goal.returns-in-Made-clause-few
+returns-in-Made-clause-few g c = two_more _ _ _ _ _ _ c.reserve.ensures.items c.push.ensures.items c.push-2.ensures.items
