@@ -161,7 +161,10 @@ pub fn list_pages<W: Wire>(
         match next_page(alloc, wire, client, &mut pages, number, journal) {
             Ok(true) => {}
             Ok(false) => return Ok(pages),
-            Err(fault) => return Err(fault),
+            Err(fault) => {
+                mem::drop(pages);
+                return Err(fault);
+            }
         }
     }
     unreachable!()
