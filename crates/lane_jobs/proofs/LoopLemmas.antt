@@ -13,7 +13,7 @@ use Rattle.s3_model.specs.Classes.{is_tried_again}
 use Rattle.s3_model.specs.Talks.{Talk, Note, WireLog}
 use Rattle.job_terms.specs.Attempts.{mark_of}
 use Rattle.job_terms.specs.Dispatches.{last_of}
-use Rattle.attempts.specs.Attempts.{HasStatusIfRefused, IsOfSomeTalk, IsToldOf, SignedRequest, TellsStatus}
+use Rattle.attempts.specs.Attempts.{HasStatusIfRefused, IsOfSomeTalk, IsOneTalk, IsSilent, IsToldOf, Makes, SignedRequest, TellsStatus}
 use Rattle.job_terms.specs.Gains.{Gains}
 use Rattle.attempts.specs.declared.send.Attempted.{Attempted}
 use Rattle.attempts.specs.declared.send.Attempted.TheVariants as attempted
@@ -22,7 +22,7 @@ use Rattle.job_terms.proofs.GainLemmas.{gains_as, gains_both, gains_nothing}
 use Rattle.jobs.specs.Holders.{Holder}
 use Rattle.jobs.specs.declared.ending.Ending.{Ending}
 use Rattle.jobs.specs.declared.ending.Ending.TheVariants as ending
-use Rattle.lane_jobs.specs.Lanes.{AreBehind, AreMade, Attempts, Carries, Ends, HasLastStatus, IsGained, IsMade, IsShare, IsWithoutTalk, KeepsCell, Looks, class_ending, ending_by, ending_of, most_attempts, reason_of}
+use Rattle.lane_jobs.specs.Lanes.{AreBehind, AreMade, Attempts, Carries, Ends, HasLastStatus, IsGained, IsMade, IsNotedBefore, IsShare, IsWithoutTalk, KeepsCell, Looks, class_ending, ending_by, ending_of, most_attempts, reason_of}
 use Rattle.lane_jobs.proofs.MadeLemmas.{AreTriedAgain, all_but_last, all_elsewhere, each_again, last_again, last_more, made_more, marks_more, none_last, one_longer, tried_more}
 
 false_is_true : false ≡ true → ⊥
@@ -63,6 +63,23 @@ pub to_service : (first endpoint : Endpoint) (old keys : Keys) (asked : Ask) (bo
 to_service first endpoint old keys asked body limit number made place now after e k h =
     subst (λ (x : Endpoint). Gains now after (Attempts (record { endpoint = x; keys = old; asked = asked; body = body; limit = limit }) number made place)) e
     (subst (λ (y : Keys). Gains now after (Attempts (record { endpoint = endpoint; keys = y; asked = asked; body = body; limit = limit }) number made place)) k h)
+
+-- its pause, and what it came to behind that
+pub behind_pause : (r : SignedRequest) (number : ℕ) (made : Attempted) (place : List ℕ) (talks more : List Talk) (notes others : List Note) → IsNotedBefore number talks notes → Makes r made place more others
+    → Attempts r number made place (talks ++ more) (notes ++ others)
+behind_pause r number attempted.Memory place talks more notes others paused makes = (
+  others,
+  ap (λ (ns : List Note). ns ++ others) paused.1,
+  subst (λ (ts : List Talk). IsSilent (ts ++ more) others) (sym paused.0) makes,
+)
+behind_pause r number (attempted.Made judged) place talks more notes others paused makes = (
+  record {
+    own = others;
+    paused = ap (λ (ns : List Note). ns ++ others) paused.1;
+    made = subst (λ (ts : List Talk). IsOneTalk r judged.class place (ts ++ more) others) (sym paused.0) makes.0;
+  },
+  subst (λ (ts : List Talk). TellsStatus r judged.status (ts ++ more)) (sym paused.0) makes.1,
+)
 
 -- ---- the ending by what the last attempt came to
 

@@ -4,9 +4,10 @@ ghost use Rattle.std.specs.Prelude.{◌≡◌, ◌≤◌, ◌<◌, ℕ, List, []
 ghost use Rattle.attempts.specs.Attempts.{IsGet};
 ghost use Rattle.attempts.specs.Payloads.{body_of};
 ghost use Rattle.s3_model.specs.Validity.{IsWithin};
+ghost use Rattle.s3_model.specs.declared.requests.Ask.{Ask};
 ghost use Rattle.s3_model.specs.declared.requests.Op.TheVariants as op;
 ghost use Rattle.job_terms.specs.Ops.{op_of};
-ghost use Rattle.jobs.specs.Jobs.{HasPart, bytes_of, range_of};
+ghost use Rattle.jobs.specs.Jobs.{HasPart, IsAskOf, bytes_of, range_of};
 ghost use Rattle.s3_signing.specs.Signing.{IsHashOf};
 ghost use Rattle.jobs.specs.declared.ending.Ending.TheVariants as ending;
 ghost use Rattle.lane_jobs.specs.Lanes.{
@@ -31,6 +32,7 @@ use s3_outside::Wire;
 use s3_signing::HexHash;
 use std::alloc::Global;
 use std::marker::Model;
+use std::mem;
 
 /// What a lane has beside its wire: what signs the requests, and the room in which answers are read. It carries jobs,
 /// one after the other.
@@ -87,6 +89,21 @@ fn out_of_memory() -> Went
     }
 }
 
+/// Hands back a job for whose request memory ran out.
+fn hand_back(job: Job) -> Carried
+    ensures asks { (asked : Ask) × IsAskOf job.id job.what asked }
+    ensures job { result.job ≡ job }
+    ensures tries { result.tries ≡ [] }
+    ensures ending { result.ending ≡ ending.Memory }
+{
+    let _ = &job.id;
+    Carried {
+        job,
+        tries: Tries::none(),
+        ending: Ending::Memory,
+    }
+}
+
 impl Carrier {
     /// A carrier of jobs of at most `attempts` attempts each, from 1 to 10, for the service at this endpoint. It takes
     /// some 800 KiB of memory.
@@ -101,13 +118,18 @@ impl Carrier {
             carrier ≡ record { endpoint = endpoint; keys = keys; attempts = attempts }) }
     {
         let client = Client::make(alloc, endpoint, keys)?;
-        let nowhere = Bytes::make(alloc, 0)?;
-        Ok(Carrier {
-            client,
-            nowhere,
-            attempts,
-            alloc,
-        })
+        match Bytes::make(alloc, 0) {
+            Ok(nowhere) => Ok(Carrier {
+                client,
+                nowhere,
+                attempts,
+                alloc,
+            }),
+            Err(fault) => {
+                mem::drop(client);
+                Err(fault)
+            }
+        }
     }
 
     /// The number of the last attempt of a job.
@@ -234,6 +256,38 @@ impl Carrier {
         }
     }
 
+    /// Carries a job by this request of it.
+    fn carry_by<W: Wire>(&mut self, wire: &mut W, ask: &Ask, job: Job) -> Carried
+        requires { IsAskOf job.id job.what ask.now }
+        ensures carried { IsCarriedBy self.old job (W.seen wire.old) (W.seen wire.new) result }
+        ensures stopped { IsSome (reason_of job.cell) → result.tries ≡ [] }
+        ensures job { IsSameJob job result.job }
+        ensures carrier { IsSameCarrier self.old self.new }
+        ensures later { W.faults wire.old ≤ W.faults wire.new }
+    {
+        let length = length_of(&job.what);
+        let Job {
+            id,
+            what,
+            mut part,
+            mut hash,
+            mut cell,
+            had,
+        } = job;
+        let Went { tries, ending } = self.serve(
+            wire, ask, length, &mut part, &mut hash, &mut cell, had,
+        );
+        let job = Job {
+            id,
+            what,
+            part,
+            hash,
+            cell,
+            had,
+        };
+        Carried { job, tries, ending }
+    }
+
     /// Carries a job: makes its attempts over the wire, and hands it back with their marks and its ending.
     ///
     /// Each attempt is one talk with the endpoint, signed at its moment. The bytes of a part are hashed once, also where
@@ -248,36 +302,13 @@ impl Carrier {
         ensures carrier { IsSameCarrier self.old self.new }
         ensures later { W.faults wire.old ≤ W.faults wire.new }
     {
-        let Ok(ask) = ask_of(self.alloc, &job) else {
-            return Carried {
-                job,
-                tries: Tries::none(),
-                ending: Ending::Memory,
-            };
-        };
-        let Job {
-            id,
-            what,
-            mut part,
-            mut hash,
-            mut cell,
-            had,
-        } = job;
-        let length = length_of(&what);
-        let Went { tries, ending } = self.serve(
-            wire, &ask, length, &mut part, &mut hash, &mut cell, had,
-        );
-        Carried {
-            job: Job {
-                id,
-                what,
-                part,
-                hash,
-                cell,
-                had,
-            },
-            tries,
-            ending,
+        match ask_of(self.alloc, &job) {
+            Ok(ask) => {
+                let carried = self.carry_by(wire, &ask, job);
+                mem::drop(ask);
+                carried
+            }
+            Err(_) => hand_back(job),
         }
     }
 }

@@ -10,6 +10,7 @@ use s3_model::{Endpoint, Keys, OutOfMemory, Text};
 use s3_outside::Wire;
 use std::alloc::Global;
 use std::marker::Model;
+use std::mem;
 
 /// A connection to a service that carries jobs, one after the other. It keeps the connection, where the service allows
 /// it.
@@ -102,7 +103,9 @@ impl<W: Wire + Drop> Lane<W> {
     pub fn wire(self) -> W
         ensures { result ≡ self.wire }
     {
-        self.wire
+        let Lane { wire, carrier } = self;
+        mem::drop(carrier);
+        wire
     }
 
     /// Carries a job over the wire, as `Carrier::carry` says.

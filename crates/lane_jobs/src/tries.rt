@@ -11,6 +11,7 @@ use jobs::{CancelCell, Ending};
 use s3_model::{Ask, Bytes, Reason, Tries};
 use s3_outside::Wire;
 use std::alloc::Global;
+use std::mem;
 
 /// The marks of a job's attempts, and how it ends.
 #[derive(Drop)]
@@ -66,6 +67,7 @@ pub(crate) fn make_attempts<W: Wire>(
                 ending: ending_by(reason, last),
             };
         }
+        mem::drop(last);
         match attempt_once(alloc, wire, client, ask, payload, limit, into, number) {
             Attempted::Made(judged) => {
                 tries.add(mark_of(&judged.class));
