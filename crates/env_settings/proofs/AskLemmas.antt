@@ -35,18 +35,12 @@ asks_as ps qs inner outer old new first before after earlier fewer same asks = r
   asked = seen_as (asks_first asks.count ps) (asks_first asks.count qs) old new first before after earlier (same_first asks.count ps qs old same) asks.asked;
 }
 
-same_least : (S T : Type 0) (why : SettingsFault) → least_asked {T = S} (Err why) ≡ least_asked {T = T} (Err why)
-same_least S T (fault.Profile reason) = refl
-same_least S T fault.EnvRead = refl
-same_least S T fault.Memory = refl
-
--- a fault that is handed on
-pub asks_err : {S T : Type 0} (ps qs : SeenEnv → List (List ℕ)) (why : SettingsFault) (outer : Result T SettingsFault) (start old new : Option SeenEnv) (first before after : ℕ)
-    → first ≤ before → old ≡ start → outer ≡ Err why → IfSome start (λ env. ps env ≡ qs env) → AsksFirst {T = S} ps (Err why) old new before after → AsksFirst qs outer start new first after
-asks_err {S} {T} ps qs why outer start old new first before after earlier same was found asks =
-    let equal : least_asked outer ≡ least_asked {T = S} (Err why) = ap (λ (r : Result T SettingsFault). least_asked r) was ∙ same_least T S why in
-    subst (λ (o : Option SeenEnv). AsksFirst qs outer o new first after) same
-    (asks_as ps qs (Err why) outer old new first before after earlier (omega (arith, equal)) (subst (λ (o : Option SeenEnv). IfSome o (λ env. ps env ≡ qs env)) (sym same) found) asks)
+-- from where the paths were found
+pub asks_found : {T : Type 0} (ps qs : SeenEnv → List (List ℕ)) (result : Result T SettingsFault) (start old new : Option SeenEnv) (first before after : ℕ)
+    → first ≤ before → old ≡ start → IfSome start (λ env. ps env ≡ qs env) → AsksFirst ps result old new before after → AsksFirst qs result start new first after
+asks_found ps qs result start old new first before after earlier same found asks =
+    subst (λ (o : Option SeenEnv). AsksFirst qs result o new first after) same
+    (asks_as ps qs result result old new first before after earlier (omega arith) (subst (λ (o : Option SeenEnv). IfSome o (λ env. ps env ≡ qs env)) (sym same) found) asks)
 
 two : (p q : Option (List ℕ)) → take 2 (listed p ++ listed q) ≡ listed p ++ listed q
 two None None = refl

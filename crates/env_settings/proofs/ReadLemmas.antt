@@ -29,23 +29,20 @@ stays step keeps old env before after seen =
     let found = seen_before step old env before after seen in
     (found.0, found.1, ap (λ (e : SeenEnv). e.variables) found.2 ∙ (keeps found.0).0, ap (λ (e : SeenEnv). e.files) found.2 ∙ (keeps found.0).1)
 
-pub settled : {T : Type 0} (region profile : Option (List ℕ)) (ps : SeenEnv → List (List ℕ)) (inner : Result T SettingsFault) (config_at credentials_at : Option (List ℕ)) (words : EnvWords) (config credentials : List ℕ) (result : Result Settings SettingsFault) (old new : Option SeenEnv) (before after : ℕ)
+pub settled : (region profile : Option (List ℕ)) (ps : SeenEnv → List (List ℕ)) (config_at credentials_at : Option (List ℕ)) (words : EnvWords) (result : Result Settings SettingsFault) (old new : Option SeenEnv) (before after : ℕ)
     → IfSome old (λ env. config_at ≡ config_path env.variables) → IfSome old (λ env. credentials_at ≡ credentials_path env.variables) → IfSome old (λ env. words ≡ words_of env.variables region profile)
-    → IfSome new (λ env. config ≡ bytes_at env.files config_at) → IfSome new (λ env. credentials ≡ bytes_at env.files credentials_at)
-    → AsksFirst ps inner old new before after → AnswersAs (answer words config credentials) result
+    → AsksFirst ps result old new before after → IfSome new (λ env. AnswersAs (answer words (bytes_at env.files config_at) (bytes_at env.files credentials_at)) result)
     → IfSome new (λ env. AnswersAs (settings_of env.variables env.files region profile) result)
-settled region profile ps inner config_at credentials_at words config credentials result old None before after a b c d e asks answers = tt
-settled region profile ps inner config_at credentials_at words config credentials result old (Some env) before after a b c d e asks answers =
+settled region profile ps config_at credentials_at words result old None before after a b c asks answers = tt
+settled region profile ps config_at credentials_at words result old (Some env) before after a b c asks answers =
     let kept = stays (asks_first asks.count ps) (λ earlier. (refl, refl)) old env before after asks.asked in
     let first : config_at ≡ config_path kept.0.variables = subst (λ (o : Option SeenEnv). IfSome o (λ seen. config_at ≡ config_path seen.variables)) kept.1 a in
     let second : credentials_at ≡ credentials_path kept.0.variables = subst (λ (o : Option SeenEnv). IfSome o (λ seen. credentials_at ≡ credentials_path seen.variables)) kept.1 b in
     let third : words ≡ words_of kept.0.variables region profile = subst (λ (o : Option SeenEnv). IfSome o (λ seen. words ≡ words_of seen.variables region profile)) kept.1 c in
-    let config_is : config ≡ bytes_at env.files (config_path kept.0.variables) = d ∙ ap (bytes_at env.files) first in
-    let credentials_is : credentials ≡ bytes_at env.files (credentials_path kept.0.variables) = e ∙ ap (bytes_at env.files) second in
     subst (λ (v : MapOf (List ℕ)). AnswersAs (settings_of v env.files region profile) result) (sym kept.2)
     (subst (λ (w : EnvWords). AnswersAs (answer w (bytes_at env.files (config_path kept.0.variables)) (bytes_at env.files (credentials_path kept.0.variables))) result) third
-    (subst (λ (k : List ℕ). AnswersAs (answer words (bytes_at env.files (config_path kept.0.variables)) k) result) credentials_is
-    (subst (λ (k : List ℕ). AnswersAs (answer words k credentials) result) config_is answers)))
+    (subst (λ (path : Option (List ℕ)). AnswersAs (answer words (bytes_at env.files (config_path kept.0.variables)) (bytes_at env.files path)) result) second
+    (subst (λ (path : Option (List ℕ)). AnswersAs (answer words (bytes_at env.files path) (bytes_at env.files credentials_at)) result) first answers)))
 
 -- of a failed read and of want of memory nothing is said
 pub unsettled : (region profile : Option (List ℕ)) (why : SettingsFault) → IsReadFault why → (seen : Option SeenEnv) → IfSome seen (λ env. AnswersAs (settings_of env.variables env.files region profile) (Err why))
@@ -79,16 +76,14 @@ words_at : (id secret token region profile : Option (List ℕ)) (named : Bool) (
 words_at id secret token region profile named given_region given_profile None n a b c d e = tt
 words_at id secret token region profile named given_region given_profile (Some env) n a b c d e = rw (n, a, b, c, d, e) refl
 
--- the words, one after the other
-pub words_read : (id secret token region profile : Option (List ℕ)) (named : Bool) (given_region given_profile : Option (List ℕ)) (first second third fourth fifth : Option SeenEnv) → named ≡ is_some given_profile
-    → second ≡ first → third ≡ second → fourth ≡ third → fifth ≡ fourth
-    → IfSome first (λ env. id ≡ get env.variables (codes "AWS_ACCESS_KEY_ID")) → IfSome second (λ env. secret ≡ get env.variables (codes "AWS_SECRET_ACCESS_KEY"))
-    → IfSome third (λ env. token ≡ get env.variables (codes "AWS_SESSION_TOKEN")) → IfSome fourth (λ env. region ≡ region_of env.variables given_region)
-    → IfSome fifth (λ env. profile ≡ option_or given_profile (set_value env.variables (codes "AWS_PROFILE")))
-    → IfSome first (λ env. record { id = id; secret = secret; token = token; region = region; profile = profile; named = named } ≡ words_of env.variables given_region given_profile)
-words_read id secret token region profile named given_region given_profile first second third fourth fifth n s t u v a b c d e =
-    words_at id secret token region profile named given_region given_profile first n a
-    (still (λ env. secret ≡ get env.variables (codes "AWS_SECRET_ACCESS_KEY")) first second s b)
-    (still (λ env. token ≡ get env.variables (codes "AWS_SESSION_TOKEN")) first third (t ∙ s) c)
-    (still (λ env. region ≡ region_of env.variables given_region) first fourth (u ∙ (t ∙ s)) d)
-    (still (λ env. profile ≡ option_or given_profile (set_value env.variables (codes "AWS_PROFILE"))) first fifth (v ∙ (u ∙ (t ∙ s))) e)
+-- the keys, and then the choice
+pub words_read : (id secret token region profile : Option (List ℕ)) (named : Bool) (given_region given_profile : Option (List ℕ)) (words : EnvWords) (first second : Option SeenEnv)
+    → words ≡ record { id = id; secret = secret; token = token; region = region; profile = profile; named = named } → named ≡ is_some given_profile → second ≡ first
+    → IfSome first (λ env. id ≡ get env.variables (codes "AWS_ACCESS_KEY_ID")) → IfSome first (λ env. secret ≡ get env.variables (codes "AWS_SECRET_ACCESS_KEY"))
+    → IfSome first (λ env. token ≡ get env.variables (codes "AWS_SESSION_TOKEN")) → IfSome second (λ env. region ≡ region_of env.variables given_region)
+    → IfSome second (λ env. profile ≡ option_or given_profile (set_value env.variables (codes "AWS_PROFILE")))
+    → IfSome first (λ env. words ≡ words_of env.variables given_region given_profile)
+words_read id secret token region profile named given_region given_profile words first second is n s a b c d e =
+    subst (λ (w : EnvWords). IfSome first (λ env. w ≡ words_of env.variables given_region given_profile)) (sym is)
+    (words_at id secret token region profile named given_region given_profile first n a b c (still (λ env. region ≡ region_of env.variables given_region) first second s d)
+    (still (λ env. profile ≡ option_or given_profile (set_value env.variables (codes "AWS_PROFILE"))) first second s e))

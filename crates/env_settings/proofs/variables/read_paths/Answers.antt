@@ -1,5 +1,5 @@
 use Rattle.env_settings.proofs.ReadLemmas.{still}
 use Rattle.env_settings.proofs.variables.read_paths.Goals as goal
 
-pub returns-clause-credentials : goal.returns-clause-credentials
-returns-clause-credentials g c = still _ _ _ c.in_ok-config.ensures.same c.in_ok-credentials.ensures.value
+pub returns-in-Ok-clause-credentials : goal.returns-in-Ok-clause-credentials
+returns-in-Ok-clause-credentials g c = still _ _ _ c.in_ok-config.ensures.same c.in-Ok.ensures.value
