@@ -1,5 +1,7 @@
 -- A signed request and its exchange make an attempt, of one talk.
-use Rattle.std.proofs.Common.{◌≡◌, ◌≤◌, ◌++◌, ◌⊎◌, ℕ, Bool, List, [], ◌∷◌, Option, Some, refl, ap, sym, subst, inl, inr}
+use Rattle.std.proofs.Common.{◌≡◌, ◌≢◌, ◌≤◌, ◌∙◌, ◌++◌, ℕ, Bool, true, false, List, [], ◌∷◌, Option, Some, None, refl, ap, sym, subst, inl, inr}
+use Rattle.shared_lemmas.proofs.Clashes.{none_is_some, some_is}
+use Rattle.std.specs.Option.{option_map}
 use Rattle.std.specs.Prelude.{IfSome}
 use Rattle.s3_model.specs.declared.answers.Class.{Class}
 use Rattle.s3_model.specs.declared.answers.Class.TheVariants as class
@@ -77,6 +79,26 @@ module _ (r : SignedRequest) (keep : Bool) (head : List ℕ) (to : Judged) where
   classed before after first last alive b a has_room answered =
       let (talk, kept, tells_talk, lives, e) = answered.exchanged in
       of_some_talk r keep head to.class talk after.bytes (has_class r keep head before after talk kept answered.result to.class has_room answered.own e answered.judged)
+
+-- ---- the connection
+
+false_is_true : false ≡ true → ⊥
+false_is_true e = cc
+
+-- one that was not to be kept is not
+not_kept : (request : exchange.RawRequest) (first last : Buffer) (result : Talked) (talk : Talk) (kept : Bool) → request.keep ≡ false → exchange.IsExchange request first last result talk kept → kept ≡ false
+not_kept request first last (talked.Answered answered) talk kept is e = e.answered.keeps ∙ ap (λ (keep : Bool). exchange.is_reusable keep answered e.answered.behind) is
+not_kept request first last (talked.Broken reason) talk kept is e = e.broken.ends
+
+not_alive : (kept : Bool) (seen : Option WireLog) (alive : Option Bool) → kept ≡ false → alive ≡ option_map (λ _. kept) seen → alive ≢ Some true
+not_alive kept None alive is lives at = none_is_some true (sym lives ∙ at)
+not_alive kept (Some log) alive is lives at = false_is_true (sym is ∙ some_is _ _ (sym lives ∙ at))
+
+pub closed : (r : SignedRequest) (keep : Bool) (head : List ℕ) (to : Judged) (first last : Option WireLog) (alive : Option Bool) (b a : ℕ) (before after : Buffer)
+    → IsAnsweredBy r keep head first last alive b a before after to → keep ≡ false → alive ≢ Some true
+closed r keep head to first last alive b a before after answered is =
+    let (talk, kept, tells_talk, lives, e) = answered.exchanged in
+    not_alive kept last alive (not_kept (exchange_of r keep head) before after answered.result talk kept is e) lives
 
 -- ---- the status of a refusal
 

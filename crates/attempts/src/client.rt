@@ -6,6 +6,7 @@ use http_exchange::AnswerRoom;
 use s3_model::{Endpoint, Keys, OutOfMemory};
 use s3_requests::{HeadRoom, Signer};
 use std::alloc::Global;
+use std::mem;
 
 /// Where the requests to a service go, what signs them, and the rooms in which their heads are written and their answers
 /// are read. One client serves one request after the other; the signing key of a day is made once, and the rooms are
@@ -24,11 +25,18 @@ impl Client {
         ensures endpoint { IfOk result (λ client. client.endpoint ≡ endpoint) }
         ensures keys { IfOk result (λ client. client.signer ≡ keys) }
     {
-        Ok(Client {
-            endpoint,
-            signer: Signer::new(keys),
-            heads: HeadRoom::new(alloc),
-            room: AnswerRoom::make(alloc)?,
-        })
+        match AnswerRoom::make(alloc) {
+            Ok(room) => Ok(Client {
+                endpoint,
+                signer: Signer::new(keys),
+                heads: HeadRoom::new(alloc),
+                room,
+            }),
+            Err(fault) => {
+                mem::drop(endpoint);
+                mem::drop(keys);
+                Err(fault)
+            }
+        }
     }
 }

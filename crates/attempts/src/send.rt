@@ -13,7 +13,7 @@ ghost use Rattle.attempts.specs.Attempts.{
   signed_request,
 };
 ghost use Rattle.job_terms.specs.Gains.{Gains};
-ghost use Rattle.attempts.specs.Steps.{IsAnsweredBy, IsSigned, status_of};
+ghost use Rattle.attempts.specs.Steps.{IsAnsweredBy, IsJudged, IsSigned, status_of};
 ghost use Rattle.answer_classes.specs.Showing.{is_head};
 
 use crate::client::Client;
@@ -86,6 +86,18 @@ fn status_of(talked: &Talked) -> Option<u16>
     }
 }
 
+/// Judges what came back for a request.
+fn judge(alloc: Global, ask: &Ask, talked: Talked) -> Judged
+    ensures judged { IsJudged ask.now talked result.class }
+    ensures told { result.status ≡ status_of talked }
+    ensures dated { HasDates result.class }
+    ensures refused { HasStatusIfRefused result }
+{
+    let status = status_of(&talked);
+    let class = classify(alloc, ask, talked);
+    Judged { class, status }
+}
+
 /// Sends the request whose head was written last, and judges the answer.
 fn send<W: Wire>(
     alloc: Global,
@@ -122,9 +134,7 @@ fn send<W: Wire>(
         limit,
         into,
     );
-    let status = status_of(&talked);
-    let class = classify(alloc, ask, talked);
-    Judged { class, status }
+    judge(alloc, ask, talked)
 }
 
 /// Makes one attempt of a request: signs it at the wire's moment, sends it in one talk, and judges the answer.

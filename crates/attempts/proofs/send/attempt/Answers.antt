@@ -1,9 +1,9 @@
-use Rattle.std.proofs.Common.{subst}
+use Rattle.std.proofs.Common.{arith, subst}
 use Rattle.s3_model.specs.declared.places.Endpoint.{Endpoint}
 use Rattle.s3_model.specs.declared.settings.Keys.{Keys}
 use Rattle.attempts.specs.Attempts.{SignedRequest}
 use Rattle.attempts.specs.Steps.{IsAnsweredBy}
-use Rattle.attempts.proofs.AttemptLemmas.{attempted_once, classed}
+use Rattle.attempts.proofs.AttemptLemmas.{attempted_once, classed, closed}
 use Rattle.attempts.proofs.send.attempt.Goals as goal
 
 pub returns-in-Ok-clause-gained : goal.returns-in-Ok-clause-gained
@@ -20,3 +20,11 @@ pub returns-in-Ok-clause-classed : goal.returns-in-Ok-clause-classed
 returns-in-Ok-clause-classed g c =
     let request : SignedRequest = record { endpoint = c.sign.new.client.endpoint; keys = c.sign.new.client.signer; asked = c.args.ask.now; body = c.args.payload.now; limit = c.args.limit } in
     classed request c.args.keep c.sign.new.client.heads c.send.result _ _ _ _ _ _ _ c.requires.limit c.send.ensures.answered
+
+pub returns-in-Ok-clause-kept : goal.returns-in-Ok-clause-kept
+returns-in-Ok-clause-kept g c =
+    let request : SignedRequest = record { endpoint = c.sign.new.client.endpoint; keys = c.sign.new.client.signer; asked = c.args.ask.now; body = c.args.payload.now; limit = c.args.limit } in
+    closed request c.args.keep c.sign.new.client.heads c.send.result _ _ _ _ _ _ _ c.send.ensures.answered
+
+pub returns-in-Ok-clause-failed : goal.returns-in-Ok-clause-failed
+returns-in-Ok-clause-failed g c = λ is. omega (arith, c.send.ensures.failed is, c.in-Ok.ensures.later)

@@ -1,24 +1,7 @@
-use Rattle.std.proofs.Common.{ℕ, Option, subst, sym}
-use Rattle.answer_dates.specs.Dates.{IsClassOf}
-use Rattle.answer_dates.proofs.ListedLemmas.{answers_are_dated}
-use Rattle.attempts.specs.Attempts.{IsToldOf}
-use Rattle.attempts.specs.Steps.{IsJudged}
-use Rattle.attempts.proofs.AttemptLemmas.{told_of}
 use Rattle.attempts.proofs.ClassLemmas.{failed_call}
 use Rattle.attempts.proofs.send.send.Goals as goal
 
 pub returns-clause-failed : goal.returns-clause-failed
 returns-clause-failed g c is =
     let (talk, kept, tells, lives, e) = c.exchange-talked.ensures.talk in
-    let judged : IsJudged c.args.ask.now c.exchange-talked.result c.classify-class.result = record { broken = c.classify-class.ensures.broken; classed = c.classify-class.ensures.answered } in
-    c.exchange-talked.ensures.failed (failed_call _ _ _ talk kept c.args.ask.now c.exchange-talked.result c.classify-class.result e judged is)
-
-pub returns-clause-dated : goal.returns-clause-dated
-returns-clause-dated g c =
-    answers_are_dated c.args.ask.now c.exchange-talked.result c.classify-class.result
-    (record { broken = c.classify-class.ensures.broken; answered = c.classify-class.ensures.answered; interim = c.classify-class.ensures.interim })
-
-pub returns-clause-refused : goal.returns-clause-refused
-returns-clause-refused g c =
-    let judged : IsJudged c.args.ask.now c.exchange-talked.result c.classify-class.result = record { broken = c.classify-class.ensures.broken; classed = c.classify-class.ensures.answered } in
-    subst (λ (s : Option ℕ). IsToldOf c.classify-class.result s) (sym c.status_of-status.ensures) (told_of c.args.ask.now c.exchange-talked.result c.classify-class.result judged)
+    c.exchange-talked.ensures.failed (failed_call _ _ _ talk kept c.args.ask.now c.exchange-talked.result c.judge.result.class e c.judge.ensures.judged is)
