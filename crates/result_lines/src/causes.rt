@@ -1,6 +1,6 @@
 //! The texts of causes.
 
-ghost use Rattle.std.specs.Prelude.{◌≡◌, ◌++◌, IfOk, []};
+ghost use Rattle.std.specs.Prelude.{◌≡◌, ◌++◌, IfOk, [], codes};
 ghost use Rattle.result_lines.specs.Causes.{
   IsShown,
   call_name,
@@ -13,6 +13,7 @@ ghost use Rattle.result_lines.specs.Causes.{
 
 use s3_model::{Cause, FileCall, Op, OutOfMemory, Reason, Text, Why};
 use std::alloc::Global;
+use std::mem;
 
 fn op_name(op: Op) -> &'static str
     ensures { result.now ≡ op_name op }
@@ -80,12 +81,38 @@ fn reason_text(reason: Reason) -> &'static str
     }
 }
 
+fn loss_text(alloc: Global, name: &str, why: &str) -> Result<Text, OutOfMemory>
+    ensures { IfOk result (λ text. text ≡ codes "The answer to the " ++ name.now ++ codes " operation was lost ("
+        ++ why.now ++ codes ")") }
+{
+    let (front, middle) = ("The answer to the ", " operation was lost (");
+    Text::joined(alloc, &[front, name, middle, why, ")"])
+}
+
 fn lost_text(alloc: Global, op: Op, why: Why) -> Result<Text, OutOfMemory>
     ensures { IfOk result (λ text. text ≡ cause_text [] (Cause.Lost op why)) }
 {
     let why = why_text(alloc, why)?;
-    let (front, middle) = ("The answer to the ", " operation was lost (");
-    Text::joined(alloc, &[front, op_name(op), middle, why.as_str(), ")"])
+    let text = loss_text(alloc, op_name(op), why.as_str());
+    mem::drop(why);
+    text
+}
+
+fn two_joined(alloc: Global, first: &str, second: &str) -> Result<Text, OutOfMemory>
+    ensures { IfOk result (λ text. text ≡ first.now ++ second.now) }
+{
+    Text::joined(alloc, &[first, second])
+}
+
+fn three_joined<'a>(
+    alloc: Global,
+    first: &'a str,
+    second: &'a str,
+    third: &'a str,
+) -> Result<Text, OutOfMemory>
+    ensures { IfOk result (λ text. text ≡ first.now ++ second.now ++ third.now) }
+{
+    Text::joined(alloc, &[first, second, third])
 }
 
 fn six_joined<'a>(
@@ -133,24 +160,24 @@ pub fn cause_text(alloc: Global, cause: &Cause, dest: &str) -> Result<Text, OutO
     requires { IsShown cause.now }
     ensures { IfOk result (λ text. text ≡ cause_text dest.now cause.now) }
 {
-    let join = |pieces: &[&str]| Text::joined(alloc, pieces);
     match cause {
         Cause::Service { op, code, message } => {
             refusal_text(alloc, *op, code.as_str(), message.as_str())
         }
         Cause::Lost { op, why } => lost_text(alloc, *op, *why),
         Cause::Changed => Text::of(alloc, "The source has changed"),
-        Cause::BadReply { op } => join(&[
-            "The answer to the ",
-            op_name(*op),
-            " operation does not fit the request",
-        ]),
-        Cause::Files { call } => join(&["The file call ", call_name(*call), " failed"]),
-        Cause::Blocked { length } => join(&[
-            "A file or folder stands in the way: ",
-            front_within(dest, *length as usize),
-        ]),
-        Cause::Cancelled { reason } => join(&["Cancelled (", reason_text(*reason), ")"]),
+        Cause::BadReply { op } => {
+            let back = " operation does not fit the request";
+            three_joined(alloc, "The answer to the ", op_name(*op), back)
+        }
+        Cause::Files { call } => three_joined(alloc, "The file call ", call_name(*call), " failed"),
+        Cause::Blocked { length } => {
+            let path = front_within(dest, *length as usize);
+            two_joined(alloc, "A file or folder stands in the way: ", path)
+        }
+        Cause::Cancelled { reason } => {
+            three_joined(alloc, "Cancelled (", reason_text(*reason), ")")
+        }
         Cause::Memory => Text::of(alloc, "Out of memory"),
     }
 }

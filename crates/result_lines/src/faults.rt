@@ -1,6 +1,6 @@
 //! The lines of runs that ended before their tasks, or in planning. All of them go to standard error.
 
-ghost use Rattle.std.specs.Prelude.{◌≡◌, ◌++◌, IfOk, [], codes, map, string_bytes};
+ghost use Rattle.std.specs.Prelude.{◌≡◌, ◌++◌, IfOk, [], codes, decimal, map, string_bytes};
 ghost use Rattle.result_lines.specs.Causes.{IsShown, cause_text};
 ghost use Rattle.result_lines.specs.Faults.{
   IsListingFault,
@@ -25,10 +25,22 @@ use s3_model::{
     BadListing, Cause, OutOfMemory, PlanFault, ProfileFault, Text, WalkFault, WordFault,
 };
 use std::alloc::Global;
+use std::mem;
 
 const FATAL: &str = "fatal error: ";
 
 const PROGRAM: &str = "s3: ";
+
+fn too_large_line(alloc: Global, path: &str, size: u64) -> Result<Text, OutOfMemory>
+    ensures { IfOk result (λ text. text ≡ fatal_line (path.now ++ codes " has " ++ decimal size
+        ++ codes " bytes and is too large")) }
+{
+    let size = number(alloc, size)?;
+    let back = " bytes and is too large";
+    let line = four_in_line(alloc, FATAL, path, " has ", size.as_str(), back);
+    mem::drop(size);
+    line
+}
 
 /// The line of a fault in a plan. Want of memory has none.
 pub fn plan_line(alloc: Global, fault: &PlanFault) -> Result<Text, OutOfMemory>
@@ -44,11 +56,7 @@ pub fn plan_line(alloc: Global, fault: &PlanFault) -> Result<Text, OutOfMemory>
             three_in_line(alloc, FATAL, "The key ", key.as_str(), back)
         }
         PlanFault::TooMany => Text::of(alloc, "fatal error: More than 1000000 names\n"),
-        PlanFault::TooLarge { path, size } => {
-            let size = number(alloc, *size)?;
-            let back = " bytes and is too large";
-            four_in_line(alloc, FATAL, path.as_str(), " has ", size.as_str(), back)
-        }
+        PlanFault::TooLarge { path, size } => too_large_line(alloc, path.as_str(), *size),
         PlanFault::Memory => unreachable!(),
         PlanFault::NoSource(path) => path_line(path, " does not exist"),
         PlanFault::IsFolder(path) => path_line(path, " is a folder"),
@@ -100,7 +108,9 @@ pub fn answer_line(alloc: Global, cause: &Cause) -> Result<Text, OutOfMemory>
     ensures { IfOk result (λ text. text ≡ fatal_line (cause_text [] cause.now)) }
 {
     let cause = cause_text(alloc, cause, "")?;
-    Text::joined(alloc, &["fatal error: ", cause.as_str(), "\n"])
+    let line = Text::joined(alloc, &["fatal error: ", cause.as_str(), "\n"]);
+    mem::drop(cause);
+    line
 }
 
 fn word_at(words: &[String], place: usize) -> &str
@@ -112,13 +122,30 @@ fn word_at(words: &[String], place: usize) -> &str
     }
 }
 
+fn counts_line(alloc: Global, found: &str, wanted: usize) -> Result<Text, OutOfMemory>
+    ensures { IfOk result (λ text. text ≡ program_line (found.now ++ codes " paths given, " ++ decimal wanted
+        ++ codes " wanted")) }
+{
+    let wanted = number(alloc, wanted as u64)?;
+    let line = four_in_line(
+        alloc,
+        PROGRAM,
+        found,
+        " paths given, ",
+        wanted.as_str(),
+        " wanted",
+    );
+    mem::drop(wanted);
+    line
+}
+
 fn count_text(alloc: Global, found: usize, wanted: usize) -> Result<Text, OutOfMemory>
     ensures { IfOk result (λ text. text ≡ program_line (word_text [] (WordFault.PathCount found wanted))) }
 {
     let found = number(alloc, found as u64)?;
-    let wanted = number(alloc, wanted as u64)?;
-    let (found, wanted) = (found.as_str(), wanted.as_str());
-    four_in_line(alloc, PROGRAM, found, " paths given, ", wanted, " wanted")
+    let line = counts_line(alloc, found.as_str(), wanted);
+    mem::drop(found);
+    line
 }
 
 /// The line of words that were refused; it shows the word at the index, counted from 0.

@@ -15,6 +15,7 @@ ghost use Rattle.result_lines.specs.Rows.{
 use jiff_core::civil::Date;
 use s3_model::{Entry, OutOfMemory, Text};
 use std::alloc::Global;
+use std::mem;
 
 const MICROS_PER_SECOND: u64 = 1_000_000;
 
@@ -37,16 +38,48 @@ fn four_digits(alloc: Global, n: u32) -> Result<Text, OutOfMemory>
     Ok(Text::from(format!(in alloc; "{n:04}")?))
 }
 
+/// A text, and two numbers of two digits behind it, each with the mark before it.
+fn two_behind<'a>(
+    alloc: Global,
+    front: &'a str,
+    mark: &'a str,
+    first: u32,
+    second: u32,
+) -> Result<Text, OutOfMemory>
+    ensures { IfOk result (λ text.
+        text ≡ front.now ++ mark.now ++ in_digits 2 first ++ mark.now ++ in_digits 2 second) }
+{
+    let first = two_digits(alloc, first)?;
+    let text = one_behind(alloc, front, mark, first.as_str(), second);
+    mem::drop(first);
+    text
+}
+
+/// The same, where the first number is a text already.
+fn one_behind<'a>(
+    alloc: Global,
+    front: &'a str,
+    mark: &'a str,
+    first: &'a str,
+    second: u32,
+) -> Result<Text, OutOfMemory>
+    ensures { IfOk result (λ text.
+        text ≡ front.now ++ mark.now ++ first.now ++ mark.now ++ in_digits 2 second) }
+{
+    let second = two_digits(alloc, second)?;
+    let text = Text::joined(alloc, &[front, mark, first, mark, second.as_str()]);
+    mem::drop(second);
+    text
+}
+
 fn date_text(alloc: Global, year: u16, month: u8, day: u8) -> Result<Text, OutOfMemory>
     ensures { IfOk result (λ text. text ≡ date_text year month day) }
 {
     let year = four_digits(alloc, u32::from(year))?;
-    let month = two_digits(alloc, u32::from(month))?;
-    let day = two_digits(alloc, u32::from(day))?;
-    Text::joined(
-        alloc,
-        &[year.as_str(), "-", month.as_str(), "-", day.as_str()],
-    )
+    let (month, day) = (u32::from(month), u32::from(day));
+    let text = two_behind(alloc, year.as_str(), "-", month, day);
+    mem::drop(year);
+    text
 }
 
 /// The time of the day so many seconds after midnight.
@@ -54,12 +87,10 @@ fn clock_text(alloc: Global, seconds: u32) -> Result<Text, OutOfMemory>
     ensures { IfOk result (λ text. text ≡ clock_text seconds) }
 {
     let hour = two_digits(alloc, seconds / 3600)?;
-    let minute = two_digits(alloc, seconds / 60 % 60)?;
-    let second = two_digits(alloc, seconds % 60)?;
-    Text::joined(
-        alloc,
-        &[hour.as_str(), ":", minute.as_str(), ":", second.as_str()],
-    )
+    let (minute, second) = (seconds / 60 % 60, seconds % 60);
+    let text = two_behind(alloc, hour.as_str(), ":", minute, second);
+    mem::drop(hour);
+    text
 }
 
 fn timed(alloc: Global, date: &str, clock: &str, rest: &str) -> Result<Text, OutOfMemory>

@@ -21,6 +21,7 @@ ghost use Rattle.result_lines.specs.Tasks.{
 };
 
 use crate::causes::cause_text;
+use crate::lines::{three_in_line, two_in_line};
 use s3_model::{Cause, Kind, Mode, OutOfMemory, Outcome, Outcomes, Place, Task, Text};
 use std::alloc::Global;
 
@@ -113,12 +114,12 @@ fn task_text(alloc: Global, task: &Task, outcome: &Outcome) -> Result<Text, OutO
     let names = names.as_str();
     let verb = verb(task);
     match outcome {
-        Outcome::Done => Text::joined(alloc, &[verb, ": ", names, "\n"]),
-        Outcome::Dry => Text::joined(alloc, &["(dryrun) ", verb, ": ", names, "\n"]),
+        Outcome::Done => two_in_line(alloc, verb, ": ", names),
+        Outcome::Dry => three_in_line(alloc, "(dryrun) ", verb, ": ", names),
         Outcome::Failed(cause) => cause_line(alloc, verb, " failed: ", names, cause, dest),
         Outcome::Unknown(cause) => cause_line(alloc, verb, " unknown: ", names, cause, dest),
         Outcome::Copied(cause) => cause_line(alloc, "move", " copied: ", names, cause, dest),
-        Outcome::Skipped => Text::joined(alloc, &[verb, " skipped: ", names, "\n"]),
+        Outcome::Skipped => two_in_line(alloc, verb, " skipped: ", names),
     }
 }
 
