@@ -31,12 +31,19 @@ const FATAL: &str = "fatal error: ";
 
 const PROGRAM: &str = "s3: ";
 
-fn too_large_line(alloc: Global, path: &str, size: u64) -> Result<Text, OutOfMemory>
+fn path_line(alloc: Global, path: &Text, back: &str) -> Result<Text, OutOfMemory>
+    ensures { IfOk result (λ text. text ≡ fatal_line (codes "The path " ++ path.now ++ back.now)) }
+{
+    three_in_line(alloc, FATAL, "The path ", path.as_str(), back)
+}
+
+fn too_large_line(alloc: Global, path: &Text, size: u64) -> Result<Text, OutOfMemory>
     ensures { IfOk result (λ text. text ≡ fatal_line (path.now ++ codes " has " ++ decimal size
         ++ codes " bytes and is too large")) }
 {
     let size = number(alloc, size)?;
     let back = " bytes and is too large";
+    let path = path.as_str();
     let line = four_in_line(alloc, FATAL, path, " has ", size.as_str(), back);
     mem::drop(size);
     line
@@ -47,20 +54,17 @@ pub fn plan_line(alloc: Global, fault: &PlanFault) -> Result<Text, OutOfMemory>
     requires { IsPlanFault fault.now }
     ensures { IfOk result (λ text. text ≡ fatal_line (plan_text fault.now)) }
 {
-    let path_line = |path: &Text, back: &str| {
-        three_in_line(alloc, FATAL, "The path ", path.as_str(), back)
-    };
     match fault {
         PlanFault::Overlap(key) => {
             let back = " is both read and written by this command";
             three_in_line(alloc, FATAL, "The key ", key.as_str(), back)
         }
         PlanFault::TooMany => Text::of(alloc, "fatal error: More than 1000000 names\n"),
-        PlanFault::TooLarge { path, size } => too_large_line(alloc, path.as_str(), *size),
+        PlanFault::TooLarge { path, size } => too_large_line(alloc, path, *size),
         PlanFault::Memory => unreachable!(),
-        PlanFault::NoSource(path) => path_line(path, " does not exist"),
-        PlanFault::IsFolder(path) => path_line(path, " is a folder"),
-        PlanFault::NotFolder(path) => path_line(path, " is not a folder"),
+        PlanFault::NoSource(path) => path_line(alloc, path, " does not exist"),
+        PlanFault::IsFolder(path) => path_line(alloc, path, " is a folder"),
+        PlanFault::NotFolder(path) => path_line(alloc, path, " is not a folder"),
     }
 }
 
