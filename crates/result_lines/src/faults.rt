@@ -152,25 +152,33 @@ fn count_text(alloc: Global, found: usize, wanted: usize) -> Result<Text, OutOfM
     line
 }
 
+fn show_word(
+    alloc: Global,
+    words: &[String],
+    front: &str,
+    place: usize,
+) -> Result<Text, OutOfMemory>
+    ensures { IfOk result (λ text. text ≡ program_line (front.now ++ word_at (map string_bytes words.now) place)) }
+{
+    two_in_line(alloc, PROGRAM, front, word_at(words, place))
+}
+
 /// The line of words that were refused; it shows the word at the index, counted from 0.
 pub fn word_line(alloc: Global, words: &[String], fault: WordFault) -> Result<Text, OutOfMemory>
     ensures { IfOk result (λ text. text ≡ program_line (word_text (map string_bytes words.now) fault)) }
 {
-    let shown = |front: &str, place: usize| {
-        two_in_line(alloc, PROGRAM, front, word_at(words, place))
-    };
     match fault {
         WordFault::NoCommand => Text::of(alloc, "s3: no command\n"),
-        WordFault::UnknownCommand(place) => shown("unknown command ", place),
-        WordFault::UnknownOption(place) => shown("unknown option ", place),
-        WordFault::NoValue(place) => shown("no value for ", place),
-        WordFault::BadValue(place) => shown("bad value ", place),
+        WordFault::UnknownCommand(place) => show_word(alloc, words, "unknown command ", place),
+        WordFault::UnknownOption(place) => show_word(alloc, words, "unknown option ", place),
+        WordFault::NoValue(place) => show_word(alloc, words, "no value for ", place),
+        WordFault::BadValue(place) => show_word(alloc, words, "bad value ", place),
         WordFault::PathCount { found, wanted } => count_text(alloc, found, wanted),
         WordFault::Pair => Text::of(alloc, "s3: the paths do not fit the command\n"),
         WordFault::Twice(place) => {
             two_in_line(alloc, PROGRAM, word_at(words, place), " is given twice")
         }
-        WordFault::Endpoint(place, _) => shown("bad endpoint ", place),
+        WordFault::Endpoint(place, _) => show_word(alloc, words, "bad endpoint ", place),
         WordFault::NoEndpoint => Text::of(alloc, "s3: no endpoint\n"),
         WordFault::Memory => Text::of(alloc, "s3: out of memory\n"),
     }
