@@ -124,7 +124,6 @@ fn cell_for(op: Op, cell: CancelCell) -> Option<CancelCell>
 impl StepJobs {
     /// The jobs of a task of that work, of which none was formed. It takes all the memory that they need but that of
     /// their parts.
-    #[tactic(auto, using(crate::proofs::Shares::all_alike, crate::proofs::Shares::all_there))]
     pub fn make(alloc: Global, task: &Task, work: Work) -> Result<StepJobs, OutOfMemory>
         requires { work.count + 1 < 2 ^ 32 }
         ensures task { IfOk result (λ made. made.task ≡ task.now) }
@@ -159,6 +158,21 @@ impl StepJobs {
         self.cell.cancel(alloc, reason)
     }
 
+    /// The share at a place, which is empty then.
+    #[tactic(auto, using(crate::proofs::Shares::alike_without))]
+    fn take_at(&mut self, place: usize) -> Option<Share>
+        requires { place < length self.old.shares }
+        ensures share { result ≡ get_or self.old.shares place None }
+        ensures same { IfSome result (IsShareOf self.old.task self.old.cell) }
+        ensures task { self.new.task ≡ self.old.task }
+        ensures work { self.new.work ≡ self.old.work }
+        ensures cell { self.new.cell ≡ self.old.cell }
+        ensures shares { self.new.shares ≡ set self.old.shares place None }
+    {
+        self.shares[place].take()
+    }
+
+    #[tactic(auto, using(crate::proofs::Shares::place_there))]
     fn take(&mut self, op: Op, number: u32) -> Share
         requires { HasShare self.old op number }
         ensures share { IsShareOf self.old.task self.old.cell result }
@@ -168,7 +182,7 @@ impl StepJobs {
         ensures shares { self.new.shares ≡ set self.old.shares (slot self.old.work op number) None }
     {
         let place = slot(&self.work, op, number);
-        let Some(share) = self.shares[place].take() else {
+        let Some(share) = self.take_at(place) else {
             unreachable!()
         };
         share
