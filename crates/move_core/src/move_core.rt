@@ -8,7 +8,7 @@ ghost use Rattle.manager_moves.specs.Runs.{Events, Lined, Shared};
 ghost use Rattle.move_core.specs.Means.{IsSharedBy};
 ghost use Rattle.move_laws.specs.Follows.{Follows};
 ghost use Rattle.move_laws.specs.Steady.{IsSteady};
-ghost use Rattle.move_laws.specs.Kept.{act_at, call_by, giver, giving_by, has_free, has_outcome, line_by, make_by, rest_by};
+ghost use Rattle.move_laws.specs.Kept.{IsSound, act_at, call_by, giver, giving_by, has_free, has_outcome, line_by, make_by, rest_by};
 
 use act_queues::ActQueues;
 use held_parts::HeldParts;
@@ -58,24 +58,22 @@ impl Model for MoveCore {
     ghost invariant = { λ m. IsSound m.acts m.slots.items m.outcomes.items m.made };
 }
 
-#[tactic(auto, using(std::proofs::lemmas::List::replicate_more))]
 fn empty_slots(alloc: Global, count: u32) -> Result<Vec<TaskSlot>, OutOfMemory>
     ensures { IfOk result (λ slots. slots.items ≡ replicate count None) }
 {
     let mut slots = Vec::with_capacity(alloc, count as usize)?;
     for _ in 0..count {
-        slots.push(TaskSlot::empty())?;
+        slots.push_reserved(TaskSlot::empty());
     }
     Ok(slots)
 }
 
-#[tactic(auto, using(std::proofs::lemmas::List::replicate_more))]
 fn no_outcomes(alloc: Global, count: u32) -> Result<Vec<Option<Outcome>>, OutOfMemory>
     ensures { IfOk result (λ outcomes. outcomes.items ≡ replicate count None) }
 {
     let mut outcomes = Vec::with_capacity(alloc, count as usize)?;
     for _ in 0..count {
-        outcomes.push(None)?;
+        outcomes.push_reserved(None);
     }
     Ok(outcomes)
 }
@@ -91,26 +89,6 @@ pub struct Means {
     /// How many parts there are, and the room of each in bytes.
     pub parts: u32,
     pub room: u64,
-}
-
-/// What is out in the lanes of a run, and what its tasks are ready for.
-#[derive(Drop)]
-struct Queues {
-    lanes: LaneQueues,
-    acts: ActQueues,
-}
-
-fn make_queues(alloc: Global, count: u32, means: Means) -> Result<Queues, OutOfMemory>
-    requires some { 1 ≤ means.lanes }
-    requires few { means.lanes ≤ 65535 }
-    requires shallow { means.depth ≤ 64 }
-    ensures lanes { IfOk result (λ queues.
-        queues.lanes ≡ record { depth = means.depth; jobs = replicate means.lanes [] }) }
-    ensures acts { IfOk result (λ queues. queues.acts ≡ replicate count None) }
-{
-    let lanes = LaneQueues::make(alloc, means.lanes, means.depth)?;
-    let acts = ActQueues::make(alloc, count)?;
-    Ok(Queues { lanes, acts })
 }
 
 /// A place for the state of each task, and one for its outcome.
@@ -129,6 +107,79 @@ fn make_places(alloc: Global, count: u32) -> Result<Places, OutOfMemory>
     Ok(Places { slots, outcomes })
 }
 
+/// The places of the tasks, and the parts, which nobody holds.
+fn make_held(alloc: Global, count: u32, means: Means) -> Result<(Places, HeldParts), OutOfMemory>
+    ensures slots { IfOk result (λ held. held.0.slots.items ≡ replicate count None) }
+    ensures outcomes { IfOk result (λ held. held.0.outcomes.items ≡ replicate count None) }
+    ensures lent { IfOk result (λ held. held.1.slots ≡ replicate means.parts None) }
+    ensures parts { IfOk result (λ held. held.1.pool.count ≡ means.parts) }
+    ensures room { IfOk result (λ held. held.1.pool.room ≡ means.room) }
+{
+    let places = make_places(alloc, count)?;
+    let parts = HeldParts::make(alloc, means.parts, means.room)?;
+    Ok((places, parts))
+}
+
+/// What the tasks of a run are ready for, the places for their states and outcomes, and the parts.
+#[derive(Drop)]
+struct Tasks {
+    acts: ActQueues,
+    places: Places,
+    parts: HeldParts,
+}
+
+fn make_tasks(alloc: Global, count: u32, means: Means) -> Result<Tasks, OutOfMemory>
+    ensures acts { IfOk result (λ tasks. tasks.acts ≡ replicate count None) }
+    ensures slots { IfOk result (λ tasks. tasks.places.slots.items ≡ replicate count None) }
+    ensures outcomes { IfOk result (λ tasks. tasks.places.outcomes.items ≡ replicate count None) }
+    ensures lent { IfOk result (λ tasks. tasks.parts.slots ≡ replicate means.parts None) }
+    ensures parts { IfOk result (λ tasks. tasks.parts.pool.count ≡ means.parts) }
+    ensures room { IfOk result (λ tasks. tasks.parts.pool.room ≡ means.room) }
+{
+    let acts = ActQueues::make(alloc, count)?;
+    let (places, parts) = make_held(alloc, count, means)?;
+    Ok(Tasks {
+        acts,
+        places,
+        parts,
+    })
+}
+
+/// What is kept of a run of which nothing happened.
+fn begin(queue: u32, lanes: LaneQueues, tasks: Tasks) -> MoveCore
+    requires { IsSound tasks.acts tasks.places.slots.items tasks.places.outcomes.items 0 }
+    ensures { result ≡ record {
+      queue = queue;
+      lanes = lanes;
+      acts = tasks.acts;
+      slots = tasks.places.slots.items;
+      outcomes = tasks.places.outcomes.items;
+      parts = tasks.parts;
+      made = 0;
+      lined = 0;
+      unfinished = 0;
+      reason = None;
+    } }
+{
+    let Tasks {
+        acts,
+        places,
+        parts,
+    } = tasks;
+    MoveCore {
+        queue,
+        lanes,
+        acts,
+        slots: places.slots,
+        outcomes: places.outcomes,
+        parts,
+        made: 0,
+        lined: 0,
+        unfinished: 0,
+        reason: None,
+    }
+}
+
 impl MoveCore {
     /// A run of so many tasks, of which nothing happened. It takes all the memory that it needs but that of the tasks'
     /// states.
@@ -139,21 +190,9 @@ impl MoveCore {
         ensures follows { IfOk result (λ core. (s : Shared) → IsSharedBy count means s → Follows s [] core) }
         ensures room { IfOk result (λ core. core.parts.pool.room ≡ means.room) }
     {
-        let queues = make_queues(alloc, count, means)?;
-        let places = make_places(alloc, count)?;
-        let parts = HeldParts::make(alloc, means.parts, means.room)?;
-        Ok(MoveCore {
-            queue: means.queue,
-            lanes: queues.lanes,
-            acts: queues.acts,
-            slots: places.slots,
-            outcomes: places.outcomes,
-            parts,
-            made: 0,
-            lined: 0,
-            unfinished: 0,
-            reason: None,
-        })
+        let lanes = LaneQueues::make(alloc, means.lanes, means.depth)?;
+        let tasks = make_tasks(alloc, count, means)?;
+        Ok(begin(means.queue, lanes, tasks))
     }
 
     /// Whether a task has ended.
