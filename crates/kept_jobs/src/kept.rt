@@ -40,7 +40,7 @@ fn empty(alloc: Global, count: usize) -> Result<Vec<Option<Job>>, AllocError>
 {
     let mut jobs = Vec::with_capacity(alloc, count)?;
     for _ in 0..count {
-        jobs.push(None)?;
+        jobs.push_reserved(None);
     }
     Ok(jobs)
 }
@@ -148,7 +148,8 @@ impl KeptJobs {
     {
         let slot = self.slot(op, number);
         let _len = self.len();
-        let _before = self.replace(slot, job);
+        let before = self.replace(slot, job);
+        mem::drop(before);
     }
 
     /// The job that is kept at the place of that op and number, which is empty then.

@@ -32,7 +32,7 @@ fn empty(alloc: Global, count: usize) -> Result<Vec<Option<Text>>, AllocError>
 {
     let mut tags = Vec::with_capacity(alloc, count)?;
     for _ in 0..count {
-        tags.push(None)?;
+        tags.push_reserved(None);
     }
     Ok(tags)
 }
