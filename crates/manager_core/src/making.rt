@@ -17,6 +17,7 @@ use crate::steps::StepSlot;
 use manager_moves::Move;
 use s3_model::{Config, Limits, OutOfMemory, Task};
 use std::alloc::Global;
+use std::mem;
 use task_core::TaskState;
 
 /// What is made for a task. Where memory ran out it has no jobs.
@@ -42,8 +43,13 @@ fn make_both(
     ensures unheard { IfOk result (λ both. IfSome both.1 (λ j. j.cell.known ≡ None)) }
 {
     let state = task_works::begin(alloc, task, config, limits)?;
-    let steps = StepSlot::make(alloc, task, state.work())?;
-    Ok((state, steps))
+    match StepSlot::make(alloc, task, state.work()) {
+        Ok(steps) => Ok((state, steps)),
+        Err(OutOfMemory) => {
+            mem::drop(state);
+            Err(OutOfMemory)
+        }
+    }
 }
 
 /// The state of a task, and its jobs.
