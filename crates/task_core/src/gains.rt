@@ -8,6 +8,7 @@ ghost use Rattle.task_causes.specs.Pieces.{HasNumber};
 
 use jobs::Ending;
 use s3_model::{Cause, JobId, Reply, Text, UploadId};
+use std::mem;
 use task_acts::Work;
 use task_causes::ended_cause;
 
@@ -41,7 +42,10 @@ fn tag_of(reply: Reply) -> Option<Text>
 {
     match reply {
         Reply::PartStored { etag } => Some(etag),
-        _other => None,
+        other => {
+            mem::drop(other);
+            None
+        }
     }
 }
 
@@ -51,7 +55,10 @@ fn tag_in(ending: Ending) -> Option<Text>
 {
     match ending {
         Ending::Gained(reply) => tag_of(reply),
-        _other => None,
+        other => {
+            mem::drop(other);
+            None
+        }
     }
 }
 

@@ -10,6 +10,7 @@ ghost use Rattle.task_core.specs.Shown.{behind, kept_if};
 use jobs::Job;
 use kept_jobs::KeptJobs;
 use s3_model::Part;
+use std::mem;
 
 /// A job without its cell, behind so many attempts.
 fn behind(job: Job, tries: usize) -> Job
@@ -34,6 +35,15 @@ fn behind(job: Job, tries: usize) -> Job
     }
 }
 
+/// The part of a job that is needed no longer.
+fn part_of(job: Job) -> Option<Part>
+    ensures { result ≡ job.part }
+{
+    let Job { what, part, .. } = job;
+    mem::drop(what);
+    part
+}
+
 /// Keeps a job that came back, or hands its part back.
 pub(crate) fn keep(kept: &mut KeptJobs, job: Job, tries: usize, is_kept: bool) -> Option<Part>
     requires slot { HasSlot kept.old.work job.id.op job.id.number }
@@ -50,7 +60,6 @@ pub(crate) fn keep(kept: &mut KeptJobs, job: Job, tries: usize, is_kept: bool) -
         None
     } else {
         kept.put(id.op, id.number, None);
-        let Job { part, .. } = job;
-        part
+        part_of(job)
     }
 }

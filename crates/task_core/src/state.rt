@@ -28,6 +28,7 @@ use kept_jobs::{KeptJobs, PartTags};
 use s3_model::{JobId, Kind, Op, OutOfMemory, Outcome, Part, Reason, Text, Texts, UploadId};
 use std::alloc::Global;
 use std::marker::Model;
+use std::mem;
 use task_acts::{Act, FileCame, Stage, Work};
 use task_causes::{file_cause, file_stage, given_stage};
 use task_ends::Causes;
@@ -122,7 +123,8 @@ fn unkeep(kept: &mut KeptJobs, act: Act)
 {
     match act {
         Act::Send { op, number } => {
-            let _kept = kept.take(op, number);
+            let kept = kept.take(op, number);
+            mem::drop(kept);
         }
         Act::Read { .. } | Act::Place { .. } => {}
         Act::Assemble | Act::Rename | Act::DropTemp | Act::Remove | Act::Stamp => {}
@@ -346,7 +348,8 @@ impl TaskState {
         requires { IsSome self.outcome }
         ensures { self.outcome ≡ Some result }
     {
-        let TaskState { outcome, .. } = self;
+        let TaskState { outcome, kept, .. } = self;
+        mem::drop(kept);
         let Some(outcome) = outcome else {
             unreachable!()
         };
