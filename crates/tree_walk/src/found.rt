@@ -1,6 +1,6 @@
 //! What a walk has found so far.
 
-ghost use Rattle.std.specs.Prelude.{◌≡◌, ◌≤◌, ◌++◌, ◌∷◌, [], IfErr, OnOk, length};
+ghost use Rattle.std.specs.Prelude.{◌≡◌, ◌≤◌, ◌++◌, ◌∷◌, [], IfErr, IfOk, OnOk, length};
 ghost use Rattle.std.specs.FinMap.{empty, insert, keys};
 ghost use Rattle.tree_walk.specs.Finding.{Adds, IsOver};
 
@@ -47,6 +47,19 @@ impl Found {
             unnamed: TextMap::make(alloc),
             folders: Vec::new(alloc),
         }
+    }
+
+    /// The root, which is to be visited.
+    pub(crate) fn begin(alloc: Global) -> Result<Found, WalkFault>
+        ensures files { IfOk result (λ found. found.files ≡ empty) }
+        ensures others { IfOk result (λ found. found.others ≡ empty) }
+        ensures unnamed { IfOk result (λ found. found.unnamed ≡ empty) }
+        ensures folders { IfOk result (λ found. found.folders.items ≡ [] ∷ []) }
+        ensures memory { IfErr result (λ fault. fault ≡ WalkFault.Memory) }
+    {
+        let mut found = Found::make(alloc);
+        found.push_folder(alloc, "")?;
+        Ok(found)
     }
 
     /// Adds what stands at a path.

@@ -53,7 +53,7 @@ pub fn walk<F: Files>(alloc: Global, files: &mut F, root: &str) -> Result<Walked
 }
 
 // All that stands below a root.
-#[tactic(auto, using(crate::proofs::WalkLemmas::keeps_then, crate::proofs::WalkLemmas::no_folder, crate::proofs::WalkLemmas::begun, crate::proofs::WalkLemmas::one_look, crate::proofs::WalkLemmas::no_look))]
+#[tactic(auto, using(crate::proofs::WalkLemmas::keeps_then, crate::proofs::WalkLemmas::no_folder, crate::proofs::WalkLemmas::one_look, crate::proofs::WalkLemmas::no_look))]
 fn find_all<F: Files>(alloc: Global, files: &mut F, root: &str) -> Result<Found, WalkFault>
     ensures found { IfSome (F.seen files.new) (λ now. IfOk result (IsComplete now.store root.now)) }
     ensures refused { IfSome (F.seen files.new) (λ now. IfErr result (IsRefused now.store root.now)) }
@@ -62,11 +62,22 @@ fn find_all<F: Files>(alloc: Global, files: &mut F, root: &str) -> Result<Found,
     ensures failed { result ≡ Err WalkFault.Files → Rose (F.faults files.old) (F.faults files.new) }
     ensures later { F.faults files.old ≤ F.faults files.new }
 {
-    let mut found = Found::make(alloc);
     if shape_of(files, bare(root))? != Shape::Folder {
-        return Ok(found);
+        return Ok(Found::make(alloc));
     }
-    found.push_folder(alloc, "")?;
+    find_below(alloc, files, root)
+}
+
+// All that stands below a root that is a folder.
+#[tactic(auto, using(crate::proofs::WalkLemmas::keeps_all, crate::proofs::WalkLemmas::untold_seen))]
+fn find_below<F: Files>(alloc: Global, files: &mut F, root: &str) -> Result<Found, WalkFault>
+    ensures found { IfSome (F.seen files.new) (λ now. IfOk result (IsComplete now.store root.now)) }
+    ensures refused { IfSome (F.seen files.new) (λ now. IfErr result (IsRefused now.store root.now)) }
+    ensures kept { OnlyLooks (F.seen files.old) (F.seen files.new) (F.faults files.old) (F.faults files.new) }
+    ensures failed { result ≡ Err WalkFault.Files → Rose (F.faults files.old) (F.faults files.new) }
+    ensures later { F.faults files.old ≤ F.faults files.new }
+{
+    let mut found = Found::begin(alloc)?;
     visit_all(alloc, files, root, &mut found)?;
     Ok(found)
 }

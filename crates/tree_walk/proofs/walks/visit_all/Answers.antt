@@ -1,6 +1,7 @@
 use Rattle.std.proofs.Common.{◌∙◌, List, ℕ, ap, rules, length, arith}
-use Rattle.tree_walk.proofs.StepLemmas.{got_at, way_ends, way_step}
+use Rattle.tree_walk.proofs.StepLemmas.{got_at, way_ends, way_refused, way_step}
 use Rattle.tree_walk.proofs.WalkLemmas.{keeps_then}
+use Rattle.std.proofs.lemmas.Result.{err_from_is_err_and}
 use Rattle.tree_walk.proofs.walks.visit_all.Goals as goal
 
 pub returns-in_default-clause-visited : goal.returns-in_default-clause-visited
@@ -14,3 +15,9 @@ loop-place-preserved g c = record {
   visited = way_step _ _ _ _ c.visit.ensures.kept c.args.root.now c.as_str.result.now c.loop-place.place c.args.found.now c.loop-place.found c.loop-place.invariant.visited c.visit.new.found
       (got_at c.loop-place.found.folders.items c.deref.result.now c.loop-place.place c.in-Some.folder.now c.as_str.result.now c.deref.ensures.value c.in-Some.ensures.lookup.3.0 c.in-Some.ensures.lookup.1 (c.as_str.ensures ∙ c.in-Ok.ensures)) c.in_ok-visit.ensures.visited;
 }
+
+pub returns-in_err-visit-clause-refused : goal.returns-in_err-visit-clause-refused
+returns-in_err-visit-clause-refused g c =
+    let why = err_from_is_err_and c.from_residual.result c.from_residual.ensures.1 in
+    rw (why.1, why.2) (way_refused _ _ _ _ c.visit.ensures.kept c.args.root.now c.as_str.result.now c.loop-place.place c.args.found.now c.loop-place.found
+    c.loop-place.invariant.visited c.in_err-visit.field-0.0 c.in_err-visit.ensures.refused)
