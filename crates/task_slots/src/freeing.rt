@@ -17,6 +17,7 @@ use crate::parts::free_part;
 use held_parts::HeldParts;
 use jobs::Job;
 use s3_model::{Kind, Op, Part, Reason};
+use std::mem;
 use task_core::TaskState;
 
 /// The op of the requests of a task's pieces.
@@ -45,7 +46,10 @@ fn part_in(job: Option<Job>) -> Option<Part>
     ensures { result ≡ part_in job }
 {
     match job {
-        Some(Job { part, .. }) => part,
+        Some(Job { what, part, .. }) => {
+            mem::drop(what);
+            part
+        }
         None => None,
     }
 }
