@@ -1,3 +1,4 @@
 pub mod Uploads
 pub mod Requests
 pub mod Shares
+mod Filled

@@ -83,7 +83,6 @@ fn make_share(task: &Arc<Task, Global>, cell: &mut CancelCell) -> Result<Share, 
 }
 
 /// So many shares.
-#[tactic(auto, using(std::proofs::lemmas::List::replicate_more))]
 fn make_shares(
     alloc: Global,
     task: &Arc<Task, Global>,
@@ -96,7 +95,7 @@ fn make_shares(
 {
     let mut shares = Vec::with_capacity(alloc, count)?;
     for _ in 0..count {
-        shares.push(Some(make_share(task, cell)?))?;
+        shares.push_reserved(Some(make_share(task, cell)?));
     }
     Ok(shares)
 }
