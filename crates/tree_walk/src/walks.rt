@@ -53,7 +53,7 @@ pub fn walk<F: Files>(alloc: Global, files: &mut F, root: &str) -> Result<Walked
 }
 
 // All that stands below a root.
-#[tactic(auto, using(crate::proofs::WalkLemmas::keeps_then, crate::proofs::WalkLemmas::no_folder, crate::proofs::WalkLemmas::one_look, crate::proofs::WalkLemmas::no_look))]
+#[tactic(auto, using(crate::proofs::WalkLemmas::no_folder))]
 fn find_all<F: Files>(alloc: Global, files: &mut F, root: &str) -> Result<Found, WalkFault>
     ensures found { IfSome (F.seen files.new) (λ now. IfOk result (IsComplete now.store root.now)) }
     ensures refused { IfSome (F.seen files.new) (λ now. IfErr result (IsRefused now.store root.now)) }
