@@ -1,5 +1,5 @@
 -- A manager keeps the run of one small upload to its end, which meets what the laws take.
-use Rattle.std.proofs.Common.{◌≡◌, [], ◌∷◌, ℕ, List, refl, sym, subst, ap}
+use Rattle.std.proofs.Common.{◌≡◌, ◌∙◌, [], ◌∷◌, ℕ, List, Contains, None, refl, sym, subst, ap, arith}
 use Rattle.std.proofs.lemmas.List.Sorted.{IsPermutation-refl}
 use Rattle.std.specs.Arc.{arc_value}
 use Rattle.std.specs.Cmp.Lexicographic.{slice_cmp}
@@ -23,11 +23,12 @@ use Rattle.lane_laws.specs.Runs.{Giving}
 use Rattle.manager_moves.specs.Examples.{upload}
 use Rattle.manager_moves.specs.Runs.{Events, Lined}
 use Rattle.run_promise.specs.Schedule.{bytes_of}
+use Rattle.run_schedule.specs.Runs.{KeepsPlanning}
 use Rattle.run_schedule.specs.Witness.{notes}
 use Rattle.s3_model.specs.declared.places.Endpoint.{Endpoint}
 use Rattle.s3_model.specs.declared.settings.Keys.{Keys}
 use Rattle.s3_model.specs.declared.tasks.Task.{Task}
-use Rattle.shared_lemmas.proofs.Clashes.{false_true}
+use Rattle.shared_lemmas.proofs.Clashes.{false_true, none_is_some}
 use Rattle.task_acts.specs.declared.work.Work.{Work}
 use Rattle.task_schedule.proofs.Witness.{files, lined_back, lined_sent, one_in_order, only_of}
 use Rattle.task_schedule.specs.Witness.{put_run}
@@ -38,7 +39,7 @@ use Rattle.whole_runs.specs.Witness.{put_job, put_jobs, put_part, put_sent, put_
 use Rattle.manager_laws.proofs.MetKept.{are_of_manager, asks, at_end, keeps_end}
 use Rattle.manager_laws.proofs.MetStates.{of_only, s}
 use Rattle.manager_laws.specs.Ends.{IsRunOfManager}
-use Rattle.manager_laws.specs.Witness.{ManagerRunIsMet, file_setting, file_start, file_task}
+use Rattle.manager_laws.specs.Witness.{ManagerRunIsMet, asks_nothing, file_setting, file_start, file_task}
 
 module _ (path : List ℕ) (cell : Holder) (shared_task : Arc Task Global) (same : arc_value shared_task ≡ file_task path)
     (endpoint : Endpoint) (keys : Keys) where
@@ -119,9 +120,24 @@ module _ (path : List ℕ) (cell : Holder) (shared_task : Arc Task Global) (same
     shown = shown;
   }
 
+  of_a_task : (c : Dispatched) → Contains (sent ∷ []) c → c.dispatch.job.task ≡ None → ⊥
+  of_a_task c known none = none_is_some 0
+      (sym (ap (λ (x : Dispatched). x.dispatch.job.task) (only_of sent c known) ∙ none))
+
+  planned : KeepsPlanning Shows (file_setting path) asks_nothing (sent ∷ [])
+  planned = record {
+    plans = refl;
+    planned = λ c known none. absurd (of_a_task c known none);
+    numbered = λ k c is. absurd (none_is_some c is);
+    one_by_one = λ i j d before inside. absurd (omega arith);
+    questions = λ c known none. absurd (of_a_task c known none);
+    dry = λ c dry known. absurd (false_true dry);
+  }
+
 pub manager_run_is_met : ManagerRunIsMet
 manager_run_is_met endpoint keys path cell shared_task same = (
   λ asked limit talk one other bytes body is also. (one_shown asked limit talk one other bytes body is also).0,
   at_end path cell shared_task same,
   met path cell shared_task same endpoint keys,
+  planned path cell shared_task same endpoint keys,
 )

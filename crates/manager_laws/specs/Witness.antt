@@ -5,12 +5,14 @@ use Rattle.std.specs.declared.alloc.Global.{Global}
 use Rattle.std.specs.declared.sync.Arc.{Arc}
 use Rattle.answer_classes.specs.Showing.{Shows}
 use Rattle.attempts.specs.Attempts.{text_of}
+use Rattle.job_terms.specs.Dispatches.{Dispatched}
 use Rattle.jobs.specs.Holders.{Holder}
 use Rattle.lane_journals.specs.Witness.{put_logs}
 use Rattle.manager_core.specs.Kept.{SeenManager}
 use Rattle.manager_core.specs.Running.{Start}
 use Rattle.manager_moves.specs.Examples.{shared, upload}
 use Rattle.run_promise.specs.Schedule.{Setting}
+use Rattle.run_schedule.specs.Runs.{KeepsPlanning}
 use Rattle.run_schedule.specs.Witness.{notes}
 use Rattle.s3_model.specs.declared.places.Endpoint.{Endpoint}
 use Rattle.s3_model.specs.declared.places.Place.TheVariants as place
@@ -39,6 +41,10 @@ file_start path = record {
   limits = small_setting.limits;
 }
 
+-- an upload of a file asks nothing before its task
+abbrev pub asks_nothing : List Dispatched → Type 0
+asks_nothing planned = planned ≡ []
+
 -- Whatever the service, the keys, the path and the cell, a manager keeps it: its Put is sent once, and stored.
 abbrev pub ManagerRunIsMet : Type 0
 ManagerRunIsMet = (endpoint : Endpoint) (keys : Keys) (path : List ℕ) (cell : Holder) (shared_task : Arc Task Global)
@@ -47,3 +53,4 @@ ManagerRunIsMet = (endpoint : Endpoint) (keys : Keys) (path : List ℕ) (cell : 
     × IsRunOfManager Shows (text_of endpoint keys) endpoint.host endpoint.port (file_start path)
     (shared (upload ∷ []) 1 1 1) (file_setting path) (put_run for cell put_part) m (put_logs endpoint keys) notes
     (put_jobs for cell put_part) (put_sent endpoint keys ∷ []) (put_sent endpoint keys ∷ [])
+    × KeepsPlanning Shows (file_setting path) asks_nothing (put_sent endpoint keys ∷ [])
