@@ -1,11 +1,12 @@
 -- A desk after one of its lanes has changed.
-use Rattle.std.proofs.Common.{◌≡◌, ◌+◌, ◌-◌, ◌<◌, ◌≤◌, ℕ, List, [], ◌∷◌, length, map, get_or, set, sum_by, refl, sym, ap, subst, ◌∙◌, arith}
+use Rattle.std.proofs.Common.{◌≡◌, ◌+◌, ◌-◌, ◌<◌, ◌≤◌, ℕ, List, [], ◌∷◌, ◌++◌, length, map, get_or, set, sum_by, refl, sym, ap, subst, ◌∙◌, arith}
 use Rattle.std.specs.List.{All}
 use Rattle.std.proofs.lemmas.List.{get_or-map, map-set, set-get_or, length-set, length-map, length_push}
 use Rattle.std.proofs.lemmas.List.Sums.{sum_by-set, sum_by-cons, sum_by-le, get_or-le-sum_by}
 use Rattle.std.proofs.lemmas.List.Elements.{All-get_or, All-set, All-weaker}
 use Rattle.bounded_executor.specs.Exchange.{Exchange, unused, jobs_out, with_taken}
 use Rattle.bounded_executor.specs.Lane.{LaneState}
+use Rattle.bounded_executor.specs.Runs.{EachRuns}
 use Rattle.bounded_executor.specs.Desk.{DeskState, lane_of, all_out, desk_of, TookOne, IsLaneOf, IsDesk}
 
 -- one job less is out of a lane whose outcome was taken
@@ -93,3 +94,13 @@ module _ {W J D : Type 0} where
         taken = desk_of-exchanged depth lanes i l later (λ e. with_taken e done) in' is then;
         one_less = omega (arith, desk.counted, (IsDesk-taken depth out lanes i l later done desk in' is then some).counted);
       }
+
+  -- a lane that is put back as it was changes nothing
+  pub put_back : (lanes : List (LaneState W J D)) (i : ℕ) (l : LaneState W J D) → l ≡ get_or lanes i l → set lanes i l ≡ lanes
+  put_back lanes i l is = ap (set lanes i) is ∙ set-get_or lanes i l
+
+  -- nothing has come back yet, and all lanes are left
+  pub all_left : (carries : W → J → D → W → Type 0) (depth : ℕ) (lanes left : List (LaneState W J D)) (desk : DeskState W J D) (back rest : List W)
+      → desk_of depth lanes ≡ desk → left ≡ lanes → back ≡ [] → EachRuns carries (map (λ m. m.worker) left) (map (λ m. m.exchange) left) rest
+      → EachRuns carries desk.workers desk.lanes (back ++ rest)
+  all_left carries depth lanes left desk back rest view is none ran = rw (← view, none) (rw is at ran)

@@ -1,7 +1,7 @@
 use Rattle.std.proofs.Common.{ap, ◌∙◌, arith}
 use Rattle.bounded_executor.specs.Exchange.{jobs_out, with_given}
 use Rattle.bounded_executor.specs.Desk.{lane_of}
-use Rattle.bounded_executor.proofs.DeskLemmas.{in_range, lane_of-desk_of, lane_is_alike, desk_of-exchanged, IsDesk-set, out_is_small}
+use Rattle.bounded_executor.proofs.DeskLemmas.{in_range, lane_of-desk_of, lane_is_alike, desk_of-exchanged, IsDesk-set, out_is_small, put_back}
 use Rattle.bounded_executor.proofs.desk.Desk.give.Goals as goal
 
 pub overflow_add-self : goal.overflow_add-self
@@ -30,3 +30,12 @@ returns-clause-ok g c =
 
 pub returns-clause-one_more : goal.returns-clause-one_more
 returns-clause-one_more g c = rw (← c.self.view_is) (omega (arith, (invariant_of-self-2 g c).counted, c.self.invariant.counted))
+
+pub index_mut-slot-requires : goal.index_mut-slot-requires
+index_mut-slot-requires g c = omega (arith, in_range _ _ _ _ c.self.view_is c.requires, c.self.inside.lanes.ok.0)
+
+pub invariant_of-self : goal.invariant_of-self
+invariant_of-self g c = rw (put_back _ _ _ c.index_mut-slot.ensures.value) c.self.invariant
+
+pub give-requires-after_bounds : goal.give-requires-after_bounds
+give-requires-after_bounds g c κs within = omega (arith, c.room.ensures)
