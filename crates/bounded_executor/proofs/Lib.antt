@@ -5,3 +5,4 @@ pub mod LaneLemmas
 pub mod JoinLemmas
 pub mod DeskLemmas
 pub mod OpenLemmas
+pub mod Filled

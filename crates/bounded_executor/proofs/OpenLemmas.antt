@@ -1,6 +1,6 @@
 -- A desk of lanes with nothing exchanged.
-use Rattle.std.proofs.Common.{◌≡◌, ◌≤◌, ℕ, List, [], ◌∷◌, length, map, replicate, refl, ap, arith}
-use Rattle.std.proofs.lemmas.List.{length-map}
+use Rattle.std.proofs.Common.{◌≡◌, ◌≤◌, ℕ, List, [], ◌∷◌, length, map, replicate, refl, ap, arith, ◌∙◌}
+use Rattle.std.proofs.lemmas.List.{length-map, length-replicate}
 use Rattle.std.proofs.lemmas.List.Sums.{sum_by-cons}
 use Rattle.std.proofs.lemmas.List.Elements.{All-map}
 use Rattle.bounded_executor.specs.Exchange.{Exchange, unused, jobs_out}
@@ -15,6 +15,9 @@ module _ (W J D : Type 0) (depth : ℕ) where
   pub exchanges-opened : (ws : List W) → (desk_of depth (map (opened {W = W} {J = J} {D = D} depth) ws)).lanes ≡ replicate (length ws) unused
   exchanges-opened [] = refl
   exchanges-opened (w ∷ ws) = ap (λ (es : List (Exchange J D)). unused ∷ es) (exchanges-opened ws)
+
+  pub lanes-opened : (ws : List W) → length (desk_of depth (map (opened {W = W} {J = J} {D = D} depth) ws)).lanes ≡ length ws
+  lanes-opened ws = ap length (exchanges-opened ws) ∙ length-replicate (length ws) unused
 
   none_out : (ws : List W) → 0 ≡ all_out (desk_of depth (map (opened {W = W} {J = J} {D = D} depth) ws))
   none_out [] = refl

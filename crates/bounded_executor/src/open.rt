@@ -5,7 +5,7 @@ ghost use Rattle.bounded_executor.specs.Lane.{opened};
 ghost use Rattle.bounded_executor.specs.Station.{IsUnused, HasServed};
 
 use crate::lane::{Crew, Lane};
-use crate::parts::Parts;
+use crate::parts::{Bells, Parts, Rings};
 use crate::station::{Opened, Station};
 use crate::worker::Worker;
 use std::snapshot::Snapshot;
@@ -27,15 +27,21 @@ where
 {
     let Parts {
         depth,
+        rings,
+        bells,
+        rt: thread_rt,
+    } = parts;
+    let Rings {
         mut outbox,
         jobs,
         to,
         outcomes,
+    } = rings;
+    let Bells {
         bell,
         worker_bell,
         ready,
-        rt: thread_rt,
-    } = parts;
+    } = bells;
     let start = Snapshot::of(&worker);
     let station = Station {
         worker,
@@ -91,12 +97,16 @@ where
         let Some(part) = parts.pop() else {
             unreachable!()
         };
-        let builder = match stack_size {
-            Some(size) => Builder::new().stack_size(size),
-            None => Builder::new(),
-        };
         let number = lanes.len();
-        lanes.push_reserved(open_lane(rt, part, worker, number, builder));
+        lanes.push_reserved(open_lane(rt, part, worker, number, builder_of(stack_size)));
     }
     lanes
+}
+
+// What starts a thread with a stack of this many bytes.
+fn builder_of(stack_size: Option<usize>) -> Builder {
+    match stack_size {
+        Some(size) => Builder::new().stack_size(size),
+        None => Builder::new(),
+    }
 }

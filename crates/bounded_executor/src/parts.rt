@@ -1,6 +1,7 @@
 //! The rings and bells of a lane.
 
 ghost use Rattle.std.specs.Prelude.{◌≡◌, IfOk, replicate};
+ghost use Rattle.bounded_executor.specs.Parts.{AreReady};
 
 use crate::bell::Bell;
 use crate::outbox::Outbox;
@@ -11,19 +12,60 @@ use std::collections::VecDeque;
 use std::marker::Model;
 use std::sync::Arc;
 
+// The two rings of a lane, with its outbox.
+#[derive(Drop)]
+pub(crate) struct Rings<J, D> {
+    pub(crate) outbox: Outbox<J>,
+    pub(crate) jobs: Consumer<J>,
+    pub(crate) to: Producer<D>,
+    pub(crate) outcomes: Consumer<D>,
+}
+
+impl<J: Drop, D: Drop> Rings<J, D> {
+    fn new(alloc: Global, depth: u32) -> Result<Self, AllocError>
+        ensures { IfOk result (λ rings. AreReady depth rings.outbox rings.jobs rings.to rings.outcomes) }
+    {
+        let (ring, jobs) = RingBuffer::new(alloc, depth as usize)?;
+        let (to, outcomes) = RingBuffer::new(alloc, depth as usize)?;
+        let waiting = VecDeque::with_capacity(alloc, depth as usize)?;
+        Ok(Rings {
+            outbox: Outbox { ring, waiting },
+            jobs,
+            to,
+            outcomes,
+        })
+    }
+}
+
+// What wakes the thread of a lane, and what wakes the desk.
+#[derive(Drop)]
+pub(crate) struct Bells {
+    pub(crate) bell: Arc<Bell>,
+    pub(crate) worker_bell: Arc<Bell>,
+    pub(crate) ready: Arc<ReadyLanes>,
+}
+
+impl Bells {
+    fn new(alloc: Global, ready: &Arc<ReadyLanes>) -> Result<Self, AllocError> {
+        let bell = Arc::new(alloc, Bell::new())?;
+        let worker_bell = Arc::try_clone(&bell)?;
+        let ready = Arc::try_clone(ready)?;
+        Ok(Bells {
+            bell,
+            worker_bell,
+            ready,
+        })
+    }
+}
+
 // All that a lane needs beside its worker, so that a worker moves only once no memory is wanted any more.
 //
 // Contracts see the depth of the lane.
 #[derive(Drop)]
 pub(crate) struct Parts<R, J, D> {
     pub(crate) depth: u32,
-    pub(crate) outbox: Outbox<J>,
-    pub(crate) jobs: Consumer<J>,
-    pub(crate) to: Producer<D>,
-    pub(crate) outcomes: Consumer<D>,
-    pub(crate) bell: Arc<Bell>,
-    pub(crate) worker_bell: Arc<Bell>,
-    pub(crate) ready: Arc<ReadyLanes>,
+    pub(crate) rings: Rings<J, D>,
+    pub(crate) bells: Bells,
     pub(crate) rt: R,
 }
 
@@ -36,7 +78,7 @@ impl<R, J, D> Model for Parts<R, J, D> {
 
     ghost view = { λ p. p.depth };
 
-    ghost invariant = { λ p. AreReady p.depth p.outbox p.jobs p.to p.outcomes };
+    ghost invariant = { λ p. AreReady p.depth p.rings.outbox p.rings.jobs p.rings.to p.rings.outcomes };
 }
 
 impl<R: Clone, J: Drop, D: Drop> Parts<R, J, D> {
@@ -48,22 +90,13 @@ impl<R: Clone, J: Drop, D: Drop> Parts<R, J, D> {
     ) -> Result<Self, AllocError>
         ensures { IfOk result (λ parts. parts ≡ depth) }
     {
-        let (ring, jobs) = RingBuffer::new(alloc, depth as usize)?;
-        let (to, outcomes) = RingBuffer::new(alloc, depth as usize)?;
-        let waiting = VecDeque::with_capacity(alloc, depth as usize)?;
-        let bell = Arc::new(alloc, Bell::new())?;
-        let worker_bell = Arc::try_clone(&bell)?;
-        let ready = Arc::try_clone(ready)?;
+        let rings = Rings::new(alloc, depth)?;
+        let bells = Bells::new(alloc, ready)?;
         let rt = rt.clone()?;
         Ok(Parts {
             depth,
-            outbox: Outbox { ring, waiting },
-            jobs,
-            to,
-            outcomes,
-            bell,
-            worker_bell,
-            ready,
+            rings,
+            bells,
             rt,
         })
     }
@@ -81,7 +114,7 @@ pub(crate) fn all_parts<R: Clone + Drop, J: Drop, D: Drop>(
 {
     let mut parts = Vec::with_capacity(alloc, count)?;
     for _made in 0..count {
-        parts.push(Parts::new(rt, alloc, depth, ready)?)?;
+        parts.push_reserved(Parts::new(rt, alloc, depth, ready)?);
     }
     Ok(parts)
 }

@@ -1,12 +1,13 @@
 //! A run of workers under a boss.
 
-ghost use Rattle.std.specs.Prelude.{◌≡◌, ◌≤◌, vec_len, OnOk, OnErr};
+ghost use Rattle.std.specs.Prelude.{◌≡◌, ◌≤◌, [], replicate, vec_len, vec_capacity, IfOk, OnOk, OnErr};
 ghost use Rattle.bounded_executor.specs.WholeRun.{HasRun};
 
 use crate::boss::Boss;
 use crate::desk::Desk;
+use crate::lane::Lane;
 use crate::open::open_lanes;
-use crate::parts::all_parts;
+use crate::parts::{Parts, all_parts};
 use crate::ready::ReadyLanes;
 use crate::worker::Worker;
 use std::alloc::{AllocError, Global};
@@ -79,15 +80,76 @@ where
     ensures ok { OnOk result (HasRun W.carries B.directs workers.old.items boss.old workers.new.items boss.new) }
     ensures err { OnErr result ((workers.new.items ≡ workers.old.items) × (boss.new ≡ boss.old)) }
 {
-    let count = workers.len();
-    let ready = Arc::new(alloc, ReadyLanes::new(alloc, count)?)?;
-    let parts = all_parts(rt, alloc, count, depth, &ready)?;
+    let means = Means::new(rt, alloc, workers.len(), depth)?;
+    let begun = mem::replace(workers, Vec::new(alloc));
+    *workers = direct_lanes(rt, begun, means, depth, boss, stack_size);
+    Ok(())
+}
+
+// All that a run needs beside its workers, so that they move only once no memory is wanted any more.
+struct Means<R, W: Worker> {
+    ready: Arc<ReadyLanes>,
+    parts: Vec<Parts<R, W::Job, W::Done>>,
+    lanes: Vec<Lane<W>>,
+    back: Vec<W>,
+}
+
+impl<R: Clone + Drop, W: Worker> Means<R, W> {
+    fn new(rt: &R, alloc: Global, count: usize, depth: u32) -> Result<Means<R, W>, AllocError>
+        ensures parts { IfOk result (λ means. means.parts.items ≡ replicate count depth) }
+        ensures lanes { IfOk result (λ means. (means.lanes.items ≡ []) × (count ≤ vec_capacity means.lanes)) }
+        ensures back { IfOk result (λ means. (means.back.items ≡ []) × (count ≤ vec_capacity means.back)) }
+    {
+        let ready = Arc::new(alloc, ReadyLanes::new(alloc, count)?)?;
+        let parts = all_parts(rt, alloc, count, depth, &ready)?;
+        let (lanes, back) = empty_lists(alloc, count)?;
+        Ok(Means {
+            ready,
+            parts,
+            lanes,
+            back,
+        })
+    }
+}
+
+// A list for the lanes, and one for the workers that come back.
+fn empty_lists<W: Worker>(alloc: Global, count: usize) -> Result<(Vec<Lane<W>>, Vec<W>), AllocError>
+    ensures lanes { IfOk result (λ lists. (lists.0.items ≡ []) × (count ≤ vec_capacity lists.0)) }
+    ensures back { IfOk result (λ lists. (lists.1.items ≡ []) × (count ≤ vec_capacity lists.1)) }
+{
     let lanes = Vec::with_capacity(alloc, count)?;
     let back = Vec::with_capacity(alloc, count)?;
-    let begun = mem::replace(workers, Vec::new(alloc));
-    let lanes = open_lanes(rt, begun, parts, lanes, depth, stack_size);
+    Ok((lanes, back))
+}
+
+// Opens the lanes, lets the boss direct their workers, and brings these back.
+fn direct_lanes<R: Threads + Wait + Clone + Send + Drop + 'static, W: Worker + 'static, B: Boss<W>>(
+    rt: &R,
+    workers: Vec<W>,
+    means: Means<R, W>,
+    depth: u32,
+    boss: &mut B,
+    stack_size: Option<usize>,
+) -> Vec<W>
+where
+    W::Job: 'static,
+    W::Done: 'static,
+    requires few { vec_len workers ≤ 65535 }
+    requires shallow { depth ≤ 64 }
+    requires boss { B.may_direct boss.old (vec_len workers) depth }
+    requires parts { means.parts.items ≡ replicate (vec_len workers) depth }
+    requires lanes { (means.lanes.items ≡ []) × (vec_len workers ≤ vec_capacity means.lanes) }
+    requires back { (means.back.items ≡ []) × (vec_len workers ≤ vec_capacity means.back) }
+    ensures { HasRun W.carries B.directs workers.items boss.old result.items boss.new }
+{
+    let Means {
+        ready,
+        parts,
+        lanes,
+        back,
+    } = means;
+    let lanes = open_lanes(rt, workers, parts, lanes, depth, stack_size);
     let mut desk = Desk::new(depth, lanes, ready);
     boss.direct(rt, &mut desk);
-    *workers = desk.finish(rt, back);
-    Ok(())
+    desk.finish(rt, back)
 }

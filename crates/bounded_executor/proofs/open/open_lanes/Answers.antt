@@ -1,6 +1,6 @@
-use Rattle.std.proofs.Common.{◌≡◌, ◌-◌, length, get_or, vec_len, ap, ◌∙◌, append_assoc, arith}
-use Rattle.std.proofs.lemmas.List.{length-replicate, take-replicate, get_or-replicate}
-use Rattle.std.specs.Vec.Iter.{into_iter_len}
+use Rattle.std.proofs.Common.{◌≡◌, ◌-◌, [], length, get_or, vec_len, refl, sym, ap, ◌∙◌, append_assoc, arith}
+use Rattle.std.proofs.lemmas.List.{append-nil, nil_from_length, length-replicate, take-replicate, get_or-replicate}
+use Rattle.std.specs.Vec.Iter.{into_iter_items, into_iter_len}
 use Rattle.bounded_executor.proofs.open.open_lanes.Goals as goal
 
 -- the next lane stands behind the others, and the parts of one lane less are left
@@ -19,3 +19,26 @@ loop-worker-preserved g c =
       rw (c.pop.ensures.rest, known.1, fewer) (take-replicate _ _ _ (omega (arith, steps.1))),
       omega (arith, steps.1, c.push_reserved.ensures.len, c.push_reserved.ensures.capacity),
     )
+
+pub loop-worker-init : goal.loop-worker-init
+loop-worker-init g c =
+    let left = c.into_iter-worker-iterator.ensures.into_iter_gives in (
+      rw (c.requires.room.0, left.0) refl,
+      rw left.1 c.requires.parts,
+      omega (arith, left.1, c.requires.room.1, ap length c.requires.room.0, c.args.lanes.ok.0),
+    )
+
+pub unreachable-requires : goal.unreachable-requires
+unreachable-requires g c =
+    let known = c.loop-worker.invariant in
+    let many = length-replicate (into_iter_len c.loop-worker.worker-iterator) c.args.depth in
+    omega (arith, c.in_default.ensures.cases.0, c.in-Some.ensures.steps.1, c.loop-worker.parts.ok.0, ap length known.1, many)
+
+pub push_reserved-requires : goal.push_reserved-requires
+push_reserved-requires g c = omega (arith, c.in-Some.ensures.steps.1, c.loop-worker.invariant.2)
+
+pub returns : goal.returns
+returns g c =
+    let left = c.loop-worker.worker-iterator in
+    let none_left : into_iter_items left ≡ [] = nil_from_length (into_iter_items left) (omega (arith, c.in-None.ensures.steps.0, left.rest.ok.0)) in
+    sym (append-nil c.loop-worker.lanes.items) ∙ rw none_left at c.loop-worker.invariant.0

@@ -1,26 +1,19 @@
-use Rattle.std.proofs.Common.{◌≡◌, length, ap, ◌∙◌, arith}
-use Rattle.bounded_executor.specs.Desk.{desk_of}
-use Rattle.bounded_executor.proofs.OpenLemmas.{workers-opened, exchanges-opened, IsDesk-opened}
 use Rattle.bounded_executor.proofs.run.run_lanes.Goals as goal
-use Rattle.bounded_executor.proofs.run.run_lanes.Goals.{After-direct}
 
--- the workers of the desk are those that were lent
-same_workers : (g : _) (c : After-direct g) → c.direct.new.desk.workers ≡ c.args.workers.now.items
-same_workers g c =
-    c.direct.ensures.same_desk.workers ∙ (ap (λ d. d.workers) c.new-desk.ensures ∙ (ap (λ lanes. (desk_of c.args.depth lanes).workers) c.open_lanes-lanes.ensures ∙ (workers-opened _ _ _ c.args.depth c.replace-begun.result.items ∙ ap (λ v. v.items) c.replace-begun.ensures.value)))
+pub direct_lanes-requires-clause-few : goal.direct_lanes-requires-clause-few
+direct_lanes-requires-clause-few g c κs within = rw c.replace-begun.ensures.value c.requires.lanes.1
 
-pub new-desk-requires-after_bounds : goal.new-desk-requires-after_bounds
-new-desk-requires-after_bounds g c κs within =
-    rw c.open_lanes-lanes.ensures (IsDesk-opened _ _ _ c.args.depth c.replace-begun.result.items c.requires.depth.1 (omega (arith, ap (λ v. length v.items) c.replace-begun.ensures.value, c.requires.lanes.1, c.args.workers.now.ok.0)))
+pub direct_lanes-requires-clause-boss : goal.direct_lanes-requires-clause-boss
+direct_lanes-requires-clause-boss g c κs within = rw c.replace-begun.ensures.value c.requires.boss
 
-pub direct-requires-clause-unused : goal.direct-requires-clause-unused
-direct-requires-clause-unused g c =
-    rw (c.new-desk.ensures, c.open_lanes-lanes.ensures, workers-opened g.row.W.Denot g.row.W-Job.Denot g.row.W-Done.Denot c.args.depth c.replace-begun.result.items) (exchanges-opened _ _ _ c.args.depth c.replace-begun.result.items)
+pub direct_lanes-requires-clause-parts : goal.direct_lanes-requires-clause-parts
+direct_lanes-requires-clause-parts g c κs within = rw (c.replace-begun.ensures.value, ← c.len.ensures) c.in_ok-means.ensures.parts
 
-pub finish-requires-clause-room : goal.finish-requires-clause-room
-finish-requires-clause-room g c κs within =
-    (c.in_ok-back.ensures.items, omega (arith, ap length (same_workers g c), c.in_ok-back.ensures.exact, c.len-count.ensures, c.args.workers.now.ok.0))
+pub direct_lanes-requires-clause-lanes : goal.direct_lanes-requires-clause-lanes
+direct_lanes-requires-clause-lanes g c κs within = rw (c.replace-begun.ensures.value, ← c.len.ensures) c.in_ok-means.ensures.lanes
+
+pub direct_lanes-requires-clause-back : goal.direct_lanes-requires-clause-back
+direct_lanes-requires-clause-back g c κs within = rw (c.replace-begun.ensures.value, ← c.len.ensures) c.in_ok-means.ensures.back
 
 pub returns-clause-ok : goal.returns-clause-ok
-returns-clause-ok g c =
-    (c.direct.new.desk.lanes, rw (← same_workers g (goal.at.returns-clause-ok g c).After-direct) c.finish.ensures, c.direct.ensures.directed)
+returns-clause-ok g c = rw c.replace-begun.ensures.value at c.direct_lanes.ensures
