@@ -49,6 +49,13 @@ fn phrase(status: u16) -> &'static str {
     }
 }
 
+fn push_chunk(alloc: Global, out: &mut Vec<u8>, chunk: &[u8]) -> Result<(), AllocError> {
+    let count = chunk.len();
+    out.extend_from_slice(format!(in alloc; "{count:x}\r\n")?.as_bytes())?;
+    out.extend_from_slice(chunk)?;
+    out.extend_from_slice(b"\r\n")
+}
+
 /// Adds a body in chunks of at least one byte and at most `most`, and the last chunk.
 fn push_chunks(
     alloc: Global,
@@ -57,12 +64,16 @@ fn push_chunks(
     most: usize,
 ) -> Result<(), AllocError> {
     for chunk in body.chunks(most.max(1)) {
-        let count = chunk.len();
-        out.extend_from_slice(format!(in alloc; "{count:x}\r\n")?.as_bytes())?;
-        out.extend_from_slice(chunk)?;
-        out.extend_from_slice(b"\r\n")?;
+        push_chunk(alloc, out, chunk)?;
     }
     out.extend_from_slice(b"0\r\n\r\n")
+}
+
+fn push_line(lines: &mut String, name: &str, value: &str) -> Result<(), AllocError> {
+    lines.push_str(name)?;
+    lines.push_str(": ")?;
+    lines.push_str(value)?;
+    lines.push_str("\r\n")
 }
 
 impl Answer {
@@ -100,10 +111,7 @@ impl Answer {
         ensures body { self.new.body ≡ self.old.body }
         ensures length { self.new.length ≡ self.old.length }
     {
-        self.lines.push_str(name)?;
-        self.lines.push_str(": ")?;
-        self.lines.push_str(value)?;
-        self.lines.push_str("\r\n")
+        push_line(&mut self.lines, name, value)
     }
 
     /// The answer to a HEAD: the same without its body, whose length it states.
@@ -138,16 +146,26 @@ impl Answer {
         format!(in alloc; "HTTP/1.1 {status} {words}\r\n{lines}")
     }
 
-    /// The bytes with a stated length; `more` are further header lines.
-    fn sized(&self, alloc: Global, more: &str) -> Result<Vec<u8>, AllocError> {
-        let mut head = self.start(alloc)?;
-        if !self.is_bare() {
-            let length = self.length.unwrap_or(self.body.len() as u64);
-            head.push_str(format!(in alloc; "content-length: {length}\r\n")?.as_str())?;
+    fn push_length(&self, alloc: Global, head: &mut String) -> Result<(), AllocError> {
+        if self.is_bare() {
+            return Ok(());
         }
+        let length = self.length.unwrap_or(self.body.len() as u64);
+        head.push_str(format!(in alloc; "content-length: {length}\r\n")?.as_str())
+    }
+
+    /// The head with a stated length; `more` are further header lines.
+    fn sized_head(&self, alloc: Global, more: &str) -> Result<String, AllocError> {
+        let mut head = self.start(alloc)?;
+        self.push_length(alloc, &mut head)?;
         head.push_str(more)?;
         head.push_str("\r\n")?;
-        let mut bytes = head.into_bytes();
+        Ok(head)
+    }
+
+    /// The bytes with a stated length; `more` are further header lines.
+    fn sized(&self, alloc: Global, more: &str) -> Result<Vec<u8>, AllocError> {
+        let mut bytes = self.sized_head(alloc, more)?.into_bytes();
         bytes.extend_from_slice(&self.body)?;
         Ok(bytes)
     }

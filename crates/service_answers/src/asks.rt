@@ -99,30 +99,61 @@ fn put_ask(alloc: Global, head: &RequestHead<'_>, target: Target<'_>) -> Result<
     })
 }
 
+/// What is copied, where it still has an entity tag.
+#[derive(Drop)]
+struct Source {
+    bucket: Text,
+    key: Text,
+    etag: Text,
+}
+
+/// The source with these names, a bucket and a key, and the entity tag of its header.
+fn tagged_source(
+    alloc: Global,
+    head: &RequestHead<'_>,
+    names: (Text, Text),
+) -> Result<Option<Source>, OutOfMemory> {
+    match header_text(alloc, head, "x-amz-copy-source-if-match")? {
+        Some(etag) => Ok(Some(Source {
+            bucket: names.0,
+            key: names.1,
+            etag,
+        })),
+        None => Ok(None),
+    }
+}
+
+fn copy_source(
+    alloc: Global,
+    head: &RequestHead<'_>,
+    source: &str,
+) -> Result<Option<Source>, OutOfMemory> {
+    match source_of(alloc, source)? {
+        Some(names) => tagged_source(alloc, head, names),
+        None => Ok(None),
+    }
+}
+
+fn copy_to(target: Target<'_>, source: Source) -> Ask {
+    Ask::Copy {
+        bucket: target.bucket,
+        key: target.key,
+        from_bucket: source.bucket,
+        from_key: source.key,
+        etag: source.etag,
+    }
+}
+
 fn copy_ask(
     alloc: Global,
     head: &RequestHead<'_>,
     target: Target<'_>,
     source: &str,
 ) -> Result<Option<Ask>, OutOfMemory> {
-    let Some((from_bucket, from_key)) = source_of(alloc, source)? else {
-        return Ok(None);
-    };
-    let Some(etag) = header_text(alloc, head, "x-amz-copy-source-if-match")? else {
-        return Ok(None);
-    };
-    let Target {
-        bucket,
-        key,
-        query: _,
-    } = target;
-    Ok(Some(Ask::Copy {
-        bucket,
-        key,
-        from_bucket,
-        from_key,
-        etag,
-    }))
+    match copy_source(alloc, head, source)? {
+        Some(source) => Ok(Some(copy_to(target, source))),
+        None => Ok(None),
+    }
 }
 
 /// The number and the upload of a part.
@@ -155,39 +186,50 @@ fn part_ask(alloc: Global, target: Target<'_>) -> Result<Option<Ask>, OutOfMemor
     }))
 }
 
+/// The source of a part, and the range of it that is copied.
+fn ranged_source(
+    alloc: Global,
+    head: &RequestHead<'_>,
+    source: &str,
+) -> Result<Option<(Source, (u64, u64))>, OutOfMemory> {
+    let Some(names) = source_of(alloc, source)? else {
+        return Ok(None);
+    };
+    let Some(range) = head.header("x-amz-copy-source-range").and_then(range_of) else {
+        return Ok(None);
+    };
+    match tagged_source(alloc, head, names)? {
+        Some(source) => Ok(Some((source, range))),
+        None => Ok(None),
+    }
+}
+
+fn part_copy_to(target: Target<'_>, part: (u32, Text), source: Source, range: (u64, u64)) -> Ask {
+    Ask::PartCopy {
+        bucket: target.bucket,
+        key: target.key,
+        upload: part.1,
+        number: part.0,
+        from_bucket: source.bucket,
+        from_key: source.key,
+        etag: source.etag,
+        range,
+    }
+}
+
 fn part_copy_ask(
     alloc: Global,
     head: &RequestHead<'_>,
     target: Target<'_>,
     source: &str,
 ) -> Result<Option<Ask>, OutOfMemory> {
-    let Some((number, upload)) = part_of(alloc, &target)? else {
+    let Some(part) = part_of(alloc, &target)? else {
         return Ok(None);
     };
-    let Some((from_bucket, from_key)) = source_of(alloc, source)? else {
-        return Ok(None);
-    };
-    let Some(range) = head.header("x-amz-copy-source-range").and_then(range_of) else {
-        return Ok(None);
-    };
-    let Some(etag) = header_text(alloc, head, "x-amz-copy-source-if-match")? else {
-        return Ok(None);
-    };
-    let Target {
-        bucket,
-        key,
-        query: _,
-    } = target;
-    Ok(Some(Ask::PartCopy {
-        bucket,
-        key,
-        upload,
-        number,
-        from_bucket,
-        from_key,
-        etag,
-        range,
-    }))
+    match ranged_source(alloc, head, source)? {
+        Some((source, range)) => Ok(Some(part_copy_to(target, part, source, range))),
+        None => Ok(None),
+    }
 }
 
 fn stored_ask(
@@ -225,25 +267,37 @@ fn get_ask(
     }))
 }
 
-fn list_ask(alloc: Global, target: Target<'_>) -> Result<Option<Ask>, OutOfMemory> {
-    let prefix = target.value(alloc, "prefix")?;
-    let token = target.value(alloc, "continuation-token")?;
+/// The text, or the empty one.
+fn or_empty(alloc: Global, text: Option<Text>) -> Result<Text, OutOfMemory> {
+    match text {
+        Some(text) => Ok(text),
+        None => Text::of(alloc, ""),
+    }
+}
+
+fn list_of(target: Target<'_>, prefix: Text, token: Option<Text>) -> Ask {
     let delimited = target.has("delimiter");
-    let Target {
-        bucket,
-        key: _,
-        query: _,
-    } = target;
-    let prefix = match prefix {
-        Some(prefix) => prefix,
-        None => Text::of(alloc, "")?,
-    };
-    Ok(Some(Ask::List {
-        bucket,
+    Ask::List {
+        bucket: target.bucket,
         prefix,
         delimited,
         token,
-    }))
+    }
+}
+
+/// The prefix and the token of a listing.
+fn prefix_and_token(
+    alloc: Global,
+    target: &Target<'_>,
+) -> Result<(Text, Option<Text>), OutOfMemory> {
+    let prefix = target.value(alloc, "prefix")?;
+    let token = target.value(alloc, "continuation-token")?;
+    Ok((or_empty(alloc, prefix)?, token))
+}
+
+fn list_ask(alloc: Global, target: Target<'_>) -> Result<Option<Ask>, OutOfMemory> {
+    let (prefix, token) = prefix_and_token(alloc, &target)?;
+    Ok(Some(list_of(target, prefix, token)))
 }
 
 fn read_ask(
@@ -260,6 +314,52 @@ fn read_ask(
     get_ask(alloc, head, target)
 }
 
+fn create_ask(
+    alloc: Global,
+    head: &RequestHead<'_>,
+    target: Target<'_>,
+) -> Result<Ask, OutOfMemory> {
+    let content = header_text(alloc, head, "content-type")?;
+    Ok(Ask::Create {
+        bucket: target.bucket,
+        key: target.key,
+        content,
+    })
+}
+
+/// The entity tags of a body that completes an upload; None where it is no such document.
+fn etags_in(alloc: Global, body: &[u8]) -> Result<Option<Texts>, OutOfMemory> {
+    match std::str::from_utf8(body) {
+        Ok(document) => etags_of(alloc, document),
+        Err(_) => Ok(None),
+    }
+}
+
+fn completion_of(target: Target<'_>, upload: Text, etags: Texts, fresh: bool) -> Ask {
+    Ask::Complete {
+        bucket: target.bucket,
+        key: target.key,
+        upload,
+        etags,
+        fresh,
+    }
+}
+
+fn complete_ask(
+    alloc: Global,
+    head: &RequestHead<'_>,
+    target: Target<'_>,
+    body: &[u8],
+) -> Result<Option<Ask>, OutOfMemory> {
+    let Some(upload) = target.value(alloc, "uploadId")? else {
+        return Ok(None);
+    };
+    match etags_in(alloc, body)? {
+        Some(etags) => Ok(Some(completion_of(target, upload, etags, is_fresh(head)))),
+        None => Ok(None),
+    }
+}
+
 fn posted_ask(
     alloc: Global,
     head: &RequestHead<'_>,
@@ -267,39 +367,10 @@ fn posted_ask(
     body: &[u8],
 ) -> Result<Option<Ask>, OutOfMemory> {
     if target.has("uploads") {
-        let content = header_text(alloc, head, "content-type")?;
-        let Target {
-            bucket,
-            key,
-            query: _,
-        } = target;
-        return Ok(Some(Ask::Create {
-            bucket,
-            key,
-            content,
-        }));
+        Ok(Some(create_ask(alloc, head, target)?))
+    } else {
+        complete_ask(alloc, head, target, body)
     }
-    let Some(upload) = target.value(alloc, "uploadId")? else {
-        return Ok(None);
-    };
-    let Ok(document) = std::str::from_utf8(body) else {
-        return Ok(None);
-    };
-    let Some(etags) = etags_of(alloc, document)? else {
-        return Ok(None);
-    };
-    let Target {
-        bucket,
-        key,
-        query: _,
-    } = target;
-    Ok(Some(Ask::Complete {
-        bucket,
-        key,
-        upload,
-        etags,
-        fresh: is_fresh(head),
-    }))
 }
 
 fn deleted_ask(alloc: Global, target: Target<'_>) -> Result<Option<Ask>, OutOfMemory> {

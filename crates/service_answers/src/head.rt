@@ -16,6 +16,12 @@ pub fn head_length(bytes: &[u8]) -> Option<usize> {
     place.checked_add(4)
 }
 
+/// The value of a header line of that name.
+fn value_in<'a>(line: &'a str, name: &str) -> Option<&'a str> {
+    let (found, value) = line.split_once(": ")?;
+    if found == name { Some(value) } else { None }
+}
+
 impl<'a> RequestHead<'a> {
     /// None where the first line is not that of an HTTP/1.1 request.
     pub fn read(head: &'a str) -> Option<RequestHead<'a>> {
@@ -35,10 +41,8 @@ impl<'a> RequestHead<'a> {
     /// The value of a header, whose name is in lower case.
     pub fn header(&self, name: &str) -> Option<&'a str> {
         for line in self.lines.split("\r\n") {
-            if let Some((found, value)) = line.split_once(": ") {
-                if found == name {
-                    return Some(value);
-                }
+            if let Some(value) = value_in(line, name) {
+                return Some(value);
             }
         }
         None

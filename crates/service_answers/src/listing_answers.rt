@@ -41,19 +41,21 @@ fn push_prefix(alloc: Global, out: &mut String, prefix: &Text) -> Result<(), All
     out.push_str("</CommonPrefixes>")
 }
 
+/// What stands before the names of a page.
+fn push_front(out: &mut String, bucket: &str, page: &Listed) -> Result<(), AllocError> {
+    push_element(out, "Name", bucket)?;
+    push_element(out, "EncodingType", "url")?;
+    push_element(out, "IsTruncated", if page.more { "true" } else { "false" })?;
+    match &page.token {
+        Some(token) => push_element(out, "NextContinuationToken", token.as_str()),
+        None => Ok(()),
+    }
+}
+
 /// A page of a listing, with names as `encoding-type=url` has them.
 pub(crate) fn page(alloc: Global, bucket: &str, page: &Listed) -> Result<String, OutOfMemory> {
     let mut out = begin(alloc, "ListBucketResult")?;
-    push_element(&mut out, "Name", bucket)?;
-    push_element(&mut out, "EncodingType", "url")?;
-    push_element(
-        &mut out,
-        "IsTruncated",
-        if page.more { "true" } else { "false" },
-    )?;
-    if let Some(token) = &page.token {
-        push_element(&mut out, "NextContinuationToken", token.as_str())?;
-    }
+    push_front(&mut out, bucket, page)?;
     push_names(alloc, &mut out, page)?;
     end(&mut out, "ListBucketResult")?;
     Ok(out)
@@ -73,18 +75,26 @@ fn push_prefixes(alloc: Global, out: &mut String, prefixes: &[Text]) -> Result<(
     Ok(())
 }
 
+fn push_bucket(alloc: Global, out: &mut String, entry: &Entry) -> Result<(), AllocError> {
+    let time = document_time(alloc, entry.micros)?;
+    out.push_str("<Bucket>")?;
+    push_element(out, "Name", entry.key.as_str())?;
+    push_element(out, "CreationDate", time.as_str())?;
+    out.push_str("</Bucket>")
+}
+
+fn push_buckets(alloc: Global, out: &mut String, entries: &[Entry]) -> Result<(), AllocError> {
+    out.push_str("<Buckets>")?;
+    for entry in entries {
+        push_bucket(alloc, out, entry)?;
+    }
+    out.push_str("</Buckets>")
+}
+
 /// The list of all buckets, with the times at which they were made.
 pub(crate) fn buckets(alloc: Global, entries: &[Entry]) -> Result<String, OutOfMemory> {
     let mut out = begin(alloc, "ListAllMyBucketsResult")?;
-    out.push_str("<Buckets>")?;
-    for entry in entries {
-        let time = document_time(alloc, entry.micros)?;
-        out.push_str("<Bucket>")?;
-        push_element(&mut out, "Name", entry.key.as_str())?;
-        push_element(&mut out, "CreationDate", time.as_str())?;
-        out.push_str("</Bucket>")?;
-    }
-    out.push_str("</Buckets>")?;
+    push_buckets(alloc, &mut out, entries)?;
     end(&mut out, "ListAllMyBucketsResult")?;
     Ok(out)
 }

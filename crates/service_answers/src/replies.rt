@@ -40,6 +40,23 @@ fn found(alloc: Global, object: &FoundObject) -> Result<Answer, OutOfMemory>
     Ok(answer)
 }
 
+// The header line of a range and the size of the object, where there is one.
+fn add_range_line(
+    alloc: Global,
+    answer: &mut Answer,
+    range: Option<(u64, u64, u64)>,
+) -> Result<(), OutOfMemory>
+    ensures status { answer.new.status ≡ answer.old.status }
+    ensures body { answer.new.body ≡ answer.old.body }
+    ensures length { answer.new.length ≡ answer.old.length }
+{
+    if let Some((first, last, size)) = range {
+        let value = format!(in alloc; "bytes {first}-{last}/{size}")?;
+        answer.add_line("content-range", value.as_str())?;
+    }
+    Ok(())
+}
+
 // The answer to a Get, whose body is a copy of the bytes.
 fn got(alloc: Global, object: &GotObject) -> Result<Answer, OutOfMemory>
     ensures status { IfOk result (λ answer. answer.status ≡ got_status object.now.range) }
@@ -49,10 +66,7 @@ fn got(alloc: Global, object: &GotObject) -> Result<Answer, OutOfMemory>
     let status = if object.range.is_some() { 206 } else { 200 };
     let mut answer = Answer::empty(alloc, status);
     add_object_lines(alloc, &mut answer, object.etag.as_str(), object.micros)?;
-    if let Some((first, last, size)) = object.range {
-        let value = format!(in alloc; "bytes {first}-{last}/{size}")?;
-        answer.add_line("content-range", value.as_str())?;
-    }
+    add_range_line(alloc, &mut answer, object.range)?;
     answer.body = object.bytes.as_slice().to_vec(alloc)?;
     Ok(answer)
 }
