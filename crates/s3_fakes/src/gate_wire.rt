@@ -10,8 +10,8 @@ use s3_outside::{Failed, Wire};
 use std::alloc::Global;
 use std::rt::Clock;
 use std::sync::Wait;
-use std::thread;
 use std::time::Duration;
+use std::{mem, thread};
 
 /// How often a wire looks whether its answer may come.
 const TURNS: u32 = 10_000;
@@ -45,6 +45,32 @@ fn gate_for(holds: &[Hold], request: &[u8]) -> Option<usize> {
         && request.starts_with(hold.gate.first.as_str().as_bytes()))
 }
 
+// Has the second request of a gate watched, and adds the gate.
+fn add_gate<R: Wait>(
+    wire: &MemWire<R>,
+    holds: &mut Vec<Hold>,
+    gate: Gate,
+) -> Result<(), OutOfMemory> {
+    wire.watch(gate.second.as_str())?;
+    holds.push(Hold {
+        gate,
+        is_used: false,
+    })?;
+    Ok(())
+}
+
+fn holds_of<R: Wait>(
+    alloc: Global,
+    wire: &MemWire<R>,
+    gates: Vec<Gate>,
+) -> Result<Vec<Hold>, OutOfMemory> {
+    let mut holds = Vec::new(alloc);
+    for gate in gates {
+        add_gate(wire, &mut holds, gate)?;
+    }
+    Ok(holds)
+}
+
 impl<R: Wait + Clock + Drop> GateWire<R> {
     ghost use Rattle.outside_memory.specs.TalkLog.{talk_of, note_of};
 
@@ -63,19 +89,17 @@ impl<R: Wait + Clock + Drop> GateWire<R> {
         ensures faults { IfOk result (λ wire. ⟦<GateWire<R> as Wire>⟧.faults wire ≡ 0) }
     {
         let wire = MemWire::make(alloc, runtime, table, moment);
-        let mut holds = Vec::new(alloc);
-        for gate in gates {
-            wire.watch(gate.second.as_str())?;
-            holds.push(Hold {
-                gate,
-                is_used: false,
-            })?;
+        match holds_of(alloc, &wire, gates) {
+            Ok(holds) => Ok(GateWire {
+                wire,
+                holds,
+                closed: None,
+            }),
+            Err(fault) => {
+                mem::drop(wire);
+                Err(fault)
+            }
         }
-        Ok(GateWire {
-            wire,
-            holds,
-            closed: None,
-        })
     }
 
     /// The talks so far, in order.

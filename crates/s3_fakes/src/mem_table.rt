@@ -8,7 +8,7 @@ ghost use Rattle.s3_service.specs.Serves.{Puts};
 ghost use Rattle.s3_fakes.specs.Fates.{AreBytesFor, IsToBeServed};
 ghost use Rattle.s3_fakes.specs.Holdings.{Follows, IsAnswered};
 
-use crate::script::{Ending, Fate, Refused, Script, Turn};
+use crate::script::{Ending, Fate, Refused, Script, Turn, push_at};
 use object_table::{MemObject, ObjectTable, TableFault};
 use s3_model::{Ask, Limits, OutOfMemory, Text};
 use service_answers::{
@@ -17,6 +17,7 @@ use service_answers::{
 use std::alloc::Global;
 use std::collections::BTreeMap;
 use std::marker::Model;
+use std::mem;
 use std::sync::{Arc, Mutex};
 use table_service::{Manner, serve};
 
@@ -229,8 +230,7 @@ impl MemTable {
         ensures { self.new ≡ record self.old { is_scripted = true } }
     {
         self.is_scripted = true;
-        self.foreign.entry(number)?.or_default().push(write)?;
-        Ok(())
+        push_at(&mut self.foreign, number, write)
     }
 
     /// How many requests came.
@@ -314,7 +314,9 @@ impl MemTable {
             Ok(gained) => gained,
             Err(fault) => return unserved(alloc, fault),
         };
-        answer_of(alloc, &self.objects, self.manner.micros, ask, &gained)
+        let answer = answer_of(alloc, &self.objects, self.manner.micros, ask, &gained);
+        mem::drop(gained);
+        answer
     }
 
     /// Serves a whole request.
@@ -328,7 +330,11 @@ impl MemTable {
             return not_understood(alloc);
         };
         match ask_of(alloc, &head, body)? {
-            Some(ask) => self.serve_ask(&ask, body),
+            Some(ask) => {
+                let answer = self.serve_ask(&ask, body);
+                mem::drop(ask);
+                answer
+            }
             None => not_understood(alloc),
         }
     }
@@ -366,8 +372,7 @@ impl MemTable {
     {
         let number = self.requests.saturating_add(by.max(1));
         let kept = request.to_vec(self.alloc)?;
-        self.late.entry(number)?.or_default().push(kept)?;
-        Ok(())
+        push_at(&mut self.late, number, kept)
     }
 
     // What is done before that request: late requests are served, and somebody else writes.

@@ -136,6 +136,33 @@ impl<R: Wait> MemWire<R> {
         }
     }
 
+    // Forgets the talk before.
+    fn forget(&mut self)
+        ensures log { self.new.log ≡ self.old.log }
+        ensures alive { self.new.is_alive ≡ self.old.is_alive }
+        ensures opened { self.new.opened ≡ self.old.opened }
+        ensures faults { self.new.faults ≡ self.old.faults }
+    {
+        self.place = 0;
+        self.request.clear();
+        self.answer = None;
+    }
+
+    // Whether the request is whole.
+    fn is_whole(&self) -> bool {
+        match whole_length(&self.request) {
+            Some(length) => length <= self.request.len(),
+            None => false,
+        }
+    }
+
+    // What the service answers to the request.
+    fn serve(&self) -> Result<Coming, OutOfMemory> {
+        self.table
+            .lock(&self.runtime)
+            .answer(self.number, &self.request)
+    }
+
     // Hands bytes to the service, which answers once the request is whole.
     fn hand_over(&mut self, bytes: &[u8]) -> Result<(), OutOfMemory>
         ensures log { self.new.log ≡ self.old.log }
@@ -144,17 +171,8 @@ impl<R: Wait> MemWire<R> {
         ensures faults { self.new.faults ≡ self.old.faults }
     {
         self.request.extend_from_slice(bytes)?;
-        if self.answer.is_some() {
-            return Ok(());
-        }
-        if let Some(length) = whole_length(&self.request) {
-            if length <= self.request.len() {
-                let coming = self
-                    .table
-                    .lock(&self.runtime)
-                    .answer(self.number, &self.request)?;
-                self.answer = Some(coming);
-            }
+        if self.answer.is_none() && self.is_whole() {
+            self.answer = Some(self.serve()?);
         }
         Ok(())
     }
@@ -197,9 +215,7 @@ impl<R: Wait> Wire for MemWire<R> {
     ghost faults = { λ w. w.faults };
 
     fn begin(&mut self, host: &str, port: u16) -> Result<(), Failed> {
-        self.place = 0;
-        self.request.clear();
-        self.answer = None;
+        self.forget();
         self.count_opening(host, port);
         if self.log.begin(host, port, true).is_err() {
             count_fault(&mut self.faults);

@@ -8,6 +8,7 @@ use s3_model::{OutOfMemory, Text};
 use service_answers::Form;
 use std::alloc::Global;
 use std::collections::BTreeMap;
+use std::mem;
 
 /// How an answer ends.
 #[derive(Clone, Copy, Debug, PartialEq, Eq)]
@@ -87,6 +88,16 @@ impl Fate {
     }
 }
 
+/// Adds a value behind the others of that number.
+pub(crate) fn push_at<T: Drop>(
+    lists: &mut BTreeMap<u64, Vec<T>>,
+    number: u64,
+    value: T,
+) -> Result<(), OutOfMemory> {
+    lists.entry(number)?.or_default().push(value)?;
+    Ok(())
+}
+
 /// The requests that begin with one text: how many came, from which wires, and what is done to them.
 #[derive(Debug, Drop)]
 struct Beginning {
@@ -110,10 +121,9 @@ impl Beginning {
 
     fn add(&mut self, number: Option<u64>, turn: Turn) -> Result<(), OutOfMemory> {
         match number {
-            None => self.each.push(turn)?,
-            Some(number) => self.nth.entry(number)?.or_default().push(turn)?,
+            None => Ok(self.each.push(turn)?),
+            Some(number) => push_at(&mut self.nth, number, turn),
         }
-        Ok(())
     }
 
     fn note(&mut self, wire: u32) {
@@ -159,7 +169,8 @@ impl Script {
     pub(crate) fn watch(&mut self, text: &[u8]) -> Result<(), OutOfMemory> {
         if self.beginnings.get(text).is_none() {
             let key = text.to_vec(self.alloc)?;
-            self.beginnings.insert(key, Beginning::make(self.alloc))?;
+            let before = self.beginnings.insert(key, Beginning::make(self.alloc))?;
+            mem::drop(before);
         }
         Ok(())
     }

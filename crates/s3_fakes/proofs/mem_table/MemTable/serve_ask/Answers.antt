@@ -10,7 +10,7 @@ returns-clause-follows c =
 
 pub returns-clause-answered : goal.returns-clause-answered
 returns-clause-answered c =
-    on_ok c.answer_of.result
+    on_ok c.answer_of-answer.result
     (answered_served c.args.self.now (record { limits = c.self.inside.manner.limits; state = c.self.inside.objects; is_scripted = c.self.inside.is_scripted }) c.serve.new.table c.args.ask.now c.args.body.now c.in-Ok.gained c.self.view_is c.in-Ok.ensures.served c.in-Ok.ensures.ranged)
 
 pub returns-in-Err-clause-follows : goal.returns-in-Err-clause-follows
