@@ -20,7 +20,7 @@ ghost use Rattle.std.specs.Prelude.{
   length,
   true,
 };
-ghost use Rattle.std.specs.FinMap.{get, insert};
+ghost use Rattle.std.specs.FinMap.{empty, get, insert};
 ghost use Rattle.object_table.specs.Assembly.{Joined};
 ghost use Rattle.object_table.specs.Refused.{IsNotRefused};
 ghost use Rattle.s3_service.specs.ServiceState.{
@@ -32,6 +32,7 @@ ghost use Rattle.s3_service.specs.ServiceState.{
   Upload,
   object_at,
   with_ended,
+  with_upload,
 };
 ghost use Rattle.s3_service.specs.Serves.{
   Aborts,
@@ -84,6 +85,15 @@ fn put_part(
             Err(OutOfMemory)
         }
     }
+}
+
+// An upload of an object without parts.
+fn upload_of(alloc: Global, bucket: &str, key: &str) -> Result<MemUpload, OutOfMemory>
+    ensures { IfOk result (λ upload. upload ≡ record { bucket = bucket.now; key = key.now; parts = empty }) }
+{
+    let bucket = Text::of(alloc, bucket)?;
+    let key = Text::of(alloc, key)?;
+    Ok(MemUpload::make(alloc, bucket, key))
 }
 
 // Copies of texts.
@@ -155,6 +165,16 @@ impl ObjectTable {
         }
     }
 
+    // Adds an upload, whose id is none that ended.
+    fn begin(&mut self, alloc: Global, id: &str, upload: MemUpload) -> Result<(), OutOfMemory>
+        requires bucket { HasBucket self.old upload.bucket }
+        requires apart { IsNone (get self.old.ended id.now) }
+        ensures begun { OnOk result (self.new ≡ with_upload self.old id.now upload) }
+        ensures same { OnErr result (self.new ≡ self.old) }
+    {
+        self.uploads.insert(alloc, id, upload)
+    }
+
     /// Begins an upload without parts, under a new id.
     pub fn create(&mut self, alloc: Global, bucket: &str, key: &str) -> Result<Text, TableFault>
         ensures created { IfOk result (λ id. Creates self.old bucket.now key.now id self.new) }
@@ -165,8 +185,8 @@ impl ObjectTable {
             return Err(TableFault::Refused(Refusal::NoSuchBucket));
         }
         let id = self.new_id(alloc)?;
-        let upload = MemUpload::make(alloc, Text::of(alloc, bucket)?, Text::of(alloc, key)?);
-        self.uploads.insert(alloc, id.as_str(), upload)?;
+        let upload = upload_of(alloc, bucket, key)?;
+        self.begin(alloc, id.as_str(), upload)?;
         Ok(id)
     }
 
