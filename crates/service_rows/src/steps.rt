@@ -10,6 +10,7 @@ use outside_memory::WireNote;
 use s3_model::OutOfMemory;
 use s3_outside::Wire;
 use std::alloc::{AllocError, Global};
+use std::mem;
 use std::sync::Wait;
 
 fn show<R: Wait + Clone + Drop>(
@@ -57,7 +58,9 @@ fn set_up<R: Wait + Clone + Drop>(
 
 fn sent<W: Wire>(alloc: Global, wire: &mut W, request: &Request) -> Result<String, OutOfMemory> {
     let answer = send(alloc, wire, &request.ask, request.bytes.as_str().as_bytes())?;
-    Ok(answer_text(alloc, &answer)?)
+    let text = answer_text(alloc, &answer);
+    mem::drop(answer);
+    Ok(text?)
 }
 
 /// Begins with a service without buckets.
@@ -107,7 +110,11 @@ pub(crate) fn result_of<R: Wait + Clone + Drop>(
     let mut words = Words::of(line);
     let name = words.next();
     match request_named(alloc, name, &mut words)? {
-        Some(request) => sent(alloc, &mut desk.wire, &request),
+        Some(request) => {
+            let text = sent(alloc, &mut desk.wire, &request);
+            mem::drop(request);
+            text
+        }
         None => other(alloc, rt, desk, name, &mut words),
     }
 }

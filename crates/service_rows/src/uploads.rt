@@ -13,6 +13,7 @@ use s3_model::{Event, Journal, Kind, OutOfMemory, Outcome, Place, Task, Text};
 use s3_outside::Wire;
 use small_uploads::upload;
 use std::alloc::{AllocError, Global};
+use std::mem;
 use std::sync::Arc;
 
 /// The most attempts of a job.
@@ -46,15 +47,29 @@ fn put_task(alloc: Global, spot: Spot, size: u64) -> Result<Arc<Task, Global>, O
     };
     match Arc::new(alloc, task) {
         Ok(shared) => Ok(shared),
-        Err(_) => Err(OutOfMemory),
+        Err(failed) => {
+            mem::drop(failed);
+            Err(OutOfMemory)
+        }
+    }
+}
+
+/// A file with these bytes.
+fn table_of(alloc: Global, bytes: &[u8]) -> Result<FileTable, OutOfMemory> {
+    let file = MemFile::new(bytes.to_vec(alloc)?, 0);
+    let mut table = FileTable::make(alloc);
+    match table.put_file(alloc, PATH, file) {
+        Ok(()) => Ok(table),
+        Err(OutOfMemory) => {
+            mem::drop(table);
+            Err(OutOfMemory)
+        }
     }
 }
 
 /// Files among which is one with these bytes.
 fn files(alloc: Global, bytes: &[u8]) -> Result<MemFiles, OutOfMemory> {
-    let mut table = FileTable::make(alloc);
-    let file = MemFile::new(bytes.to_vec(alloc)?, 0);
-    table.put_file(alloc, PATH, file)?;
+    let table = table_of(alloc, bytes)?;
     Ok(MemFiles::make(alloc, table, Vec::new(alloc), Vec::new(alloc)))
 }
 
@@ -85,8 +100,32 @@ struct Means {
 
 fn make_means(alloc: Global, bytes: &[u8]) -> Result<Means, OutOfMemory> {
     let files = files(alloc, bytes)?;
-    let carrier = carrier(alloc)?;
-    Ok(Means { files, carrier })
+    match carrier(alloc) {
+        Ok(carrier) => Ok(Means { files, carrier }),
+        Err(OutOfMemory) => {
+            mem::drop(files);
+            Err(OutOfMemory)
+        }
+    }
+}
+
+/// Carries the upload of bytes by these means.
+fn carry_by<W: Wire>(
+    alloc: Global,
+    wire: &mut W,
+    means: &mut Means,
+    task: Arc<Task, Global>,
+    bytes: &[u8],
+    journal: &mut Journal,
+) -> Outcome
+    requires put { IsPutTask (arc_value task) }
+    requires empty { journal.old.items ≡ [] }
+    requires room { 2 ≤ journal.old.spare }
+{
+    let size = bytes.len() as u64;
+    let files = &mut means.files;
+    let carrier = &mut means.carrier;
+    upload(alloc, files, wire, carrier, task, PATH, size, journal)
 }
 
 /// Carries the upload of bytes, with what it notes.
@@ -101,21 +140,28 @@ fn carried<W: Wire>(
     requires empty { journal.old.items ≡ [] }
     requires room { 2 ≤ journal.old.spare }
 {
-    let Means {
-        mut files,
-        mut carrier,
-    } = make_means(alloc, bytes)?;
-    let size = bytes.len() as u64;
-    Ok(upload(
-        alloc,
-        &mut files,
-        wire,
-        &mut carrier,
-        task,
-        PATH,
-        size,
-        journal,
-    ))
+    let mut means = make_means(alloc, bytes)?;
+    let outcome = carry_by(alloc, wire, &mut means, task, bytes, journal);
+    mem::drop(means);
+    Ok(outcome)
+}
+
+/// The marks of the attempts of an upload, and its outcome.
+fn text_of<W: Wire>(
+    alloc: Global,
+    wire: &mut W,
+    task: Arc<Task, Global>,
+    bytes: &[u8],
+    journal: &mut Journal,
+) -> Result<String, OutOfMemory>
+    requires put { IsPutTask (arc_value task) }
+    requires empty { journal.old.items ≡ [] }
+    requires room { 2 ≤ journal.old.spare }
+{
+    let outcome = carried(alloc, wire, task, bytes, journal)?;
+    let text = shown(alloc, journal, &outcome);
+    mem::drop(outcome);
+    Ok(text?)
 }
 
 /// A journal with room for one job.
@@ -136,8 +182,9 @@ fn uploaded<W: Wire>(
 ) -> Result<String, OutOfMemory> {
     let task = put_task(alloc, spot, bytes.len() as u64)?;
     let mut journal = journal(alloc)?;
-    let outcome = carried(alloc, wire, task, bytes, &mut journal)?;
-    Ok(shown(alloc, &journal, &outcome)?)
+    let text = text_of(alloc, wire, task, bytes, &mut journal);
+    mem::drop(journal);
+    text
 }
 
 /// Does an upload step.
