@@ -96,10 +96,10 @@ impl<W: Worker> Desk<W> {
         ensures ok { OnOk result (self.new ≡ gives self.old lane job) }
         ensures one_more { OnOk result (all_out self.new ≡ all_out self.old + 1) }
     {
-        let slot = &mut self.lanes[lane as usize];
-        if slot.room() == 0 {
+        if self.room(lane) == 0 {
             return Err(job);
         }
+        let slot = &mut self.lanes[lane as usize];
         slot.give(job);
         self.out += 1;
         Ok(())
