@@ -15,3 +15,9 @@ module _ {T A P : Type 0} where
 
   pub pair_of_later_ends : (p q : Producer T A P) (c d : Consumer T A P) → IsPair p c → SameProducer p q → SameConsumer c d → IsPair q d
   pair_of_later_ends p q c d pair kept same = pair_of_later_consumer q c d (pair_of_later_producer p q c pair kept) same
+
+  pub same_consumers : (a b c : Consumer T A P) → SameConsumer a b → SameConsumer b c → SameConsumer a c
+  same_consumers a b c s t = ((t.0.0 ∙ s.0.0, t.0.1 ∙ s.0.1, t.0.2 ∙ s.0.2, t.0.3 ∙ s.0.3), t.1 ∙ s.1)
+
+  pub same_producers : (a b c : Producer T A P) → SameProducer a b → SameProducer b c → SameProducer a c
+  same_producers a b c s t = ((t.0.0 ∙ s.0.0, t.0.1 ∙ s.0.1, t.0.2 ∙ s.0.2, t.0.3 ∙ s.0.3), t.1 ∙ s.1)
