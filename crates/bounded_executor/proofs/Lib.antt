@@ -6,3 +6,4 @@ pub mod JoinLemmas
 pub mod DeskLemmas
 pub mod OpenLemmas
 pub mod Filled
+pub mod OutboxLemmas
