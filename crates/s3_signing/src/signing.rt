@@ -27,7 +27,6 @@ pub fn payload_hash(body: &[u8]) -> HexHash
 }
 
 /// Adds date/region/s3/aws4_request.
-#[tactic(auto, unfolding(crate::specs::Signing::credential_scope))]
 pub fn push_scope(out: &mut String, moment: u64, region: &str) -> Result<(), AllocError>
     requires { moment < 253402300800 }
     ensures { OnOk result (string_bytes out.new
