@@ -20,10 +20,10 @@ pub fn lend<'a>(alloc: Global, pairs: &'a Pairs) -> Result<Vec<Header<'a>>, Allo
 {
     let mut headers = Vec::with_capacity(alloc, pairs.len())?;
     for pair in pairs.as_slice() {
-        headers.push(Header {
+        headers.push_reserved(Header {
             name: pair.0.as_str(),
             value: pair.1.as_str(),
-        })?;
+        });
     }
     Ok(headers)
 }

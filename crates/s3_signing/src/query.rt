@@ -7,7 +7,7 @@ ghost use Rattle.s3_signing.specs.Pairs.{sort_pairs};
 
 use crate::escapes::push_query;
 use crate::headers::push_piece;
-use s3_model::Pairs;
+use s3_model::{Pairs, Text};
 use std::alloc::{AllocError, Global};
 
 fn escaped(alloc: Global, text: &str) -> Result<String, AllocError>
@@ -18,16 +18,21 @@ fn escaped(alloc: Global, text: &str) -> Result<String, AllocError>
     Ok(out)
 }
 
+fn escaped_pair(alloc: Global, pair: &(Text, Text)) -> Result<(String, String), AllocError>
+    ensures { IfOk result (λ out. (string_bytes out.0, string_bytes out.1) ≡ spec.encode_pair pair.now) }
+{
+    let name = escaped(alloc, pair.0.as_str())?;
+    let value = escaped(alloc, pair.1.as_str())?;
+    Ok((name, value))
+}
+
 /// The pairs, escaped.
 fn escape_all(alloc: Global, query: &Pairs) -> Result<Vec<(String, String)>, AllocError>
     ensures { IfOk result (λ out. text_pairs out.items ≡ map spec.encode_pair query.now.items) }
 {
     let mut out = Vec::with_capacity(alloc, query.len())?;
     for pair in query.as_slice() {
-        out.push((
-            escaped(alloc, pair.0.as_str())?,
-            escaped(alloc, pair.1.as_str())?,
-        ))?;
+        out.push_reserved(escaped_pair(alloc, pair)?);
     }
     Ok(out)
 }
