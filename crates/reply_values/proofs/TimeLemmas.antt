@@ -11,7 +11,8 @@ use Rattle.std.specs.Str.Parse.{AllDigits, digits_value}
 use Rattle.std.proofs.Math.Nat.{pow-le-pow_right, pow-suc, one-le-pow, mul_assoc, mul_comm, mul-div-mul_right}
 use Rattle.std.proofs.Math.Nat.{div-lt_iff_lt-mul}
 use Rattle.std.proofs.lemmas.Nat.{pow-add}
-use Rattle.std.proofs.lemmas.List.{length-take, length-append, append_cancel_left, append_cancel_right}
+use Rattle.std.proofs.lemmas.List.{length-drop, length-take, length-append, append_cancel_left, append_cancel_right}
+use Rattle.std.proofs.lemmas.Bool.{false≢true}
 use Rattle.std.proofs.lemmas.Bool.Decides.{nat_tests}
 use Rattle.std.proofs.lemmas.Int.{to_z_pos, to_z-of_z}
 use Rattle.std.proofs.lemmas.Int.Digits.{digits_value_more, digits_more}
@@ -19,7 +20,7 @@ use Rattle.jiff_core.specs.declared.civil.date.Date.{Date}
 use Rattle.jiff_core.specs.Calendar.{IsCivilDate, IsDate}
 use Rattle.jiff_core.specs.Date.{IsYmd}
 use Rattle.jiff_core.proofs.SignedLemmas.{signed_arith}
-use Rattle.reply_values.specs.Times.{WritesMicros, EndsTime}
+use Rattle.reply_values.specs.Times.{WritesMicros, EndsTime, SpellsTime}
 
 -- the first digits, their number and its bound
 pub record ReadsTo (text : List ℕ) (i number : ℕ) : Type 0 where
@@ -41,14 +42,10 @@ nine_digits i number few small =
     let bound : 10 ^ i ≤ 10 ^ 8 = pow-le-pow_right (lit< tt) within in
     omega arith
 
-pub under : (n a b : ℕ) → a ≤ b → n < 10 ^ a → n < 10 ^ b
-under n a b order small = let bound : 10 ^ a ≤ 10 ^ b = pow-le-pow_right (lit< tt) order in omega arith
-
--- a number of digits within a part of so many bytes
-pub part_small : (text : List ℕ) (n from count : ℕ) → n < 10 ^ length (take count (drop from text)) → n < 10 ^ count
-part_small text n from count small =
-    let few : length (take count (drop from text)) ≤ count = omega (arith, length-take count (drop from text)) in
-    under n _ count few small
+-- so many bytes of a text
+pub part_length : (text : List ℕ) (start end : ℕ) → end ≤ length text → length (take (end - start) (drop start text))
+    ≡ end - start
+part_length text start end within = omega (arith, length-take (end - start) (drop start text), length-drop start text)
 
 -- the numbers of a date, as the calendar library takes them
 pub record IsSmallDate (y m d : ℕ) : Type 0 where
@@ -96,12 +93,24 @@ pub counted : {E : Type 0} (r : Result ℕ E) (z : ℤ) (P : ℕ → Type 0) →
 counted (Err e) z P fits h value = tt
 counted (Ok n) z P fits h value = let k = rw (to_z-of_z w32 z fits) at h in value n (not_negative z n k.0 k.1)
 
-pub not_counted : {E : Type 0} (r : Result ℕ E) (z : ℤ) → z ≤ℤ pos 2_932_896 → FitsSigned w32 z
+not_counted : {E : Type 0} (r : Result ℕ E) (z : ℤ) → z ≤ℤ pos 2_932_896 → FitsSigned w32 z
     → OkIff r (FitsUnsignedBits 64 (to_z w32 (of_z w32 z))) (unsigned_abs (to_z w32 (of_z w32 z)))
     → IfNone (result_ok r) ((n : ℕ) → z ≢ pos n)
 not_counted (Err e) z most fits h = λ n is. let k = rw (to_z-of_z w32 z fits, is) at h in let small : n < 2 ^ 64 =
     omega (arith, signed_arith, rw is at most) in k small
 not_counted (Ok n) z most fits h = tt
+
+pub counted_small : {E : Type 0} (r : Result ℕ E) (z : ℤ) → z ≤ℤ pos 2_932_896 → FitsSigned w32 z
+    → OkIff r (FitsUnsignedBits 64 (to_z w32 (of_z w32 z))) (unsigned_abs (to_z w32 (of_z w32 z)))
+    → IfSome (result_ok r) (λ n. n ≤ 2_932_896)
+counted_small r z most fits h =
+    counted r z (λ n. n ≤ 2_932_896) fits h (λ n is. omega (arith, signed_arith, rw is at most))
+
+pub none_counted : {E : Type 0} (r : Result ℕ E) (z : ℤ) (P : ℕ → Type 0) → z ≤ℤ pos 2_932_896 → FitsSigned w32 z
+    → OkIff r (FitsUnsignedBits 64 (to_z w32 (of_z w32 z))) (unsigned_abs (to_z w32 (of_z w32 z)))
+    → ((n : ℕ) → P n → z ≡ pos n) → IfNone (result_ok r) ((n : ℕ) → ¬ (P n))
+none_counted (Ok n) z P most fits h is = tt
+none_counted (Err e) z P most fits h is = λ n p. not_counted {E = _} (Err e) z most fits h n (is n p)
 
 -- the separators
 pub separators_are : (a b c d e : ℕ) (differ : Bool) → differ ≡ not
@@ -114,6 +123,17 @@ separators_are a b c d e differ is same =
     let d_is : d ≡ 58 = grind (arith, nat_tests) in
     let e_is : e ≡ 58 = grind (arith, nat_tests) in
     rw (a_is, b_is, c_is, d_is, e_is)
+
+abbrev has_separators : List ℕ → Bool
+has_separators bytes =
+    eqb (get_or bytes 0 0) 45 && (eqb (get_or bytes 1 0) 45 && (eqb (get_or bytes 2 0) 84
+    && (eqb (get_or bytes 3 0) 58 && (eqb (get_or bytes 4 0) 58 && true))))
+
+pub other_separators : (a b c d e : ℕ) (differ : Bool) → differ ≡ not
+    (eqb a 45 && (eqb b 45 && (eqb c 84 && (eqb d 58 && (eqb e 58 && true))))) → differ ≡ true
+    → a ∷ b ∷ c ∷ d ∷ e ∷ [] ≡ codes "--T::" → ⊥
+other_separators a b c d e differ is other same =
+    false≢true (sym (ap (λ (bytes : List ℕ). not (has_separators bytes)) same) ∙ sym is ∙ other)
 
 -- a fraction of a second as whole microseconds
 ten_pow : (k : ℕ) → 0 < 10 ^ k
@@ -169,3 +189,11 @@ end_refused None end fraction e h = λ micros ends. refute micros ends
     refute micros (inr parts) =
         let same = append_cancel_left (codes ".") _ _ (append_cancel_right _ _ (codes "Z") (sym e ∙ parts.1)) in
         h micros (rw (sym same) at parts.2)
+
+-- a time has at least twenty bytes
+ends_long : (end : List ℕ) (micros : ℕ) → EndsTime end micros → 1 ≤ length end
+ends_long end micros (inl h) = omega (arith, ap length h.0)
+ends_long end micros (inr h) = omega (arith, ap length h.1)
+
+pub too_short : (text : List ℕ) (moment : ℕ) → length text < 20 → SpellsTime text moment → ⊥
+too_short text moment short h = omega (arith, ends_long (drop 19 text) h.micros h.end, length-drop 19 text)

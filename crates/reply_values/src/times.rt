@@ -1,6 +1,6 @@
 //! Moments, as ISO 8601 writes them.
 
-ghost use Rattle.std.specs.Prelude.{◌≤◌, ◌<◌, ◌^◌, ℕ, IfSome, IfNone, length};
+ghost use Rattle.std.specs.Prelude.{◌≤◌, ◌<◌, ◌+◌, ◌-◌, ◌^◌, ℕ, IfSome, IfNone, length, slice_range};
 ghost use Rattle.reply_values.specs.Numbers.{Writes};
 ghost use Rattle.reply_values.specs.Times.{HasDate, HasClock, WritesMicros, EndsTime, SpellsTime};
 
@@ -31,6 +31,18 @@ fn digits(text: &[u8]) -> Option<u32>
     Some(number)
 }
 
+/// The number that the digits from one place to another write.
+fn number_at(text: &[u8], start: usize, end: usize) -> Option<u32>
+    requires some { start < end }
+    requires few { end ≤ start + 9 }
+    requires within { end ≤ length text.now }
+    ensures value { IfSome result (Writes 10 (slice_range text.now start end)) }
+    ensures small { IfSome result (λ number. number < 10 ^ (end - start)) }
+    ensures refused { IfNone result ((number : ℕ) → ¬ (Writes 10 (slice_range text.now start end) number)) }
+{
+    digits(&text[start..end])
+}
+
 /// The days since 1970-01-01 of the date at the front.
 fn days(text: &[u8]) -> Option<u64>
     requires { 19 ≤ length text.now }
@@ -38,9 +50,9 @@ fn days(text: &[u8]) -> Option<u64>
     ensures small { IfSome result (λ days. days ≤ 2932896) }
     ensures refused { IfNone result ((days : ℕ) → ¬ (HasDate text.now days)) }
 {
-    let year = digits(&text[..4])?;
-    let month = digits(&text[5..7])?;
-    let day = digits(&text[8..10])?;
+    let year = number_at(text, 0, 4)?;
+    let month = number_at(text, 5, 7)?;
+    let day = number_at(text, 8, 10)?;
     let date = Date::new(year as i16, month as i8, day as i8).ok()?;
     u64::try_from(date.to_unix_epoch_day()).ok()
 }
@@ -52,9 +64,9 @@ fn seconds(text: &[u8]) -> Option<u64>
     ensures small { IfSome result (λ seconds. seconds < 86400) }
     ensures refused { IfNone result ((seconds : ℕ) → ¬ (HasClock text.now seconds)) }
 {
-    let hour = digits(&text[11..13])?;
-    let minute = digits(&text[14..16])?;
-    let second = digits(&text[17..19])?;
+    let hour = number_at(text, 11, 13)?;
+    let minute = number_at(text, 14, 16)?;
+    let second = number_at(text, 17, 19)?;
     if hour > 23 || minute > 59 || second > 59 {
         return None;
     }

@@ -1,6 +1,7 @@
-use Rattle.std.proofs.Common.{sym, refl}
+use Rattle.std.proofs.Common.{arith, sym, refl}
 use Rattle.std.proofs.lemmas.List.{take_rest}
-use Rattle.reply_values.proofs.TimeLemmas.{separators_are}
+use Rattle.reply_values.proofs.TimeLemmas.{other_separators, separators_are, too_short}
+use Rattle.reply_values.proofs.times.time.Goals.{then-text-lt20-via-then-text-lt20, then-text-lt20-via-else-text-lt20+then-ne}
 use Rattle.reply_values.proofs.times.time.Goals as goal
 
 pub returns-in_err-micros-clause-refused : goal.returns-in_err-micros-clause-refused
@@ -35,3 +36,26 @@ returns-clause-value c =
       end = end;
       value = refl;
     })
+
+pub overflow_mul-seconds : goal.overflow_mul-seconds
+overflow_mul-seconds c = omega (arith, c.in_ok-days.ensures.small)
+
+pub overflow_add-seconds : goal.overflow_add-seconds
+overflow_add-seconds c = omega (arith, c.in_ok-days.ensures.small, c.in_ok-seconds.ensures.small)
+
+pub overflow_mul-result : goal.overflow_mul-result
+overflow_mul-result c = omega (arith, c.in_ok-days.ensures.small, c.in_ok-seconds.ensures.small)
+
+pub overflow_add-result : goal.overflow_add-result
+overflow_add-result c =
+    omega (arith, c.in_ok-days.ensures.small, c.in_ok-seconds.ensures.small, c.in_ok-micros.ensures.small)
+
+pub returns-then-text-lt20-clause-refused : goal.returns-then-text-lt20-clause-refused
+returns-then-text-lt20-clause-refused c moment h =
+    let text = c.as_bytes-text.result.now in
+    let spells = rw (sym c.as_bytes-text.ensures.value) at h in
+    elim c.then-text-lt20.branch [
+      | then-text-lt20-via-then-text-lt20 w ↦ too_short text moment w.if-text-lt20.true spells
+      | then-text-lt20-via-else-text-lt20+then-ne w ↦
+          other_separators _ _ _ _ _ _ w.ne.ensures w.if-ne.true spells.separators
+    ]
