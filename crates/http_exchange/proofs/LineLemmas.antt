@@ -1,16 +1,18 @@
 -- A head that is tried when a line ends.
-use Rattle.std.proofs.Common.{◌≡◌, ℕ, ◌+◌, ◌<◌, Bool, not, eqb, List, [], ◌∷◌, ◌++◌, length, take, drop, sym, refl, ap, subst, ◌∙◌, arith, append_assoc, inl, inr, length-append}
+use Rattle.std.proofs.Common.{◌≡◌, ℕ, ◌+◌, ◌<◌, Bool, not, eqb, List, [], ◌∷◌, ◌++◌, length, take, drop, sym, refl, ap, subst, ◌∙◌, arith, append_assoc, inl, inr, length-append, Option, Some, None, Ok}
 use Rattle.std.specs.List.{flat_map}
 use Rattle.std.proofs.lemmas.Bool.{and_from, cases_lt}
 use Rattle.std.proofs.lemmas.List.{take_all, take_at, drop_at, take-append-le, drop-append-le, take-append-drop}
 use Rattle.std.proofs.lemmas.List.Folds.{list_all-append}
 use Rattle.httparse.specs.Grammar.{ResponseHead, ReadsResponse, HasNoResponse, LineEnd, crlf, lf, print_end, print_field, print_blank, print_version, print_reason, print_response}
+use Rattle.s3_model.specs.Talks.{Ending, Closed}
+use Rattle.s3_model.specs.declared.answers.Why.{Why}
 use Rattle.answer_grammar.proofs.RangeLemmas.{has_byte}
 use Rattle.answer_grammar.specs.Breaks.{BeginsHead}
-use Rattle.answer_grammar.specs.Parts.{IsHeadAt}
+use Rattle.answer_grammar.specs.Parts.{IsHeadAt, ReadsStep}
 use Rattle.answer_grammar.specs.declared.head.Head.{Head}
 use Rattle.http_exchange.specs.Exchange.{BeginsByLine, LacksLineEnd}
-use Rattle.http_exchange.specs.Steps.{IsBegun}
+use Rattle.http_exchange.specs.Steps.{IsBegun, IsWhyNoHead, NoHead}
 
 pub lacks_both : (first second : List ℕ) → LacksLineEnd first → LacksLineEnd second → LacksLineEnd (first ++ second)
 lacks_both first second one two = list_all-append (λ b. not (eqb b 10)) first second ∙ and_from _ _ one two
@@ -57,3 +59,15 @@ pub head_at_lines : (head_only : Bool) (before part : List ℕ) (found : Head) �
 head_at_lines head_only before part found short begins lacks at =
     let R : List ℕ → Type 0 = λ bytes. ReadsResponse bytes at.head (drop found.len (take 65_536 (before ++ part))) in
     no_head_yet before part begins.none lacks at.head (drop found.len (take 65_536 (before ++ part))) (subst R (take_all 65_536 (before ++ part) (omega (arith, short))) at.reads.reads)
+
+-- why no head came before the connection closed
+pub no_head : (head_only : Bool) (got : List ℕ) (ending : Ending) (reason : Why) → length got < 65_536 → ending ≡ Closed
+    → IsWhyNoHead head_only (take 65_536 got) reason → NoHead head_only got ending reason
+no_head head_only got ending reason short closed (inl refused) = inl refused
+no_head head_only got ending reason short closed (inr (begins, is)) = inr (inr (short, begins_all got short begins, closed, is))
+
+-- bytes that have no head begin one, where none was refused
+pub lacks_head : (head_only : Bool) (bytes : List ℕ) (found : Option Head) → ((head : Head) → IsHeadAt head_only bytes head → ⊥)
+    → ReadsStep head_only bytes (Ok found) → BeginsHead bytes
+lacks_head head_only bytes (Some head) none at = absurd (none head at)
+lacks_head head_only bytes None none begins = begins

@@ -111,6 +111,10 @@ NoHead head_only got ending reason =
     ⊎ ((65_536 ≤ length got) × BeginsHead (take 65_536 got) × (reason ≡ why.HeadTooLong))
     ⊎ ((length got < 65_536) × BeginsHead got × (ending ≡ Closed) × (reason ≡ why.EndedEarly))
 
+-- why the bytes that came before the connection closed have no head: it is refused, or not all there
+abbrev pub IsWhyNoHead : Bool → List ℕ → Why → Type 0
+IsWhyNoHead head_only bytes reason = RefusesHead head_only bytes reason ⊎ (BeginsHead bytes × (reason ≡ why.EndedEarly))
+
 -- a head was read, and the bytes behind it are left
 abbrev pub HeadComes : Bool → List ℕ → Result Head Why → List ℕ → Ending → Type 0
 HeadComes head_only after (Ok found) got ending = (window : List ℕ) × (more : List ℕ) × (got ≡ window ++ more)

@@ -2,8 +2,9 @@
 
 ghost use Rattle.std.specs.Prelude.{◌≡◌, ◌<◌, ◌==◌, not, [], length, take};
 ghost use Rattle.std.specs.List.{list_all};
-ghost use Rattle.answer_grammar.specs.Parts.{ReadsStep};
-ghost use Rattle.http_exchange.specs.Steps.{HasWireCause, Hears, TakesHead, TakesLines};
+ghost use Rattle.answer_grammar.specs.Parts.{IsHeadAt, ReadsStep};
+ghost use Rattle.answer_grammar.specs.declared.head.Head.{Head};
+ghost use Rattle.http_exchange.specs.Steps.{HasWireCause, Hears, IsWhyNoHead, TakesHead, TakesLines};
 
 use crate::incoming::Incoming;
 use crate::room::AnswerRoom;
@@ -11,6 +12,7 @@ use answer_grammar::{HEAD_LIMIT, Head, HeadRoom, read_head};
 use s3_model::Why;
 use s3_outside::Wire;
 use std::alloc::Global;
+use std::mem;
 
 /// Takes the head of an answer. It is tried when a line has ended, at the end of the connection and at 65,536 bytes.
 pub(crate) fn take_head<W: Wire>(
@@ -32,10 +34,7 @@ pub(crate) fn take_head<W: Wire>(
             return Err(Why::HeadTooLong);
         }
         if take_lines(wire, &mut room.incoming)? {
-            return match try_head(alloc, &mut room.heads, room.incoming.bytes(), head_only)? {
-                Some(_) => unreachable!(),
-                None => Err(Why::EndedEarly),
-            };
+            return Err(why_no_head(alloc, &mut room.heads, room.incoming.bytes(), head_only));
         }
     }
 }
@@ -50,6 +49,20 @@ fn try_head(
     ensures { ReadsStep head_only (take 65_536 got.now) result }
 {
     read_head(alloc, heads, &got[..got.len().min(HEAD_LIMIT)], head_only)
+}
+
+/// Why no head is at the front of the bytes that came before the connection closed.
+fn why_no_head(alloc: Global, heads: &mut HeadRoom, got: &[u8], head_only: bool) -> Why
+    requires { (found : Head) → IsHeadAt head_only (take 65_536 got.now) found → ⊥ }
+    ensures { IsWhyNoHead head_only (take 65_536 got.now) result }
+{
+    match try_head(alloc, heads, got, head_only) {
+        Ok(found) => {
+            mem::drop(found);
+            Why::EndedEarly
+        }
+        Err(why) => why,
+    }
 }
 
 /// Takes pieces until one has the end of a line, or there are 65,536 bytes, and answers whether the connection closed.

@@ -1,6 +1,6 @@
 //! One request and its answer.
 
-ghost use Rattle.std.specs.Prelude.{◌≡◌, ◌≤◌, [], ◌++◌, ◌&&◌, IfSome, None};
+ghost use Rattle.std.specs.Prelude.{◌≡◌, ◌≤◌, [], ◌++◌, ◌&&◌, IfSome, None, length};
 ghost use Rattle.std.specs.Option.{option_map};
 ghost use Rattle.s3_model.specs.Counts.{Rose};
 ghost use Rattle.answer_grammar.specs.Answer.{IsOfTalk, body_limit, goes_into, is_success};
@@ -25,6 +25,7 @@ use answer_grammar::{Framing, Head};
 use s3_model::{Answered, Bytes, Endpoint, Talked, Why};
 use s3_outside::Wire;
 use std::alloc::Global;
+use std::mem;
 
 /// The greatest length of a 2xx body that the caller set no limit for, in bytes.
 const DOCUMENT_LIMIT: u64 = 8_388_608;
@@ -143,10 +144,22 @@ fn fill_place<W: Wire>(
     ensures room_kept { into.new.room ≡ into.old.room }
 {
     into.clear();
-    take_body(wire, room, head.framing, most, into)?;
+    match take_body(wire, room, head.framing, most, into) {
+        Ok(()) => Ok(with_count(head, into.as_slice().len() as u64)),
+        Err(why) => {
+            mem::drop(head);
+            Err(why)
+        }
+    }
+}
+
+/// The answer of a head whose body has so many bytes.
+fn with_count(head: Head, taken: u64) -> Answered
+    ensures { result ≡ record head.answer { taken = taken } }
+{
     let mut answered = head.answer;
-    answered.taken = into.as_slice().len() as u64;
-    Ok(answered)
+    answered.taken = taken;
+    answered
 }
 
 /// Takes a body into the answer.
@@ -162,13 +175,26 @@ fn fill_answer<W: Wire>(
     ensures cause { HasWireCause (W.faults wire.old) (W.faults wire.new) result }
 {
     let Ok(mut body) = Bytes::make(alloc, body_room(head.framing, most)) else {
+        mem::drop(head);
         return Err(Why::Memory);
     };
-    take_body(wire, room, head.framing, most, &mut body)?;
+    match take_body(wire, room, head.framing, most, &mut body) {
+        Ok(()) => Ok(with_body(head, body)),
+        Err(why) => {
+            mem::drop(head);
+            Err(why)
+        }
+    }
+}
+
+/// The answer of a head, which holds its body.
+fn with_body(head: Head, body: Bytes) -> Answered
+    ensures { result ≡ record head.answer { taken = length body.bytes; body = body } }
+{
     let mut answered = head.answer;
     answered.taken = body.as_slice().len() as u64;
     answered.body = body;
-    Ok(answered)
+    answered
 }
 
 /// How many bytes a body within the limit has at most.

@@ -5,8 +5,8 @@ use Rattle.s3_model.specs.Talks.{Finished}
 use Rattle.answer_grammar.specs.Breaks.{BeginsHead}
 use Rattle.answer_grammar.specs.Parts.{IsHeadAt, RefusesHead}
 use Rattle.http_exchange.specs.Exchange.{BeginsByLine, InPieces}
-use Rattle.http_exchange.specs.Steps.{IsBegun}
-use Rattle.http_exchange.proofs.LineLemmas.{by_line, begins_all, head_at_lines}
+use Rattle.http_exchange.specs.Steps.{IsBegun, IsWhyNoHead}
+use Rattle.http_exchange.proofs.LineLemmas.{by_line, begins_all, head_at_lines, no_head}
 use Rattle.http_exchange.proofs.PieceLemmas.{pieces_after, closed_fine, finished_fine}
 use Rattle.http_exchange.proofs.TalkLemmas.{heard_nothing, heard_after, ending_is, heard_is}
 use Rattle.http_exchange.proofs.receive.take_head.Goals as goal
@@ -80,35 +80,15 @@ returns-in_err-take_lines-clause-heard g c =
       },
     )
 
-pub returns-in_err-try_head-clause-heard : goal.returns-in_err-try_head-clause-heard
-returns-in_err-try_head-clause-heard g c =
-    let p = err_from_is_err_and c.from_residual-in_err-try_head.result c.from_residual-in_err-try_head.ensures.1 in
+pub why_no_head-requires : goal.why_no_head-requires
+why_no_head-requires g c found at =
     let got = c.loop-head.room.incoming in
     let now = rw c.if-branch.true at c.in_ok-take_lines.ensures.heard in
     let B : List ℕ → Type 0 = λ bytes. BeginsHead (take 65536 bytes) in
     let short : length got < 65536 = omega (arith, c.if-bytes-ge-HEAD_LIMIT.false, ap length c.bytes-in-loop-head.ensures) in
     let begins = begins_all got short (subst B c.bytes.ensures (rw c.in_default.is at c.in_ok-head.ensures)) in
-    let R : List ℕ → Type 0 = λ bytes. RefusesHead c.args.head_only (take 65536 bytes) c.in_err-try_head.field-0.0 in
-    rw (p.1, p.2) (
-      got ++ now.0,
-      now.1,
-      heard_after got now.0 Finished now.1 _ _ _ refl c.loop-head.invariant.heard now.2,
-      record {
-        pieces = pieces_after BeginsByLine (IsBegun got) BeginsByLine [] got got now.0 now.1 (λ bytes holds. holds) (λ more is. by_line got (got ++ more) begins is) c.loop-head.invariant.pieces now.3.4;
-        comes = inr (closed_fine now.1 now.3.3, inl (subst R (c.bytes-then-branch.ensures ∙ now.3.0) c.in_err-try_head.ensures));
-      },
-    )
-
-pub unreachable-requires : goal.unreachable-requires
-unreachable-requires g c =
-    let got = c.loop-head.room.incoming in
-    let now = rw c.if-branch.true at c.in_ok-take_lines.ensures.heard in
-    let B : List ℕ → Type 0 = λ bytes. BeginsHead (take 65536 bytes) in
-    let short : length got < 65536 = omega (arith, c.if-bytes-ge-HEAD_LIMIT.false, ap length c.bytes-in-loop-head.ensures) in
-    let begins = begins_all got short (subst B c.bytes.ensures (rw c.in_default.is at c.in_ok-head.ensures)) in
-    let A : List ℕ → Type 0 = λ bytes. IsHeadAt c.args.head_only (take 65536 bytes) c.in-Some-2.field-0 in
-    let at = subst A (c.bytes-then-branch.ensures ∙ now.3.0) (rw c.in-Some-2.is at c.in_ok-try_head.ensures) in
-    head_at_lines c.args.head_only got now.0 c.in-Some-2.field-0 (omega (arith, now.3.2, ap length now.3.0)) begins now.3.1 at
+    let A : List ℕ → Type 0 = λ bytes. IsHeadAt c.args.head_only (take 65536 bytes) found in
+    head_at_lines c.args.head_only got now.0 found (omega (arith, now.3.2, ap length now.3.0)) begins now.3.1 (subst A (c.bytes-then-branch.ensures ∙ now.3.0) at)
 
 pub returns-then-branch-clause-heard : goal.returns-then-branch-clause-heard
 returns-then-branch-clause-heard g c =
@@ -117,13 +97,17 @@ returns-then-branch-clause-heard g c =
     let B : List ℕ → Type 0 = λ bytes. BeginsHead (take 65536 bytes) in
     let short : length got < 65536 = omega (arith, c.if-bytes-ge-HEAD_LIMIT.false, ap length c.bytes-in-loop-head.ensures) in
     let begins = begins_all got short (subst B c.bytes.ensures (rw c.in_default.is at c.in_ok-head.ensures)) in
+    let W : List ℕ → Type 0 = λ bytes. IsWhyNoHead c.args.head_only (take 65536 bytes) c.why_no_head.result in
     let all : length (got ++ now.0) < 65536 = omega (arith, now.3.2, ap length now.3.0) in (
       got ++ now.0,
       now.1,
       heard_after got now.0 Finished now.1 _ _ _ refl c.loop-head.invariant.heard now.2,
       record {
         pieces = pieces_after BeginsByLine (IsBegun got) BeginsByLine [] got got now.0 now.1 (λ bytes holds. holds) (λ more is. by_line got (got ++ more) begins is) c.loop-head.invariant.pieces now.3.4;
-        comes = inr (closed_fine now.1 now.3.3, inr (inr (all, begins_all (got ++ now.0) all (subst B (c.bytes-then-branch.ensures ∙ now.3.0) (rw c.in-None.is at c.in_ok-try_head.ensures)), now.3.3, refl)));
+        comes = inr (
+          closed_fine now.1 now.3.3,
+          no_head c.args.head_only (got ++ now.0) now.1 c.why_no_head.result all now.3.3 (subst W (c.bytes-then-branch.ensures ∙ now.3.0) c.why_no_head.ensures),
+        );
       },
     )
 
