@@ -1,10 +1,12 @@
 //! Temporary files of the system.
 
+ghost use Rattle.std.specs.Prelude.{◌<◌, IfSome, vec_len};
+
 use std::collections::BTreeMap;
 use std::fs::{self, Metadata, OpenFile, OpenOptions};
 use std::io::{self, ErrorKind, Seek, SeekFrom, Write};
 use std::os::unix::fs::MetadataExt;
-use std::rt;
+use std::{mem, rt};
 
 /// How many temporary files are open at once.
 const MOST_OPEN: usize = 64;
@@ -87,20 +89,20 @@ impl<F: OpenFile + Write + Seek + Drop> DiskTemps<F> {
         at: u64,
         bytes: &[u8],
     ) -> io::Result<()> {
-        if !self.is_open(path) {
+        if self.place_of(path).is_none() {
             self.open_again(runtime, path)?;
         }
-        for open in &mut self.open {
-            if open.path.as_str() == path {
-                open.file.seek(SeekFrom::Start(at))?;
-                return open.file.write_all(bytes);
-            }
+        match self.place_of(path) {
+            Some(place) => write_all_at(&mut self.open[place].file, at, bytes),
+            None => Err(io::Error::from(ErrorKind::NotFound)),
         }
-        Err(io::Error::from(ErrorKind::NotFound))
     }
 
-    fn is_open(&self, path: &str) -> bool {
-        self.open.iter().any(|open| open.path.as_str() == path)
+    // Where a file stands among the open ones.
+    fn place_of(&self, path: &str) -> Option<usize>
+        ensures { IfSome result (λ place. place < vec_len self.now.open) }
+    {
+        self.open.iter().position(|open| open.path.as_str() == path)
     }
 
     // Another file of that name is no longer opened, and is never written.
@@ -127,10 +129,15 @@ impl<F: OpenFile + Write + Seek + Drop> DiskTemps<F> {
     /// Closes a file, which is written no more.
     pub(crate) fn close(&mut self, path: &str) {
         self.made.remove(path);
-        if let Some(place) = self.open.iter().position(|open| open.path.as_str() == path) {
-            self.open.remove(place);
+        if let Some(place) = self.place_of(path) {
+            mem::drop(self.open.remove(place));
         }
     }
+}
+
+fn write_all_at<F: Write + Seek>(file: &mut F, at: u64, bytes: &[u8]) -> io::Result<()> {
+    file.seek(SeekFrom::Start(at))?;
+    file.write_all(bytes)
 }
 
 // What is no regular file is a fault.
