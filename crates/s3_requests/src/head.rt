@@ -298,7 +298,6 @@ impl HeadRoom {
     }
 
     /// Writes the head of a request, under the signing key of the moment's date.
-    #[tactic(auto, unfolding(crate::specs::Requests::signed_headers))]
     pub(crate) fn write(
         &mut self,
         alloc: Global,
@@ -313,9 +312,37 @@ impl HeadRoom {
         ensures { OnOk result (self.new
             ≡ spec.request_head ask.now endpoint.now key.now.keys.now key.now.moment payload_hash.now length) }
     {
-        let request = describe(ask);
         let mut written = mem::replace(&mut self.written, WrittenValues::new(alloc));
-        write_values(&mut written, &request.own_headers, key.moment)?;
+        match self.write_with(&mut written, ask, endpoint, key, payload_hash, length) {
+            Ok(()) => {
+                self.written = written;
+                Ok(())
+            }
+            Err(e) => {
+                mem::drop(written);
+                Err(e)
+            }
+        }
+    }
+
+    /// Writes the head of a request. The values that are made for it are written in a place of their own.
+    #[tactic(auto, unfolding(crate::specs::Requests::signed_headers))]
+    fn write_with(
+        &mut self,
+        written: &mut WrittenValues,
+        ask: &Ask,
+        endpoint: &Endpoint,
+        key: &Key<'_>,
+        payload_hash: &str,
+        length: u64,
+    ) -> Result<(), AllocError>
+        requires moment { key.now.moment < 253402300800 }
+        requires key { IsKey key.now }
+        ensures { OnOk result (self.new
+            ≡ spec.request_head ask.now endpoint.now key.now.keys.now key.now.moment payload_hash.now length) }
+    {
+        let request = describe(ask);
+        write_values(written, &request.own_headers, key.moment)?;
         let headers = signed_headers(&HeaderValues {
             own: request.own_headers,
             host: endpoint.written.as_str(),
@@ -333,8 +360,6 @@ impl HeadRoom {
             headers.as_slice(),
             payload_hash,
             length,
-        )?;
-        self.written = written;
-        Ok(())
+        )
     }
 }
