@@ -1,6 +1,10 @@
+use Rattle.std.proofs.Common.{arith}
 use Rattle.std.proofs.lemmas.Result.{err_from_is_err_and}
 use Rattle.http_exchange.proofs.StraightLemmas.{failed_more, moved_more, straight_more}
 use Rattle.http_exchange.proofs.straight.take_more.Goals as goal
+
+pub fill_from-requires-clause-room : goal.fill_from-requires-clause-room
+fill_from-requires-clause-room g c = omega (arith, c.min.ensures, c.requires.room)
 
 pub returns-then-missing-ge-PIECE-clause-heard : goal.returns-then-missing-ge-PIECE-clause-heard
 returns-then-missing-ge-PIECE-clause-heard g c =
