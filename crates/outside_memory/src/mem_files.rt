@@ -15,6 +15,7 @@ use file_table::FileTable;
 use s3_model::OutOfMemory;
 use s3_outside::{Failed, FileFault, FileNote, Files, Names, Shape, Temp, count_fault};
 use std::alloc::Global;
+use std::mem;
 
 /// Files in memory. The calls of `failing` fail, and the reads of `short` answer at most so many bytes; calls are
 /// counted from 0. The numbers in the names of temporary files are drawn from 0 on, in one row over all calls; one
@@ -102,11 +103,17 @@ impl MemFiles {
         ensures later { self.old.faults ≤ self.new.faults }
     {
         if !self.is_seen {
+            mem::drop(call);
             return;
         }
         let added = match call {
-            Ok(note) => self.calls.push(note).is_ok(),
-            Err(_) => false,
+            Ok(note) => {
+                let pushed = self.calls.push(note);
+                let is_pushed = pushed.is_ok();
+                mem::drop(pushed);
+                is_pushed
+            }
+            Err(OutOfMemory) => false,
         };
         if !added {
             self.is_seen = false;
