@@ -1,8 +1,8 @@
 //! An environment in memory.
 
-ghost use Rattle.std.specs.Prelude.{◌≡◌, ◌≤◌, [], Some, OnOk, OnErr, IfSome};
+ghost use Rattle.std.specs.Prelude.{◌≡◌, ◌≤◌, [], Some, OnOk, OnErr, IfOk, IfSome, length};
 ghost use Rattle.std.specs.Option.{option_map};
-ghost use Rattle.std.specs.FinMap.{empty};
+ghost use Rattle.std.specs.FinMap.{empty, get};
 ghost use Rattle.s3_model.specs.Validity.{IsValidLimits};
 ghost use Rattle.s3_outside.specs.Env.{sets, puts, asks};
 ghost use Rattle.s3_outside.specs.Seen.{IsSeenAfter};
@@ -103,6 +103,28 @@ impl MemEnv {
         is_failing
     }
 
+    // A copy of the bytes of the file there.
+    fn copy_at(
+        &self,
+        alloc: Global,
+        path: &str,
+        is_failing: bool,
+    ) -> Result<Option<Vec<u8>>, EnvFault>
+        ensures value { IfOk result (λ file. option_map (λ bytes. bytes.items) file ≡ get self.now.files path.now) }
+        ensures bound { IfOk result (λ file. IfSome file (λ bytes. length bytes.items ≤ 1048576)) }
+    {
+        match self.files.get(path) {
+            Some(file) if !is_failing && file.as_slice().len() <= MOST_FILE_BYTES => {
+                match file.as_slice().to_vec(alloc) {
+                    Ok(copy) => Ok(Some(copy)),
+                    Err(_) => Err(EnvFault::Memory),
+                }
+            }
+            None if !is_failing => Ok(None),
+            _ => Err(EnvFault::Failed),
+        }
+    }
+
     // Adds a path to the list.
     fn record(&mut self, path: &str)
         ensures seen { IsSeenAfter (asks path.now) (⟦<MemEnv as Env>⟧.seen self.old) (⟦<MemEnv as Env>⟧.seen self.new)
@@ -144,18 +166,13 @@ impl Env for MemEnv {
     fn file(&mut self, alloc: Global, path: &str) -> Result<Option<Vec<u8>>, EnvFault> {
         let is_failing = self.is_next_failing();
         self.record(path);
-        match self.files.get(path) {
-            Some(file) if !is_failing && file.as_slice().len() <= MOST_FILE_BYTES => {
-                match file.as_slice().to_vec(alloc) {
-                    Ok(copy) => Ok(Some(copy)),
-                    Err(_) => Err(EnvFault::Memory),
-                }
-            }
-            None if !is_failing => Ok(None),
-            _ => {
+        match self.copy_at(alloc, path, is_failing) {
+            Ok(file) => Ok(file),
+            Err(EnvFault::Failed) => {
                 count_fault(&mut self.faults);
                 Err(EnvFault::Failed)
             }
+            Err(EnvFault::Memory) => Err(EnvFault::Memory),
         }
     }
 
