@@ -1,8 +1,7 @@
 -- Pages behind a text.
 use Rattle.std.proofs.Common.{◌≡◌, ◌⊎◌, ◌++◌, ◌∷◌, [], ℕ, List, Option, Some, None, refl, sym, subst, inl, inr, ap}
 use Rattle.std.specs.List.{All}
-use Rattle.std.specs.Ordering.{nat_cmp}
-use Rattle.std.specs.Cmp.Lexicographic.{nat_list_cmp_total, slice_cmp}
+use Rattle.std.specs.Cmp.Lexicographic.{nat_list_cmp_total}
 use Rattle.std.proofs.lemmas.List.Elements.{All-push}
 use Rattle.object_table.specs.Pages.{ComesAfter, IsBehind}
 use Rattle.s3_model.specs.declared.answers.Listed.{Listed}
