@@ -40,6 +40,7 @@ use file_table::TextMap;
 use s3_model::{OutOfMemory, Text};
 use std::alloc::Global;
 use std::marker::Model;
+use std::mem;
 
 /// Buckets with their objects, uploads in parts, and tokens of listings, as an S3 service holds them. Each object and
 /// each part has an entity tag of its own.
@@ -92,11 +93,11 @@ pub(crate) fn put_object(
     };
     match held.insert(alloc, key, object) {
         Ok(()) => {
-            objects.replace(bucket, held);
+            mem::drop(objects.replace(bucket, held));
             Ok(())
         }
         Err(OutOfMemory) => {
-            objects.replace(bucket, held);
+            mem::drop(objects.replace(bucket, held));
             Err(OutOfMemory)
         }
     }
@@ -111,8 +112,8 @@ fn take_object(objects: &mut TextMap<TextMap<MemObject>>, alloc: Global, bucket:
     let Some(mut held) = objects.replace(bucket, TextMap::make(alloc)) else {
         unreachable!();
     };
-    held.remove(key);
-    objects.replace(bucket, held);
+    mem::drop(held.remove(key));
+    mem::drop(objects.replace(bucket, held));
 }
 
 impl ObjectTable {

@@ -58,6 +58,7 @@ use crate::upload::{MemEnding, MemUpload};
 use file_table::TextMap;
 use s3_model::{Limits, OutOfMemory, Text};
 use std::alloc::Global;
+use std::mem;
 
 // Puts a part into an upload that is there.
 fn put_part(
@@ -77,11 +78,11 @@ fn put_part(
     };
     match upload.put_part(number, part) {
         Ok(()) => {
-            uploads.replace(id, upload);
+            mem::drop(uploads.replace(id, upload));
             Ok(())
         }
         Err(OutOfMemory) => {
-            uploads.replace(id, upload);
+            mem::drop(uploads.replace(id, upload));
             Err(OutOfMemory)
         }
     }
@@ -336,11 +337,11 @@ impl ObjectTable {
         self.ended.insert(alloc, id, ending)?;
         match put_object(&mut self.objects, alloc, bucket, key, object) {
             Ok(()) => {
-                self.uploads.remove(id);
+                mem::drop(self.uploads.remove(id));
                 Ok(())
             }
             Err(OutOfMemory) => {
-                self.ended.remove(id);
+                mem::drop(self.ended.remove(id));
                 Err(OutOfMemory)
             }
         }
@@ -360,7 +361,7 @@ impl ObjectTable {
     {
         self.open(bucket, key, id)?;
         self.ended.insert(alloc, id, MemEnding::aborted())?;
-        self.uploads.remove(id);
+        mem::drop(self.uploads.remove(id));
         Ok(())
     }
 }
