@@ -3,9 +3,10 @@ use Rattle.std.proofs.Common.{◌≡◌, ◌≤◌, ◌+◌, ◌++◌, ◌∙◌
 use Rattle.std.proofs.lemmas.List.{replicate_more}
 
 module _ {X : Type 0} (x : X) where
-  pub one_more : (count : ℕ) (xs ys : List X) → xs ≡ replicate count x → ys ≡ xs ++ x ∷ []
+  pub one_more : (count : ℕ) (y : X) (xs ys : List X) → xs ≡ replicate count x → y ≡ x → ys ≡ xs ++ y ∷ []
       → ys ≡ replicate (count + 1) x
-  one_more count xs ys all more = more ∙ ap (λ (zs : List X). zs ++ x ∷ []) all ∙ replicate_more count x
+  one_more count y xs ys all same more = more ∙ ap (λ (zs : List X). zs ++ y ∷ []) all
+      ∙ ap (λ (z : X). replicate count x ++ z ∷ []) same ∙ replicate_more count x
 
   pub so_many : (count many : ℕ) (xs : List X) → xs ≡ replicate count x → count ≤ many → many ≤ count
       → xs ≡ replicate many x

@@ -1,3 +1,3 @@
-mod Filled
+pub mod Filled
 pub mod SlotLemmas
 pub mod TagLemmas

@@ -1,3 +1,2 @@
-mod Filled
 mod GivenParts
 mod Start

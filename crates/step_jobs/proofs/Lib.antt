@@ -1,4 +1,3 @@
 pub mod Uploads
 pub mod Requests
 pub mod Shares
-mod Filled

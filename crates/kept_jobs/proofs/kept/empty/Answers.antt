@@ -1,4 +1,4 @@
-use Rattle.std.proofs.Common.{◌+◌, ◌∙◌, ℕ, None, ap, arith}
+use Rattle.std.proofs.Common.{◌+◌, ◌∙◌, ℕ, None, ap, arith, refl}
 use Rattle.kept_jobs.proofs.Filled.{one_more, so_many}
 use Rattle.kept_jobs.proofs.kept.empty.Goals as goal
 
@@ -7,7 +7,7 @@ push_reserved-requires c = omega (arith, c.loop.invariant.1, c.loop.invariant.2)
 
 pub loop-preserved : goal.loop-preserved
 loop-preserved c = (
-  one_more None c.loop.counter _ _ c.loop.invariant.0 c.push_reserved.ensures.items,
+  one_more None c.loop.counter _ _ _ c.loop.invariant.0 refl c.push_reserved.ensures.items,
   c.push_reserved.ensures.len ∙ ap (λ (n : ℕ). n + 1) c.loop.invariant.1,
   c.push_reserved.ensures.capacity ∙ c.loop.invariant.2,
 )

@@ -1,5 +1,5 @@
 use Rattle.std.proofs.Common.{◌+◌, ◌∙◌, ℕ, None, ap, arith, refl}
-use Rattle.move_core.proofs.Filled.{one_more, so_many}
+use Rattle.kept_jobs.proofs.Filled.{one_more, so_many}
 use Rattle.move_core.proofs.move_core.no_outcomes.Goals as goal
 
 pub push_reserved-requires : goal.push_reserved-requires
