@@ -64,9 +64,7 @@ impl PartPool {
         let mut parts = Vec::with_capacity(alloc, count as usize)?;
         for _ in 0..count {
             let bytes = Bytes::make(alloc, bytes)?;
-            let Ok(()) = parts.push(Part { bytes }) else {
-                unreachable!();
-            };
+            parts.push_reserved(Part { bytes });
         }
         Ok(PartPool {
             parts,
