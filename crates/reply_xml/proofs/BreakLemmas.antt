@@ -8,7 +8,7 @@ use Rattle.reply_xml.specs.declared.tags.Child.{Child}
 use Rattle.reply_xml.specs.declared.tags.Tag.{Tag}
 use Rattle.reply_xml.specs.Breaks.{Again, AtEndTag, AtStart, AtText, BreaksElement, BreaksIn, BehindLeafTag, BehindName}
 use Rattle.reply_xml.specs.Breaks.{BehindOtherTag, BehindTag, Behind, IfBroken, InLeaf, InOther, InTag, Inside}
-use Rattle.reply_xml.specs.Breaks.{IsMissing, BreaksText, Lacks, OnBroken, StandsAgain, TooLow}
+use Rattle.reply_xml.specs.Breaks.{BreaksLeaf, IsMissing, Lacks, OnBroken, StandsAgain, TooLow}
 use Rattle.reply_xml.specs.Tables.{Done, Table, first_missing}
 use Rattle.reply_xml.specs.declared.elements.Element.{Element}
 use Rattle.reply_xml.specs.Faults.{IfRefused}
@@ -20,7 +20,7 @@ use Rattle.std.specs.Bool.{MatchBool}
 use Rattle.std.proofs.lemmas.Bool.{eqb-true, false≢true}
 use Rattle.reply_values.specs.References.{IsUnescaped}
 use Rattle.reply_xml.specs.Contents.{Only, ReadsText}
-use Rattle.reply_xml.specs.Unfit.{HasText}
+use Rattle.reply_xml.specs.Unfit.{Form, HasText}
 
 pub OnBroken-map : {P Q : DocFault → Type 0} (e : DocFault) → ((reason : DocFault) → P reason → Q reason) → OnBroken e P
     → OnBroken e Q
@@ -54,9 +54,9 @@ pub sized : (size other : ℕ) (reason : DocFault) (table : Table) (front : List
     → BreaksIn other reason table front tag bytes → BreaksIn size reason table front tag bytes
 sized size other reason table front tag bytes same b = subst (λ (s : ℕ). BreaksIn s reason table front tag bytes) same b
 
-pub text_sized : (size other : ℕ) (reason : DocFault) (bytes : List ℕ) → other ≡ size → BreaksText other reason bytes
-    → BreaksText size reason bytes
-text_sized size other reason bytes same b = subst (λ (s : ℕ). BreaksText s reason bytes) same b
+pub leaf_sized : (size other : ℕ) (reason : DocFault) (form : Form) (of : Element) (tag : Tag) (bytes : List ℕ)
+    → other ≡ size → BreaksLeaf other reason form of tag bytes → BreaksLeaf size reason form of tag bytes
+leaf_sized size other reason form of tag bytes same b = subst (λ (s : ℕ). BreaksLeaf s reason form of tag bytes) same b
 
 -- an element breaks inside another one
 pub child_breaks : (size : ℕ) (reason : DocFault) (table : Table) (front : List (Option Element)) (tag : Tag)

@@ -4,8 +4,10 @@ use Rattle.std.proofs.Common.{refl, sym, ap, subst}
 use Rattle.std.proofs.lemmas.Bool.{false≢true}
 use Rattle.std.specs.Bool.{MatchBool}
 use Rattle.std.specs.Str.{IsUtf8}
+use Rattle.std.proofs.lemmas.Str.{IsUtf8-nil}
+use Rattle.reply_values.proofs.UnescapeLemmas.{plain_run}
 use Rattle.reply_values.specs.References.{IsUnescaped}
-use Rattle.reply_xml.specs.Runs.{ReadsRun}
+use Rattle.reply_xml.specs.Runs.{BeginsOutside, ReadsRun, is_of}
 use Rattle.reply_xml.specs.declared.elements.Element.{Element}
 use Rattle.reply_xml.specs.declared.tags.Tag.{Tag}
 use Rattle.reply_xml.specs.Reading.{AtEnd, EndsContent}
@@ -13,7 +15,7 @@ use Rattle.reply_xml.specs.declared.runs.Sort.TheVariants as sort
 use Rattle.reply_xml.specs.Elements.{element_named}
 use Rattle.reply_xml.specs.Tags.{ReadsTag, ReadsEndTag}
 use Rattle.reply_xml.specs.Contents.{Content, Only, Then, ReadsText, ReadsChild, ReadsContent, ReadsInner}
-use Rattle.reply_xml.proofs.RunLemmas.{ReadsRun-same}
+use Rattle.reply_xml.proofs.RunLemmas.{ReadsRun-same, empty_run}
 use Rattle.reply_xml.proofs.TagLemmas.{ReadsTag-same, ReadsEndTag-same, tag_or_end, tag_at_end}
 
 pub ReadsText-same : (text other bytes rest left : List ℕ) → ReadsText text bytes rest → ReadsText other bytes left
@@ -213,3 +215,18 @@ pub no_meaning : (text bytes rest found left : List ℕ) → ReadsRun sort.Text 
 no_meaning text bytes rest found left run none r =
     let same = (ReadsRun-same sort.Text text found bytes rest left run r.run).0 in
     none (subst IsUtf8 same r.characters) r.meaning (subst (λ (b : List ℕ). IsUnescaped b r.meaning) same r.unescaped)
+
+-- where a tag begins, no text stands in front of it
+pub no_text : (bytes rest : List ℕ) → bytes ≡ 60 ∷ rest
+    → (raw : List ℕ) × ReadsText raw bytes bytes × IsUnescaped raw []
+no_text bytes rest e =
+    let nothing : IsUnescaped [] [] = plain_run [] refl in (
+      [],
+      record {
+        run = empty_run sort.Text bytes (subst (BeginsOutside (is_of sort.Text)) (sym e) refl);
+        characters = IsUtf8-nil;
+        meaning = [];
+        unescaped = nothing;
+      },
+      nothing,
+    )

@@ -10,7 +10,7 @@ use Rattle.reply_values.specs.References.{GoesOn, IsUnescaped}
 use Rattle.reply_xml.specs.declared.runs.Sort.TheVariants as sort
 use Rattle.reply_xml.specs.declared.texts.TextFault.{TextFault}
 use Rattle.reply_xml.specs.declared.texts.TextFault.TheVariants as text_fault
-use Rattle.reply_xml.specs.Faults.{OnBad, OnEnds}
+use Rattle.reply_xml.specs.Faults.{EndsIn, OnBad, OnEnds, TextTells}
 use Rattle.reply_xml.specs.Leaves.{IsAtFault, IsSound, LeavesTagEnd, LeavesText, NoTagBehind, NotUtf8}
 use Rattle.reply_xml.specs.Runs.{ReadsRun}
 use Rattle.reply_xml.specs.Tags.{ReadsAttribute, ReadsName}
@@ -50,8 +50,16 @@ OnEnds-both (text_fault.Ends place) f p q = f place p q
 OnEnds-both text_fault.BadReference f p q = tt
 OnEnds-both text_fault.Memory f p q = tt
 
+pub TextTells-any : {P : Type 0} (e : TextFault) → P → TextTells e P
+TextTells-any (text_fault.Ends place) h = h
+TextTells-any text_fault.BadReference h = h
+TextTells-any text_fault.Memory h = tt
+
 pub ends_at : (P : ℕ → Type 0) (e : TextFault) (place : ℕ) → e ≡ text_fault.Ends place → OnEnds e P → P place
 ends_at P e place same h = subst (λ (f : TextFault). OnEnds f P) same h
+
+pub ends_within : (e : TextFault) (place size : ℕ) → e ≡ text_fault.Ends place → EndsIn e size → place ≤ size
+ends_within e place size same h = subst (λ (f : TextFault). EndsIn f size) same h
 
 pub bad_at : (P : Type 0) (e : TextFault) → e ≡ text_fault.BadReference → OnBad e P → P
 bad_at P e same h = subst (λ (f : TextFault). OnBad f P) same h

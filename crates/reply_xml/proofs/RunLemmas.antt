@@ -2,14 +2,14 @@
 use Rattle.std.proofs.Common.{◌≡◌, ◌<◌, ◌≤◌, ◌++◌, ◌∙◌, ℕ, Bool, true, false, List, [], ◌∷◌, refl, sym, ap, subst}
 use Rattle.std.proofs.Common.{length, get_or, drop, take, drop-cons, arith, ◌==◌, not}
 use Rattle.std.specs.List.{AllPass}
-use Rattle.std.proofs.lemmas.Bool.{false≢true}
+use Rattle.std.proofs.lemmas.Bool.{false≢true, or_left, or_right}
 use Rattle.std.proofs.lemmas.List.{take-append-drop, append-nil, take_all}
 use Rattle.std.proofs.lemmas.List.Elements.{All-from_get_or, All-head, All-tail}
 use Rattle.std.proofs.lemmas.List.{get_or-take, length-take-le}
-use Rattle.memchr.specs.Find.{Nowhere, Passes, is_byte}
+use Rattle.memchr.specs.Find.{Nowhere, Passes, is_byte, is_byte2}
 use Rattle.reply_xml.specs.declared.runs.Sort.TheVariants as sort
 use Rattle.reply_xml.specs.declared.runs.Sort.{Sort}
-use Rattle.reply_xml.specs.Runs.{is_of, BeginsOutside, ReadsRun}
+use Rattle.reply_xml.specs.Runs.{is_of, BeginsOutside, HasNoReference, ReadsRun}
 
 pub parts_same : (x y : ℕ) (xs ys : List ℕ) → x ∷ xs ≡ y ∷ ys → (x ≡ y) × (xs ≡ ys)
 parts_same x y xs ys e = (cc, cc)
@@ -64,15 +64,16 @@ ReadsRun-whole of bytes i h inside = record {
 }
 
 -- where the first byte is of another sort, the run is empty
+pub empty_run : (of : Sort) (bytes : List ℕ) → BeginsOutside (is_of of) bytes → ReadsRun of [] bytes bytes
+empty_run of bytes ends = record {
+  split = refl;
+  inside = All-from_get_or (λ b. is_of of b ≡ true) [] 0 (λ i h. absurd (omega (arith, h)));
+  ends = ends;
+}
+
 pub no_run : (of : Sort) (bytes run rest : List ℕ) → BeginsOutside (is_of of) bytes → ReadsRun of run bytes rest
     → (run ≡ []) × (rest ≡ bytes)
-no_run of bytes run rest ends r =
-    ReadsRun-same of [] run bytes bytes rest
-    (record {
-      split = refl;
-      inside = All-from_get_or (λ b. is_of of b ≡ true) [] 0 (λ i h. absurd (omega (arith, h)));
-      ends = ends;
-    }) r
+no_run of bytes run rest ends r = ReadsRun-same of [] run bytes bytes rest (empty_run of bytes ends) r
 
 -- where the run is empty, the first byte is of another sort
 pub no_run_begins : (of : Sort) (bytes run rest : List ℕ) → ReadsRun of run bytes rest → run ≡ []
@@ -80,22 +81,26 @@ pub no_run_begins : (of : Sort) (bytes run rest : List ℕ) → ReadsRun of run 
 no_run_begins of bytes run rest r none =
     subst (BeginsOutside (is_of of)) (sym (r.split ∙ ap (λ front. front ++ rest) none)) r.ends
 
--- where no `<` was found, all is text
+-- where a byte was found nowhere, each byte is another
 is_false : (b : Bool) → (b ≡ true → ⊥) → not b ≡ true
 is_false true f = absurd (f refl)
 is_false false f = refl
 
-text_before : (bytes : List ℕ) (i : ℕ) → i ≤ length bytes → Nowhere (Passes (is_byte 60) bytes) 0 i
-    → AllPass (is_of sort.Text) (take i bytes)
-text_before bytes i within none =
-    All-from_get_or (λ b. is_of sort.Text b ≡ true) (take i bytes) 0
+lacks_byte : (byte : ℕ) (bytes : List ℕ) (i : ℕ) → i ≤ length bytes → Nowhere (Passes (is_byte byte) bytes) 0 i
+    → AllPass (λ b. not (b == byte)) (take i bytes)
+lacks_byte byte bytes i within none =
+    All-from_get_or (λ b. not (b == byte) ≡ true) (take i bytes) 0
     (
     λ k h.
     let size = length-take-le i bytes within in
     let less : k < i = omega (arith, size) in
-    is_false (get_or (take i bytes) k 0 == 60)
-    (λ e. none k (omega arith) less (ap (λ b. b == 60) (sym (get_or-take i bytes k 0 less)) ∙ e))
+    is_false (get_or (take i bytes) k 0 == byte)
+    (λ e. none k (omega arith) less (ap (λ b. b == byte) (sym (get_or-take i bytes k 0 less)) ∙ e))
     )
+
+text_before : (bytes : List ℕ) (i : ℕ) → i ≤ length bytes → Nowhere (Passes (is_byte 60) bytes) 0 i
+    → AllPass (is_of sort.Text) (take i bytes)
+text_before bytes i within none = lacks_byte 60 bytes i within none
 
 pub text_to : (bytes text rest : List ℕ) (i : ℕ) → i < length bytes → text ≡ take i bytes → rest ≡ drop i bytes
     → Nowhere (Passes (is_byte 60) bytes) 0 i → Passes (is_byte 60) bytes i
@@ -107,3 +112,29 @@ pub text_whole : (bytes : List ℕ) → Nowhere (Passes (is_byte 60) bytes) 0 (l
     → ReadsRun sort.Text bytes bytes []
 text_whole bytes none =
     ReadsRun-whole sort.Text bytes (length bytes) (omega arith) (text_before bytes (length bytes) (omega arith) none)
+
+-- where neither of two bytes was found, neither stands there
+no_first : (one other : ℕ) (bytes : List ℕ) (i : ℕ) → Nowhere (Passes (is_byte2 one other) bytes) 0 i
+    → Nowhere (Passes (is_byte one) bytes) 0 i
+no_first one other bytes i none k low high e =
+    none k low high (or_left (get_or bytes k 0 == one) (get_or bytes k 0 == other) e)
+
+no_second : (one other : ℕ) (bytes : List ℕ) (i : ℕ) → Nowhere (Passes (is_byte2 one other) bytes) 0 i
+    → Nowhere (Passes (is_byte other) bytes) 0 i
+no_second one other bytes i none k low high e =
+    none k low high (or_right (get_or bytes k 0 == one) (get_or bytes k 0 == other) e)
+
+-- where neither `<` nor `&` was found, all is text without a reference
+pub plain_to : (bytes text rest : List ℕ) (i : ℕ) → i < length bytes → text ≡ take i bytes → rest ≡ drop i bytes
+    → Nowhere (Passes (is_byte2 60 38) bytes) 0 i → get_or bytes i 0 ≡ 60 → ReadsRun sort.Text text bytes rest
+plain_to bytes text rest i h e f none there =
+    text_to bytes text rest i h e f (no_first 60 38 bytes i none) (ap (λ b. b == 60) there)
+
+pub plain_whole : (bytes : List ℕ) → Nowhere (Passes (is_byte2 60 38) bytes) 0 (length bytes)
+    → ReadsRun sort.Text bytes bytes []
+plain_whole bytes none = text_whole bytes (no_first 60 38 bytes (length bytes) none)
+
+pub no_reference_to : (bytes text : List ℕ) (i : ℕ) → i ≤ length bytes → text ≡ take i bytes
+    → Nowhere (Passes (is_byte2 60 38) bytes) 0 i → HasNoReference text
+no_reference_to bytes text i h e none =
+    subst HasNoReference (sym e) (lacks_byte 38 bytes i h (no_second 60 38 bytes i none))

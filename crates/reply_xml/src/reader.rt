@@ -6,8 +6,8 @@ ghost use Rattle.std.specs.Bool.{MatchBool};
 ghost use Rattle.reply_xml.specs.declared.elements.Element.{Element};
 ghost use Rattle.reply_xml.specs.Contents.{Content, ReadsText, ReadsInner, is_the};
 ghost use Rattle.reply_xml.specs.Children.{IsLeafOf};
-ghost use Rattle.reply_xml.specs.Breaks.{BreaksElement, BreaksIn, BreaksText, IfBroken, OnBroken, Stands};
-ghost use Rattle.reply_xml.specs.Leaves.{LeavesTagEnd};
+ghost use Rattle.reply_xml.specs.Breaks.{BreaksElement, BreaksIn, BreaksLeaf, BreaksText, IfBroken, OnBroken, Stands};
+ghost use Rattle.reply_xml.specs.Leaves.{LeavesEndTag, LeavesTagEnd};
 ghost use Rattle.reply_xml.specs.Runs.{ReadsRun};
 ghost use Rattle.reply_xml.specs.declared.runs.Sort.TheVariants as sort;
 ghost use Rattle.reply_xml.specs.Tables.{Done, IsFresh, IsOutside, Table, first_missing, form_in};
@@ -15,9 +15,9 @@ ghost use Rattle.std.specs.Str.{IsUtf8, is_utf8};
 ghost use Rattle.reply_xml.specs.declared.tags.Child.{Child};
 ghost use Rattle.reply_xml.specs.Faults.{IfRefused};
 ghost use Rattle.reply_xml.specs.Unfit.{HasText};
-ghost use Rattle.reply_xml.specs.Tags.{ReadsTag, ReadsTagEnd, ReadsEndTag};
+ghost use Rattle.reply_xml.specs.Tags.{IsName, ReadsTag, ReadsTagEnd, ReadsEndTag};
 ghost use Rattle.reply_xml.specs.Meaning.{meaning_of};
-ghost use Rattle.reply_xml.specs.Reading.{AtEnd, EndsContent, IsTagOf, HoldsSome, NamesChild};
+ghost use Rattle.reply_xml.specs.Reading.{AtEnd, EndsContent, HoldsAs, HoldsNone, HoldsSome, IsTagOf, NamesChild};
 ghost use Rattle.reply_xml.specs.Reading.{ReadsAs, ReadsNone, ReadsSome};
 ghost use Rattle.reply_values.specs.References.{IsUnescaped};
 
@@ -213,7 +213,21 @@ impl<'a> Reader<'a> {
         if parent.closed {
             return Ok(());
         }
-        match after_end_tag(parent.name, self.rest) {
+        self.end_tag(parent.name)
+    }
+
+    /// The end tag of this name.
+    #[inline(always)]
+    fn end_tag(&mut self, name: &[u8]) -> Result<(), DocFault>
+        requires { IsName name.now }
+        ensures value { OnOk result (ReadsEndTag name.now self.old.rest.now self.new.rest.now) }
+        ensures no_longer { length self.new.rest.now ≤ length self.old.rest.now }
+        ensures refused { IfRefused result ((rest : List ℕ) → ¬ (ReadsEndTag name.now self.old.rest.now rest)) }
+        ensures size { self.new.size ≡ self.old.size }
+        ensures broken { IfBroken result (λ reason. (left : ℕ) × LeavesEndTag name.now self.old.rest.now left
+            × Stands self.old.size left reason) }
+    {
+        match after_end_tag(name, self.rest) {
             Ok(rest) => {
                 self.rest = rest;
                 Ok(())
@@ -250,18 +264,25 @@ impl<'a> Reader<'a> {
             BreaksElement self.old.size reason table front child.now self.old.rest.now) }
     {
         let tag = self.tag(child)?;
+        self.leaf_content::<L>(&tag, of)
+    }
+
+    /// The value of a leaf, behind its tag.
+    fn leaf_content<L: Leaf>(&mut self, tag: &Tag<'a>, of: Element) -> Result<L::Value, DocFault>
+        ensures value { IfOk result (λ value. HoldsAs (IsLeafOf (L.spells of))
+            tag.now self.old.rest.now self.new.rest.now value) }
+        ensures no_longer { length self.new.rest.now ≤ length self.old.rest.now }
+        ensures refused { IfRefused result (HoldsNone (IsLeafOf (L.spells of)) tag.now self.old.rest.now) }
+        ensures size { self.new.size ≡ self.old.size }
+        ensures broken { IfBroken result (λ reason. BreaksLeaf self.old.size reason L.form of tag.now self.old.rest.now) }
+    {
         if tag.closed {
             return L::value_of(self.alloc, of, Meaning::Itself(""));
         }
         let text = self.text()?;
         let value = L::value_of(self.alloc, of, text)?;
-        match after_end_tag(tag.name, self.rest) {
-            Ok(rest) => {
-                self.rest = rest;
-                Ok(value)
-            }
-            Err(left) => Err(DocFault::NotADocument(self.place(left))),
-        }
+        self.end_tag(tag.name)?;
+        Ok(value)
     }
 
     /// What stands in an element, with its end tag.

@@ -3,7 +3,7 @@ use Rattle.std.proofs.lemmas.List.Sums.{list_all-from_AllPass}
 use Rattle.reply_values.specs.References.{IsUnescaped}
 use Rattle.reply_values.proofs.ReferenceLemmas.{Lacks}
 use Rattle.reply_values.proofs.UnescapeLemmas.{plain_run}
-use Rattle.reply_xml.proofs.LeaveLemmas.{OnEnds-any, OnEnds-both}
+use Rattle.reply_xml.proofs.LeaveLemmas.{OnEnds-any, OnEnds-both, TextTells-any}
 use Rattle.reply_xml.proofs.texts.read_meaning.Goals as goal
 
 pub returns-then-not-referenced-clause-value : goal.returns-then-not-referenced-clause-value
@@ -36,3 +36,13 @@ pub returns-in_default-clause-sound : goal.returns-in_default-clause-sound
 returns-in_default-clause-sound c =
     OnEnds-both c.text_fault.result (λ place sound fault. (sound c.in_default.ensures, fault c.in_default.ensures))
     c.text_fault.ensures.sound c.text_fault.ensures.fault
+
+pub returns-in_default-clause-refused : goal.returns-in_default-clause-refused
+returns-in_default-clause-refused c =
+    TextTells-any c.text_fault.result (λ utf8. absurd (c.in_default.ensures utf8))
+
+pub returns-in-Ok-clause-value : goal.returns-in-Ok-clause-value
+returns-in-Ok-clause-value c = (
+  c.in-Some.ensures.1,
+  subst (λ (b : List ℕ). IsUnescaped b c.in-Ok.text) c.in-Some.ensures.0 c.in-Ok.ensures.value,
+)

@@ -1,11 +1,11 @@
-use Rattle.std.proofs.Common.{sym, ◌∙◌, ap, refl}
+use Rattle.std.proofs.Common.{arith, sym, ◌∙◌, ap, refl}
 use Rattle.reply_xml.proofs.FaultLemmas.{Tells-any, bad_told, ends_told}
-use Rattle.reply_xml.proofs.ContentLemmas.{no_meaning, no_text_at_end}
+use Rattle.reply_xml.proofs.ContentLemmas.{no_meaning, no_text, no_text_at_end}
 use Rattle.reply_xml.proofs.TagLemmas.{none_from_test, some_from_test}
 use Rattle.reply_xml.specs.declared.faults.DocFault.TheVariants as fault
 use Rattle.reply_xml.specs.Breaks.{BadReference, Leaves}
 use Rattle.reply_xml.specs.Leaves.{NotUtf8}
-use Rattle.reply_xml.proofs.LeaveLemmas.{bad_at, ends_at, run_within, text_ends}
+use Rattle.reply_xml.proofs.LeaveLemmas.{bad_at, ends_at, ends_within, run_within, text_ends}
 use Rattle.reply_xml.proofs.Utf8Lemmas.{judged, judged_on, text_parts}
 use Rattle.reply_xml.proofs.reader.Reader.text.Goals as goal
 
@@ -59,3 +59,14 @@ pub read_meaning-requires-clause-sound : goal.read_meaning-requires-clause-sound
 read_meaning-requires-clause-sound c sound =
     let followed = some_from_test _ (sym c.is_empty.ensures ∙ c.if-is_empty.false) in
     (text_parts _ _ _ c.split_text-referenced.ensures.value followed (judged _ _ c.args.self.now.judged sound)).0
+
+pub overflow_sub-self : goal.overflow_sub-self
+overflow_sub-self c =
+    omega (
+      arith,
+      run_within _ _ _ c.split_text-referenced.ensures.value,
+      ends_within _ _ _ c.in-Err-Ends.field-0-is c.in-Err-Ends.ensures.place,
+    )
+
+pub returns-then-at_tag-clause-value : goal.returns-then-at_tag-clause-value
+returns-then-at_tag-clause-value c = no_text _ _ c.if-at_tag.ensures.1
