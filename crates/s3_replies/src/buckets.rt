@@ -1,6 +1,6 @@
 //! The list of buckets.
 
-ghost use Rattle.std.specs.Prelude.{◌≡◌, ◌≤◌, ◌∷◌, ⊤, ℕ, List, None, Option, Err, IfOk, OnOk, codes, length};
+ghost use Rattle.std.specs.Prelude.{◌≡◌, ◌≤◌, ◌∷◌, ◌++◌, ⊤, ℕ, List, [], None, Option, Err, IfOk, OnOk, codes, length};
 ghost use Rattle.s3_model.specs.declared.places.Entry.{Entry};
 ghost use Rattle.s3_replies.specs.Buckets.{BucketLeft, BucketsLeft, HasBucket, HasBuckets};
 ghost use Rattle.s3_replies.specs.Buckets.{HasEachBucket, IsBucketList, KnowsBucket, ListLeft};
@@ -54,6 +54,24 @@ impl Parts for BucketFields {
     }
 }
 
+/// Adds a bucket to the rows.
+fn push_bucket(alloc: Global, key: Text, micros: u64, rows: &mut Entries) -> Result<(), DocFault>
+    ensures items { OnOk result (rows.new.items ≡ rows.old.items ++ record { key = key; size = 0; etag = []; micros = micros } ∷ []) }
+    ensures memory { IfRefused result ⊥ }
+    ensures unbroken { IfBroken result (λ reason. ⊥) }
+{
+    if rows.reserve(1).is_err() {
+        return Err(DocFault::Memory);
+    }
+    rows.push(Entry {
+        key,
+        size: 0,
+        etag: Text::from(String::new(alloc)),
+        micros,
+    });
+    Ok(())
+}
+
 /// The buckets inside their element.
 #[derive(Drop)]
 struct Buckets {
@@ -78,17 +96,7 @@ impl Parts for Buckets {
             created: None,
         };
         let (key, micros) = reader.element(child, bucket)?;
-        let row = Entry {
-            key,
-            size: 0,
-            etag: Text::from(String::new(reader.alloc)),
-            micros,
-        };
-        if self.rows.reserve(1).is_err() {
-            return Err(DocFault::Memory);
-        }
-        self.rows.push(row);
-        Ok(())
+        push_bucket(reader.alloc, key, micros, &mut self.rows)
     }
 
     fn whole(self, _: Global) -> Result<Entries, DocFault> {

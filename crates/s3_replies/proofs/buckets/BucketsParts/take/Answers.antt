@@ -1,6 +1,6 @@
 use Rattle.reply_xml.specs.Fits.{Passed}
 use Rattle.reply_xml.proofs.FrontLemmas.{fresh_many}
-use Rattle.std.proofs.Common.{◌++◌, ◌∷◌, [], ◌∙◌, ap, refl, sym}
+use Rattle.std.proofs.Common.{[], ◌∙◌, refl, sym}
 use Rattle.s3_model.specs.Lists.{Reserved}
 use Rattle.s3_model.specs.declared.places.Entry.{Entry}
 use Rattle.reply_xml.specs.declared.elements.Element.TheVariants as element
@@ -33,15 +33,25 @@ returns-in_err-key-clause-refused c =
 
 pub returns-clause-value : goal.returns-clause-value
 returns-clause-value c =
-    let row : Entry = record { key = c.in_ok-key.key; size = 0; etag = c.from.result; micros = c.in_ok-key.micros } in
+    let row : Entry = record { key = c.in_ok-key.key; size = 0; etag = []; micros = c.in_ok-key.micros } in
+    OnOk-map c.push_bucket.result (λ pushed.
     part_advanced (λ (rows : Reserved Entry). rows.items) (BucketsLeft c.args.self.now.rows.items)
-    (BucketsLeft c.push.new.self.items) c.args.child.now c.args.reader.now.rest.now c.element.new.self.rest.now
-    (each_advanced HasBucket element.Bucket c.args.self.now.rows.items c.push.new.self.items c.args.child.now
+    (BucketsLeft c.push_bucket.new.rows.items) c.args.child.now c.args.reader.now.rest.now c.element.new.self.rest.now
+    (each_advanced HasBucket element.Bucket c.args.self.now.rows.items c.push_bucket.new.rows.items c.args.child.now
     c.args.reader.now.rest.now c.element.new.self.rest.now row
-    (sym c.is_the.ensures ∙ c.if-not-is_the.false)
-    (c.push.ensures.items ∙ ap (λ rows. rows ++ row ∷ []) c.reserve.ensures.items) HasBucket-same
-    (bucket_closed c.args.child.now c.args.reader.now.rest.now c.element.new.self.rest.now row refl
-    (c.from.ensures ∙ c.new.ensures.bytes) c.in_ok-key.ensures.value))
+    (sym c.is_the.ensures ∙ c.if-not-is_the.false) pushed HasBucket-same
+    (bucket_closed c.args.child.now c.args.reader.now.rest.now c.element.new.self.rest.now row refl refl
+    c.in_ok-key.ensures.value))) c.push_bucket.ensures.items
+
+pub returns-clause-refused : goal.returns-clause-refused
+returns-clause-refused c = refused_so c.push_bucket.result (λ never. absurd never) c.push_bucket.ensures.memory
+
+pub returns-clause-known : goal.returns-clause-known
+returns-clause-known c = OnOk-map c.push_bucket.result (λ pushed front found. tt) c.push_bucket.ensures.items
+
+pub returns-clause-broken : goal.returns-clause-broken
+returns-clause-broken c =
+    broken_so c.push_bucket.result (λ reason never front found. absurd never) c.push_bucket.ensures.unbroken
 
 pub returns-in_err-key-clause-broken : goal.returns-in_err-key-clause-broken
 returns-in_err-key-clause-broken c =
@@ -66,8 +76,9 @@ returns-then-not-is_the-clause-well c =
     (read.0, read.1, Passed (sym c.is_the.ensures ∙ c.if-not-is_the.true, tt))) c.skip.ensures.value
 
 pub returns-clause-well : goal.returns-clause-well
-returns-clause-well c front found =
+returns-clause-well c =
+    OnOk-map c.push_bucket.result (λ pushed front found.
     c.in_ok-key.ensures.well buckets_table front element.Bucket
     (record { same = sym c.is_the.ensures ∙ c.if-not-is_the.false; read_so = refl })
     (fresh_many buckets_table front c.args.child.now.element element.Bucket
-    (sym c.is_the.ensures ∙ c.if-not-is_the.false) refl)
+    (sym c.is_the.ensures ∙ c.if-not-is_the.false) refl)) c.push_bucket.ensures.items
