@@ -4,7 +4,7 @@ use Rattle.std.proofs.Common.{arith, ◌-◌, ⊎_elim, refl}
 use Rattle.std.specs.Str.{IsUtf8, is_utf8}
 use Rattle.std.proofs.lemmas.Bool.{cases_Bool, false≢true}
 use Rattle.std.proofs.lemmas.Str.{IsUtf8-from_is_utf8, is_utf8-from_IsUtf8}
-use Rattle.std.proofs.lemmas.List.{append-nil, length-append}
+use Rattle.std.proofs.lemmas.List.{append-nil}
 use Rattle.std.specs.Result.{IsErrAnd}
 use Rattle.reply_values.specs.References.{GoesOn, IsUnescaped}
 use Rattle.reply_xml.specs.declared.runs.Sort.TheVariants as sort
@@ -68,9 +68,6 @@ bad_at P e same h = subst (λ (f : TextFault). OnBad f P) same h
 pub text_ends : (text bytes rest : List ℕ) → ReadsRun sort.Text text bytes rest → rest ≡ []
     → ReadsRun sort.Text text bytes []
 text_ends text bytes rest run none = subst (λ (r : List ℕ). ReadsRun sort.Text text bytes r) none run
-
-pub run_within : (text bytes rest : List ℕ) → ReadsRun sort.Text text bytes rest → length text ≤ length bytes
-run_within text bytes rest run = let sizes = ap length run.split ∙ length-append text rest in omega (arith, sizes)
 
 pub same_name : (found name bytes rest : List ℕ) → found ≡ name → ReadsName found bytes rest → ReadsName name bytes rest
 same_name found name bytes rest same named = subst (λ (n : List ℕ). ReadsName n bytes rest) same named

@@ -1,9 +1,9 @@
 -- Bytes begin with one run of a sort.
-use Rattle.std.proofs.Common.{◌≡◌, ◌<◌, ◌≤◌, ◌++◌, ◌∙◌, ℕ, Bool, true, false, List, [], ◌∷◌, refl, sym, ap, subst}
+use Rattle.std.proofs.Common.{◌≡◌, ◌≢◌, ◌<◌, ◌≤◌, ◌++◌, ◌∙◌, ℕ, Bool, true, false, List, [], ◌∷◌, refl, sym, ap, subst}
 use Rattle.std.proofs.Common.{length, get_or, drop, take, drop-cons, arith, ◌==◌, not}
 use Rattle.std.specs.List.{AllPass}
 use Rattle.std.proofs.lemmas.Bool.{false≢true, or_left, or_right}
-use Rattle.std.proofs.lemmas.List.{take-append-drop, append-nil, take_all}
+use Rattle.std.proofs.lemmas.List.{take-append-drop, append-nil, length-append, take_all}
 use Rattle.std.proofs.lemmas.List.Elements.{All-from_get_or, All-head, All-tail}
 use Rattle.std.proofs.lemmas.List.{get_or-take, length-take-le}
 use Rattle.memchr.specs.Find.{Nowhere, Passes, is_byte, is_byte2}
@@ -138,3 +138,13 @@ pub no_reference_to : (bytes text : List ℕ) (i : ℕ) → i ≤ length bytes �
     → Nowhere (Passes (is_byte2 60 38) bytes) 0 i → HasNoReference text
 no_reference_to bytes text i h e none =
     subst HasNoReference (sym e) (lacks_byte 38 bytes i h (no_second 60 38 bytes i none))
+
+-- how long a run is, and what follows it
+pub run_within : (of : Sort) (run bytes rest : List ℕ) → ReadsRun of run bytes rest → length run ≤ length bytes
+run_within of run bytes rest r = let sizes = ap length r.split ∙ length-append run rest in omega (arith, sizes)
+
+pub shorter_behind : (of : Sort) (run bytes rest : List ℕ) → ReadsRun of run bytes rest → run ≢ []
+    → length rest < length bytes
+shorter_behind of [] bytes rest r some = absurd (some refl)
+shorter_behind of (byte ∷ run) bytes rest r some =
+    let sizes = ap length r.split ∙ length-append (byte ∷ run) rest in omega (arith, sizes)

@@ -363,6 +363,9 @@ NamesTag-of name bytes at_name found rest left e named n =
     let at : n.at_name ≡ at_name = (parts_same 60 60 n.at_name at_name (sym n.opens ∙ e)).1 in
     ReadsName-same found name at_name left rest named (subst (λ (b : List ℕ). ReadsName name b rest) at n.named)
 
+pub named_so : (name other bytes rest : List ℕ) → name ≡ other → NamesTag name bytes rest → NamesTag other bytes rest
+named_so name other bytes rest same names = subst (λ (n : List ℕ). NamesTag n bytes rest) same names
+
 pub NamesTag-same : (name other bytes rest left : List ℕ) → NamesTag name bytes rest → NamesTag other bytes left
     → (other ≡ name) × (left ≡ rest)
 NamesTag-same name other bytes rest left n m = NamesTag-of other bytes n.at_name name left rest n.opens n.named m

@@ -28,6 +28,7 @@ use crate::runs::split_text;
 use crate::tags::{Child, Tag, after_end_tag, after_tag_end, split_start};
 use crate::texts::{Meaning, TextFault, read_meaning, text_fault};
 use std::alloc::Global;
+use std::mem;
 
 /// A document that is read from its front, tag by tag.
 #[derive(Drop)]
@@ -153,7 +154,7 @@ impl<'a> Reader<'a> {
         if parent.closed {
             return Ok(None);
         }
-        self.text()?;
+        mem::drop(self.text()?);
         if at_end_tag(self.rest) {
             return Ok(None);
         }

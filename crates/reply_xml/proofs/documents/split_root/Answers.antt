@@ -1,4 +1,5 @@
-use Rattle.std.proofs.Common.{◌-◌, inl, inr, refl, sym, ap, length, Err, ◌∷◌, ◌∙◌, subst, ℕ, List, Bool}
+use Rattle.std.proofs.Common.{arith, ◌-◌, inl, inr, refl, sym, ap, length, Err, ◌∷◌, ◌∙◌, subst, ℕ, List, Bool}
+use Rattle.reply_xml.proofs.TagLemmas.{named_so}
 use Rattle.reply_xml.specs.Leaves.{LeavesDeclaration, LeavesStart, NoNameEnd, NoTag, NoTagName}
 use Rattle.reply_xml.specs.Places.{BeginsOtherwise}
 use Rattle.reply_xml.proofs.LeaveLemmas.{leaves_past}
@@ -201,3 +202,34 @@ returns-then-not-is_same-clause-fails c =
       at = refl;
     })
     )
+
+pub returns-then-not-is_same-clause-left : goal.returns-then-not-is_same-clause-left
+returns-then-not-is_same-clause-left c =
+    omega (
+      arith,
+      c.split_run.ensures.shorter,
+      c.in_ok-at_space.ensures.shorter,
+      c.split_run-2.ensures.shorter,
+      c.in_ok-name.ensures.shorter,
+    )
+
+pub returns-clause-shorter : goal.returns-clause-shorter
+returns-clause-shorter c =
+    omega (
+      arith,
+      c.split_run.ensures.shorter,
+      c.in_ok-at_space.ensures.shorter,
+      c.split_run-2.ensures.shorter,
+      c.in_ok-name.ensures.shorter,
+    )
+
+pub returns-clause-value : goal.returns-clause-value
+returns-clause-value c = record {
+  at_declaration = c.split_run.result.1.now;
+  before = (c.split_run.result.0.now, c.split_run.ensures.value);
+  at_space = c.in_ok-at_space.at_space.now;
+  declared = c.in_ok-at_space.ensures.value;
+  at_root = c.split_run-2.result.1.now;
+  between = (c.split_run-2.result.0.now, c.split_run-2.ensures.value);
+  names = named_so _ _ _ _ (c.if-not-is_same.ensures ∙ c.as_bytes.ensures.value) c.in_ok-name.ensures.value;
+}

@@ -1,4 +1,5 @@
-use Rattle.std.proofs.Common.{◌∷◌, ap, sym, ◌∙◌, refl}
+use Rattle.std.proofs.Common.{arith, ◌∷◌, ap, sym, ◌∙◌, refl}
+use Rattle.reply_xml.proofs.RunLemmas.{run_within}
 use Rattle.reply_xml.proofs.TagLemmas.{end_tag_of, end_tag_name}
 use Rattle.reply_xml.specs.Leaves.{NoEnd, NoEndName, NoEndTag, NoSlash, OtherName}
 use Rattle.reply_xml.proofs.LeaveLemmas.{leaves_past, same_name}
@@ -41,3 +42,44 @@ returns-in-None-clause-leaves c =
     NoEnd _ _ _ _ (c.in-Some.ensures.value ∙ ap (λ b. 60 ∷ b) c.in-Some-after_byte.ensures.value)
     (same_name _ _ _ _ c.if-not-is_same.ensures c.in_ok-found.ensures.value) c.split_run.ensures.value
     c.in-None.ensures.value refl
+
+pub overflow_sub-result : goal.overflow_sub-result
+overflow_sub-result c =
+    omega (arith, c.common_front.ensures.within, run_within _ _ _ _ c.in_ok-found.ensures.value.run)
+
+pub returns-then-not-is_same-clause-left : goal.returns-then-not-is_same-clause-left
+returns-then-not-is_same-clause-left c =
+    omega (arith, c.in-Some.ensures.shorter, c.in-Some-after_byte.ensures.shorter)
+
+pub returns-in-Some-after_byte-2-clause-value : goal.returns-in-Some-after_byte-2-clause-value
+returns-in-Some-after_byte-2-clause-value c = record {
+  at_name = c.in-Some-after_byte.at_name.now;
+  opens = c.in-Some.ensures.value ∙ ap (λ b. 60 ∷ b) c.in-Some-after_byte.ensures.value;
+  at_space = c.in_ok-found.at_space.now;
+  named = same_name _ _ _ _ c.if-not-is_same.ensures c.in_ok-found.ensures.value;
+  space = c.split_run.result.0.now;
+  at_close = c.split_run.result.1.now;
+  run = c.split_run.ensures.value;
+  closes = c.in-Some-after_byte-2.ensures.value;
+}
+
+pub returns-in-Some-after_byte-2-clause-shorter : goal.returns-in-Some-after_byte-2-clause-shorter
+returns-in-Some-after_byte-2-clause-shorter c =
+    omega (
+      arith,
+      c.in-Some.ensures.shorter,
+      c.in-Some-after_byte.ensures.shorter,
+      c.in_ok-found.ensures.shorter,
+      c.split_run.ensures.shorter,
+      c.in-Some-after_byte-2.ensures.shorter,
+    )
+
+pub returns-in-None-clause-left : goal.returns-in-None-clause-left
+returns-in-None-clause-left c =
+    omega (
+      arith,
+      c.in-Some.ensures.shorter,
+      c.in-Some-after_byte.ensures.shorter,
+      c.in_ok-found.ensures.shorter,
+      c.split_run.ensures.shorter,
+    )

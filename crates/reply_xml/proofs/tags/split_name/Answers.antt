@@ -1,3 +1,4 @@
+use Rattle.reply_xml.proofs.RunLemmas.{shorter_behind}
 use Rattle.std.proofs.Common.{sym, ◌∙◌, refl}
 use Rattle.std.proofs.lemmas.Bool.{eqb-true}
 use Rattle.reply_xml.specs.declared.runs.Sort.TheVariants as sort
@@ -20,4 +21,14 @@ returns-then-is_empty-clause-leaves c = record {
   outside = no_run_begins sort.Name _ _ _ c.split_name_run.ensures.value
       (none_from_test _ (sym c.is_empty.ensures ∙ c.if-is_empty.true));
   at = refl;
+}
+
+pub returns-clause-shorter : goal.returns-clause-shorter
+returns-clause-shorter c =
+    shorter_behind _ _ _ _ c.split_name_run.ensures.value (some_from_test _ (sym c.is_empty.ensures ∙ c.if-is_empty.false))
+
+pub returns-clause-value : goal.returns-clause-value
+returns-clause-value c = record {
+  run = c.split_name_run.ensures.value;
+  some = some_from_test _ (sym c.is_empty.ensures ∙ c.if-is_empty.false);
 }

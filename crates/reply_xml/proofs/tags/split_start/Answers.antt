@@ -1,4 +1,4 @@
-use Rattle.std.proofs.Common.{List, ℕ, ap, length, sym, subst, ◌∙◌, refl}
+use Rattle.std.proofs.Common.{arith, List, ℕ, ap, length, sym, subst, ◌∙◌, refl}
 use Rattle.reply_xml.proofs.TagLemmas.{first_none, first_of, tag_end_of, no_tag_end-first, no_tag_end-none, NamesTag-of}
 use Rattle.reply_xml.proofs.TagLemmas.{no_name_end-first, no_name_end-none}
 use Rattle.reply_xml.specs.Tags.{NameEnds, NamesTag, ReadsName}
@@ -124,3 +124,13 @@ returns-then-not-ends_name-clause-leaves c =
     let first = first_of _ _ c.in-Some-first.ensures.value in
     NoNameEnd _ _ (record { at_name = _; opens = c.in-Some.ensures.value; named = c.in_ok-name.ensures.value })
     (no_name_end-first _ _ _ first.1 (sym c.ends_name.ensures ∙ c.if-not-ends_name.true)) refl
+
+pub returns-clause-shorter : goal.returns-clause-shorter
+returns-clause-shorter c = omega (arith, c.in-Some.ensures.shorter, c.in_ok-name.ensures.shorter)
+
+pub returns-clause-value : goal.returns-clause-value
+returns-clause-value c = record {
+  at_name = c.in-Some.at_name.now;
+  opens = c.in-Some.ensures.value;
+  named = c.in_ok-name.ensures.value;
+}

@@ -127,3 +127,14 @@ returns-clause-well g c =
     (goes_on_end _ c.children.invariant.front.0 c.args.parent.now _ _ ends
     (complete_so _ _ c.children.invariant.front.0 c.children.invariant.table
     (c.in_ok-whole.ensures.complete c.children.invariant.front.0 c.children.invariant.front.1)))
+
+pub children-smaller : goal.children-smaller
+children-smaller g c =
+    let now = rw c.in-Some.is at c.in_ok-child.ensures in omega (arith, now.shorter, c.take.ensures.no_longer)
+
+pub returns-in_err-end-clause-no_longer : goal.returns-in_err-end-clause-no_longer
+returns-in_err-end-clause-no_longer g c =
+    omega (arith, c.children.invariant.no_longer, c.next_child.ensures.no_longer, c.end.ensures.no_longer)
+
+pub returns-in_err-end-clause-size : goal.returns-in_err-end-clause-size
+returns-in_err-end-clause-size g c = c.end.ensures.size ∙ c.next_child.ensures.size ∙ c.children.invariant.size

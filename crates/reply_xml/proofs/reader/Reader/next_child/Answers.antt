@@ -74,3 +74,19 @@ invariant_of-self-clause-judged c = judged_on _ _ _ c.text.new.self.judged (behi
 
 pub element_named-requires : goal.element_named-requires
 element_named-requires c = utf8_tag_name _ _ _ c.in-Ok.ensures.value
+
+pub returns-clause-child : goal.returns-clause-child
+returns-clause-child c = record {
+  text = c.in_ok-text.ensures.value.0;
+  at_tag = c.text.new.self.rest.now;
+  before = c.in_ok-text.ensures.value.1;
+  names = c.in-Ok.ensures.value;
+  ends = c.in-Ok.ensures.ended;
+  known = c.element_named.ensures;
+  deeper = omega (arith, c.if-parent-eq0.false);
+}
+
+pub invariant_of-result : goal.invariant_of-result
+invariant_of-result c = record {
+  named = record { inside = c.in-Ok.ensures.value.named.run.inside; some = c.in-Ok.ensures.value.named.some };
+}

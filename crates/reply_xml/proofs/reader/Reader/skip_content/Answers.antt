@@ -96,3 +96,8 @@ returns-in_err-end-in-None-clause-broken c =
     c.from_residual-in_err-end-in-None.ensures.1
     (λ reason b. c.elements.invariant.broken reason
     (inl (sized _ _ reason Done [] _ _ now.size (b _ now.end Done [] refl)))) c.in_err-end-in-None.ensures.broken
+
+pub elements-smaller-in-Ok : goal.elements-smaller-in-Ok
+elements-smaller-in-Ok c =
+    let now = rw c.in-Some.is at c.in_ok-child.ensures in
+    omega (arith, now.shorter, c.in_ok-within-in-Some.ensures.no_longer, c.in-Ok.ensures.len)

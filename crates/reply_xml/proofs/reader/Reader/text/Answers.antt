@@ -5,7 +5,8 @@ use Rattle.reply_xml.proofs.TagLemmas.{none_from_test, some_from_test}
 use Rattle.reply_xml.specs.declared.faults.DocFault.TheVariants as fault
 use Rattle.reply_xml.specs.Breaks.{BadReference, Leaves}
 use Rattle.reply_xml.specs.Leaves.{NotUtf8}
-use Rattle.reply_xml.proofs.LeaveLemmas.{bad_at, ends_at, ends_within, run_within, text_ends}
+use Rattle.reply_xml.proofs.LeaveLemmas.{bad_at, ends_at, ends_within, text_ends}
+use Rattle.reply_xml.proofs.RunLemmas.{run_within}
 use Rattle.reply_xml.proofs.Utf8Lemmas.{judged, judged_on, text_parts}
 use Rattle.reply_xml.proofs.reader.Reader.text.Goals as goal
 
@@ -29,7 +30,7 @@ pub last_text_fault-requires-whole : goal.last_text_fault-requires-whole
 last_text_fault-requires-whole c lifetimes =
     let run = text_ends _ _ _ c.split_text-referenced.ensures.value
     (none_from_test _ (sym c.is_empty.ensures ∙ c.if-is_empty.true)) in
-    (run_within _ _ _ run, run)
+    (run_within _ _ _ _ run, run)
 
 pub returns-in-Err-Ends-clause-broken : goal.returns-in-Err-Ends-clause-broken
 returns-in-Err-Ends-clause-broken c =
@@ -64,7 +65,7 @@ pub overflow_sub-self : goal.overflow_sub-self
 overflow_sub-self c =
     omega (
       arith,
-      run_within _ _ _ c.split_text-referenced.ensures.value,
+      run_within _ _ _ _ c.split_text-referenced.ensures.value,
       ends_within _ _ _ c.in-Err-Ends.field-0-is c.in-Err-Ends.ensures.place,
     )
 
