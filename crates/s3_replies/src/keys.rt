@@ -20,6 +20,7 @@ use reply_values::{UrlFault, is_key, url_decode};
 use reply_xml::{Child, DocFault, Element, FormedText, Leaf, Meaning, PlainText, Reader};
 use s3_model::Text;
 use std::alloc::Global;
+use std::mem;
 
 /// How the keys and prefixes of a page are read.
 #[derive(Clone, Copy)]
@@ -88,7 +89,7 @@ fn judged_prefix(alloc: Global, of: Element, url: bool, text: Meaning<'_>) -> Re
     ensures unfit { IfBroken result (IsUnfit (APrefix url) of (meaning_of text.entry)) }
 {
     let written = PlainText::value_of(alloc, of, text)?;
-    meaning(alloc, url, written.as_str())?;
+    mem::drop(meaning(alloc, url, written.as_str())?);
     Ok(written)
 }
 

@@ -1,4 +1,4 @@
-use Rattle.std.proofs.Common.{◌∙◌, codes, false, sym}
+use Rattle.std.proofs.Common.{◌∙◌, arith, codes, false, sym}
 use Rattle.std.proofs.lemmas.Bool.{false≢true}
 use Rattle.reply_xml.specs.declared.elements.Element.TheVariants as element
 use Rattle.reply_xml.proofs.FaultLemmas.{IfOk-map, told}
@@ -124,3 +124,7 @@ children-preserved c =
           (named_passes HasEncoding element.EncodingType c.in-Ok-Some.child other) c.in_default.ensures.value)
           );
     }
+
+pub children-smaller : goal.children-smaller
+children-smaller c =
+    let now = rw c.in-Ok-Some.field-0-is at c.in-Ok-Some.ensures in omega (arith, now.shorter, c.skip.ensures.no_longer)
