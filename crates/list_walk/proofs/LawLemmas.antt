@@ -1,5 +1,5 @@
 -- The laws of pages.
-use Rattle.std.proofs.Common.{◌≡◌, ◌∙◌, ◌&&◌, ◌+◌, ◌<◌, ◌≤◌, ℕ, Bool, true, false, List, [], ◌∷◌, ◌++◌, Option, Some, None, IsTrue, IsSome, arith, ap, append_assoc, flat_map, fold, length, nat_eq, nat_le, nat_lt, refl, subst, sym}
+use Rattle.std.proofs.Common.{◌≡◌, ◌∙◌, ◌&&◌, ◌<◌, ◌≤◌, ℕ, Bool, true, false, List, [], ◌∷◌, ◌++◌, Option, Some, None, IsTrue, IsSome, ap, append_assoc, flat_map, fold, nat_eq, nat_le, nat_lt, refl, subst, sym}
 use Rattle.std.specs.Cmp.Lexicographic.{slice_cmp}
 use Rattle.std.specs.List.{starts_with}
 use Rattle.std.specs.List.Sorted.{IsStrictlySortedBy}
@@ -7,12 +7,12 @@ use Rattle.std.specs.Option.{option_or, is_none}
 use Rattle.std.specs.Ordering.{is_lt, nat_cmp}
 use Rattle.std.specs.declared.cmp.Ordering.TheVariants.{Less}
 use Rattle.std.proofs.lemmas.Bool.{cond-false, cond-true, le-ltb, lt-leb}
-use Rattle.std.proofs.lemmas.List.{append-nil, length-append}
+use Rattle.std.proofs.lemmas.List.{append-nil}
 use Rattle.std.proofs.lemmas.List.Elements.{All-head, All-tail}
 use Rattle.s3_model.specs.declared.answers.Listed.{Listed}
 use Rattle.s3_model.specs.declared.faults.BadListing.TheVariants.{EmptyPages, NoToken, TooMany}
 use Rattle.list_walk.specs.Laws.{GathersInOrder, TakenAreSound, TakenWhereSound, WalkGathers}
-use Rattle.list_walk.specs.Pages.{AllBeginWith, Gathered, IsAscending, IsSound, Walk, count_of, gathered_with, keys_of, last_of, names_fault, new_walk, nothing, order_fault, prefix_fault, refusal_of, total_of, whole_fault, with_page}
+use Rattle.list_walk.specs.Pages.{AllBeginWith, Gathered, IsAscending, IsSound, Walk, gathered_with, keys_of, last_of, names_fault, new_walk, nothing, order_fault, prefix_fault, refusal_of, total_of, whole_fault, with_page}
 use Rattle.list_walk.proofs.OrderLemmas.{last_behind, or_none}
 use Rattle.list_walk.proofs.PageLemmas.{all_false, keys-append, nothing_is_sound, sound_with_page}
 

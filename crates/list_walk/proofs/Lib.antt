@@ -1,3 +1,4 @@
+pub mod ItemLemmas
 pub mod LawLemmas
 pub mod OrderLemmas
 pub mod PageLemmas

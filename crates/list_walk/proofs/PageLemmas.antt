@@ -1,15 +1,14 @@
 -- Pages that were taken have what the limits and the order ask.
-use Rattle.std.proofs.Common.{◌≡◌, ◌+◌, ◌<◌, ◌≤◌, ◌&&◌, ◌++◌, ℕ, Bool, true, false, cond, List, [], ◌∷◌, Some, None, refl, sym, ap, subst, arith, length, nat_eq, nat_le, nat_lt, IsTrue}
+use Rattle.std.proofs.Common.{◌≡◌, ◌<◌, ◌≤◌, ◌&&◌, ◌++◌, ℕ, Bool, true, false, cond, List, [], ◌∷◌, Some, None, refl, sym, ap, subst, arith, nat_eq, nat_le, nat_lt, IsTrue}
 use Rattle.std.specs.List.{starts_with}
 use Rattle.std.specs.List.Sorted.{IsStrictlySortedBy}
 use Rattle.std.specs.Option.{is_none}
 use Rattle.std.proofs.lemmas.Bool.{leb-false, ltb-false}
-use Rattle.std.proofs.lemmas.List.{length-append}
 use Rattle.std.proofs.lemmas.List.Elements.{All-append}
 use Rattle.s3_model.specs.declared.answers.Listed.{Listed}
 use Rattle.s3_model.specs.declared.faults.BadListing.TheVariants.{EmptyPages, NoToken, TooMany}
 use Rattle.s3_model.specs.declared.places.Entry.{Entry}
-use Rattle.list_walk.specs.Pages.{AllBeginWith, Gathered, IsAscending, IsSound, count_of, gathered_with, keys_of, nothing, refusal_of, total_of, whole_fault}
+use Rattle.list_walk.specs.Pages.{AllBeginWith, Gathered, IsAscending, IsSound, gathered_with, keys_of, nothing, refusal_of, total_of, whole_fault}
 use Rattle.list_walk.proofs.OrderLemmas.{names_ascend, names_begin, or_none}
 
 pub keys-append : (a b : List Entry) → keys_of (a ++ b) ≡ keys_of a ++ keys_of b
@@ -62,3 +61,13 @@ sound_taken prefix before page entries prefixes empty e p n sound none =
     (subst (λ (ps : List (List ℕ)). IsSound prefix (record { entries = before.entries ++ page.entries.items; prefixes = ps; empty = empty })) (sym p)
     (subst (λ (k : ℕ). IsSound prefix (record { entries = before.entries ++ page.entries.items; prefixes = before.prefixes ++ page.prefixes.items; empty = k })) (sym n)
     (sound_with_page prefix before page sound none)))
+
+-- the same entries and prefixes
+pub same_sound : (prefix : List ℕ) (entries more : List Entry) (prefixes others : List (List ℕ)) (empty : ℕ)
+    → more ≡ entries → others ≡ prefixes
+    → IsSound prefix (record { entries = entries; prefixes = prefixes; empty = empty })
+    → IsSound prefix (record { entries = more; prefixes = others; empty = empty })
+same_sound prefix entries more prefixes others empty e f sound =
+    subst (λ (names : List (List ℕ)). IsSound prefix (record { entries = more; prefixes = names; empty = empty })) (sym f)
+    (subst (λ (rows : List Entry). IsSound prefix (record { entries = rows; prefixes = prefixes; empty = empty })) (sym e)
+    sound)

@@ -51,7 +51,7 @@ pub(crate) fn copy_all<T: Item>(alloc: Global, items: &[T]) -> Result<Vec<T>, Ou
 {
     let mut copies = Vec::with_capacity(alloc, items.len())?;
     for item in items {
-        copies.push(item.duplicate()?)?;
+        copies.push_reserved(item.duplicate()?);
     }
     Ok(copies)
 }

@@ -1,5 +1,6 @@
-use Rattle.std.proofs.Common.{◌≡◌, take}
+use Rattle.std.proofs.Common.{◌≡◌, length, take, vec_capacity, vec_len}
 use Rattle.list_walk.proofs.items.copy_all.Given as goal
 
 abbrev pub invariant-loop-item : goal.invariant-loop-item
-invariant-loop-item g l = l.copies.items ≡ take l.item-index l.items
+invariant-loop-item g l = (l.copies.items ≡ take l.item-index l.items) × (vec_len l.copies ≡ l.item-index)
+    × (vec_capacity l.copies ≡ length l.items)

@@ -1,5 +1,5 @@
-use Rattle.std.proofs.Common.{sym, arith}
-use Rattle.list_walk.proofs.PageLemmas.{sound_taken}
+use Rattle.std.proofs.Common.{arith, refl, sym}
+use Rattle.list_walk.proofs.PageLemmas.{same_sound, sound_taken}
 use Rattle.list_walk.proofs.pages.Pages.gather.Goals as goal
 
 pub invariant_of-self-3 : goal.invariant_of-self-3
@@ -11,3 +11,13 @@ invariant_of-self-3 c =
     c.empty_with-self-inside.ensures
     c.self.invariant
     (rw (sym c.self.view_is) at c.requires)
+
+pub invariant_of-self-2 : goal.invariant_of-self-2
+invariant_of-self-2 c = same_sound _ _ _ _ _ _ c.reserve.ensures.items c.reserve-2.ensures.items c.self.invariant
+
+pub invariant_of-self-in_err-reserve-2 : goal.invariant_of-self-in_err-reserve-2
+invariant_of-self-in_err-reserve-2 c =
+    same_sound _ _ _ _ _ _ c.reserve.ensures.items c.reserve-2.ensures.items c.self.invariant
+
+pub invariant_of-self : goal.invariant_of-self
+invariant_of-self c = same_sound _ _ _ _ _ _ c.reserve.ensures.items refl c.self.invariant
