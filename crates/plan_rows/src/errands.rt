@@ -5,11 +5,12 @@ ghost use Rattle.plan_rows.specs.Sides.{IsListedAt, IsListedBy};
 ghost use Rattle.sync_plan.specs.Errands.{RemovesFrom, TransfersBetween};
 
 use crate::rows::Row;
-use crate::sides::{pages_at, pages_of, place_of};
+use crate::sides::{pages_at, pages_of, place_of, text_of};
 use list_walk::Pages;
 use path_filters::{Filters, Pattern};
-use s3_model::{Kind, Limits, Place, Plan, PlanFault, Text, Times};
+use s3_model::{Kind, Limits, OutOfMemory, Place, Plan, PlanFault, Text, Times};
 use std::alloc::Global;
+use std::mem;
 use sync_plan::{Errand, plan_copy, plan_remove, plan_sync};
 
 fn limits_of(flags: &str) -> Limits {
@@ -25,18 +26,24 @@ fn limits_of(flags: &str) -> Limits {
     }
 }
 
-fn filters_of(alloc: Global, text: &str) -> Option<Filters> {
+/// Adds the filter that a word spells, if it is one.
+fn push_filter(alloc: Global, filters: &mut Filters, word: &str) -> Result<(), OutOfMemory> {
+    if let Some(pattern) = word.strip_prefix('+') {
+        return filters.push(true, Pattern::read(alloc, pattern)?);
+    }
+    if let Some(pattern) = word.strip_prefix('-') {
+        return filters.push(false, Pattern::read(alloc, pattern)?);
+    }
+    Ok(())
+}
+
+/// The filters of a line; those for which there is memory.
+fn filters_of(alloc: Global, text: &str) -> Filters {
     let mut filters = Filters::make(alloc);
     for word in text.split(' ') {
-        let (keep, pattern) = match (word.strip_prefix('+'), word.strip_prefix('-')) {
-            (Some(pattern), _) => (true, pattern),
-            (_, Some(pattern)) => (false, pattern),
-            _ => continue,
-        };
-        let pattern = Pattern::read(alloc, pattern).ok()?;
-        filters.push(keep, pattern).ok()?;
+        let _ = push_filter(alloc, &mut filters, word);
     }
-    Some(filters)
+    filters
 }
 
 fn times_of(word: &str) -> Times {
@@ -71,20 +78,6 @@ fn removal_kind(from: &Place) -> Kind
     }
 }
 
-/// The two places of a line.
-#[derive(Drop)]
-struct Ends {
-    from: Place,
-    to: Place,
-}
-
-fn ends_of(alloc: Global, row: &Row<'_>) -> Option<Ends> {
-    Some(Ends {
-        from: place_of(alloc, row.from)?,
-        to: place_of(alloc, row.to)?,
-    })
-}
-
 /// What a line says of its names and of their content.
 #[derive(Drop)]
 struct Wish {
@@ -92,19 +85,19 @@ struct Wish {
     content: Option<Text>,
 }
 
-fn content_of(alloc: Global, flags: &str) -> Option<Option<Text>> {
+fn content_of(alloc: Global, flags: &str) -> Option<Text> {
     if flags.contains('c') {
-        Some(Some(Text::of(alloc, "text/x").ok()?))
+        Some(text_of(alloc, "text/x"))
     } else {
-        Some(None)
+        None
     }
 }
 
-fn wish_of(alloc: Global, row: &Row<'_>) -> Option<Wish> {
-    Some(Wish {
-        filters: filters_of(alloc, row.filters)?,
-        content: content_of(alloc, row.flags)?,
-    })
+fn wish_of(alloc: Global, row: &Row<'_>) -> Wish {
+    Wish {
+        filters: filters_of(alloc, row.filters),
+        content: content_of(alloc, row.flags),
+    }
 }
 
 fn errand_of(row: &Row<'_>, kind: Kind, from: Place, to: Option<Place>, wish: Wish) -> Errand
@@ -129,18 +122,23 @@ fn errand_of(row: &Row<'_>, kind: Kind, from: Place, to: Option<Place>, wish: Wi
 fn transfer_of(alloc: Global, row: &Row<'_>) -> Option<Errand>
     ensures { IfSome result (λ errand. TransfersBetween errand.kind errand.from errand.to) }
 {
-    let ends = ends_of(alloc, row)?;
-    let kind = transfer_kind(&ends.from, &ends.to)?;
-    let wish = wish_of(alloc, row)?;
-    Some(errand_of(row, kind, ends.from, Some(ends.to), wish))
+    let from = place_of(alloc, row.from);
+    let to = place_of(alloc, row.to);
+    match transfer_kind(&from, &to) {
+        Some(kind) => Some(errand_of(row, kind, from, Some(to), wish_of(alloc, row))),
+        None => {
+            mem::drop(from);
+            mem::drop(to);
+            None
+        }
+    }
 }
 
-fn removal_of(alloc: Global, row: &Row<'_>) -> Option<Errand>
-    ensures { IfSome result (λ errand. RemovesFrom errand.kind errand.from errand.to) }
+fn removal_of(alloc: Global, row: &Row<'_>) -> Errand
+    ensures { RemovesFrom result.kind result.from result.to }
 {
-    let wish = wish_of(alloc, row)?;
-    let from = place_of(alloc, row.from)?;
-    Some(errand_of(row, removal_kind(&from), from, None, wish))
+    let from = place_of(alloc, row.from);
+    errand_of(row, removal_kind(&from), from, None, wish_of(alloc, row))
 }
 
 fn synced(alloc: Global, errand: &Errand, source: &Pages, dest: &Pages) -> Result<Plan, PlanFault>
@@ -201,25 +199,41 @@ fn planned_from(
     requires source { IsListedBy errand.now.from source.now.prefix }
 {
     let dest = pages_at(alloc, &errand.to, row.dest)?;
-    transferred(alloc, row.call, errand, source, &dest)
+    let planned = transferred(alloc, row.call, errand, source, &dest);
+    mem::drop(dest);
+    planned
 }
 
 fn planned_by(alloc: Global, row: &Row<'_>, errand: &Errand) -> Option<Result<Plan, PlanFault>>
     requires places { TransfersBetween errand.now.kind errand.now.from errand.now.to }
 {
     let source = pages_of(alloc, &errand.from, row.source)?;
-    planned_from(alloc, row, errand, &source)
+    let planned = planned_from(alloc, row, errand, &source);
+    mem::drop(source);
+    planned
 }
 
 fn transfer_planned(alloc: Global, row: &Row<'_>) -> Option<Result<Plan, PlanFault>> {
     let errand = transfer_of(alloc, row)?;
-    planned_by(alloc, row, &errand)
+    let planned = planned_by(alloc, row, &errand);
+    mem::drop(errand);
+    planned
+}
+
+fn removed_by(alloc: Global, row: &Row<'_>, errand: &Errand) -> Option<Result<Plan, PlanFault>>
+    requires places { RemovesFrom errand.now.kind errand.now.from errand.now.to }
+{
+    let source = pages_of(alloc, &errand.from, row.source)?;
+    let planned = removed(alloc, errand, &source);
+    mem::drop(source);
+    planned
 }
 
 fn removal_planned(alloc: Global, row: &Row<'_>) -> Option<Result<Plan, PlanFault>> {
-    let errand = removal_of(alloc, row)?;
-    let source = pages_of(alloc, &errand.from, row.source)?;
-    removed(alloc, &errand, &source)
+    let errand = removal_of(alloc, row);
+    let planned = removed_by(alloc, row, &errand);
+    mem::drop(errand);
+    planned
 }
 
 /// The plan of a line, or None where it has no errand, or memory ran out.

@@ -16,25 +16,36 @@ use errands::planned;
 use rows::row_of;
 use shown::{fault_shown, plan_shown};
 use std::alloc::{AllocError, Global};
-use std::io;
+use std::{io, mem};
 
 fn answer_of(alloc: Global, line: &str) -> Result<String, AllocError> {
-    let Some(row) = row_of(line) else {
-        return String::from_str(alloc, "no row");
-    };
-    match planned(alloc, &row) {
-        Some(Ok(plan)) => plan_shown(alloc, &plan),
-        Some(Err(fault)) => fault_shown(alloc, &fault),
+    match planned(alloc, &row_of(line)) {
+        Some(Ok(plan)) => {
+            let shown = plan_shown(alloc, &plan);
+            mem::drop(plan);
+            shown
+        }
+        Some(Err(fault)) => {
+            let shown = fault_shown(alloc, &fault);
+            mem::drop(fault);
+            shown
+        }
         None => String::from_str(alloc, "no errand"),
     }
+}
+
+/// A line with what comes of it.
+fn line_shown(alloc: Global, line: &str) -> Result<String, AllocError> {
+    let answer = answer_of(alloc, line)?;
+    format!(in alloc; "{line} => {answer}")
 }
 
 fn main(rt: HostRuntime) -> io::Result<()> {
     let alloc = rt.alloc();
     for line in rt.lines(alloc) {
         let line = line?;
-        let answer = answer_of(alloc, line.as_str())?;
-        println!(rt; "{line} => {answer}")?;
+        let shown = line_shown(alloc, line.as_str())?;
+        rt.println(shown.as_str())?;
     }
     Ok(())
 }

@@ -13,17 +13,33 @@ pub(crate) struct Row<'a> {
     pub dest: &'a str,
 }
 
-pub(crate) fn row_of(line: &str) -> Option<Row<'_>> {
-    let mut parts = line.split('|');
-    let mut words = parts.next()?.split(' ');
-    Some(Row {
-        call: words.next()?,
-        from: words.next()?,
-        to: words.next()?,
-        times: words.next()?,
-        flags: words.next()?,
-        filters: parts.next()?,
-        source: parts.next()?,
-        dest: parts.next()?,
-    })
+/// What stands in front of the first mark, and behind it.
+fn parted(text: &str, mark: char) -> (&str, &str) {
+    text.split_once(mark).unwrap_or((text, ""))
+}
+
+/// The line of these words and lists.
+fn row_with<'a>(words: &'a str, filters: &'a str, source: &'a str, dest: &'a str) -> Row<'a> {
+    let (call, words) = parted(words, ' ');
+    let (from, words) = parted(words, ' ');
+    let (to, words) = parted(words, ' ');
+    let (times, words) = parted(words, ' ');
+    let (flags, _) = parted(words, ' ');
+    Row {
+        call,
+        from,
+        to,
+        times,
+        flags,
+        filters,
+        source,
+        dest,
+    }
+}
+
+pub(crate) fn row_of(line: &str) -> Row<'_> {
+    let (words, lists) = parted(line, '|');
+    let (filters, lists) = parted(lists, '|');
+    let (source, dest) = parted(lists, '|');
+    row_with(words, filters, source, dest)
 }

@@ -4,58 +4,97 @@ ghost use Rattle.std.specs.Prelude.{◌≡◌, IfSome};
 ghost use Rattle.plan_rows.specs.Sides.{IsListedAt, IsListedBy};
 
 use list_walk::Pages;
-use s3_model::{Entries, Entry, Listed, Place, Text, Texts};
+use s3_model::{Entries, Entry, Listed, OutOfMemory, Place, Text, Texts};
 use std::alloc::Global;
+use std::mem;
 
-pub(crate) fn place_of(alloc: Global, text: &str) -> Option<Place> {
+/// A text; an empty one where there is no memory, so that its row is wrong.
+pub(crate) fn text_of(alloc: Global, text: &str) -> Text {
+    match Text::of(alloc, text) {
+        Ok(text) => text,
+        Err(OutOfMemory) => Text::from(String::new(alloc)),
+    }
+}
+
+pub(crate) fn place_of(alloc: Global, text: &str) -> Place {
     match text.split_once(':') {
-        Some((bucket, key)) => Some(Place::Object {
-            bucket: Text::of(alloc, bucket).ok()?,
-            key: Text::of(alloc, key).ok()?,
-        }),
-        None => Some(Place::File {
-            path: Text::of(alloc, text).ok()?,
-        }),
+        Some((bucket, key)) => Place::Object {
+            bucket: text_of(alloc, bucket),
+            key: text_of(alloc, key),
+        },
+        None => Place::File {
+            path: text_of(alloc, text),
+        },
     }
 }
 
 fn entry_of(alloc: Global, text: &str) -> Option<Entry> {
-    let mut parts = text.split(',');
+    let (key, rest) = text.split_once(',')?;
+    let (size, rest) = rest.split_once(',')?;
+    let (micros, etag) = rest.split_once(',')?;
+    let size = size.parse().ok()?;
+    let micros = micros.parse().ok()?;
     Some(Entry {
-        key: Text::of(alloc, parts.next()?).ok()?,
-        size: parts.next()?.parse().ok()?,
-        micros: parts.next()?.parse().ok()?,
-        etag: Text::of(alloc, parts.next()?).ok()?,
+        key: text_of(alloc, key),
+        size,
+        etag: text_of(alloc, etag),
+        micros,
     })
+}
+
+fn push_entry(alloc: Global, entries: &mut Entries, word: &str) -> Option<()> {
+    let entry = entry_of(alloc, word)?;
+    match entries.reserve(1) {
+        Ok(()) => {
+            entries.push(entry);
+            Some(())
+        }
+        Err(OutOfMemory) => {
+            mem::drop(entry);
+            None
+        }
+    }
 }
 
 fn entries_of(alloc: Global, text: &str) -> Option<Entries> {
     let mut entries = Entries::make(alloc);
     for word in text.split(' ') {
         if !word.is_empty() {
-            let entry = entry_of(alloc, word)?;
-            entries.reserve(1).ok()?;
-            entries.push(entry);
+            push_entry(alloc, &mut entries, word)?;
         }
     }
     Some(entries)
+}
+
+/// A listing of which this page has come, if it is in byte order.
+fn pages_with(alloc: Global, prefix: &str, page: &Listed) -> Option<Pages>
+    ensures { IfSome result (λ pages. pages.prefix ≡ prefix.now) }
+{
+    let Ok(mut pages) = Pages::make(alloc, "", prefix, false) else {
+        return None;
+    };
+    match pages.feed(page) {
+        Ok(()) => Some(pages),
+        Err(_) => {
+            mem::drop(pages);
+            None
+        }
+    }
 }
 
 /// The one page of a listing.
 fn listed(alloc: Global, prefix: &str, entries: Entries) -> Option<Pages>
     ensures { IfSome result (λ pages. pages.prefix ≡ prefix.now) }
 {
-    let mut pages = Pages::make(alloc, "", prefix, false).ok()?;
     let page = Listed {
         entries,
         prefixes: Texts::make(alloc),
         more: false,
         token: None,
     };
-    match pages.feed(&page) {
-        Ok(()) => Some(pages),
-        Err(_) => None,
-    }
+    let pages = pages_with(alloc, prefix, &page);
+    mem::drop(page);
+    pages
 }
 
 /// What is listed below a place, if it is in byte order.
