@@ -1,15 +1,19 @@
 //! A task that is driven by hand.
 
-ghost use Rattle.std.specs.Prelude.{◌≡◌, ◌<◌, ◌≤◌, ◌+◌, ◌^◌};
+ghost use Rattle.std.specs.Prelude.{◌≡◌, ◌<◌, ◌≤◌, ◌+◌, ◌^◌, IfOk, IfSome};
+ghost use Rattle.task_acts.specs.declared.acts.Act.TheVariants as act;
+ghost use Rattle.task_acts.specs.Histories.{sent};
 ghost use Rattle.task_acts.specs.Stages.{is_out};
 ghost use Rattle.task_core.specs.Machine.{IsNumbered, keeps_tags};
 
 use crate::jobs_back::job_back;
 use crate::shown::state_shown;
+use jobs::{Carried, Job};
 use row_words::ended_as;
-use s3_model::{Kind, Op, OutOfMemory, Outcome, Reason, Texts, UploadId};
+use s3_model::{Kind, Op, OutOfMemory, Reason, Texts, UploadId};
 use std::alloc::{AllocError, Global};
 use std::marker::Model;
+use std::mem;
 use task_acts::{Act, FileCame, Stage, Work};
 use task_core::TaskState;
 
@@ -31,6 +35,15 @@ impl Model for Driver {
     ghost invariant = { λ d. d.has_tags ≡ is_some d.state.tags };
 }
 
+/// The attempts that a job had made.
+fn attempts_of(job: Job) -> u32
+    ensures { result ≡ job.had }
+{
+    let had = job.had;
+    mem::drop(job);
+    had
+}
+
 /// The attempts of the job that is kept for an act, which is taken.
 fn attempts_kept(state: &mut TaskState, act: Act) -> Option<u32>
     ensures stages { state.new.stages ≡ state.old.stages }
@@ -40,7 +53,7 @@ fn attempts_kept(state: &mut TaskState, act: Act) -> Option<u32>
         return None;
     };
     match state.kept(op, number) {
-        Some(job) => Some(job.had),
+        Some(job) => Some(attempts_of(job)),
         None => None,
     }
 }
@@ -61,16 +74,32 @@ fn is_first(stage: Stage) -> bool {
     matches!(stage, Stage::Out)
 }
 
+/// The job that comes back as a line says, with a cell or without, or None where it cannot.
+fn carried_so(
+    alloc: Global,
+    op: Op,
+    number: u32,
+    has_cell: bool,
+    came: &str,
+) -> Result<Option<Carried>, OutOfMemory>
+    ensures id { IfOk result (λ c. IfSome c (λ carried. sent carried ≡ act.Send op number)) }
+    ensures had { IfOk result (λ c. IfSome c (λ carried. carried.job.had ≡ 0)) }
+{
+    match ended_as(alloc, op, number, came)? {
+        Some(ended) => job_back(alloc, op, number, has_cell, ended),
+        None => Ok(None),
+    }
+}
+
 impl Driver {
     pub(crate) fn make(alloc: Global, work: Work) -> Result<Driver, OutOfMemory>
         requires few { work.count + 1 < 2 ^ 32 }
         requires attempts { work.attempts ≤ 10 }
         requires numbers { IsNumbered work }
     {
-        Ok(Driver {
-            state: TaskState::make(alloc, work)?,
-            has_tags: has_parts(&work),
-        })
+        let state = TaskState::make(alloc, work)?;
+        let has_tags = has_parts(&work);
+        Ok(Driver { state, has_tags })
     }
 
     /// What is shown of the task.
@@ -126,27 +155,18 @@ impl Driver {
         if !is_out(stage) {
             return Ok(false);
         }
-        let Some(ended) = ended_as(alloc, op, number, came)? else {
-            return Ok(false);
-        };
         let has_cell = is_first(stage) && !matches!(op, Op::Abort);
-        let Some(carried) = job_back(alloc, op, number, has_cell, ended)? else {
-            return Ok(false);
-        };
-        let _part = self.state.came(carried);
-        Ok(true)
+        match carried_so(alloc, op, number, has_cell, came)? {
+            Some(carried) => {
+                let part = self.state.came(carried);
+                mem::drop(part);
+                Ok(true)
+            }
+            None => Ok(false),
+        }
     }
 
     pub(crate) fn cancel(&mut self, reason: Reason) {
         self.state.cancel(reason);
-    }
-
-    /// How the task ended, or None where it goes on.
-    pub(crate) fn end(self) -> Option<Outcome> {
-        let Driver { state, .. } = self;
-        if state.outcome().is_none() {
-            return None;
-        }
-        Some(state.end())
     }
 }

@@ -15,6 +15,7 @@ use s3_model::{
     Bytes, JobId, Kind, Op, OutOfMemory, Part, Place, Reply, Task, Text, Texts, UploadId,
 };
 use std::alloc::Global;
+use std::mem;
 use std::sync::Arc;
 
 /// A kind of task that has jobs of that op.
@@ -32,10 +33,27 @@ fn kind_for(op: Op) -> Kind
 fn object(alloc: Global, key: &str) -> Result<Place, OutOfMemory>
     ensures { IfOk result IsAnObject }
 {
-    Ok(Place::Object {
-        bucket: Text::of(alloc, "b")?,
-        key: Text::of(alloc, key)?,
-    })
+    let bucket = Text::of(alloc, "b")?;
+    let key = Text::of(alloc, key)?;
+    Ok(Place::Object { bucket, key })
+}
+
+fn task_of(op: Op, source: Place, dest: Place, etag: Text) -> Task
+    requires source { IsAnObject source }
+    requires dest { IsAnObject dest }
+    ensures { IsTaskFor op result }
+{
+    Task {
+        kind: kind_for(op),
+        moves: false,
+        source: Some(source),
+        dest,
+        size: 4,
+        etag,
+        micros: 0,
+        content: None,
+        fresh: false,
+    }
 }
 
 /// A task that has jobs of that op. What happens to a task depends on the ids of its jobs and on their endings alone.
@@ -45,21 +63,13 @@ fn task_for(alloc: Global, op: Op) -> Result<Arc<Task, Global>, OutOfMemory>
     let source = object(alloc, "k")?;
     let dest = object(alloc, "l")?;
     let etag = Text::of(alloc, "e")?;
-    let task = Arc::new(
-        alloc,
-        Task {
-            kind: kind_for(op),
-            moves: false,
-            source: Some(source),
-            dest,
-            size: 4,
-            etag,
-            micros: 0,
-            content: None,
-            fresh: false,
-        },
-    )?;
-    Ok(task)
+    match Arc::new(alloc, task_of(op, source, dest, etag)) {
+        Ok(task) => Ok(task),
+        Err(failed) => {
+            mem::drop(failed);
+            Err(OutOfMemory)
+        }
+    }
 }
 
 /// How many bytes the part of a job has.
@@ -123,17 +133,19 @@ fn upload_id() -> UploadId {
     id
 }
 
-fn job_for(
+/// The job of a task, with this part and this cell.
+fn job_of(
     alloc: Global,
     id: JobId,
+    task: Arc<Task, Global>,
     part: Option<Part>,
     cell: Option<CancelCell>,
-) -> Result<Job, OutOfMemory>
+) -> Job
+    requires task { IsTaskFor id.op (arc_value task) }
     requires step { is_step id.op ≡ true }
     requires part { HasPart id.op 1 part }
-    ensures { IfOk result (λ job. (job.id ≡ id) × (job.part ≡ part) × (job.cell ≡ cell) × (job.had ≡ 0)) }
+    ensures { (result.id ≡ id) × (result.part ≡ part) × (result.cell ≡ cell) × (result.had ≡ 0) }
 {
-    let task = task_for(alloc, id.op)?;
     let upload = upload_id();
     let etags = Texts::make(alloc);
     let what = What::Step {
@@ -142,14 +154,27 @@ fn job_for(
         upload: Some(upload),
         etags: Some(etags),
     };
-    Ok(Job {
+    Job {
         id,
         what,
         part,
         hash: None,
         cell,
         had: 0,
-    })
+    }
+}
+
+/// The job of that id, with or without a cell, whose part has so many bytes.
+fn job_for(alloc: Global, id: JobId, has_cell: bool, count: u64) -> Result<Job, OutOfMemory>
+    requires { is_step id.op ≡ true }
+    ensures job { IfOk result (λ job. (job.id ≡ id) × (job.had ≡ 0)) }
+    ensures part { IfOk result (λ job. IfSome job.part (λ part. length part.bytes.bytes ≡ count)) }
+    ensures cell { IfOk result (λ job. is_some job.cell ≡ has_cell) }
+{
+    let part = part_for(alloc, id.op, count)?;
+    let cell = cell_for(alloc, has_cell)?;
+    let task = task_for(alloc, id.op)?;
+    Ok(job_of(alloc, id, task, part, cell))
 }
 
 /// A job that comes back with that ending.
@@ -176,6 +201,7 @@ pub(crate) fn job_back(
     ensures had { IfOk result (λ c. IfSome c (λ carried. carried.job.had ≡ 0)) }
 {
     if !is_step(op) || !can_end(&ended.ending, has_cell) {
+        mem::drop(ended);
         return Ok(None);
     }
     let id = JobId {
@@ -183,8 +209,11 @@ pub(crate) fn job_back(
         op,
         number,
     };
-    let part = part_for(alloc, op, body_of(&ended.ending))?;
-    let cell = cell_for(alloc, has_cell)?;
-    let job = job_for(alloc, id, part, cell)?;
-    Ok(Some(carried_as(job, ended)))
+    match job_for(alloc, id, has_cell, body_of(&ended.ending)) {
+        Ok(job) => Ok(Some(carried_as(job, ended))),
+        Err(OutOfMemory) => {
+            mem::drop(ended);
+            Err(OutOfMemory)
+        }
+    }
 }

@@ -6,6 +6,7 @@ use crate::works::work_named;
 use row_words::{file_came, reason_of};
 use s3_model::{OutOfMemory, Texts};
 use std::alloc::{AllocError, Global};
+use std::mem;
 use task_acts::Act;
 
 fn upload_shown(alloc: Global, driver: &Driver) -> Result<String, AllocError> {
@@ -131,7 +132,11 @@ fn driver_named(alloc: Global, line: &str) -> Result<Option<Driver>, OutOfMemory
 /// What is printed of a line.
 pub(crate) fn answer_of(alloc: Global, line: &str) -> Result<String, AllocError> {
     match driver_named(alloc, line) {
-        Ok(Some(mut driver)) => history_shown(alloc, &mut driver, line),
+        Ok(Some(mut driver)) => {
+            let shown = history_shown(alloc, &mut driver, line);
+            mem::drop(driver);
+            shown
+        }
         Ok(None) => String::from_str(alloc, "no work"),
         Err(OutOfMemory) => Err(AllocError),
     }

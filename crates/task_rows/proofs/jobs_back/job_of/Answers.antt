@@ -1,11 +1,11 @@
 use Rattle.std.proofs.Common.{arith}
 use Rattle.std.specs.Arc.{arc_value}
 use Rattle.task_rows.proofs.JobLemmas.{asks, some_bytes}
-use Rattle.task_rows.proofs.jobs_back.job_for.Goals as goal
+use Rattle.task_rows.proofs.jobs_back.job_of.Goals as goal
 
 pub invariant_of-result : goal.invariant_of-result
 invariant_of-result c = record {
-  asks = asks (arc_value c.in_ok-task.task) (0, 1) c.upload_id-upload.result c.make-etags.result c.args.id.number c.args.id.op c.requires.step c.in_ok-task.ensures;
+  asks = asks (arc_value c.args.task) (0, 1) c.upload_id-upload.result c.make-etags.result c.args.id.number c.args.id.op c.requires.step c.requires.task;
   has_range = some_bytes c.args.id.op c.args.id.number;
   has_part = c.requires.part;
   hashed = tt;
