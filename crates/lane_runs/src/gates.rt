@@ -6,6 +6,7 @@ use crate::uploads::end_of_upload;
 use s3_fakes::{Gate, GateWire, MemWire, SharedTable};
 use s3_model::{OutOfMemory, Text};
 use std::alloc::{AllocError, Global};
+use std::mem;
 use std::rt::Clock;
 use std::sync::{Arc, Wait};
 use std::thread::{Threads, join};
@@ -58,16 +59,50 @@ where
     Ok(MemWire::make(alloc, runtime, table, MOMENT))
 }
 
-impl<R: Wait + Clock + Clone + Drop> Wires<R> {
-    fn make(rt: &R, alloc: Global) -> Result<Wires<R>, OutOfMemory> {
-        let table = service(alloc)?;
-        let first = gate_wire(rt, alloc, &table)?;
-        let second = plain_wire(rt, alloc, &table)?;
-        Ok(Wires {
+/// Two wires to this service, of which the first has the gate.
+fn wires_to<R>(rt: &R, alloc: Global, table: SharedTable) -> Result<Wires<R>, OutOfMemory>
+where
+    R: Wait + Clock + Clone + Drop,
+{
+    match gate_wire(rt, alloc, &table) {
+        Ok(first) => wires_beside(rt, alloc, table, first),
+        Err(OutOfMemory) => {
+            mem::drop(table);
+            Err(OutOfMemory)
+        }
+    }
+}
+
+/// The wire without a gate beside the one with it.
+fn wires_beside<R>(
+    rt: &R,
+    alloc: Global,
+    table: SharedTable,
+    first: GateWire<R>,
+) -> Result<Wires<R>, OutOfMemory>
+where
+    R: Wait + Clock + Clone + Drop,
+{
+    match plain_wire(rt, alloc, &table) {
+        Ok(second) => Ok(Wires {
             first,
             second,
             table,
-        })
+        }),
+        Err(OutOfMemory) => {
+            mem::drop(first);
+            mem::drop(table);
+            Err(OutOfMemory)
+        }
+    }
+}
+
+impl<R: Wait + Clock + Clone + Drop> Wires<R> {
+    fn make(rt: &R, alloc: Global) -> Result<Wires<R>, OutOfMemory> {
+        match service(alloc) {
+            Ok(table) => wires_to(rt, alloc, table),
+            Err(OutOfMemory) => Err(OutOfMemory),
+        }
     }
 
     /// Both uploads at once, and what became of each.
@@ -108,6 +143,21 @@ impl<R: Wait + Clock + Clone + Drop> Wires<R> {
         let counts = self.counts(rt, alloc)?;
         line(alloc, how, ends, counts.as_str())
     }
+
+    /// Both uploads at once, and what is shown then.
+    fn line_at_once(&mut self, rt: &R, alloc: Global) -> Result<String, AllocError>
+    where
+        R: Threads + Send + Sync,
+    {
+        let ends = self.upload_at_once(rt, alloc);
+        self.line_of(rt, alloc, "in threads", ends)
+    }
+
+    /// One upload after the other, and what is shown then.
+    fn line_in_turn(&mut self, rt: &R, alloc: Global) -> Result<String, AllocError> {
+        let ends = self.upload_in_turn(alloc);
+        self.line_of(rt, alloc, "in turn", ends)
+    }
 }
 
 fn line(alloc: Global, how: &str, ends: Ends, counts: &str) -> Result<String, AllocError> {
@@ -120,17 +170,27 @@ pub(crate) fn in_threads<R>(rt: &R, alloc: Global) -> Result<String, OutOfMemory
 where
     R: Threads + Wait + Clock + Clone + Send + Sync + Drop,
 {
-    let mut wires = Wires::make(rt, alloc)?;
-    let ends = wires.upload_at_once(rt, alloc);
-    Ok(wires.line_of(rt, alloc, "in threads", ends)?)
+    match Wires::make(rt, alloc) {
+        Ok(mut wires) => {
+            let line = wires.line_at_once(rt, alloc);
+            mem::drop(wires);
+            Ok(line?)
+        }
+        Err(OutOfMemory) => Err(OutOfMemory),
+    }
 }
 
 /// One upload after the other.
-pub(crate) fn in_turn<R: Wait + Clock + Clone + Drop>(
-    rt: &R,
-    alloc: Global,
-) -> Result<String, OutOfMemory> {
-    let mut wires = Wires::make(rt, alloc)?;
-    let ends = wires.upload_in_turn(alloc);
-    Ok(wires.line_of(rt, alloc, "in turn", ends)?)
+pub(crate) fn in_turn<R>(rt: &R, alloc: Global) -> Result<String, OutOfMemory>
+where
+    R: Wait + Clock + Clone + Drop,
+{
+    match Wires::make(rt, alloc) {
+        Ok(mut wires) => {
+            let line = wires.line_in_turn(rt, alloc);
+            mem::drop(wires);
+            Ok(line?)
+        }
+        Err(OutOfMemory) => Err(OutOfMemory),
+    }
 }

@@ -7,6 +7,7 @@ ghost use Rattle.small_uploads.specs.Uploading.{GoesToObject, IsPutTask};
 use s3_fakes::{MemTable, SharedTable};
 use s3_model::{Endpoint, Keys, Kind, Limits, OutOfMemory, Place, Task, Text};
 use std::alloc::Global;
+use std::mem;
 use std::sync::Arc;
 
 /// The bytes of each object.
@@ -27,8 +28,13 @@ const LIMITS: Limits = Limits {
 /// A service with one bucket.
 pub(crate) fn service(alloc: Global) -> Result<SharedTable, OutOfMemory> {
     let mut table = MemTable::make(alloc, LIMITS, MOMENT);
-    table.add_bucket("b")?;
-    table.share()
+    match table.add_bucket("b") {
+        Ok(()) => table.share(),
+        Err(OutOfMemory) => {
+            mem::drop(table);
+            Err(OutOfMemory)
+        }
+    }
 }
 
 /// The object of that key.
@@ -67,8 +73,13 @@ pub(crate) fn put_task(
 {
     let dest = object(alloc, bucket, key)?;
     let etag = Text::of(alloc, "")?;
-    let task = Arc::new(alloc, task_to(dest, etag))?;
-    Ok(task)
+    match Arc::new(alloc, task_to(dest, etag)) {
+        Ok(task) => Ok(task),
+        Err(failed) => {
+            mem::drop(failed);
+            Err(OutOfMemory)
+        }
+    }
 }
 
 pub(crate) fn endpoint(alloc: Global, host: &str, port: u16) -> Result<Endpoint, OutOfMemory> {

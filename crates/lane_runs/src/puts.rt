@@ -7,11 +7,28 @@ use crate::objects::{HELLO, MOMENT, SIZE, endpoint, keys, put_task, service};
 use jobs::{Carried, Ending, Job, What};
 use lane_jobs::Lane;
 use s3_fakes::MemWire;
-use s3_model::{Bytes, JobId, Op, OutOfMemory, Part, Task, Text};
+use s3_model::{Bytes, Endpoint, JobId, Keys, Op, OutOfMemory, Part, Task, Text};
 use s3_outside::Wire;
 use s3_signing::HexHash;
 use std::alloc::{AllocError, Global};
+use std::mem;
 use std::sync::{Arc, Wait};
+
+/// A lane to this endpoint, over this wire.
+fn lane_with<W: Wire + Drop>(
+    alloc: Global,
+    wire: W,
+    endpoint: &Endpoint,
+    keys: &Keys,
+) -> Result<Lane<W>, OutOfMemory> {
+    match Lane::make(alloc, wire, endpoint, keys, 1) {
+        Ok(lane) => Ok(lane),
+        Err(wire) => {
+            mem::drop(wire);
+            Err(OutOfMemory)
+        }
+    }
+}
 
 /// A lane to a service, over this wire.
 pub(crate) fn lane_to<W: Wire + Drop>(
@@ -22,10 +39,10 @@ pub(crate) fn lane_to<W: Wire + Drop>(
 ) -> Result<Lane<W>, OutOfMemory> {
     let endpoint = endpoint(alloc, host, port)?;
     let keys = keys(alloc)?;
-    match Lane::make(alloc, wire, &endpoint, &keys, 1) {
-        Ok(lane) => Ok(lane),
-        Err(_) => Err(OutOfMemory),
-    }
+    let lane = lane_with(alloc, wire, &endpoint, &keys);
+    mem::drop(keys);
+    mem::drop(endpoint);
+    lane
 }
 
 fn key(alloc: Global, number: u32) -> Result<Text, OutOfMemory> {
@@ -62,21 +79,24 @@ fn hello(alloc: Global) -> Result<Bytes, OutOfMemory> {
     Ok(bytes)
 }
 
-/// Carries the Put of one object.
-fn carry_put<W: Wire + Drop>(
-    alloc: Global,
-    lane: &mut Lane<W>,
-    bucket: &str,
-    number: u32,
-) -> Result<Carried, OutOfMemory> {
+/// The Put of one object.
+fn put_job(alloc: Global, bucket: &str, number: u32) -> Result<Job, OutOfMemory> {
     let bytes = hello(alloc)?;
     let key = key(alloc, number)?;
     let task = put_task(alloc, bucket, key)?;
-    Ok(lane.carry(job_of(task, SIZE, bytes)))
+    Ok(job_of(task, SIZE, bytes))
 }
 
 fn is_stored(carried: &Carried) -> bool {
     matches!(carried.ending, Ending::Gained(_))
+}
+
+/// Carries a Put; whether it was stored.
+fn carry_put<W: Wire + Drop>(lane: &mut Lane<W>, job: Job) -> bool {
+    let carried = lane.carry(job);
+    let is_stored = is_stored(&carried);
+    mem::drop(carried);
+    is_stored
 }
 
 /// Puts one object; whether it was stored.
@@ -86,19 +106,24 @@ fn put<W: Wire + Drop>(
     bucket: &str,
     number: u32,
 ) -> Result<bool, OutOfMemory> {
-    let carried = carry_put(alloc, lane, bucket, number)?;
-    Ok(is_stored(&carried))
+    match put_job(alloc, bucket, number) {
+        Ok(job) => Ok(carry_put(lane, job)),
+        Err(OutOfMemory) => Err(OutOfMemory),
+    }
 }
 
-/// Puts one object, and gives the job that comes back again.
-fn put_again<W: Wire + Drop>(
-    alloc: Global,
-    lane: &mut Lane<W>,
-    bucket: &str,
-    number: u32,
-) -> Result<Carried, OutOfMemory> {
-    let Carried { job, .. } = carry_put(alloc, lane, bucket, number)?;
-    Ok(lane.carry(job))
+/// The job that was carried.
+fn job_back(carried: Carried) -> Job {
+    let Carried { job, tries, ending } = carried;
+    mem::drop(tries);
+    mem::drop(ending);
+    job
+}
+
+/// Carries a job, and gives the job that comes back again.
+fn carry_again<W: Wire + Drop>(lane: &mut Lane<W>, job: Job) -> Carried {
+    let back = job_back(lane.carry(job));
+    lane.carry(back)
 }
 
 fn hash_shown(hash: &Option<HexHash>) -> &str {
@@ -117,6 +142,31 @@ fn again_shown(alloc: Global, carried: &Carried) -> Result<String, AllocError> {
         "not stored"
     };
     format!(in alloc; "{hash} given again: {how}")
+}
+
+/// Carries a job twice, and says what came of it then.
+fn carry_twice<W: Wire + Drop>(
+    alloc: Global,
+    lane: &mut Lane<W>,
+    job: Job,
+) -> Result<String, AllocError> {
+    let carried = carry_again(lane, job);
+    let again = again_shown(alloc, &carried);
+    mem::drop(carried);
+    again
+}
+
+/// Puts one object, and says what comes of its job when it is given again.
+fn put_again<W: Wire + Drop>(
+    alloc: Global,
+    lane: &mut Lane<W>,
+    bucket: &str,
+    number: u32,
+) -> Result<String, OutOfMemory> {
+    match put_job(alloc, bucket, number) {
+        Ok(job) => Ok(carry_twice(alloc, lane, job)?),
+        Err(OutOfMemory) => Err(OutOfMemory),
+    }
 }
 
 /// Puts that many objects, each under a key of its own; how many were stored.
@@ -171,9 +221,26 @@ impl Few {
 /// Puts objects over a lane, and then one whose job is given again.
 fn put_few<W: Wire + Drop>(alloc: Global, lane: &mut Lane<W>) -> Result<Few, OutOfMemory> {
     let stored = put_each(alloc, lane, "b", FEW)?;
-    let carried = put_again(alloc, lane, "b", FEW)?;
-    let again = again_shown(alloc, &carried)?;
+    let again = put_again(alloc, lane, "b", FEW)?;
     Ok(Few { stored, again })
+}
+
+/// How many connections a lane has opened.
+fn opened_over<R: Wait + Clone + Drop>(lane: Lane<MemWire<R>>) -> u32 {
+    let wire = lane.wire();
+    let opened = wire.opened();
+    mem::drop(wire);
+    opened
+}
+
+/// Puts objects over a lane, and says what came of them.
+fn few_over<R: Wait + Clone + Drop>(
+    alloc: Global,
+    mut lane: Lane<MemWire<R>>,
+) -> Result<String, OutOfMemory> {
+    let few = put_few(alloc, &mut lane);
+    let opened = opened_over(lane);
+    Ok(few?.lines(alloc, opened)?)
 }
 
 /// Puts objects into a service in memory, and says what came of them.
@@ -181,8 +248,8 @@ pub(crate) fn few_shown<R: Wait + Clone + Drop>(
     rt: &R,
     alloc: Global,
 ) -> Result<String, OutOfMemory> {
-    let mut lane = lane_to_memory(rt, alloc)?;
-    let few = put_few(alloc, &mut lane)?;
-    let opened = lane.wire().opened();
-    Ok(few.lines(alloc, opened)?)
+    match lane_to_memory(rt, alloc) {
+        Ok(lane) => few_over(alloc, lane),
+        Err(OutOfMemory) => Err(OutOfMemory),
+    }
 }

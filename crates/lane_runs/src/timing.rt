@@ -6,7 +6,7 @@ use outside_system::SocketWire;
 use s3_model::OutOfMemory;
 use std::alloc::{AllocError, Global};
 use std::time::Instant;
-use std::{env, io};
+use std::{env, io, mem};
 
 fn no_memory(_: OutOfMemory) -> io::Error {
     AllocError.into()
@@ -20,7 +20,10 @@ fn lane_of_system(
     port: u16,
 ) -> io::Result<Lane<SocketWire<HostRuntime>>> {
     let wire = SocketWire::new(rt.clone()?);
-    lane_to(alloc, wire, host, port).map_err(no_memory)
+    match lane_to(alloc, wire, host, port) {
+        Ok(lane) => Ok(lane),
+        Err(failed) => Err(no_memory(failed)),
+    }
 }
 
 /// Puts objects over a lane; the nanoseconds that it took, and how many were stored.
@@ -57,12 +60,28 @@ fn goal_of<'a>(host: &'a str, port: &str, bucket: &'a str, count: &str) -> Optio
     })
 }
 
-/// Puts objects into a service, and prints how long that took and how many were stored.
-pub(crate) fn time_puts(rt: &HostRuntime, alloc: Global, goal: Goal<'_>) -> io::Result<u8> {
-    let mut lane = lane_of_system(rt, alloc, goal.host, goal.port)?;
-    let (took, stored) = time_each(rt, alloc, &mut lane, goal.bucket, goal.count)?;
+/// Puts objects over a lane, and prints how long that took and how many were stored.
+fn time_over(
+    rt: &HostRuntime,
+    alloc: Global,
+    lane: &mut Lane<SocketWire<HostRuntime>>,
+    goal: Goal<'_>,
+) -> io::Result<u8> {
+    let (took, stored) = time_each(rt, alloc, lane, goal.bucket, goal.count)?;
     println!(rt; "{took} {stored}")?;
     Ok(0)
+}
+
+/// Puts objects into a service, and prints how long that took and how many were stored.
+pub(crate) fn time_puts(rt: &HostRuntime, alloc: Global, goal: Goal<'_>) -> io::Result<u8> {
+    match lane_of_system(rt, alloc, goal.host, goal.port) {
+        Ok(mut lane) => {
+            let timed = time_over(rt, alloc, &mut lane, goal);
+            mem::drop(lane);
+            timed
+        }
+        Err(fault) => Err(fault),
+    }
 }
 
 /// What the words ask for.

@@ -8,6 +8,7 @@ use outside_memory::{FileTable, MemFile, MemFiles};
 use s3_model::{Journal, OutOfMemory, Outcome, Text};
 use s3_outside::Wire;
 use std::alloc::Global;
+use std::mem;
 
 /// The most attempts of an upload.
 const ATTEMPTS: u32 = 3;
@@ -17,11 +18,22 @@ fn hello(alloc: Global) -> Result<MemFile, OutOfMemory> {
     Ok(MemFile::new(bytes, 0))
 }
 
-/// Files with one file of that name.
-fn files(alloc: Global, name: &str) -> Result<MemFiles, OutOfMemory> {
+/// A table with one file of that name.
+fn table_of(alloc: Global, name: &str) -> Result<FileTable, OutOfMemory> {
     let file = hello(alloc)?;
     let mut table = FileTable::make(alloc);
-    table.put_file(alloc, name, file)?;
+    match table.put_file(alloc, name, file) {
+        Ok(()) => Ok(table),
+        Err(OutOfMemory) => {
+            mem::drop(table);
+            Err(OutOfMemory)
+        }
+    }
+}
+
+/// Files with one file of that name.
+fn files(alloc: Global, name: &str) -> Result<MemFiles, OutOfMemory> {
+    let table = table_of(alloc, name)?;
     Ok(MemFiles::make(alloc, table, Vec::new(alloc), Vec::new(alloc)))
 }
 
@@ -41,6 +53,27 @@ fn journal(alloc: Global) -> Result<Journal, OutOfMemory>
     Ok(journal)
 }
 
+/// Uploads a file of these over a wire, and notes it.
+fn upload_noted<W: Wire>(
+    alloc: Global,
+    wire: &mut W,
+    files: &mut MemFiles,
+    carrier: &mut Carrier,
+    name: &str,
+    journal: &mut Journal,
+) -> Result<Outcome, OutOfMemory>
+    requires empty { journal.old.items ≡ [] }
+    requires room { 2 ≤ journal.old.spare }
+{
+    let key = Text::of(alloc, name)?;
+    match put_task(alloc, "b", key) {
+        Ok(task) => Ok(small_uploads::upload(
+            alloc, files, wire, carrier, task, name, SIZE, journal,
+        )),
+        Err(OutOfMemory) => Err(OutOfMemory),
+    }
+}
+
 /// Uploads a file of these over a wire.
 fn upload_of<W: Wire>(
     alloc: Global,
@@ -50,15 +83,37 @@ fn upload_of<W: Wire>(
     name: &str,
 ) -> Result<Outcome, OutOfMemory> {
     let mut journal = journal(alloc)?;
-    let key = Text::of(alloc, name)?;
-    let task = put_task(alloc, "b", key)?;
-    Ok(small_uploads::upload(alloc, files, wire, carrier, task, name, SIZE, &mut journal))
+    let outcome = upload_noted(alloc, wire, files, carrier, name, &mut journal);
+    mem::drop(journal);
+    outcome
+}
+
+/// Uploads a file of these over a wire, by a carrier of its own.
+fn upload_from<W: Wire>(
+    alloc: Global,
+    wire: &mut W,
+    files: &mut MemFiles,
+    name: &str,
+) -> Result<Outcome, OutOfMemory> {
+    match carrier(alloc) {
+        Ok(mut carrier) => {
+            let outcome = upload_of(alloc, wire, files, &mut carrier, name);
+            mem::drop(carrier);
+            outcome
+        }
+        Err(OutOfMemory) => Err(OutOfMemory),
+    }
 }
 
 fn upload<W: Wire>(alloc: Global, wire: &mut W, name: &str) -> Result<Outcome, OutOfMemory> {
-    let mut files = files(alloc, name)?;
-    let mut carrier = carrier(alloc)?;
-    upload_of(alloc, wire, &mut files, &mut carrier, name)
+    match files(alloc, name) {
+        Ok(mut files) => {
+            let outcome = upload_from(alloc, wire, &mut files, name);
+            mem::drop(files);
+            outcome
+        }
+        Err(OutOfMemory) => Err(OutOfMemory),
+    }
 }
 
 fn name_of(outcome: &Outcome) -> &'static str {
@@ -70,10 +125,17 @@ fn name_of(outcome: &Outcome) -> &'static str {
     }
 }
 
+/// The name of an outcome, which is let go.
+fn end_of(outcome: Outcome) -> &'static str {
+    let name = name_of(&outcome);
+    mem::drop(outcome);
+    name
+}
+
 /// Uploads a file to the object of its name, and says what became of it.
 pub(crate) fn end_of_upload<W: Wire>(alloc: Global, wire: &mut W, name: &str) -> &'static str {
     match upload(alloc, wire, name) {
-        Ok(outcome) => name_of(&outcome),
+        Ok(outcome) => end_of(outcome),
         Err(OutOfMemory) => "no memory",
     }
 }
