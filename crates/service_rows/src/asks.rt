@@ -1,36 +1,36 @@
 //! The requests of steps.
 
-use crate::words::{Spot, Words};
-use s3_model::{Ask, OutOfMemory, Text};
+use crate::words::{Spot, Words, text_or_empty};
+use s3_model::{Ask, Op, Text};
 use std::alloc::Global;
 
-fn head(alloc: Global, words: &mut Words<'_>) -> Result<Ask, OutOfMemory> {
-    let Spot { bucket, key } = words.spot(alloc)?;
-    Ok(Ask::Head { bucket, key })
+fn head(alloc: Global, words: &mut Words<'_>) -> Ask {
+    let Spot { bucket, key } = words.spot(alloc);
+    Ask::Head { bucket, key }
 }
 
-fn get(alloc: Global, words: &mut Words<'_>) -> Result<Ask, OutOfMemory> {
-    let Spot { bucket, key } = words.spot(alloc)?;
-    let etag = words.etag(alloc)?;
+fn get(alloc: Global, words: &mut Words<'_>) -> Ask {
+    let Spot { bucket, key } = words.spot(alloc);
+    let etag = words.etag(alloc);
     let range = words.range();
-    Ok(Ask::Get {
+    Ask::Get {
         bucket,
         key,
         etag,
         range,
-    })
+    }
 }
 
 /// What a Put asks; the bytes stand in front of its bucket.
-fn put(alloc: Global, words: &mut Words<'_>) -> Result<Ask, OutOfMemory> {
-    let Spot { bucket, key } = words.spot(alloc)?;
+fn put(alloc: Global, words: &mut Words<'_>) -> Ask {
+    let Spot { bucket, key } = words.spot(alloc);
     let fresh = words.is("fresh");
-    Ok(Ask::Put {
+    Ask::Put {
         bucket,
         key,
         content: None,
         fresh,
-    })
+    }
 }
 
 /// An object under an entity tag.
@@ -40,61 +40,56 @@ struct Source {
     etag: Text,
 }
 
-fn next_source(alloc: Global, words: &mut Words<'_>) -> Result<Source, OutOfMemory> {
-    let spot = words.spot(alloc)?;
-    let etag = words.etag(alloc)?;
-    Ok(Source { spot, etag })
+fn next_source(alloc: Global, words: &mut Words<'_>) -> Source {
+    let spot = words.spot(alloc);
+    let etag = words.etag(alloc);
+    Source { spot, etag }
 }
 
-fn copy_of(to: Spot, source: Source) -> Ask {
-    let Source { spot, etag } = source;
+fn copy(alloc: Global, words: &mut Words<'_>) -> Ask {
+    let Spot { bucket, key } = words.spot(alloc);
+    let Source { spot, etag } = next_source(alloc, words);
     Ask::Copy {
-        bucket: to.bucket,
-        key: to.key,
+        bucket,
+        key,
         from_bucket: spot.bucket,
         from_key: spot.key,
         etag,
     }
 }
 
-fn copy(alloc: Global, words: &mut Words<'_>) -> Result<Ask, OutOfMemory> {
-    let to = words.spot(alloc)?;
-    let source = next_source(alloc, words)?;
-    Ok(copy_of(to, source))
+fn delete(alloc: Global, words: &mut Words<'_>) -> Ask {
+    let Spot { bucket, key } = words.spot(alloc);
+    Ask::Delete { bucket, key }
 }
 
-fn delete(alloc: Global, words: &mut Words<'_>) -> Result<Ask, OutOfMemory> {
-    let Spot { bucket, key } = words.spot(alloc)?;
-    Ok(Ask::Delete { bucket, key })
-}
-
-fn token(alloc: Global, word: &str) -> Result<Option<Text>, OutOfMemory> {
+fn token(alloc: Global, word: &str) -> Option<Text> {
     if word == "-" {
-        return Ok(None);
+        None
+    } else {
+        Some(text_or_empty(alloc, Text::of(alloc, word)))
     }
-    let token = Text::of(alloc, word)?;
-    Ok(Some(token))
 }
 
-fn list(alloc: Global, words: &mut Words<'_>) -> Result<Ask, OutOfMemory> {
-    let Spot { bucket, key } = words.spot(alloc)?;
+fn list(alloc: Global, words: &mut Words<'_>) -> Ask {
+    let Spot { bucket, key } = words.spot(alloc);
     let delimited = words.is("/");
-    let token = token(alloc, words.next())?;
-    Ok(Ask::List {
+    let token = token(alloc, words.next());
+    Ask::List {
         bucket,
         prefix: key,
         delimited,
         token,
-    })
+    }
 }
 
-fn create(alloc: Global, words: &mut Words<'_>) -> Result<Ask, OutOfMemory> {
-    let Spot { bucket, key } = words.spot(alloc)?;
-    Ok(Ask::Create {
+fn create(alloc: Global, words: &mut Words<'_>) -> Ask {
+    let Spot { bucket, key } = words.spot(alloc);
+    Ask::Create {
         bucket,
         key,
         content: None,
-    })
+    }
 }
 
 /// An upload in parts.
@@ -104,29 +99,32 @@ struct Place {
     upload: Text,
 }
 
-fn next_place(alloc: Global, words: &mut Words<'_>) -> Result<Place, OutOfMemory> {
-    let spot = words.spot(alloc)?;
-    let upload = words.text(alloc)?;
-    Ok(Place { spot, upload })
+fn next_place(alloc: Global, words: &mut Words<'_>) -> Place {
+    let spot = words.spot(alloc);
+    let upload = words.text(alloc);
+    Place { spot, upload }
 }
 
 fn part_number(words: &mut Words<'_>) -> u32 {
     words.next().parse::<u32>().unwrap_or(0)
 }
 
-fn part(alloc: Global, words: &mut Words<'_>) -> Result<Ask, OutOfMemory> {
-    let Place { spot, upload } = next_place(alloc, words)?;
+fn part(alloc: Global, words: &mut Words<'_>) -> Ask {
+    let Place { spot, upload } = next_place(alloc, words);
     let number = part_number(words);
-    Ok(Ask::Part {
+    Ask::Part {
         bucket: spot.bucket,
         key: spot.key,
         upload,
         number,
-    })
+    }
 }
 
-fn part_copy_of(to: Place, number: u32, source: Source, range: (u64, u64)) -> Ask {
-    let Place { spot, upload } = to;
+fn part_copy(alloc: Global, words: &mut Words<'_>) -> Ask {
+    let Place { spot, upload } = next_place(alloc, words);
+    let number = part_number(words);
+    let source = next_source(alloc, words);
+    let range = words.range().unwrap_or((0, 0));
     Ask::PartCopy {
         bucket: spot.bucket,
         key: spot.key,
@@ -139,76 +137,61 @@ fn part_copy_of(to: Place, number: u32, source: Source, range: (u64, u64)) -> As
     }
 }
 
-fn part_copy(alloc: Global, words: &mut Words<'_>) -> Result<Ask, OutOfMemory> {
-    let to = next_place(alloc, words)?;
-    let number = part_number(words);
-    let source = next_source(alloc, words)?;
-    let range = words.range().unwrap_or((0, 0));
-    Ok(part_copy_of(to, number, source, range))
-}
-
-fn complete(alloc: Global, words: &mut Words<'_>) -> Result<Ask, OutOfMemory> {
-    let Place { spot, upload } = next_place(alloc, words)?;
-    let etags = words.etags(alloc)?;
+fn complete(alloc: Global, words: &mut Words<'_>) -> Ask {
+    let Place { spot, upload } = next_place(alloc, words);
+    let etags = words.etags(alloc);
     let fresh = words.is("fresh");
-    Ok(Ask::Complete {
+    Ask::Complete {
         bucket: spot.bucket,
         key: spot.key,
         upload,
         etags,
         fresh,
-    })
+    }
 }
 
-fn abort(alloc: Global, words: &mut Words<'_>) -> Result<Ask, OutOfMemory> {
-    let Place { spot, upload } = next_place(alloc, words)?;
-    Ok(Ask::Abort {
+fn abort(alloc: Global, words: &mut Words<'_>) -> Ask {
+    let Place { spot, upload } = next_place(alloc, words);
+    Ask::Abort {
         bucket: spot.bucket,
         key: spot.key,
         upload,
-    })
+    }
 }
 
-/// What a step asks of objects and listings; None where it asks something else.
-fn of_objects(
-    alloc: Global,
-    name: &str,
-    words: &mut Words<'_>,
-) -> Result<Option<Ask>, OutOfMemory> {
-    let ask = match name {
-        "Head" => head(alloc, words)?,
-        "Get" => get(alloc, words)?,
-        "Put" => put(alloc, words)?,
-        "Copy" => copy(alloc, words)?,
-        "Delete" => delete(alloc, words)?,
-        "List" => list(alloc, words)?,
-        "Buckets" => Ask::Buckets,
-        _ => return Ok(None),
-    };
-    Ok(Some(ask))
+/// The operation of a step of that name; None where it is no request.
+pub(crate) fn op_named(name: &str) -> Option<Op> {
+    match name {
+        "Head" => Some(Op::Head),
+        "Get" => Some(Op::Get),
+        "Put" => Some(Op::Put),
+        "Copy" => Some(Op::Copy),
+        "Delete" => Some(Op::Delete),
+        "List" => Some(Op::List),
+        "Buckets" => Some(Op::Buckets),
+        "Create" => Some(Op::Create),
+        "Part" => Some(Op::Part),
+        "PartCopy" => Some(Op::PartCopy),
+        "Complete" => Some(Op::Complete),
+        "Abort" => Some(Op::Abort),
+        _ => None,
+    }
 }
 
-/// What a step asks of an upload in parts; None where it asks something else.
-fn of_uploads(
-    alloc: Global,
-    name: &str,
-    words: &mut Words<'_>,
-) -> Result<Option<Ask>, OutOfMemory> {
-    let ask = match name {
-        "Create" => create(alloc, words)?,
-        "Part" => part(alloc, words)?,
-        "PartCopy" => part_copy(alloc, words)?,
-        "Complete" => complete(alloc, words)?,
-        "Abort" => abort(alloc, words)?,
-        _ => return Ok(None),
-    };
-    Ok(Some(ask))
-}
-
-fn ask_named(alloc: Global, name: &str, words: &mut Words<'_>) -> Result<Option<Ask>, OutOfMemory> {
-    match of_objects(alloc, name, words)? {
-        Some(ask) => Ok(Some(ask)),
-        None => of_uploads(alloc, name, words),
+fn ask_of(alloc: Global, op: Op, words: &mut Words<'_>) -> Ask {
+    match op {
+        Op::Head => head(alloc, words),
+        Op::Get => get(alloc, words),
+        Op::Put => put(alloc, words),
+        Op::Copy => copy(alloc, words),
+        Op::Delete => delete(alloc, words),
+        Op::List => list(alloc, words),
+        Op::Buckets => Ask::Buckets,
+        Op::Create => create(alloc, words),
+        Op::Part => part(alloc, words),
+        Op::PartCopy => part_copy(alloc, words),
+        Op::Complete => complete(alloc, words),
+        Op::Abort => abort(alloc, words),
     }
 }
 
@@ -220,22 +203,16 @@ pub(crate) struct Request {
 }
 
 /// The bytes that a request sends: those of the word in front.
-fn body(alloc: Global, name: &str, words: &mut Words<'_>) -> Result<Text, OutOfMemory> {
-    match name {
-        "Put" | "Part" => words.text(alloc),
-        _ => Text::of(alloc, ""),
+fn body(alloc: Global, op: Op, words: &mut Words<'_>) -> Text {
+    match op {
+        Op::Put | Op::Part => words.text(alloc),
+        _ => text_or_empty(alloc, Text::of(alloc, "")),
     }
 }
 
-/// The request of a step of that name; None where it is no request.
-pub(crate) fn request_named(
-    alloc: Global,
-    name: &str,
-    words: &mut Words<'_>,
-) -> Result<Option<Request>, OutOfMemory> {
-    let bytes = body(alloc, name, words)?;
-    match ask_named(alloc, name, words)? {
-        Some(ask) => Ok(Some(Request { ask, bytes })),
-        None => Ok(None),
-    }
+/// The request of a step.
+pub(crate) fn request_of(alloc: Global, op: Op, words: &mut Words<'_>) -> Request {
+    let bytes = body(alloc, op, words);
+    let ask = ask_of(alloc, op, words);
+    Request { ask, bytes }
 }

@@ -8,6 +8,7 @@ use s3_fakes::{MemTable, MemWire, SharedTable};
 use s3_model::{Ask, Bytes, Class, Endpoint, Keys, Limits, OutOfMemory, Text};
 use s3_outside::Wire;
 use std::alloc::Global;
+use std::mem;
 use std::sync::{Arc, Wait};
 
 /// The moment of all steps, 2013-05-24T00:00:00Z, in seconds since 1970.
@@ -111,6 +112,23 @@ fn class_of<W: Wire>(
     }
 }
 
+fn answer_to<W: Wire>(
+    alloc: Global,
+    wire: &mut W,
+    client: &mut Client,
+    ask: &Ask,
+    payload: &Payload<'_>,
+) -> Result<Answer, OutOfMemory> {
+    let mut into = Bytes::make(alloc, ROOM)?;
+    match class_of(alloc, wire, client, ask, payload, &mut into) {
+        Ok(class) => Ok(Answer { class, bytes: into }),
+        Err(OutOfMemory) => {
+            mem::drop(into);
+            Err(OutOfMemory)
+        }
+    }
+}
+
 fn send_by<W: Wire>(
     alloc: Global,
     wire: &mut W,
@@ -119,9 +137,7 @@ fn send_by<W: Wire>(
     bytes: &[u8],
 ) -> Result<Answer, OutOfMemory> {
     let payload = Payload::of(alloc, ask, bytes, &mut None)?;
-    let mut into = Bytes::make(alloc, ROOM)?;
-    let class = class_of(alloc, wire, client, ask, &payload, &mut into)?;
-    Ok(Answer { class, bytes: into })
+    answer_to(alloc, wire, client, ask, &payload)
 }
 
 /// Sends a request once.
@@ -131,21 +147,50 @@ pub(crate) fn send<W: Wire>(
     ask: &Ask,
     bytes: &[u8],
 ) -> Result<Answer, OutOfMemory> {
-    let mut client = client(alloc)?;
-    send_by(alloc, wire, &mut client, ask, bytes)
+    match client(alloc) {
+        Ok(mut client) => {
+            let answer = send_by(alloc, wire, &mut client, ask, bytes);
+            mem::drop(client);
+            answer
+        }
+        Err(OutOfMemory) => Err(OutOfMemory),
+    }
 }
 
 impl<R: Wait + Clone + Drop> Desk<R> {
     /// A service without buckets.
     pub(crate) fn make(alloc: Global, rt: &R) -> Result<Desk<R>, OutOfMemory> {
         let table = service(alloc)?;
-        let wire = wire_to(alloc, rt, &table)?;
-        Ok(Desk { table, wire })
+        match wire_to(alloc, rt, &table) {
+            Ok(wire) => Ok(Desk { table, wire }),
+            Err(OutOfMemory) => {
+                mem::drop(table);
+                Err(OutOfMemory)
+            }
+        }
+    }
+
+    /// A new service without buckets.
+    pub(crate) fn renew(&mut self, alloc: Global) -> Result<(), OutOfMemory> {
+        match service(alloc) {
+            Ok(table) => {
+                let before = mem::replace(&mut self.table, table);
+                mem::drop(before);
+                Ok(())
+            }
+            Err(OutOfMemory) => Err(OutOfMemory),
+        }
     }
 
     /// A wire of its own for what follows, with an empty log.
     pub(crate) fn rewire(&mut self, alloc: Global, rt: &R) -> Result<(), OutOfMemory> {
-        self.wire = wire_to(alloc, rt, &self.table)?;
-        Ok(())
+        match wire_to(alloc, rt, &self.table) {
+            Ok(wire) => {
+                let before = mem::replace(&mut self.wire, wire);
+                mem::drop(before);
+                Ok(())
+            }
+            Err(OutOfMemory) => Err(OutOfMemory),
+        }
     }
 }

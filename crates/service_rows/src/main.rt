@@ -26,21 +26,46 @@ mod words;
 
 use desk::Desk;
 use s3_model::OutOfMemory;
-use std::alloc::AllocError;
-use std::io;
+use std::alloc::{AllocError, Global};
+use std::sync::Wait;
+use std::{io, mem};
 use steps::result_of;
 
-fn no_memory(_: OutOfMemory) -> io::Error {
-    AllocError.into()
+/// Does a step, and prints what came of it.
+fn show_row<R: Wait + Clone + Drop>(
+    host: &HostRuntime,
+    alloc: Global,
+    rt: &R,
+    desk: &mut Desk<R>,
+    line: &str,
+) -> io::Result<()> {
+    match result_of(alloc, rt, desk, line) {
+        Ok(result) => println!(host; "{line} => {result}"),
+        Err(OutOfMemory) => Err(AllocError.into()),
+    }
+}
+
+fn show_rows<R: Wait + Clone + Drop>(
+    host: &HostRuntime,
+    alloc: Global,
+    rt: &R,
+    desk: &mut Desk<R>,
+) -> io::Result<()> {
+    for line in host.lines(alloc) {
+        let line = line?;
+        show_row(host, alloc, rt, desk, line.as_str())?;
+    }
+    Ok(())
 }
 
 fn main(rt: HostRuntime) -> io::Result<()> {
     let alloc = rt.alloc();
-    let mut desk = Desk::make(alloc, &rt).map_err(no_memory)?;
-    for line in rt.lines(alloc) {
-        let line = line?;
-        let result = result_of(alloc, &rt, &mut desk, line.as_str()).map_err(no_memory)?;
-        println!(rt; "{line} => {result}")?;
+    match Desk::make(alloc, &rt) {
+        Ok(mut desk) => {
+            let shown = show_rows(&rt, alloc, &rt, &mut desk);
+            mem::drop(desk);
+            shown
+        }
+        Err(OutOfMemory) => Err(AllocError.into()),
     }
-    Ok(())
 }

@@ -1,24 +1,22 @@
 //! The scripts of steps.
 
-use crate::words::{Spot, Words};
+use crate::words::{Spot, Words, text_or_empty};
 use s3_fakes::{Ending, ForeignWrite, Form, MemTable, Turn};
 use s3_model::{OutOfMemory, Text};
 use std::alloc::Global;
 
 /// An Error document with a code.
-fn document(alloc: Global, code: &str) -> Result<Text, OutOfMemory> {
+fn document(alloc: Global, code: &str) -> Text {
     let behind = "</Code><Message>by script</Message></Error>";
-    Text::joined(alloc, &["<Error><Code>", code, behind])
+    text_or_empty(alloc, Text::joined(alloc, &["<Error><Code>", code, behind]))
 }
 
 /// A refusal that is written `refuse:STATUS:CODE`.
-fn refusal(alloc: Global, rest: &str) -> Result<Option<Turn>, OutOfMemory> {
+fn refusal(alloc: Global, rest: &str) -> Option<Turn> {
     let (status, code) = rest.split_once(':').unwrap_or((rest, ""));
-    let Ok(status) = status.parse::<u16>() else {
-        return Ok(None);
-    };
-    let document = document(alloc, code)?;
-    Ok(Some(Turn::Refuse { status, document }))
+    let status = status.parse::<u16>().ok()?;
+    let document = document(alloc, code);
+    Some(Turn::Refuse { status, document })
 }
 
 /// A turn with a number behind a colon.
@@ -45,14 +43,14 @@ fn plain(word: &str) -> Option<Turn> {
 }
 
 /// A turn as it is written; None where it is none.
-fn turn_of(alloc: Global, word: &str) -> Result<Option<Turn>, OutOfMemory> {
+fn turn_of(alloc: Global, word: &str) -> Option<Turn> {
     if let Some(rest) = word.strip_prefix("refuse:") {
         return refusal(alloc, rest);
     }
-    if let Some((name, number)) = word.split_once(':') {
-        return Ok(counted(name, number.parse::<u64>().unwrap_or(0)));
+    match word.split_once(':') {
+        Some((name, number)) => counted(name, number.parse::<u64>().unwrap_or(0)),
+        None => plain(word),
     }
-    Ok(plain(word))
 }
 
 /// The number of a request; None for each.
@@ -66,7 +64,7 @@ pub(crate) fn add_turn(
     table: &mut MemTable,
     words: &mut Words<'_>,
 ) -> Result<(), OutOfMemory> {
-    let turn = turn_of(alloc, words.next())?;
+    let turn = turn_of(alloc, words.next());
     let number = number_of(words.next());
     match turn {
         Some(turn) => table.script(words.rest(), number, turn),
@@ -74,15 +72,15 @@ pub(crate) fn add_turn(
     }
 }
 
-fn foreign_put(alloc: Global, words: &mut Words<'_>) -> Result<ForeignWrite, OutOfMemory> {
-    let Spot { bucket, key } = words.spot(alloc)?;
-    let bytes = words.bytes(alloc)?;
-    Ok(ForeignWrite::Put { bucket, key, bytes })
+fn foreign_put(alloc: Global, words: &mut Words<'_>) -> ForeignWrite {
+    let Spot { bucket, key } = words.spot(alloc);
+    let bytes = words.bytes(alloc);
+    ForeignWrite::Put { bucket, key, bytes }
 }
 
-fn foreign_remove(alloc: Global, words: &mut Words<'_>) -> Result<ForeignWrite, OutOfMemory> {
-    let Spot { bucket, key } = words.spot(alloc)?;
-    Ok(ForeignWrite::Remove { bucket, key })
+fn foreign_remove(alloc: Global, words: &mut Words<'_>) -> ForeignWrite {
+    let Spot { bucket, key } = words.spot(alloc);
+    ForeignWrite::Remove { bucket, key }
 }
 
 /// Somebody else writes before a request.
@@ -93,9 +91,9 @@ pub(crate) fn add_write(
 ) -> Result<(), OutOfMemory> {
     let number = words.number();
     let write = if words.is("put") {
-        foreign_put(alloc, words)?
+        foreign_put(alloc, words)
     } else {
-        foreign_remove(alloc, words)?
+        foreign_remove(alloc, words)
     };
     table.write_before(number, write)
 }

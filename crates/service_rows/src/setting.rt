@@ -11,7 +11,7 @@ fn add_bucket(
     table: &mut MemTable,
     words: &mut Words<'_>,
 ) -> Result<(), OutOfMemory> {
-    let name = words.text(alloc)?;
+    let name = words.text(alloc);
     table.add_bucket(name.as_str())
 }
 

@@ -32,24 +32,25 @@ fn push_entries(alloc: Global, out: &mut String, entries: &[Entry]) -> Result<()
     Ok(())
 }
 
+fn push_prefix(out: &mut String, prefix: &str) -> Result<(), AllocError> {
+    out.push_str(" {")?;
+    push_name(out, prefix)?;
+    out.push('}')
+}
+
 fn push_prefixes(out: &mut String, prefixes: &[Text]) -> Result<(), AllocError> {
     for prefix in prefixes {
-        out.push_str(" {")?;
-        push_name(out, prefix.as_str())?;
-        out.push('}')?;
+        push_prefix(out, prefix.as_str())?;
     }
     Ok(())
 }
 
 /// What a page says of more names.
 fn page_start(alloc: Global, page: &Listed) -> Result<String, AllocError> {
-    let more = if page.more { " more" } else { "" };
+    let start = if page.more { "page more" } else { "page" };
     match &page.token {
-        Some(token) => {
-            let token = token.as_str();
-            format!(in alloc; "page{more} {token}")
-        }
-        None => format!(in alloc; "page{more}"),
+        Some(token) => with_word(alloc, start, token.as_str()),
+        None => String::from_str(alloc, start),
     }
 }
 
@@ -74,6 +75,16 @@ fn range_text(alloc: Global, range: Option<(u64, u64, u64)>) -> Result<String, A
     }
 }
 
+fn got_text(
+    alloc: Global,
+    status: u16,
+    length: u64,
+    range: &str,
+    text: &str,
+) -> Result<String, AllocError> {
+    format!(in alloc; "got {status} {length}{range} [{text}]")
+}
+
 fn got(
     alloc: Global,
     status: u16,
@@ -82,9 +93,8 @@ fn got(
     bytes: &[u8],
 ) -> Result<String, AllocError> {
     let range = range_text(alloc, range)?;
-    let range = range.as_str();
     let text = std::str::from_utf8(bytes).unwrap_or("?");
-    format!(in alloc; "got {status} {length}{range} [{text}]")
+    got_text(alloc, status, length, range.as_str(), text)
 }
 
 fn found(alloc: Global, size: u64, etag: &str, micros: u64) -> Result<String, AllocError> {

@@ -1,7 +1,7 @@
 //! The steps.
 
-use crate::asks::{Request, request_named};
-use crate::desk::{Desk, send, service};
+use crate::asks::{Request, op_named, request_of};
+use crate::desk::{Answer, Desk, send};
 use crate::setting::{arrange, shown_object};
 use crate::shown::answer_text;
 use crate::uploads::carry_upload;
@@ -19,9 +19,14 @@ fn show<R: Wait + Clone + Drop>(
     desk: &Desk<R>,
     words: &mut Words<'_>,
 ) -> Result<String, OutOfMemory> {
-    let spot = words.spot(alloc)?;
+    let spot = words.spot(alloc);
     let table = desk.table.lock(rt);
     Ok(shown_object(alloc, &table, &spot)?)
+}
+
+fn push_pause(alloc: Global, out: &mut String, seconds: u32) -> Result<(), AllocError> {
+    let text = format!(in alloc; " {seconds}")?;
+    out.push_str(text.as_str())
 }
 
 /// The seconds of the pauses that a wire was asked for.
@@ -29,19 +34,31 @@ fn pauses(alloc: Global, notes: &[WireNote]) -> Result<String, AllocError> {
     let mut out = String::from_str(alloc, "pauses")?;
     for note in notes {
         if let WireNote::Pause(seconds) = note {
-            let text = format!(in alloc; " {seconds}")?;
-            out.push_str(text.as_str())?;
+            push_pause(alloc, &mut out, *seconds)?;
         }
     }
     Ok(out)
 }
 
-/// What the wire shows: its talks, its connections, its faults and its pauses.
-fn shown_wire<R: Wait + Clone + Drop>(alloc: Global, desk: &Desk<R>) -> Result<String, AllocError> {
-    let pauses = pauses(alloc, desk.wire.notes())?;
-    let (talks, pauses) = (desk.wire.talks().len(), pauses.as_str());
-    let (opened, faults) = (desk.wire.opened(), desk.wire.faults());
+fn wire_text(
+    alloc: Global,
+    talks: usize,
+    opened: u32,
+    faults: u64,
+    pauses: &str,
+) -> Result<String, AllocError> {
     format!(in alloc; "talks {talks} opened {opened} faults {faults} {pauses}")
+}
+
+/// What the wire shows: its talks, its connections, its faults and its pauses.
+fn wire_shown<R: Wait + Clone + Drop>(
+    alloc: Global,
+    desk: &Desk<R>,
+) -> Result<String, OutOfMemory> {
+    let (talks, opened) = (desk.wire.talks().len(), desk.wire.opened());
+    let faults = desk.wire.faults();
+    let pauses = pauses(alloc, desk.wire.notes())?;
+    Ok(wire_text(alloc, talks, opened, faults, pauses.as_str())?)
 }
 
 fn set_up<R: Wait + Clone + Drop>(
@@ -56,11 +73,21 @@ fn set_up<R: Wait + Clone + Drop>(
     Ok(String::from_str(alloc, came)?)
 }
 
-fn sent<W: Wire>(alloc: Global, wire: &mut W, request: &Request) -> Result<String, OutOfMemory> {
-    let answer = send(alloc, wire, &request.ask, request.bytes.as_str().as_bytes())?;
+/// What an answer means, which is let go.
+fn answer_shown(alloc: Global, answer: Answer) -> Result<String, AllocError> {
     let text = answer_text(alloc, &answer);
     mem::drop(answer);
-    Ok(text?)
+    text
+}
+
+/// Sends a request, which is let go, and says what its answer means.
+fn sent<W: Wire>(alloc: Global, wire: &mut W, request: Request) -> Result<String, OutOfMemory> {
+    let answer = send(alloc, wire, &request.ask, request.bytes.as_str().as_bytes());
+    mem::drop(request);
+    match answer {
+        Ok(answer) => Ok(answer_shown(alloc, answer)?),
+        Err(OutOfMemory) => Err(OutOfMemory),
+    }
 }
 
 /// Begins with a service without buckets.
@@ -69,7 +96,7 @@ fn begin<R: Wait + Clone + Drop>(
     rt: &R,
     desk: &mut Desk<R>,
 ) -> Result<String, OutOfMemory> {
-    desk.table = service(alloc)?;
+    desk.renew(alloc)?;
     rewire(alloc, rt, desk)
 }
 
@@ -82,6 +109,29 @@ fn rewire<R: Wait + Clone + Drop>(
     Ok(String::from_str(alloc, "ok")?)
 }
 
+/// The steps that are no requests.
+#[derive(Clone, Copy)]
+enum Step {
+    New,
+    Rewire,
+    Show,
+    Wire,
+    Upload,
+    /// What sets the service up.
+    Set,
+}
+
+fn step_named(name: &str) -> Step {
+    match name {
+        "new" => Step::New,
+        "rewire" => Step::Rewire,
+        "show" => Step::Show,
+        "wire" => Step::Wire,
+        "upload" => Step::Upload,
+        _ => Step::Set,
+    }
+}
+
 /// Does a step that is no request.
 fn other<R: Wait + Clone + Drop>(
     alloc: Global,
@@ -90,13 +140,13 @@ fn other<R: Wait + Clone + Drop>(
     name: &str,
     words: &mut Words<'_>,
 ) -> Result<String, OutOfMemory> {
-    match name {
-        "new" => begin(alloc, rt, desk),
-        "rewire" => rewire(alloc, rt, desk),
-        "show" => show(alloc, rt, desk, words),
-        "wire" => Ok(shown_wire(alloc, desk)?),
-        "upload" => carry_upload(alloc, &mut desk.wire, words),
-        _ => set_up(alloc, rt, desk, name, words),
+    match step_named(name) {
+        Step::New => begin(alloc, rt, desk),
+        Step::Rewire => rewire(alloc, rt, desk),
+        Step::Show => show(alloc, rt, desk, words),
+        Step::Wire => wire_shown(alloc, desk),
+        Step::Upload => carry_upload(alloc, &mut desk.wire, words),
+        Step::Set => set_up(alloc, rt, desk, name, words),
     }
 }
 
@@ -109,12 +159,8 @@ pub(crate) fn result_of<R: Wait + Clone + Drop>(
 ) -> Result<String, OutOfMemory> {
     let mut words = Words::of(line);
     let name = words.next();
-    match request_named(alloc, name, &mut words)? {
-        Some(request) => {
-            let text = sent(alloc, &mut desk.wire, &request);
-            mem::drop(request);
-            text
-        }
+    match op_named(name) {
+        Some(op) => sent(alloc, &mut desk.wire, request_of(alloc, op, &mut words)),
         None => other(alloc, rt, desk, name, &mut words),
     }
 }

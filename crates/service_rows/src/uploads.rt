@@ -193,7 +193,7 @@ pub(crate) fn carry_upload<W: Wire>(
     wire: &mut W,
     words: &mut Words<'_>,
 ) -> Result<String, OutOfMemory> {
-    let text = words.text(alloc)?;
-    let spot = words.spot(alloc)?;
+    let text = words.text(alloc);
+    let spot = words.spot(alloc);
     uploaded(alloc, wire, spot, text.as_str().as_bytes())
 }

@@ -2,7 +2,8 @@
 
 use reply_values::url_decode;
 use s3_model::{OutOfMemory, Text, Texts};
-use std::alloc::Global;
+use std::alloc::{AllocError, Global};
+use std::mem;
 
 /// The words of a step that are left, with one space between them.
 #[derive(Drop)]
@@ -35,30 +36,30 @@ impl<'a> Words<'a> {
     }
 
     /// The next word as a text: `-` is the empty one, and escapes are those of a URL.
-    pub(crate) fn text(&mut self, alloc: Global) -> Result<Text, OutOfMemory> {
+    pub(crate) fn text(&mut self, alloc: Global) -> Text {
         text_of(alloc, self.next())
     }
 
     /// The bytes of the next word as a text.
-    pub(crate) fn bytes(&mut self, alloc: Global) -> Result<Vec<u8>, OutOfMemory> {
-        let text = self.text(alloc)?;
-        Ok(text.as_str().as_bytes().to_vec(alloc)?)
+    pub(crate) fn bytes(&mut self, alloc: Global) -> Vec<u8> {
+        let text = self.text(alloc);
+        bytes_of(alloc, text.as_str())
     }
 
     /// The next two words as an object's bucket and key.
-    pub(crate) fn spot(&mut self, alloc: Global) -> Result<Spot, OutOfMemory> {
-        let bucket = self.text(alloc)?;
-        let key = self.text(alloc)?;
-        Ok(Spot { bucket, key })
+    pub(crate) fn spot(&mut self, alloc: Global) -> Spot {
+        let bucket = self.text(alloc);
+        let key = self.text(alloc);
+        Spot { bucket, key }
     }
 
     /// The next word as an entity tag, which is written without quotes.
-    pub(crate) fn etag(&mut self, alloc: Global) -> Result<Text, OutOfMemory> {
+    pub(crate) fn etag(&mut self, alloc: Global) -> Text {
         quoted(alloc, self.next())
     }
 
     /// The next word as a list of entity tags with commas; `-` is the empty list.
-    pub(crate) fn etags(&mut self, alloc: Global) -> Result<Texts, OutOfMemory> {
+    pub(crate) fn etags(&mut self, alloc: Global) -> Texts {
         etags_of(alloc, self.next())
     }
 
@@ -78,32 +79,54 @@ impl<'a> Words<'a> {
     }
 }
 
+/// A text that was made; an empty one where there is no memory, so that its row is wrong.
+pub(crate) fn text_or_empty(alloc: Global, text: Result<Text, OutOfMemory>) -> Text {
+    match text {
+        Ok(text) => text,
+        Err(OutOfMemory) => Text::from(String::new(alloc)),
+    }
+}
+
 /// A word as a text.
-fn text_of(alloc: Global, word: &str) -> Result<Text, OutOfMemory> {
+fn text_of(alloc: Global, word: &str) -> Text {
     if word == "-" {
-        return Text::of(alloc, "");
+        return text_or_empty(alloc, Text::of(alloc, ""));
     }
     match url_decode(alloc, word) {
-        Ok(text) => Ok(text),
-        Err(_) => Text::of(alloc, word),
+        Ok(text) => text,
+        Err(_) => text_or_empty(alloc, Text::of(alloc, word)),
     }
 }
 
-fn quoted(alloc: Global, word: &str) -> Result<Text, OutOfMemory> {
-    Text::joined(alloc, &["\"", word, "\""])
+/// The bytes of a text; none where there is no memory.
+fn bytes_of(alloc: Global, text: &str) -> Vec<u8> {
+    match text.as_bytes().to_vec(alloc) {
+        Ok(bytes) => bytes,
+        Err(AllocError) => Vec::new(alloc),
+    }
 }
 
-fn etags_of(alloc: Global, word: &str) -> Result<Texts, OutOfMemory> {
+fn quoted(alloc: Global, word: &str) -> Text {
+    text_or_empty(alloc, Text::joined(alloc, &["\"", word, "\""]))
+}
+
+/// Adds an entity tag; none where there is no memory.
+fn push_etag(etags: &mut Texts, etag: Text) {
+    match etags.reserve(1) {
+        Ok(()) => etags.push(etag),
+        Err(OutOfMemory) => mem::drop(etag),
+    }
+}
+
+fn etags_of(alloc: Global, word: &str) -> Texts {
     let mut etags = Texts::make(alloc);
     if word == "-" {
-        return Ok(etags);
+        return etags;
     }
     for piece in word.split(',') {
-        let etag = quoted(alloc, piece)?;
-        etags.reserve(1)?;
-        etags.push(etag);
+        push_etag(&mut etags, quoted(alloc, piece));
     }
-    Ok(etags)
+    etags
 }
 
 fn range_of(word: &str) -> Option<(u64, u64)> {
