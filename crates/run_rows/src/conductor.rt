@@ -10,9 +10,10 @@ use crate::lane::{Lane, push_to, take_from};
 use manager_core::Manager;
 use manager_moves::Move;
 use run_scripts::come_back;
-use s3_model::{Config, JobId, Journal, Limits, Op, OutOfMemory, Outcome, Plan, Reason};
+use s3_model::{Config, Journal, Limits, Op, OutOfMemory, Outcome, Plan, Reason};
 use s3_outside::FileFault;
 use std::alloc::Global;
+use std::mem;
 use task_acts::{Act, FileCame};
 
 /// A run, and the lanes to which its jobs are given.
@@ -62,6 +63,48 @@ fn may_come(act: Act, came: FileCame) -> bool
     }
 }
 
+/// The next job goes to its lane.
+fn give_to(
+    manager: &mut Manager,
+    lanes: &mut Vec<Lane>,
+    task: u32,
+    op: Op,
+    number: u32,
+    lane: u32,
+) -> Result<(), OutOfMemory>
+    requires { IsAt (Move.Give task op number lane) manager.old lanes.old.items }
+    ensures { OnOk result (IsFree manager.new lanes.new.items) }
+{
+    let job = manager.job(task, op, number);
+    push_to(lanes, lane, job)?;
+    manager.gave(lane);
+    Ok(())
+}
+
+/// The oldest job of a lane comes back. False where none does, or it cannot come so.
+fn take_back(
+    alloc: Global,
+    manager: &mut Manager,
+    lanes: &mut Vec<Lane>,
+    lane: u32,
+    came: &str,
+) -> Result<bool, OutOfMemory>
+    requires { IsAt Move.Wait manager.old lanes.old.items }
+    ensures { IfOk result (λ back. back ≡ true → IsFree manager.new lanes.new.items) }
+{
+    if lane as usize >= lanes.len() {
+        return Ok(false);
+    }
+    let Some(job) = take_from(lanes, lane) else {
+        return Ok(false);
+    };
+    let Some(carried) = come_back(alloc, job, came)? else {
+        return Ok(false);
+    };
+    manager.came(lane, carried);
+    Ok(true)
+}
+
 impl Conductor {
     /// A run of a plan, of which nothing happened.
     pub(crate) fn make(
@@ -89,7 +132,10 @@ impl Conductor {
                 manager,
                 lanes,
             }),
-            Err((_plan, _journal)) => Err(OutOfMemory),
+            Err(back) => {
+                mem::drop(back);
+                Err(OutOfMemory)
+            }
         }
     }
 
@@ -119,10 +165,7 @@ impl Conductor {
         requires { IsAt (Move.Give task op number lane) self.old.manager self.old.lanes.items }
         ensures { OnOk result (IsFree self.new.manager self.new.lanes.items) }
     {
-        let job = self.manager.job(task, op, number);
-        push_to(&mut self.lanes, lane, job)?;
-        self.manager.gave(lane);
-        Ok(())
+        give_to(&mut self.manager, &mut self.lanes, task, op, number, lane)
     }
 
     /// The call on files comes back that the next move is. False where it is none, or cannot come so.
@@ -153,17 +196,7 @@ impl Conductor {
         requires { IsAt Move.Wait self.old.manager self.old.lanes.items }
         ensures { IfOk result (λ back. back ≡ true → IsFree self.new.manager self.new.lanes.items) }
     {
-        if lane as usize >= self.lanes.len() {
-            return Ok(false);
-        }
-        let Some(job) = take_from(&mut self.lanes, lane) else {
-            return Ok(false);
-        };
-        let Some(carried) = come_back(self.alloc, job, came)? else {
-            return Ok(false);
-        };
-        self.manager.came(lane, carried);
-        Ok(true)
+        take_back(self.alloc, &mut self.manager, &mut self.lanes, lane, came)
     }
 
     /// The run is cancelled.
@@ -179,23 +212,17 @@ impl Conductor {
     pub(crate) fn finish(self) -> (usize, usize)
         requires { IsAt Move.End self.manager self.lanes.items }
     {
-        let Conductor { manager, .. } = self;
-        let (_plan, outcomes, journal) = manager.finish();
-        (journal.len(), outcomes.len())
+        let Conductor { manager, lanes, .. } = self;
+        mem::drop(lanes);
+        let (plan, outcomes, journal) = manager.finish();
+        mem::drop(plan);
+        let counts = (journal.len(), outcomes.len());
+        mem::drop(outcomes);
+        mem::drop(journal);
+        counts
     }
 
     pub(crate) fn outcome(&self, task: u32) -> Option<&Outcome> {
         self.manager.outcome(task)
-    }
-
-    /// The oldest job of a lane.
-    pub(crate) fn oldest(&self, lane: u32) -> Option<JobId> {
-        self.lanes.get(lane as usize)?.oldest()
-    }
-
-    /// The first lane that has a job out.
-    pub(crate) fn first_lane(&self) -> Option<u32> {
-        let place = self.lanes.iter().position(|lane| !lane.is_empty())?;
-        u32::try_from(place).ok()
     }
 }

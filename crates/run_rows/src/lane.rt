@@ -56,6 +56,23 @@ impl Lane {
     }
 }
 
+/// The oldest job of a lane.
+pub(crate) fn oldest_in(lanes: &[Lane], lane: u32) -> Option<JobId> {
+    lanes.get(lane as usize)?.oldest()
+}
+
+/// The first lane that has a job out.
+pub(crate) fn first_in_use(lanes: &[Lane]) -> Option<u32> {
+    let mut number = 0u32;
+    for lane in lanes {
+        if !lane.is_empty() {
+            return Some(number);
+        }
+        number = number.checked_add(1)?;
+    }
+    None
+}
+
 /// A job goes to a lane.
 pub(crate) fn push_to(lanes: &mut Vec<Lane>, lane: u32, job: Job) -> Result<(), OutOfMemory>
     requires { lane < length lanes.old.items }

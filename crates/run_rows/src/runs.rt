@@ -9,16 +9,25 @@ use crate::steps::steps;
 use run_scripts::Script;
 use s3_model::OutOfMemory;
 use std::alloc::Global;
+use std::mem;
 
 /// Does a run, and shows how it ended.
 fn finish(mut run: Conductor, script: &mut Script<'_>, shown: &mut Shown) -> Result<(), OutOfMemory>
     requires { IsFree run.manager run.lanes.items }
 {
-    if steps(&mut run, script, shown)? {
-        let (entries, outcomes) = run.finish();
-        shown.end(entries, outcomes)
-    } else {
-        shown.stuck()
+    match steps(&mut run, script, shown) {
+        Ok(true) => {
+            let (entries, outcomes) = run.finish();
+            shown.end(entries, outcomes)
+        }
+        Ok(false) => {
+            mem::drop(run);
+            shown.stuck()
+        }
+        Err(OutOfMemory) => {
+            mem::drop(run);
+            Err(OutOfMemory)
+        }
     }
 }
 
@@ -30,15 +39,39 @@ fn run_shown(alloc: Global, run: Conductor, mut script: Script<'_>) -> Result<St
     Ok(shown.into_text())
 }
 
+/// What is printed of a run that a row names, by its script.
+fn row_shown(
+    alloc: Global,
+    tasks: &str,
+    config: &str,
+    script: Script<'_>,
+) -> Result<String, OutOfMemory> {
+    match read_run(alloc, tasks, config) {
+        Ok(Some(run)) => run_shown(alloc, run, script),
+        Ok(None) => Ok(String::from_str(alloc, "no run")?),
+        Err(OutOfMemory) => Err(OutOfMemory),
+    }
+}
+
 /// What is printed of a line.
 pub(crate) fn answer_of(alloc: Global, line: &str) -> Result<String, OutOfMemory> {
     let mut parts = line.split(" | ");
     let tasks = parts.next().unwrap_or("");
     let config = parts.next().unwrap_or("");
     let script = Script::read(alloc, parts.next().unwrap_or(""))?;
-    match read_run(alloc, tasks, config)? {
-        Some(run) => run_shown(alloc, run, script),
-        None => Ok(String::from_str(alloc, "no run")?),
+    row_shown(alloc, tasks, config, script)
+}
+
+/// How many moves a run has. None where it does not come to its end.
+fn moves_of(alloc: Global, run: &mut Conductor) -> Result<Option<u64>, OutOfMemory>
+    requires { IsFree run.old.manager run.old.lanes.items }
+{
+    let mut shown = Shown::count(alloc);
+    let mut script = Script::read(alloc, "")?;
+    if steps(run, &mut script, &mut shown)? {
+        Ok(Some(shown.moves()))
+    } else {
+        Ok(None)
     }
 }
 
@@ -46,11 +79,7 @@ pub(crate) fn answer_of(alloc: Global, line: &str) -> Result<String, OutOfMemory
 pub(crate) fn count_moves(alloc: Global, mut run: Conductor) -> Result<Option<u64>, OutOfMemory>
     requires { IsFree run.manager run.lanes.items }
 {
-    let mut shown = Shown::count(alloc);
-    let mut script = Script::read(alloc, "")?;
-    if steps(&mut run, &mut script, &mut shown)? {
-        Ok(Some(shown.moves()))
-    } else {
-        Ok(None)
-    }
+    let moves = moves_of(alloc, &mut run);
+    mem::drop(run);
+    moves
 }

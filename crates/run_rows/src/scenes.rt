@@ -38,7 +38,10 @@ pub(crate) fn read_run(
         return Ok(None);
     };
     match read_tasks(alloc, tasks)? {
-        Some(tasks) => Ok(Some(run_of(alloc, tasks, &config)?)),
+        Some(tasks) => match run_of(alloc, tasks, &config) {
+            Ok(run) => Ok(Some(run)),
+            Err(OutOfMemory) => Err(OutOfMemory),
+        },
         None => Ok(None),
     }
 }

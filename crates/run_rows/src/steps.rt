@@ -4,6 +4,7 @@ ghost use Rattle.std.specs.Prelude.{◌≡◌, true, IfOk, OnOk};
 ghost use Rattle.run_rows.specs.Runs.{IsAt, IsFree, Stands};
 
 use crate::conductor::{Conductor, call_in};
+use crate::lane::{Lane, first_in_use, oldest_in};
 use crate::shown::Shown;
 use manager_moves::Move;
 use run_scripts::Script;
@@ -39,10 +40,10 @@ fn call(run: &mut Conductor, script: &mut Script<'_>, next: Move) -> Result<Step
 }
 
 /// The lane from which the next job comes back.
-fn next_lane(run: &Conductor, script: &mut Script<'_>) -> Option<u32> {
+fn next_lane(lanes: &[Lane], script: &mut Script<'_>) -> Option<u32> {
     match script.lane() {
         Some(lane) => Some(lane),
-        None => run.first_lane(),
+        None => first_in_use(lanes),
     }
 }
 
@@ -50,7 +51,7 @@ fn wait(run: &mut Conductor, script: &mut Script<'_>) -> Result<Step, OutOfMemor
     requires { IsAt Move.Wait run.old.manager run.old.lanes.items }
     ensures { IfOk result (λ step. Stands step run.new.manager run.new.lanes.items) }
 {
-    let Some(lane) = next_lane(run, script) else {
+    let Some(lane) = next_lane(&run.lanes, script) else {
         return Ok(Step::Stuck);
     };
     let Some(
@@ -59,7 +60,7 @@ fn wait(run: &mut Conductor, script: &mut Script<'_>) -> Result<Step, OutOfMemor
             op,
             number,
         },
-    ) = run.oldest(lane)
+    ) = oldest_in(&run.lanes, lane)
     else {
         return Ok(Step::Stuck);
     };

@@ -2,7 +2,7 @@ use Rattle.std.proofs.Common.{Option, IfSome, sym, subst}
 use Rattle.jobs.specs.Endings.{SeenCarried}
 use Rattle.run_scripts.specs.Returning.{ComesOf}
 use Rattle.run_rows.proofs.RunLemmas.{comes_back, has_room, may_come_back, may_follow}
-use Rattle.run_rows.proofs.conductor.Conductor.wait.Goals as goal
+use Rattle.run_rows.proofs.conductor.take_back.Goals as goal
 
 pub came-requires-clause-may : goal.came-requires-clause-may
 came-requires-clause-may c =

@@ -1,5 +1,5 @@
 use Rattle.run_rows.proofs.RunLemmas.{gives, is_due, lane_within}
-use Rattle.run_rows.proofs.conductor.Conductor.give.Goals as goal
+use Rattle.run_rows.proofs.conductor.give_to.Goals as goal
 
 pub job-job-requires : goal.job-job-requires
 job-job-requires c = (c.args.lane, is_due c.requires)
