@@ -4,6 +4,7 @@ use jobs::Ending;
 use s3_model::{Cause, FileCall, Kind, Op, OutOfMemory, Reply, Text, Why};
 use s3_outside::FileFault;
 use std::alloc::Global;
+use std::mem;
 use std::test::Fail;
 use task_acts::{Act, FileCame, Stage, Work};
 use task_causes::{ended_cause, file_cause, file_stage, given_stage};
@@ -42,9 +43,21 @@ fn name_of(cause: &Option<Cause>) -> &'static str {
     }
 }
 
+/// The name of a cause, which is let go.
+fn name_at_end(cause: Option<Cause>) -> &'static str {
+    let name = name_of(&cause);
+    mem::drop(cause);
+    name
+}
+
 /// The name of the cause that the ending of the first job of that op shows.
 fn ended_name(op: Op, ending: Ending) -> &'static str {
-    name_of(&ended_cause(&WHOLE, op, 0, ending))
+    name_at_end(ended_cause(&WHOLE, op, 0, ending))
+}
+
+/// The name of the cause that a call on files shows.
+fn call_name(act: Act, came: FileCame) -> &'static str {
+    name_at_end(file_cause(act, came))
 }
 
 fn got(status: u16, length: u64) -> Ending {
@@ -104,7 +117,7 @@ fn calls_on_files_show_causes(rt: HostRuntime) {
         (Act::Assemble, blocked, "blocked at 3"),
     ];
     for (act, came, name) in rows {
-        assert_eq!(rt; name_of(&file_cause(act, came)), name);
+        assert_eq!(rt; call_name(act, came), name);
     }
 }
 

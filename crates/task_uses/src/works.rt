@@ -4,6 +4,7 @@ ghost use Rattle.std.specs.Prelude.{◌≡◌, ◌≤◌, false, IfOk};
 
 use s3_model::{Config, Kind, Limits, Op, OutOfMemory, Place, Task, Text};
 use std::alloc::Global;
+use std::mem;
 use std::test::Fail;
 use task_acts::{Act, Work};
 use task_works::{begin, work_of};
@@ -62,7 +63,9 @@ fn work(alloc: Global, kind: Kind, mebibytes: u64) -> Result<Work, OutOfMemory>
     requires { mebibytes ≤ 1000000 }
 {
     let task = task(alloc, kind, mebibytes)?;
-    Ok(work_of(&task, &CONFIG, &LIMITS))
+    let work = work_of(&task, &CONFIG, &LIMITS);
+    mem::drop(task);
+    Ok(work)
 }
 
 /// Whether a task of that many MiB goes in one piece, the length of its pieces, and how many they are.
@@ -104,13 +107,29 @@ fn attempts_and_moves(rt: HostRuntime) -> Result<(), Fail> {
     Ok(())
 }
 
+/// The act that a task begins with.
+fn begun_with(alloc: Global, task: &Task) -> Result<Option<Act>, OutOfMemory>
+    requires size { task.now.size ≤ 1099511627776 }
+    requires replaces { task.now.fresh ≡ false }
+{
+    match begin(alloc, task, &CONFIG, &LIMITS) {
+        Ok(state) => {
+            let act = state.ready();
+            mem::drop(state);
+            Ok(act)
+        }
+        Err(OutOfMemory) => Err(OutOfMemory),
+    }
+}
+
 /// The act that a task of that many MiB begins with.
 fn first_act(alloc: Global, kind: Kind, mebibytes: u64) -> Result<Option<Act>, OutOfMemory>
     requires { mebibytes ≤ 1000000 }
 {
     let task = task(alloc, kind, mebibytes)?;
-    let state = begin(alloc, &task, &CONFIG, &LIMITS)?;
-    Ok(state.ready())
+    let act = begun_with(alloc, &task);
+    mem::drop(task);
+    act
 }
 
 #[test]
