@@ -28,13 +28,17 @@ fn answer_of(alloc: Global, call: &str, text: &str) -> Result<String, OutOfMemor
     }
 }
 
+fn numbered(alloc: Global, number: &str, call: &str, text: &str) -> Result<String, OutOfMemory> {
+    let answer = answer_of(alloc, call, text)?;
+    Ok(format!(in alloc; "{number} {answer}")?)
+}
+
 /// The answer to a line behind its number.
 fn row_of(alloc: Global, line: &str) -> Result<String, OutOfMemory> {
     let (number, rest) = line.split_once(' ').unwrap_or((line, ""));
     let (call, spelled) = rest.split_once(' ').unwrap_or((rest, ""));
     let text = written(alloc, spelled)?;
-    let answer = answer_of(alloc, call, text.as_str())?;
-    Ok(format!(in alloc; "{number} {answer}")?)
+    numbered(alloc, number, call, text.as_str())
 }
 
 fn crosses<T: Send + Sync>() {}
@@ -48,7 +52,7 @@ fn main(rt: HostRuntime) -> io::Result<()> {
         let Ok(answer) = row_of(alloc, line.as_str()) else {
             return Err(AllocError.into());
         };
-        println!(rt; "{answer}")?;
+        rt.println(answer.as_str())?;
     }
     Ok(())
 }

@@ -1,42 +1,59 @@
 //! Canonical requests, hashes, keys and signatures.
 
-use crate::fixtures::{MOMENT, amount, endpoint, keys, pairs, value};
-use presigned_urls::presign;
-use s3_model::{OutOfMemory, Text};
+use crate::fixtures::{MOMENT, amount, endpoint, keys, pairs, said, text, text_shown};
+use presigned_urls::{PresignFault, presign};
+use s3_model::{OutOfMemory, Pairs, Text};
 use s3_paths::S3Uri;
 use s3_requests::{
     canonical_request, has_sorted_names, hmac_sha256, payload_hash, signature, signing_key,
     string_to_sign,
 };
 use std::alloc::Global;
-
-fn said<'a>(values: &'a str, name: &str) -> &'a str {
-    value(values, name).unwrap_or("")
-}
+use std::mem;
 
 /// The canonical request of a GET; None where its names of headers are not sorted.
-fn canonical_of(alloc: Global, values: &str) -> Result<Option<Text>, OutOfMemory> {
-    let query = pairs(alloc, said(values, "query"))?;
-    let headers = pairs(alloc, said(values, "headers"))?;
-    if !has_sorted_names(&headers) {
+fn canonical_text(
+    alloc: Global,
+    values: &str,
+    query: &Pairs,
+    headers: &Pairs,
+) -> Result<Option<Text>, OutOfMemory> {
+    if !has_sorted_names(headers) {
         return Ok(None);
     }
     let (path, payload) = (said(values, "path"), said(values, "payload"));
-    let text = canonical_request(alloc, "GET", path, &query, &headers, payload)?;
+    let text = canonical_request(alloc, "GET", path, query, headers, payload)?;
     Ok(Some(text))
+}
+
+fn canonical_of(alloc: Global, values: &str) -> Result<Option<Text>, OutOfMemory> {
+    let query = pairs(alloc, said(values, "query"));
+    let headers = pairs(alloc, said(values, "headers"));
+    canonical_text(alloc, values, &query, &headers)
+}
+
+/// The signature by the keys of the examples.
+fn signature_of(alloc: Global, text: &str) -> Result<Text, OutOfMemory> {
+    let keys = keys(alloc, "");
+    let digits = signature(alloc, &keys, MOMENT, text);
+    mem::drop(keys);
+    digits
+}
+
+/// The hash of a canonical request, and its signature.
+fn hash_and_signature(alloc: Global, text: &str) -> Result<String, OutOfMemory> {
+    let hash = payload_hash(text.as_bytes());
+    let digits = signature_of(alloc, text)?;
+    Ok(format!(in alloc; "{} {}", hash.as_str(), digits.as_str())?)
 }
 
 /// The canonical request, or its hash and its signature.
 pub(crate) fn canonical(alloc: Global, call: &str, values: &str) -> Result<String, OutOfMemory> {
-    let Some(text) = canonical_of(alloc, values)? else {
-        return Ok(String::from_str(alloc, "names that are not sorted")?);
-    };
-    if call == "canonical" {
-        return Ok(format!(in alloc; "{:?}", text.as_str())?);
+    match canonical_of(alloc, values)? {
+        Some(text) if call == "canonical" => text_shown(alloc, text.as_str()),
+        Some(text) => hash_and_signature(alloc, text.as_str()),
+        None => Ok(String::from_str(alloc, "names that are not sorted")?),
     }
-    let hash = payload_hash(text.as_str().as_bytes());
-    let digits = signature(alloc, &keys(alloc, "")?, MOMENT, text.as_str())?;
-    Ok(format!(in alloc; "{} {}", hash.as_str(), digits.as_str())?)
 }
 
 /// The bytes of these hexadecimal digits; none where they are no such.
@@ -58,7 +75,7 @@ pub(crate) fn to_sign(alloc: Global, values: &str) -> Result<String, OutOfMemory
         return Ok(String::from_str(alloc, "no moment of a year of four digits")?);
     }
     let text = string_to_sign(alloc, moment, said(values, "region"), "")?;
-    Ok(format!(in alloc; "{:?}", text.as_str())?)
+    text_shown(alloc, text.as_str())
 }
 
 pub(crate) fn key_of_a_day(alloc: Global, values: &str) -> Result<String, OutOfMemory> {
@@ -67,17 +84,29 @@ pub(crate) fn key_of_a_day(alloc: Global, values: &str) -> Result<String, OutOfM
     Ok(hex::encode(alloc, key)?)
 }
 
+fn uri(alloc: Global, values: &str) -> S3Uri {
+    S3Uri {
+        bucket: text(alloc, values, "bucket"),
+        key: text(alloc, values, "key"),
+    }
+}
+
+fn url_shown(alloc: Global, url: Result<Text, PresignFault>) -> Result<String, OutOfMemory> {
+    let shown = match url {
+        Ok(url) => String::from_str(alloc, url.as_str()),
+        Err(fault) => format!(in alloc; "{fault:?}"),
+    };
+    Ok(shown?)
+}
+
 /// A presigned URL, or why there is none.
 pub(crate) fn url(alloc: Global, values: &str) -> Result<String, OutOfMemory> {
-    let uri = S3Uri {
-        bucket: Text::of(alloc, said(values, "bucket"))?,
-        key: Text::of(alloc, said(values, "key"))?,
-    };
-    let endpoint = endpoint(alloc)?;
-    let keys = keys(alloc, values)?;
+    let uri = uri(alloc, values);
+    let endpoint = endpoint(alloc);
+    let keys = keys(alloc, values);
     let (moment, seconds) = (amount(values, "moment"), amount(values, "seconds"));
-    match presign(alloc, &uri, &endpoint, &keys, moment, seconds) {
-        Ok(url) => Ok(format!(in alloc; "{}", url.as_str())?),
-        Err(fault) => Ok(format!(in alloc; "{fault:?}")?),
-    }
+    let url = presign(alloc, &uri, &endpoint, &keys, moment, seconds);
+    mem::drop(keys);
+    mem::drop(endpoint);
+    url_shown(alloc, url)
 }
