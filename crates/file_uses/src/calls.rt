@@ -1,10 +1,10 @@
 //! Calls on files.
 
 use crate::assemblies::{drop_first, fill, finish, make, place};
-use crate::lines::{number, word_and_rest};
+use crate::lines::{number, unit_shown, word_and_rest};
 use crate::trees::{counts, list};
 use file_table::TextMap;
-use s3_model::OutOfMemory;
+use s3_model::{OutOfMemory, Texts};
 use s3_outside::{Failed, Files, Names, Shape};
 use std::alloc::{AllocError, Global};
 use temp_files::Assembly;
@@ -17,17 +17,38 @@ fn size<F: Files>(files: &mut F, alloc: Global, path: &str) -> Result<String, Al
     }
 }
 
+/// Text that was read.
+fn text_shown(alloc: Global, bytes: &[u8]) -> Result<String, AllocError> {
+    match str::from_utf8(bytes) {
+        Ok(text) => format!(in alloc; "{text:?}"),
+        Err(_) => String::from_str(alloc, "no UTF-8"),
+    }
+}
+
 /// Three bytes from a place on.
 fn read<F: Files>(files: &mut F, alloc: Global, text: &str) -> Result<String, AllocError> {
     let (at, path) = word_and_rest(text);
     let mut into = [0u8; 3];
     match files.read_at(path, number(at), &mut into) {
-        Ok(count) => match str::from_utf8(into.get(..count).unwrap_or(&[])) {
-            Ok(text) => format!(in alloc; "{text:?}"),
-            Err(_) => String::from_str(alloc, "no UTF-8"),
-        },
+        Ok(count) => text_shown(alloc, into.get(..count).unwrap_or(&[])),
         Err(fault) => format!(in alloc; "{fault:?}"),
     }
+}
+
+fn kind<F: Files>(files: &mut F, alloc: Global, path: &str) -> Result<String, AllocError> {
+    format!(in alloc; "{:?}", files.kind(path))
+}
+
+fn push_name(shown: &mut String, name: &str) -> Result<(), AllocError> {
+    write!(shown, ", {name}")
+}
+
+fn names_shown(alloc: Global, unnamed: u64, names: &Texts) -> Result<String, AllocError> {
+    let mut shown = format!(in alloc; "{unnamed} unnamed")?;
+    for name in names.as_slice() {
+        push_name(&mut shown, name.as_str())?;
+    }
+    Ok(shown)
 }
 
 fn in_order(alloc: Global, found: &Names) -> Result<String, OutOfMemory> {
@@ -35,12 +56,8 @@ fn in_order(alloc: Global, found: &Names) -> Result<String, OutOfMemory> {
     for name in found.names.as_slice() {
         names.insert(alloc, name.as_str(), ())?;
     }
-    let mut shown = format!(in alloc; "{} unnamed", found.unnamed)?;
-    for name in names.texts(alloc)?.as_slice() {
-        shown.push_str(", ")?;
-        shown.push_str(name.as_str())?;
-    }
-    Ok(shown)
+    let names = names.texts(alloc)?;
+    Ok(names_shown(alloc, found.unnamed, &names)?)
 }
 
 /// The names in a folder, in order, and how many more there are.
@@ -61,7 +78,7 @@ fn stamp<F: Files>(files: &mut F, text: &str) -> Result<(), Failed> {
 fn look<F: Files>(files: &mut F, alloc: Global, call: &str) -> Result<String, AllocError> {
     let (name, text) = word_and_rest(call);
     match name {
-        "kind" => format!(in alloc; "{:?}", files.kind(text)),
+        "kind" => kind(files, alloc, text),
         "size" => size(files, alloc, text),
         "read" => read(files, alloc, text),
         "names" => names(files, alloc, text),
@@ -85,8 +102,8 @@ pub(crate) fn answer_of<F: Files>(
         "finish" => finish(files, alloc, held),
         "drop" => drop_first(files, alloc, held),
         "fill" => fill(files, alloc, text),
-        "remove" => format!(in alloc; "{:?}", files.remove(text)),
-        "stamp" => format!(in alloc; "{:?}", stamp(files, text)),
+        "remove" => unit_shown(alloc, files.remove(text)),
+        "stamp" => unit_shown(alloc, stamp(files, text)),
         _ => look(files, alloc, call),
     }
 }

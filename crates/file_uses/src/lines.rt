@@ -1,12 +1,7 @@
-//! What lines spell.
+//! What lines spell, and how answers are shown.
 
-use s3_model::OutOfMemory;
-use std::alloc::AllocError;
-use std::io;
-
-pub(crate) fn no_memory(_: OutOfMemory) -> io::Error {
-    AllocError.into()
-}
+use s3_outside::Failed;
+use std::alloc::{AllocError, Global};
 
 /// The word in front of the first space, and the rest.
 pub(crate) fn word_and_rest(text: &str) -> (&str, &str) {
@@ -15,4 +10,9 @@ pub(crate) fn word_and_rest(text: &str) -> (&str, &str) {
 
 pub(crate) fn number(text: &str) -> u64 {
     text.parse::<u64>().unwrap_or(0)
+}
+
+/// The answer of a call that gives nothing.
+pub(crate) fn unit_shown(alloc: Global, answer: Result<(), Failed>) -> Result<String, AllocError> {
+    format!(in alloc; "{answer:?}")
 }

@@ -17,12 +17,20 @@ mod trees;
 use chosen::Chosen;
 use std::io;
 
-fn main(rt: HostRuntime) -> io::Result<()> {
-    let mut files = Chosen::make(&rt)?;
+fn print_row(rt: &HostRuntime, files: &mut Chosen, line: &str) -> io::Result<()> {
+    let answer = files.answer(rt, line)?;
+    println!(rt; "{line} => {answer}")
+}
+
+fn print_rows(rt: &HostRuntime, files: &mut Chosen) -> io::Result<()> {
     for line in rt.lines(rt.alloc()) {
         let line = line?;
-        let answer = files.answer(&rt, line.as_str())?;
-        println!(rt; "{line} => {answer}")?;
+        print_row(rt, files, line.as_str())?;
     }
     Ok(())
+}
+
+fn main(rt: HostRuntime) -> io::Result<()> {
+    let mut files = Chosen::make(&rt)?;
+    print_rows(&rt, &mut files)
 }

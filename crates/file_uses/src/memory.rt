@@ -1,14 +1,23 @@
 //! Files in memory, as a line spells them.
 
-use crate::lines::{no_memory, number};
+use crate::lines::number;
 use outside_memory::{FileTable, MemFile, MemFiles};
+use s3_model::OutOfMemory;
 use std::alloc::{AllocError, Global};
-use std::io;
 
 /// The time of each file that is spelled.
 const MICROS: u64 = 7;
 
-pub(crate) fn files_of(alloc: Global, text: &str) -> io::Result<MemFiles> {
+pub(crate) fn empty_files(alloc: Global) -> MemFiles {
+    MemFiles::make(
+        alloc,
+        FileTable::make(alloc),
+        Vec::new(alloc),
+        Vec::new(alloc),
+    )
+}
+
+pub(crate) fn files_of(alloc: Global, text: &str) -> Result<MemFiles, OutOfMemory> {
     let (numbers, items) = text.split_once(" | ").unwrap_or((text, ""));
     let table = table_of(alloc, items)?;
     let failing = failing_calls(alloc, numbers)?;
@@ -37,7 +46,7 @@ fn short_reads(alloc: Global, text: &str) -> Result<Vec<(usize, usize)>, AllocEr
     Ok(short)
 }
 
-fn table_of(alloc: Global, items: &str) -> io::Result<FileTable> {
+fn table_of(alloc: Global, items: &str) -> Result<FileTable, OutOfMemory> {
     let mut table = FileTable::make(alloc);
     for item in items.split(" | ") {
         if !item.is_empty() {
@@ -47,31 +56,49 @@ fn table_of(alloc: Global, items: &str) -> io::Result<FileTable> {
     Ok(table)
 }
 
-fn put(alloc: Global, table: &mut FileTable, item: &str) -> io::Result<()> {
-    if let Some((path, bytes)) = item.split_once('=') {
-        let file = MemFile::new(bytes.as_bytes().to_vec(alloc)?, MICROS);
-        return table.put_file(alloc, path, file).map_err(no_memory);
+fn file(bytes: Vec<u8>) -> MemFile {
+    MemFile::new(bytes, MICROS)
+}
+
+fn put_file(
+    alloc: Global,
+    table: &mut FileTable,
+    path: &str,
+    text: &str,
+) -> Result<(), OutOfMemory> {
+    let bytes = text.as_bytes().to_vec(alloc)?;
+    table.put_file(alloc, path, file(bytes))
+}
+
+fn put(alloc: Global, table: &mut FileTable, item: &str) -> Result<(), OutOfMemory> {
+    if let Some((path, text)) = item.split_once('=') {
+        return put_file(alloc, table, path, text);
     }
     if let Some((folder, count)) = item.split_once('?') {
-        let unnamed = number(count);
-        return table.set_unnamed(alloc, folder, unnamed).map_err(no_memory);
+        return table.set_unnamed(alloc, folder, number(count));
     }
     if let Some((folder, count)) = item.split_once('*') {
         return put_many(alloc, table, folder, number(count));
     }
+    put_other(alloc, table, item)
+}
+
+fn put_other(alloc: Global, table: &mut FileTable, item: &str) -> Result<(), OutOfMemory> {
     match item.strip_suffix("/") {
-        Some(folder) => table.add_folder(alloc, folder).map_err(no_memory),
-        None => table.add_other(alloc, item).map_err(no_memory),
+        Some(folder) => table.add_folder(alloc, folder),
+        None => table.add_other(alloc, item),
     }
 }
 
-fn put_many(alloc: Global, table: &mut FileTable, folder: &str, count: u64) -> io::Result<()> {
+fn put_many(
+    alloc: Global,
+    table: &mut FileTable,
+    folder: &str,
+    count: u64,
+) -> Result<(), OutOfMemory> {
     for index in 0..count {
         let path = format!(in alloc; "{folder}/{index}")?;
-        let file = MemFile::new(Vec::new(alloc), MICROS);
-        table
-            .put_file(alloc, path.as_str(), file)
-            .map_err(no_memory)?;
+        table.put_file(alloc, path.as_str(), file(Vec::new(alloc)))?;
     }
     Ok(())
 }
