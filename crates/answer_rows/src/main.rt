@@ -18,7 +18,7 @@ use outside_memory::ScriptWire;
 use requests::{request_named, text};
 use row_bytes::bytes_of;
 use s3_model::{Ask, Bytes, Class, Endpoint, OutOfMemory, Talked};
-use shown::class_shown;
+use shown::push_class;
 use std::alloc::{AllocError, Global};
 use std::{io, mem};
 
@@ -126,42 +126,47 @@ fn class_of(
     class
 }
 
-/// A class, and whether the request would be tried again.
-fn class_and_again(alloc: Global, class: &Class) -> Result<String, AllocError> {
-    let mut shown = class_shown(alloc, class)?;
+/// Adds a class, and whether the request would be tried again.
+fn push_meaning(out: &mut String, class: &Class) -> Result<(), AllocError> {
+    push_class(out, class)?;
     if again(class) {
-        shown.push_str(" (again)")?;
+        return out.push_str(" (again)");
     }
-    Ok(shown)
+    Ok(())
 }
 
-/// What an answer means for its request.
-fn meaning(
+/// Adds what an answer means for its request.
+fn push_answer(
     alloc: Global,
     session: &mut Session,
+    out: &mut String,
     operation: &str,
     written: &str,
-) -> Result<String, AllocError> {
+) -> Result<(), AllocError> {
     let class = class_of(alloc, session, operation, written)?;
-    let shown = class_and_again(alloc, &class);
+    let pushed = push_meaning(out, &class);
     mem::drop(class);
-    shown
+    pushed
 }
 
 /// A row with its meaning in place of the answer.
 fn row_of(alloc: Global, session: &mut Session, line: &str) -> Result<String, AllocError> {
     let (name, rest) = line.split_once(' ').unwrap_or((line, ""));
     let (operation, written) = rest.split_once(' ').unwrap_or((rest, ""));
-    let meaning = meaning(alloc, session, operation, written)?;
-    format!(in alloc; "{name} {operation} => {meaning}")
+    let mut row = format!(in alloc; "{name} {operation} => ")?;
+    push_answer(alloc, session, &mut row, operation, written)?;
+    Ok(row)
+}
+
+fn print_row(rt: &HostRuntime, session: &mut Session, line: &str) -> io::Result<()> {
+    let row = row_of(rt.alloc(), session, line)?;
+    rt.println(row.as_str())
 }
 
 fn print_rows(rt: &HostRuntime, session: &mut Session) -> io::Result<()> {
-    let alloc = rt.alloc();
-    for line in rt.lines(alloc) {
+    for line in rt.lines(rt.alloc()) {
         let line = line?;
-        let row = row_of(alloc, session, line.as_str())?;
-        rt.println(row.as_str())?;
+        print_row(rt, session, line.as_str())?;
     }
     Ok(())
 }

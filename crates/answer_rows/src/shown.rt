@@ -1,106 +1,95 @@
 //! Classes as text.
 
 use s3_model::{Class, Entries, Entry, Listed, Reply, Text, Why};
-use std::alloc::{AllocError, Global};
-
-fn push_byte(alloc: Global, out: &mut String, byte: u8) -> Result<(), AllocError> {
-    let escape = format!(in alloc; "\\x{byte:02x}")?;
-    out.push_str(escape.as_str())
-}
+use std::alloc::AllocError;
+use std::fmt;
 
 /// A text as its bytes are written in a row.
-fn written(alloc: Global, text: &Text) -> Result<String, AllocError> {
-    let mut out = String::new(alloc);
-    for byte in text.as_str().bytes() {
-        match byte {
-            b'\\' => push_byte(alloc, &mut out, byte)?,
-            b' '..=b'~' => out.push(char::from(byte))?,
-            _ => push_byte(alloc, &mut out, byte)?,
+#[derive(Clone, Copy)]
+struct Written<'a>(&'a Text);
+
+fn write_byte<W: fmt::Write>(f: &mut fmt::Formatter<W>, byte: u8) -> fmt::Result {
+    match byte {
+        b'\\' => write!(f, "\\x{byte:02x}"),
+        b' '..=b'~' => f.write_char(char::from(byte)),
+        _ => write!(f, "\\x{byte:02x}"),
+    }
+}
+
+impl fmt::Display for Written<'_> {
+    fn fmt<W: fmt::Write>(&self, f: &mut fmt::Formatter<W>) -> fmt::Result {
+        for byte in self.0.as_str().bytes() {
+            write_byte(f, byte)?;
         }
+        Ok(())
     }
-    Ok(out)
 }
 
-/// An entry with its key, size, entity tag and time in microseconds since 1970.
-fn entry_shown(alloc: Global, entry: &Entry) -> Result<String, AllocError> {
-    let key = written(alloc, &entry.key)?;
-    let etag = written(alloc, &entry.etag)?;
-    format!(in alloc; " [{key} {} {etag} {}]", entry.size, entry.micros)
+/// Adds an entry with its key, size, entity tag and time in microseconds since 1970.
+fn push_entry(out: &mut String, entry: &Entry) -> Result<(), AllocError> {
+    let (key, etag) = (Written(&entry.key), Written(&entry.etag));
+    write!(out, " [{key} {} {etag} {}]", entry.size, entry.micros)
 }
 
-fn push_entries(alloc: Global, out: &mut String, entries: &[Entry]) -> Result<(), AllocError> {
+fn push_entries(out: &mut String, entries: &[Entry]) -> Result<(), AllocError> {
     for entry in entries {
-        let entry = entry_shown(alloc, entry)?;
-        out.push_str(entry.as_str())?;
+        push_entry(out, entry)?;
     }
     Ok(())
 }
 
-fn prefix_shown(alloc: Global, prefix: &Text) -> Result<String, AllocError> {
-    let prefix = written(alloc, prefix)?;
-    format!(in alloc; " {{{prefix}}}")
+fn push_prefix(out: &mut String, prefix: &Text) -> Result<(), AllocError> {
+    write!(out, " {{{}}}", Written(prefix))
 }
 
-fn push_prefixes(alloc: Global, out: &mut String, prefixes: &[Text]) -> Result<(), AllocError> {
+fn push_prefixes(out: &mut String, prefixes: &[Text]) -> Result<(), AllocError> {
     for prefix in prefixes {
-        let prefix = prefix_shown(alloc, prefix)?;
-        out.push_str(prefix.as_str())?;
+        push_prefix(out, prefix)?;
     }
     Ok(())
 }
 
-fn token_shown(alloc: Global, token: &Text) -> Result<String, AllocError> {
-    let token = written(alloc, token)?;
-    format!(in alloc; " then {token}")
-}
-
-fn page_shown(alloc: Global, page: &Listed) -> Result<String, AllocError> {
-    let mut out = String::from_str(alloc, if page.more { "page more" } else { "page last" })?;
-    if let Some(token) = &page.token {
-        let token = token_shown(alloc, token)?;
-        out.push_str(token.as_str())?;
+fn push_token(out: &mut String, token: &Option<Text>) -> Result<(), AllocError> {
+    match token {
+        Some(token) => write!(out, " then {}", Written(token)),
+        None => Ok(()),
     }
-    push_entries(alloc, &mut out, page.entries.as_slice())?;
-    push_prefixes(alloc, &mut out, page.prefixes.as_slice())?;
-    Ok(out)
 }
 
-fn buckets_shown(alloc: Global, buckets: &Entries) -> Result<String, AllocError> {
-    let mut out = String::from_str(alloc, "buckets")?;
-    push_entries(alloc, &mut out, buckets.as_slice())?;
-    Ok(out)
+fn push_page(out: &mut String, page: &Listed) -> Result<(), AllocError> {
+    out.push_str(if page.more { "page more" } else { "page last" })?;
+    push_token(out, &page.token)?;
+    push_entries(out, page.entries.as_slice())?;
+    push_prefixes(out, page.prefixes.as_slice())
 }
 
-fn found_shown(alloc: Global, size: u64, etag: &Text, micros: u64) -> Result<String, AllocError> {
-    let etag = written(alloc, etag)?;
-    format!(in alloc; "found {size} {etag} {micros}")
+fn push_buckets(out: &mut String, buckets: &Entries) -> Result<(), AllocError> {
+    out.push_str("buckets")?;
+    push_entries(out, buckets.as_slice())
 }
 
-fn range_shown(alloc: Global, range: (u64, u64, u64)) -> Result<String, AllocError> {
-    let (first, last, size) = range;
-    format!(in alloc; " {first}-{last}/{size}")
+fn push_found(out: &mut String, size: u64, etag: &Text, micros: u64) -> Result<(), AllocError> {
+    write!(out, "found {size} {} {micros}", Written(etag))
 }
 
-fn got_shown(
-    alloc: Global,
+fn push_got(
+    out: &mut String,
     status: u16,
     length: u64,
     range: Option<(u64, u64, u64)>,
-) -> Result<String, AllocError> {
-    let range = match range {
-        Some(range) => range_shown(alloc, range)?,
-        None => String::new(alloc),
-    };
-    format!(in alloc; "got {status} {length}{range}")
+) -> Result<(), AllocError> {
+    match range {
+        Some((first, last, size)) => write!(out, "got {status} {length} {first}-{last}/{size}"),
+        None => write!(out, "got {status} {length}"),
+    }
 }
 
-fn created_shown(alloc: Global, upload: &str) -> Result<String, AllocError> {
-    format!(in alloc; "created {upload}")
+fn push_created(out: &mut String, upload: &str) -> Result<(), AllocError> {
+    write!(out, "created {upload}")
 }
 
-fn part_shown(alloc: Global, etag: &Text) -> Result<String, AllocError> {
-    let etag = written(alloc, etag)?;
-    format!(in alloc; "part {etag}")
+fn push_part(out: &mut String, etag: &Text) -> Result<(), AllocError> {
+    write!(out, "part {}", Written(etag))
 }
 
 fn plain_name(reply: &Reply) -> &'static str {
@@ -112,37 +101,35 @@ fn plain_name(reply: &Reply) -> &'static str {
     }
 }
 
-fn reply_shown(alloc: Global, reply: &Reply) -> Result<String, AllocError> {
+fn push_reply(out: &mut String, reply: &Reply) -> Result<(), AllocError> {
     match reply {
-        Reply::Found { size, etag, micros } => found_shown(alloc, *size, etag, *micros),
+        Reply::Found { size, etag, micros } => push_found(out, *size, etag, *micros),
         Reply::Got {
             status,
             range,
             length,
-        } => got_shown(alloc, *status, *length, *range),
-        Reply::Created { upload } => created_shown(alloc, upload.as_str()),
-        Reply::PartStored { etag } => part_shown(alloc, etag),
-        Reply::Listed(page) => page_shown(alloc, page),
-        Reply::BucketList(buckets) => buckets_shown(alloc, buckets),
-        _ => String::from_str(alloc, plain_name(reply)),
+        } => push_got(out, *status, *length, *range),
+        Reply::Created { upload } => push_created(out, upload.as_str()),
+        Reply::PartStored { etag } => push_part(out, etag),
+        Reply::Listed(page) => push_page(out, page),
+        Reply::BucketList(buckets) => push_buckets(out, buckets),
+        _ => out.push_str(plain_name(reply)),
     }
 }
 
-fn refusal_shown(alloc: Global, code: &Text, message: &Text) -> Result<String, AllocError> {
-    let code = written(alloc, code)?;
-    let message = written(alloc, message)?;
-    format!(in alloc; "refused {code}: {message}")
+fn push_refusal(out: &mut String, code: &Text, message: &Text) -> Result<(), AllocError> {
+    write!(out, "refused {}: {}", Written(code), Written(message))
 }
 
-fn open_shown(alloc: Global, why: Why) -> Result<String, AllocError> {
-    format!(in alloc; "open: {why:?}")
+fn push_open(out: &mut String, why: Why) -> Result<(), AllocError> {
+    write!(out, "open: {why:?}")
 }
 
-/// What an answer means.
-pub(crate) fn class_shown(alloc: Global, class: &Class) -> Result<String, AllocError> {
+/// Adds what an answer means.
+pub(crate) fn push_class(out: &mut String, class: &Class) -> Result<(), AllocError> {
     match class {
-        Class::Success(reply) => reply_shown(alloc, reply),
-        Class::Refusal { code, message } => refusal_shown(alloc, code, message),
-        Class::Uncertain(why) => open_shown(alloc, *why),
+        Class::Success(reply) => push_reply(out, reply),
+        Class::Refusal { code, message } => push_refusal(out, code, message),
+        Class::Uncertain(why) => push_open(out, *why),
     }
 }
