@@ -4,6 +4,7 @@ use crate::lines::number;
 use outside_memory::{FileTable, MemFile, MemFiles};
 use s3_model::OutOfMemory;
 use std::alloc::{AllocError, Global};
+use std::mem;
 
 /// The time of each file that is spelled.
 const MICROS: u64 = 7;
@@ -19,9 +20,9 @@ pub(crate) fn empty_files(alloc: Global) -> MemFiles {
 
 pub(crate) fn files_of(alloc: Global, text: &str) -> Result<MemFiles, OutOfMemory> {
     let (numbers, items) = text.split_once(" | ").unwrap_or((text, ""));
-    let table = table_of(alloc, items)?;
     let failing = failing_calls(alloc, numbers)?;
     let short = short_reads(alloc, numbers)?;
+    let table = table_of(alloc, items)?;
     Ok(MemFiles::make(alloc, table, failing, short))
 }
 
@@ -46,14 +47,24 @@ fn short_reads(alloc: Global, text: &str) -> Result<Vec<(usize, usize)>, AllocEr
     Ok(short)
 }
 
-fn table_of(alloc: Global, items: &str) -> Result<FileTable, OutOfMemory> {
-    let mut table = FileTable::make(alloc);
+fn put_all(alloc: Global, table: &mut FileTable, items: &str) -> Result<(), OutOfMemory> {
     for item in items.split(" | ") {
         if !item.is_empty() {
-            put(alloc, &mut table, item)?;
+            put(alloc, table, item)?;
         }
     }
-    Ok(table)
+    Ok(())
+}
+
+fn table_of(alloc: Global, items: &str) -> Result<FileTable, OutOfMemory> {
+    let mut table = FileTable::make(alloc);
+    match put_all(alloc, &mut table, items) {
+        Ok(()) => Ok(table),
+        Err(OutOfMemory) => {
+            mem::drop(table);
+            Err(OutOfMemory)
+        }
+    }
 }
 
 fn file(bytes: Vec<u8>) -> MemFile {
