@@ -1,4 +1,4 @@
-use Rattle.std.proofs.Common.{◌≡◌, ◌∙◌, ◌+◌, ◌++◌, ◌∷◌, [], List, Some, ap, arith, inr, subst, sym}
+use Rattle.std.proofs.Common.{◌≡◌, ◌∙◌, ◌+◌, ◌++◌, ◌∷◌, [], List, Some, ap, arith, inr, subst, sym, rules}
 use Rattle.s3_model.specs.declared.tries.Mark.{Mark}
 use Rattle.attempts.specs.Attempts.{SignedRequest}
 use Rattle.attempts.specs.declared.send.Attempted.TheVariants as attempted
@@ -59,3 +59,6 @@ returns-clause-carried g c =
     let below = c.loop-number.auto.number-end (omega (arith, c.requires.left)) in
     rw c.ending_of-2.ensures
     (runs_out _ _ _ _ _ _ _ _ c.loop-number.invariant.underway c.args.most below c.in-Some-last.judged c.in-Some-last.is (omega (arith, below, c.loop-number-test.false)) _)
+
+pub loop-number-init : goal.loop-number-init
+loop-number-init g c = search rules
