@@ -1,4 +1,4 @@
-use Rattle.std.proofs.Common.{Err, ap, ⊎_elim, refl}
+use Rattle.std.proofs.Common.{Err, ap, ⊎_elim, refl, rules}
 use Rattle.reply_xml.specs.declared.faults.DocFault.TheVariants as fault
 use Rattle.reply_xml.proofs.FaultLemmas.{err_same, not_err}
 use Rattle.reply_xml.proofs.DocumentLemmas.{otherwise_at, root_begins, root_end}
@@ -58,3 +58,6 @@ invariant_of-reader-clause-judged c sound =
     (root_begins c.args.root.now _ _ _ _ c.in-Ok.ensures.value c.in-Ok-after_tag_end.ensures.value)
     (c.is_utf8.ensures sound)
     )
+
+pub returns-clause-room : goal.returns-clause-room
+returns-clause-room c = search rules
