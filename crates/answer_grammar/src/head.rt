@@ -53,7 +53,7 @@ pub const HEAD_LIMIT: usize = 65_536;
 const LINE_LIMIT: usize = 100;
 
 /// A whole head: its length in bytes, how its body is framed, and the answer without its body.
-#[derive(Debug, Drop)]
+#[derive(Drop)]
 pub struct Head {
     pub len: usize,
     pub framing: Framing,

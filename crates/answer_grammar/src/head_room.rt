@@ -10,7 +10,7 @@ use std::alloc::Global;
 const ALL_LINES: usize = 21_846;
 
 /// A place for where header lines stand, with room for those of every head. One serves any number of answers.
-#[derive(Debug, Drop)]
+#[derive(Drop)]
 pub struct HeadRoom {
     pub(crate) spans: Vec<HeaderSpan>,
     ghost all: { vec_len spans ≡ 21_846 },

@@ -25,7 +25,7 @@ use s3_outside::Wire;
 use std::alloc::Global;
 
 /// What one talk came to.
-#[derive(Debug, Drop)]
+#[derive(Drop)]
 pub struct Judged {
     /// What the answer means.
     pub class: Class,
@@ -34,7 +34,7 @@ pub struct Judged {
 }
 
 /// What came of one attempt.
-#[derive(Debug, Drop)]
+#[derive(Drop)]
 pub enum Attempted {
     /// Memory ran out before the talk.
     Memory,

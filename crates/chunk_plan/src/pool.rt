@@ -28,7 +28,7 @@ use std::marker::Model;
 ///
 /// Contracts see how many parts there are, how many of them are free and lent, a room that each has at least, and one
 /// that none exceeds. These two are the same until an `enlarge` fails, or a larger part is given back.
-#[derive(Debug, Drop)]
+#[derive(Drop)]
 pub struct PartPool {
     parts: Vec<Part>,
     lent: u32,

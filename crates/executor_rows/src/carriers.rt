@@ -8,7 +8,7 @@ use std::alloc::{AllocError, Global};
 use std::sync::Wait;
 
 /// Keeps each job, and answers it doubled.
-#[derive(Debug, Drop)]
+#[derive(Drop)]
 pub(crate) struct Doubler {
     pub(crate) seen: Vec<u32>,
 }

@@ -8,7 +8,7 @@ use std::alloc::Global;
 use std::marker::Model;
 
 /// A file in memory. `micros` is its time, in microseconds since 1970.
-#[derive(Debug, Drop)]
+#[derive(Drop)]
 pub struct MemFile {
     bytes: Vec<u8>,
     micros: u64,

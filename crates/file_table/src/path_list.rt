@@ -12,7 +12,7 @@ use std::alloc::Global;
 use std::marker::Model;
 
 /// Paths in the order in which they were added, and the set of them.
-#[derive(Debug, Drop)]
+#[derive(Drop)]
 pub(crate) struct PathList {
     paths: Vec<Text>,
     index: TextMap<()>,

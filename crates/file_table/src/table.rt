@@ -49,7 +49,7 @@ pub enum TableFault {
 }
 
 /// Files and folders in memory.
-#[derive(Debug, Drop)]
+#[derive(Drop)]
 pub struct FileTable {
     alloc: Global,
     held: TextMap<MemFile>,

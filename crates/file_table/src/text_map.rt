@@ -37,7 +37,7 @@ use std::marker::Model;
 use std::mem;
 
 /// A map from texts, in byte order. Contracts see the finite map.
-#[derive(Debug, Drop)]
+#[derive(Drop)]
 pub struct TextMap<V> {
     inner: BTreeMap<String, V>,
 }

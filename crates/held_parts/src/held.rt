@@ -28,7 +28,7 @@ use std::marker::Model;
 use std::mem;
 
 /// A part that a piece of a task holds: the part itself, or none where it is away with the job of the piece.
-#[derive(Debug, Drop)]
+#[derive(Drop)]
 pub struct Held {
     pub task: u32,
     pub number: u32,
@@ -39,7 +39,7 @@ pub struct Held {
 /// places as there are parts, whatever the number of tasks and pieces, and takes no memory but `make`.
 ///
 /// Contracts see the pool of the parts, and the places for those that are lent.
-#[derive(Debug, Drop)]
+#[derive(Drop)]
 pub struct HeldParts {
     pool: PartPool,
     slots: Vec<Option<Held>>,

@@ -15,7 +15,7 @@ pub(crate) const PIECE: usize = 16_384;
 pub(crate) const ROOM: usize = 81_920;
 
 /// Bytes that came and are not read yet, in a place that is made once. Contracts see them as a list.
-#[derive(Debug, Drop)]
+#[derive(Drop)]
 pub(crate) struct Incoming {
     buffer: Vec<u8>,
     start: usize,

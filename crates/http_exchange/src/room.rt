@@ -7,7 +7,7 @@ use std::alloc::Global;
 
 /// A place for what comes from a wire, and for where header lines stand. One serves any number of exchanges, one after
 /// the other; nothing stays in it.
-#[derive(Debug, Drop)]
+#[derive(Drop)]
 pub struct AnswerRoom {
     pub(crate) incoming: Incoming,
     pub(crate) heads: HeadRoom,

@@ -21,7 +21,7 @@ const MOST_ENTRIES: usize = 1_000_000;
 ///
 /// Contracts see what the pages that were taken have together, the token of the last of them, and whether the walk is
 /// over.
-#[derive(Debug, Drop)]
+#[derive(Drop)]
 pub struct Pages {
     bucket: Text,
     prefix: Text,

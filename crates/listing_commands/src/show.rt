@@ -25,7 +25,7 @@ use std::alloc::Global;
 use std::mem;
 
 /// What `ls` has to show.
-#[derive(Debug, Drop)]
+#[derive(Drop)]
 pub struct Shown {
     /// A row of each prefix and of each object, or of each bucket.
     pub text: Text,

@@ -6,7 +6,7 @@ ghost use Rattle.listings.specs.Faults.{IsNoCancel, fault_of};
 use s3_model::{BadListing, Cause, Class, Op, OutOfMemory, Why};
 
 /// Why a listing has no end.
-#[derive(Debug, Drop)]
+#[derive(Drop)]
 pub enum ListingFault {
     /// A page is refused.
     Listing(BadListing),

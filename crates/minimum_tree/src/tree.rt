@@ -9,7 +9,7 @@ use std::marker::Model;
 
 /// A row of numbers. Setting one, and finding the first least one, take as many steps as the length has binary digits.
 /// Contracts see the row.
-#[derive(Debug, Drop)]
+#[derive(Drop)]
 pub struct MinimumTree {
     // the root is node 1, the children of node n are 2 n and 2 n + 1, and the row is the second half
     nodes: Vec<u32>,

@@ -8,7 +8,7 @@ use std::alloc::Global;
 use std::marker::Model;
 
 /// An object in memory. `micros` is its time, in microseconds since 1970.
-#[derive(Debug, Drop)]
+#[derive(Drop)]
 pub struct MemObject {
     bytes: Vec<u8>,
     etag: Text,
@@ -76,7 +76,7 @@ impl MemObject {
 }
 
 /// A part of an upload in memory.
-#[derive(Debug, Drop)]
+#[derive(Drop)]
 pub struct MemPart {
     bytes: Vec<u8>,
     etag: Text,

@@ -11,7 +11,7 @@ use std::collections::BTreeMap;
 use std::marker::Model;
 
 /// The parts of an upload by their numbers. Contracts see the finite map.
-#[derive(Debug, Drop)]
+#[derive(Drop)]
 pub struct PartMap {
     inner: BTreeMap<u64, MemPart>,
 }

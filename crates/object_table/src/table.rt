@@ -44,7 +44,7 @@ use std::mem;
 
 /// Buckets with their objects, uploads in parts, and tokens of listings, as an S3 service holds them. Each object and
 /// each part has an entity tag of its own.
-#[derive(Debug, Drop)]
+#[derive(Drop)]
 pub struct ObjectTable {
     pub(crate) objects: TextMap<TextMap<MemObject>>,
     pub(crate) uploads: TextMap<MemUpload>,

@@ -28,7 +28,7 @@ fn are_same(left: &[Text], right: &[Text]) -> bool
 }
 
 /// An upload in parts that has not ended.
-#[derive(Debug, Drop)]
+#[derive(Drop)]
 pub struct MemUpload {
     bucket: Text,
     key: Text,
@@ -111,7 +111,7 @@ impl MemUpload {
 }
 
 /// How an upload ended: completed by a list of entity tags, or aborted.
-#[derive(Debug, Drop)]
+#[derive(Drop)]
 pub struct MemEnding {
     etags: Option<Vec<Text>>,
 }

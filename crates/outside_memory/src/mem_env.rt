@@ -14,7 +14,7 @@ use std::alloc::Global;
 use std::marker::Model;
 
 /// An environment in memory. The calls of `file` whose numbers `failing` lists, counted from 0, fail.
-#[derive(Debug, Drop)]
+#[derive(Drop)]
 pub struct MemEnv {
     alloc: Global,
     variables: TextMap<Text>,

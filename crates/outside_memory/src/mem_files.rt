@@ -21,7 +21,7 @@ use std::mem;
 /// counted from 0. The numbers in the names of temporary files are drawn from 0 on, in one row over all calls; one
 /// whose path is taken, or is the destination, is passed over. Files and calls are seen as long as there is memory for
 /// them, but never where a read is short.
-#[derive(Debug, Drop)]
+#[derive(Drop)]
 pub struct MemFiles {
     alloc: Global,
     table: FileTable,

@@ -6,7 +6,7 @@ use s3_outside::{Failed, Sink, count_fault};
 use std::alloc::Global;
 
 /// An output in memory. The calls of `failing`, counted from 0, fail, and so does each call once `limit` bytes are taken.
-#[derive(Debug, Drop)]
+#[derive(Drop)]
 pub struct MemSink {
     got: Vec<u8>,
     limit: usize,

@@ -16,7 +16,7 @@ pub enum WireCall {
 
 /// A wire in memory that plays what is listed. The nth talk gets the nth of `answers`, and then the end of the
 /// connection. The calls of `failing` fail; each kind of call is counted from 0 over the wire's life.
-#[derive(Debug, Drop)]
+#[derive(Drop)]
 pub struct ScriptWire {
     answers: Vec<Vec<u8>>,
     failing: Vec<(WireCall, usize)>,

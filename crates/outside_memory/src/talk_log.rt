@@ -53,7 +53,7 @@ impl TalkEnding {
 }
 
 /// One request and what came back.
-#[derive(Debug, Drop)]
+#[derive(Drop)]
 pub struct TalkRecord {
     pub host: Text,
     pub port: u16,
@@ -81,7 +81,7 @@ pub enum WireNote {
 }
 
 /// The log of a wire in memory. Contracts see None once its memory ran out.
-#[derive(Debug, Drop)]
+#[derive(Drop)]
 pub struct TalkLog {
     alloc: Global,
     talks: Vec<TalkRecord>,

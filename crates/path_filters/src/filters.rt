@@ -9,14 +9,14 @@ use std::alloc::Global;
 use std::marker::Model;
 
 /// Whether the paths that a pattern matches are kept.
-#[derive(Debug, Drop)]
+#[derive(Drop)]
 pub struct Filter {
     pub keep: bool,
     pub pattern: Pattern,
 }
 
 /// Filters of relative paths, of which the last that matches decides.
-#[derive(Debug, Drop)]
+#[derive(Drop)]
 pub struct Filters {
     inner: Vec<Filter>,
 }

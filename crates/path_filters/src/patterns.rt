@@ -15,7 +15,7 @@ use std::marker::Model;
 
 /// A pattern of relative paths: `*` stands for any text, `/` too, `?` for one character, `[seq]` and `[!seq]` for one
 /// in or out of a set, and every other character for itself.
-#[derive(Debug, Drop)]
+#[derive(Drop)]
 pub struct Pattern {
     pieces: Vec<Piece>,
 }

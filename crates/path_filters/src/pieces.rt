@@ -15,7 +15,7 @@ pub struct Range {
 }
 
 /// The ranges of a set, in the order in which it spells them.
-#[derive(Debug, Drop)]
+#[derive(Drop)]
 pub struct Ranges {
     inner: Vec<Range>,
 }
@@ -30,7 +30,7 @@ impl Model for Ranges {
 }
 
 /// What stands in a pattern.
-#[derive(Debug, Drop)]
+#[derive(Drop)]
 pub enum Piece {
     /// `*`, any text.
     Star,

@@ -26,7 +26,7 @@ use s3_model::{Cause, Kind, Mode, OutOfMemory, Outcome, Outcomes, Place, Task, T
 use std::alloc::Global;
 
 /// A line that is printed, with its line feed: to standard error or to standard output.
-#[derive(Debug, Drop)]
+#[derive(Drop)]
 pub struct Line {
     pub to_err: bool,
     pub text: Text,

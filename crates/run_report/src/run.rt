@@ -6,7 +6,7 @@ use s3_model::{
 };
 
 /// Why a run ended before its tasks, or beside them.
-#[derive(Debug, Drop)]
+#[derive(Drop)]
 pub enum Fatal {
     Words(WordFault),
     Profile(ProfileFault),
@@ -32,7 +32,7 @@ impl From<OutOfMemory> for Fatal {
 }
 
 /// What a run came to. `status` is the exit status of the program.
-#[derive(Debug, Drop)]
+#[derive(Drop)]
 pub struct Run {
     pub status: u8,
     pub plan: Plan,

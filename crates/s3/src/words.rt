@@ -5,7 +5,7 @@ use std::env;
 use std::env::{Env, FillError};
 
 /// Why there are no words.
-#[derive(Debug, Drop)]
+#[derive(Drop)]
 pub(crate) enum Unread {
     /// A word that is no UTF-8, with its bytes escaped.
     Escaped(String),

@@ -18,7 +18,7 @@ const TURNS: u32 = 10_000;
 
 /// After the first request that begins with `first`, the wire takes nothing of its answer until another wire of the
 /// service sent a request that begins with `second`. An empty text begins every request.
-#[derive(Debug, Drop)]
+#[derive(Drop)]
 pub struct Gate {
     pub first: Text,
     pub second: Text,

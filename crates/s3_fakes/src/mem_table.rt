@@ -27,7 +27,7 @@ const MICROS_PER_SECOND: u64 = 1_000_000;
 const PAGE: usize = 1000;
 
 /// What somebody else does to an object of a bucket that is there.
-#[derive(Debug, Drop)]
+#[derive(Drop)]
 pub enum ForeignWrite {
     Put {
         bucket: Text,
@@ -41,7 +41,7 @@ pub enum ForeignWrite {
 }
 
 /// The bytes of an answer, of which at most so many come at once.
-#[derive(Debug, Drop)]
+#[derive(Drop)]
 pub struct Coming {
     pub bytes: Vec<u8>,
     pub most: usize,
@@ -49,7 +49,7 @@ pub struct Coming {
 
 /// An S3 service in memory, which answers requests as bytes. What a script says is done to the nth request that begins
 /// with a text. Whoever reads its objects sees what was served so far.
-#[derive(Debug, Drop)]
+#[derive(Drop)]
 pub struct MemTable {
     objects: ObjectTable,
     script: Script,

@@ -25,7 +25,7 @@ pub enum Ending {
 }
 
 /// What a script does to a request.
-#[derive(Debug, Drop)]
+#[derive(Drop)]
 pub enum Turn {
     /// It is not served, and the answer has this status and this document.
     Refuse { status: u16, document: Text },
@@ -34,14 +34,14 @@ pub enum Turn {
 }
 
 /// A refusal by a script.
-#[derive(Debug, Drop)]
+#[derive(Drop)]
 pub(crate) struct Refused {
     pub status: u16,
     pub document: Text,
 }
 
 /// What becomes of one request.
-#[derive(Debug, Drop)]
+#[derive(Drop)]
 pub(crate) struct Fate {
     pub refused: Option<Refused>,
     pub ending: Ending,
@@ -99,7 +99,7 @@ pub(crate) fn push_at<T: Drop>(
 }
 
 /// The requests that begin with one text: how many came, from which wires, and what is done to them.
-#[derive(Debug, Drop)]
+#[derive(Drop)]
 struct Beginning {
     count: u64,
     first_wire: Option<u32>,
@@ -151,7 +151,7 @@ impl Beginning {
 }
 
 /// What is done to requests, by the texts that they begin with.
-#[derive(Debug, Drop)]
+#[derive(Drop)]
 pub(crate) struct Script {
     beginnings: BTreeMap<Vec<u8>, Beginning>,
     alloc: Global,

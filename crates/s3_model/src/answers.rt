@@ -6,7 +6,7 @@ use crate::text::Text;
 use crate::upload_id::UploadId;
 
 /// One page of a listing.
-#[derive(Debug, Drop)]
+#[derive(Drop)]
 pub struct Listed {
     pub entries: Entries,
     pub prefixes: Texts,
@@ -15,7 +15,7 @@ pub struct Listed {
 }
 
 /// What a successful answer says. `range` is a Content-Range: first byte, last byte, size of the whole.
-#[derive(Debug, Drop)]
+#[derive(Drop)]
 pub enum Reply {
     Stored,
     Found {
@@ -42,7 +42,7 @@ pub enum Reply {
 }
 
 /// A whole answer as it was read: `length` is the stated content length, `taken` the length of the body.
-#[derive(Debug, Drop)]
+#[derive(Drop)]
 pub struct Answered {
     pub status: u16,
     pub etag: Option<Text>,
@@ -71,14 +71,14 @@ pub enum Why {
 }
 
 /// What came back of one request.
-#[derive(Debug, Drop)]
+#[derive(Drop)]
 pub enum Talked {
     Answered(Answered),
     Broken(Why),
 }
 
 /// What an answer means for its request.
-#[derive(Debug, Drop)]
+#[derive(Drop)]
 pub enum Class {
     Success(Reply),
     Refusal { code: Text, message: Text },

@@ -10,7 +10,7 @@ use std::alloc::Global;
 use std::marker::Model;
 
 /// Bytes with a room, the greatest length that they can have without memory.
-#[derive(Debug, Drop)]
+#[derive(Drop)]
 pub struct Bytes {
     // The bytes, and behind them what was lent before.
     inner: Vec<u8>,
@@ -111,7 +111,7 @@ impl Bytes {
 }
 
 /// The buffer of one part on its way.
-#[derive(Debug, Drop)]
+#[derive(Drop)]
 pub struct Part {
     pub bytes: Bytes,
 }

@@ -28,7 +28,7 @@ impl<T: Drop> From<AllocFailed<T>> for OutOfMemory {
 /// A list with room that is reserved first and then pushed into without memory.
 ///
 /// Contracts see `items`, and `spare`, the number of items that can be pushed before the next `reserve`.
-#[derive(Debug, Drop)]
+#[derive(Drop)]
 pub struct List<T> {
     inner: Vec<T>,
     spare: usize,

@@ -25,7 +25,7 @@ pub enum FileCall {
 
 /// Why a task did not end as it was planned. In `Blocked`, the first `length` bytes of the destination path
 /// name what stands in the way.
-#[derive(Debug, Drop)]
+#[derive(Drop)]
 pub enum Cause {
     Service { op: Op, code: Text, message: Text },
     Lost { op: Op, why: Why },
@@ -38,7 +38,7 @@ pub enum Cause {
 }
 
 /// How a task ended.
-#[derive(Debug, Drop)]
+#[derive(Drop)]
 pub enum Outcome {
     Done,
     /// The copy of a moved source stands, and the source may stand too.
@@ -60,7 +60,7 @@ pub struct JobId {
 }
 
 /// One entry of the journal.
-#[derive(Debug, Drop)]
+#[derive(Drop)]
 pub enum Event {
     Given { job: JobId, lane: u32 },
     Came { job: JobId, lane: u32, tries: Tries },

@@ -5,7 +5,7 @@ use crate::text::Text;
 
 /// One request of the Amazon S3 API. Ranges have both ends inside. A `fresh` one is to be refused where the object is
 /// there.
-#[derive(Debug, Drop)]
+#[derive(Drop)]
 pub enum Ask {
     Head {
         bucket: Text,

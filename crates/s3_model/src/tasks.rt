@@ -15,7 +15,7 @@ pub enum Kind {
 }
 
 /// One file or object that is transferred or removed.
-#[derive(Debug, Drop)]
+#[derive(Drop)]
 pub struct Task {
     pub kind: Kind,
     pub moves: bool,
@@ -46,7 +46,7 @@ pub struct Mode {
 }
 
 /// What is printed beside the outcome of a task.
-#[derive(Debug, Drop)]
+#[derive(Drop)]
 pub enum Warning {
     Skipped { place: Place, why: KeySkip },
     Unnamed(u64),
@@ -56,7 +56,7 @@ pub enum Warning {
 }
 
 /// What a command is to do, in order.
-#[derive(Debug, Drop)]
+#[derive(Drop)]
 pub struct Plan {
     pub tasks: Tasks,
     pub warnings: Warnings,

@@ -13,7 +13,7 @@ pub enum Mark {
 }
 
 /// The marks of at most ten attempts, kept in place. Contracts see their list.
-#[derive(Debug, Drop)]
+#[derive(Drop)]
 pub struct Tries {
     marks: [Mark; 10],
     count: usize,

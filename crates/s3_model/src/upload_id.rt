@@ -5,7 +5,7 @@ ghost use Rattle.std.specs.Prelude.{◌≡◌, ◌≤◌, ◌↔◌, length, IsS
 use std::marker::Model;
 
 /// The id of an upload in parts, kept in place: 1 to 1,024 bytes of UTF-8. Contracts see its bytes.
-#[derive(Debug, Drop)]
+#[derive(Drop)]
 pub struct UploadId {
     bytes: [u8; 1024],
     count: usize,

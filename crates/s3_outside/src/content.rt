@@ -7,7 +7,7 @@ use std::alloc::Global;
 use std::marker::Model;
 
 /// Owned bytes. Contracts see their list.
-#[derive(Debug, Drop)]
+#[derive(Drop)]
 pub struct Content {
     bytes: Vec<u8>,
 }

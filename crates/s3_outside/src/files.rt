@@ -28,21 +28,21 @@ pub enum FileFault {
 }
 
 /// The names in a folder, in any order, and how many more there are that are no text.
-#[derive(Debug, Drop)]
+#[derive(Drop)]
 pub struct Names {
     pub names: Texts,
     pub unnamed: u64,
 }
 
 /// A temporary file, which stands beside its destination until it takes its place.
-#[derive(Debug, Drop)]
+#[derive(Drop)]
 pub struct Temp {
     pub path: Text,
 }
 
 /// One call on files with its answer; of names only why there are none. `at` and `room` are in bytes, `micros` is in
 /// microseconds since 1970.
-#[derive(Debug, Drop)]
+#[derive(Drop)]
 pub enum FileNote {
     Kind {
         path: Text,

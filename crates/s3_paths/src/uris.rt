@@ -24,7 +24,7 @@ const LONGEST_BUCKET: usize = 255;
 pub(crate) const LONGEST_KEY: usize = 1024;
 
 /// An object of an S3 service, or with an empty key a whole bucket.
-#[derive(Debug, Drop)]
+#[derive(Drop)]
 pub struct S3Uri {
     pub bucket: Text,
     pub key: Text,

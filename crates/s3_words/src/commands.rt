@@ -17,7 +17,7 @@ pub enum Verb {
 }
 
 /// What a command line asks for.
-#[derive(Debug, Drop)]
+#[derive(Drop)]
 pub struct Command {
     pub verb: Verb,
     /// The first path, as it is written.

@@ -23,7 +23,7 @@ pub enum Form {
 
 /// An answer before it is bytes: its status, header lines of its own, and its body. That of a HEAD has no body, but
 /// states the length of one.
-#[derive(Debug, Drop)]
+#[derive(Drop)]
 pub struct Answer {
     pub status: u16,
     pub lines: String,

@@ -3,7 +3,7 @@
 use s3_model::{Entries, Listed, Text};
 
 /// What a HEAD tells of an object; its time is in microseconds since 1970.
-#[derive(Debug, Drop)]
+#[derive(Drop)]
 pub struct FoundObject {
     pub size: u64,
     pub etag: Text,
@@ -11,7 +11,7 @@ pub struct FoundObject {
 }
 
 /// The bytes of an object, or of a range of it: first byte, last byte, size of the whole.
-#[derive(Debug, Drop)]
+#[derive(Drop)]
 pub struct GotObject {
     pub etag: Text,
     pub micros: u64,
@@ -20,7 +20,7 @@ pub struct GotObject {
 }
 
 /// What a request that was served gained, before it is written.
-#[derive(Debug, Drop)]
+#[derive(Drop)]
 pub enum Gained {
     Found(FoundObject),
     Got(GotObject),

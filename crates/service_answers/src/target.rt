@@ -5,7 +5,7 @@ use s3_model::{OutOfMemory, Text};
 use std::alloc::Global;
 
 /// What a target names: `/bucket/key?query`, of which each may be missing.
-#[derive(Debug, Drop)]
+#[derive(Drop)]
 pub(crate) struct Target<'a> {
     pub bucket: Text,
     pub key: Text,

@@ -7,7 +7,7 @@ use s3_model::{Kind, Limits, Place, Text, Times};
 ///
 /// `from` and `to` are extended already: where there may be many names, a key that is not empty ends in `/`. A removal
 /// has no `to`. `content` is the content type of each upload; without one, `guess` has it follow from the file's name.
-#[derive(Debug, Drop)]
+#[derive(Drop)]
 pub struct Errand {
     pub kind: Kind,
     /// A source is removed once its transfer is done.

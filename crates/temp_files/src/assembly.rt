@@ -40,7 +40,7 @@ use std::alloc::Global;
 use std::marker::Model;
 
 /// A file that is put together from ranges in any order, in a temporary file beside its destination.
-#[derive(Debug, Drop)]
+#[derive(Drop)]
 pub struct Assembly {
     temp: Temp,
     dest: Text,

@@ -19,7 +19,7 @@ use std::alloc::Global;
 
 /// The files of a tree by their paths from the root on, in byte order, with their sizes and times; the paths of what is
 /// neither file nor folder, in byte order; and how many names are no text, in all folders together, up to 2^64 - 1.
-#[derive(Debug, Drop)]
+#[derive(Drop)]
 pub struct Walked {
     pub entries: Entries,
     pub others: Texts,

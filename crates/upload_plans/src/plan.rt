@@ -30,7 +30,7 @@ use std::alloc::Global;
 const LONGEST_KEY: usize = 1024;
 
 /// What copying one local file up comes to.
-#[derive(Debug, Drop)]
+#[derive(Drop)]
 pub enum Fate {
     /// The program does not do this yet.
     NotYet,
