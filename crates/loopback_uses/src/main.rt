@@ -7,15 +7,15 @@ mod served;
 use outside_memory::MemEnv;
 use outside_system::{DiskFiles, SocketWire, StdSink};
 use s3_fakes::{MemTable, SharedTable};
-use s3_main::run_s3;
+use s3_main::{Run, run_s3};
 use s3_model::OutOfMemory;
 use s3_outside::S3_LIMITS;
 use served::serve;
 use std::alloc::{AllocError, Global};
-use std::io;
 use std::net::{TcpListener, TcpStream};
 use std::sync::Wait;
 use std::thread::{Threads, join};
+use std::{io, mem};
 
 const MOMENT: u64 = 1_369_353_600;
 
@@ -49,24 +49,62 @@ fn words(alloc: Global, port: u16) -> Result<Vec<String>, AllocError> {
     Ok(words)
 }
 
-/// Runs the copy over the sockets and the disk of a host, and answers its status.
-fn copied<R>(rt: &R, host: &HostRuntime, port: u16) -> Result<u8, AllocError>
+/// What the run meets of its host, but for the outputs.
+#[derive(Drop)]
+struct Outside {
+    env: MemEnv,
+    files: DiskFiles<HostRuntime>,
+    wires: Vec<SocketWire<HostRuntime>>,
+}
+
+fn make_outside(host: &HostRuntime) -> Result<Outside, OutOfMemory> {
+    let alloc = host.alloc();
+    let (files, wire) = (host.clone()?, host.clone()?);
+    let wires = vec![in alloc; SocketWire::new(wire)]?;
+    Ok(Outside {
+        env: environment(alloc)?,
+        files: DiskFiles::new(files),
+        wires,
+    })
+}
+
+fn status_of(run: Run) -> u8 {
+    let status = run.status;
+    mem::drop(run);
+    status
+}
+
+/// Runs these words over the sockets, the disk and the outputs of a host, and answers its status.
+fn run_words<R>(rt: &R, host: &HostRuntime, words: &[String], outside: &mut Outside) -> u8
 where
     R: Threads + Wait + Clone + Send + Sync + Drop + 'static,
 {
-    let alloc = host.alloc();
-    let words = words(alloc, port)?;
-    let Ok(mut env) = environment(alloc) else {
-        return Ok(NO_RUN);
-    };
-    let mut files = DiskFiles::new(host.clone()?);
-    let mut wires = vec![in alloc; SocketWire::new(host.clone()?)]?;
+    if outside.wires.len() != 1 {
+        return NO_RUN;
+    }
     let mut out = StdSink::new(host.stdout());
     let mut err = StdSink::new(host.stderr());
-    let run = run_s3(
-        rt, alloc, &words, &mut env, &mut files, &mut wires, &mut out, &mut err,
-    );
-    Ok(run.status)
+    status_of(run_s3(
+        rt,
+        host.alloc(),
+        words,
+        &mut outside.env,
+        &mut outside.files,
+        &mut outside.wires,
+        &mut out,
+        &mut err,
+    ))
+}
+
+/// Copies the file to the service at that port, and answers the status.
+fn copied<R>(rt: &R, host: &HostRuntime, port: u16) -> u8
+where
+    R: Threads + Wait + Clone + Send + Sync + Drop + 'static,
+{
+    let (Ok(words), Ok(mut outside)) = (words(host.alloc(), port), make_outside(host)) else {
+        return NO_RUN;
+    };
+    run_words(rt, host, words.as_slice(), &mut outside)
 }
 
 /// Runs the copy, and then has the service end: it ends with a connection that sends nothing.
@@ -74,7 +112,7 @@ fn copied_once<R>(rt: &R, host: &HostRuntime, port: u16) -> u8
 where
     R: Threads + Wait + Clone + Send + Sync + Drop + 'static,
 {
-    let status = copied(rt, host, port).unwrap_or(NO_RUN);
+    let status = copied(rt, host, port);
     let _ = TcpStream::connect(host, ("127.0.0.1", port));
     status
 }

@@ -6,10 +6,13 @@ mod words;
 
 use help::{HELP, VERSION};
 use outside_system::{DiskFiles, RealEnv, SocketWire, StdSink};
-use s3_main::run_s3;
+use s3_main::{Run, run_s3};
 use std::alloc::AllocError;
 use std::fs::File;
+use std::mem;
 use std::process::ExitCode;
+use std::sync::Wait;
+use std::thread::Threads;
 use words::{Unread, read_words};
 
 /// How many connections there are at most.
@@ -100,33 +103,47 @@ fn refuse(rt: &HostRuntime, unread: &Unread) -> u8 {
     }
 }
 
-fn main(rt: HostRuntime) -> ExitCode {
-    let _placeholders = placeholders(&rt);
-    let words = match read_words(&rt) {
-        Ok(words) => words,
-        Err(unread) => return ExitCode::from(refuse(&rt, &unread)),
-    };
-    if let Some(status) = answered(&rt, words.as_slice()) {
-        return ExitCode::from(status);
-    }
-    let (Ok(mut wires), Ok(mut env), Ok(mut files)) = (wires(&rt), environment(&rt), disk(&rt))
-    else {
-        return ExitCode::from(OUT_OF_MEMORY);
+fn status_of(run: Run) -> u8 {
+    let status = run.status;
+    mem::drop(run);
+    status
+}
+
+/// Runs these words over the sockets, the disk, the outputs and the environment of the system, and answers the status.
+fn run_words<R>(threads: &R, rt: &HostRuntime, words: &[String]) -> u8
+where
+    R: Threads + Wait + Clone + Send + Sync + Drop + 'static,
+{
+    let (Ok(mut wires), Ok(mut env), Ok(mut files)) = (wires(rt), environment(rt), disk(rt)) else {
+        return OUT_OF_MEMORY;
     };
     if wires.len() != WIRES {
-        return ExitCode::from(OUT_OF_MEMORY);
+        return OUT_OF_MEMORY;
     }
     let mut out = StdSink::new(rt.stdout());
     let mut err = StdSink::new(rt.stderr());
     let run = run_s3(
-        &rt,
+        threads,
         rt.alloc(),
-        words.as_slice(),
+        words,
         &mut env,
         &mut files,
         &mut wires,
         &mut out,
         &mut err,
     );
-    ExitCode::from(end(&rt, words.as_slice(), run.status))
+    status_of(run)
+}
+
+fn main(rt: HostRuntime) -> ExitCode {
+    let _placeholders = placeholders(&rt);
+    let words = match read_words(&rt) {
+        Ok(words) => words,
+        Err(unread) => return ExitCode::from(refuse(&rt, &unread)),
+    };
+    let status = match answered(&rt, words.as_slice()) {
+        Some(status) => status,
+        None => end(&rt, words.as_slice(), run_words(&rt, &rt, words.as_slice())),
+    };
+    ExitCode::from(status)
 }

@@ -8,6 +8,7 @@ use outside_memory::ScriptWire;
 use s3_main::run_s3;
 use s3_model::OutOfMemory;
 use std::alloc::Global;
+use std::mem;
 use std::sync::Wait;
 use std::thread::Threads;
 
@@ -35,10 +36,12 @@ where
         &mut given.out,
         &mut given.err,
     );
-    End {
+    let end = End {
         status: run.status,
         stopped: run.fatal.is_some(),
-    }
+    };
+    mem::drop(run);
+    end
 }
 
 /// Runs a command over one wire, and shows its status and its outputs.
