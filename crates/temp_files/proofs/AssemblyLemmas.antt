@@ -217,3 +217,14 @@ pub finished_given : (assembly : Assembling) (temp dest : List ℕ) (result : Re
 finished_given assembly temp dest result old new before after same_temp same_dest made =
     finished_seen assembly result old new before after
     (subst (λ (t : List ℕ). IsMade (note.Rename t assembly.dest (answer_of result)) old new before after) same_temp (subst (λ (d : List ℕ). IsMade (note.Rename temp d (answer_of result)) old new before after) same_dest made))
+
+pub others_given : (assembly : Assembling) (temp dest : List ℕ) (result : Result Unit (Temp × FileFault)) (old new : Option SeenFiles) (before after : ℕ) → temp ≡ assembly.temp → dest ≡ assembly.dest → IsMade (note.Rename temp dest (answer_of result)) old new before after
+    → BothSeen old new (λ old new. OnOk result ((path : List ℕ) → path ≢ assembly.temp → path ≢ assembly.dest → get new.store.held path ≡ get old.store.held path))
+others_given assembly temp dest result old new before after same_temp same_dest made =
+    finished_others assembly.temp assembly.dest result old new before after
+    (subst (λ (t : List ℕ). IsMade (note.Rename t assembly.dest (answer_of result)) old new before after) same_temp (subst (λ (d : List ℕ). IsMade (note.Rename temp d (answer_of result)) old new before after) same_dest made))
+
+pub gone_given : (assembly : Assembling) (temp dest : List ℕ) (result : Result Unit (Temp × FileFault)) (old new : Option SeenFiles) (before after : ℕ) → temp ≡ assembly.temp → temp ≢ dest → IsMade (note.Rename temp dest (answer_of result)) old new before after
+    → BothSeen old new (λ old new. OnOk result (get new.store.held assembly.temp ≡ None))
+gone_given assembly temp dest result old new before after same_temp apart made =
+    subst (λ (t : List ℕ). BothSeen old new (λ old new. OnOk result (get new.store.held t ≡ None))) same_temp (finished_gone temp dest apart result old new before after made)

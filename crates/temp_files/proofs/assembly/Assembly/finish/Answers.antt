@@ -1,6 +1,6 @@
-use Rattle.std.proofs.Common.{◌∙◌, Ok, ap, rules, arith}
+use Rattle.std.proofs.Common.{◌∙◌, Ok, ap, rules}
 use Rattle.temp_files.specs.Assembly.{Assembling}
-use Rattle.temp_files.proofs.AssemblyLemmas.{finished_given, finished_gone, finished_others}
+use Rattle.temp_files.proofs.AssemblyLemmas.{finished_given, gone_given, others_given}
 use Rattle.temp_files.proofs.assembly.Assembly.finish.Goals as goal
 
 pub returns-in-Ok-clause-finished : goal.returns-in-Ok-clause-finished
@@ -8,10 +8,12 @@ returns-in-Ok-clause-finished g c =
     finished_given c.args.self _ _ (Ok c.in-Ok.field-0) _ _ _ _ (ap (λ (a : Assembling). a.temp) c.self.view_is) (c.as_str.ensures ∙ ap (λ (a : Assembling). a.dest) c.self.view_is) c.in-Ok.ensures.calls
 
 pub returns-in-Ok-clause-others : goal.returns-in-Ok-clause-others
-returns-in-Ok-clause-others g c = grind (arith, finished_others)
+returns-in-Ok-clause-others g c =
+    others_given c.args.self _ _ (Ok c.in-Ok.field-0) _ _ _ _ (ap (λ (a : Assembling). a.temp) c.self.view_is) (c.as_str.ensures ∙ ap (λ (a : Assembling). a.dest) c.self.view_is) c.in-Ok.ensures.calls
 
 pub returns-in-Ok-clause-gone : goal.returns-in-Ok-clause-gone
-returns-in-Ok-clause-gone g c = grind (arith, finished_gone)
+returns-in-Ok-clause-gone g c =
+    gone_given c.args.self _ _ (Ok c.in-Ok.field-0) _ _ _ _ (ap (λ (a : Assembling). a.temp) c.self.view_is) (λ e. c.self.invariant (e ∙ c.as_str.ensures)) c.in-Ok.ensures.calls
 
 pub returns-in-Ok-clause-free : goal.returns-in-Ok-clause-free
 returns-in-Ok-clause-free g c = search rules

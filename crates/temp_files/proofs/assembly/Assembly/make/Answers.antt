@@ -12,22 +12,22 @@ pub returns-clause-size : goal.returns-clause-size
 returns-clause-size g c = search rules
 
 pub returns-clause-temp : goal.returns-clause-temp
-returns-clause-temp g c = search rules
+returns-clause-temp g c = c.in_ok-temp.ensures.path
 
 pub returns-clause-apart : goal.returns-clause-apart
-returns-clause-apart g c = search rules
+returns-clause-apart g c = c.in_ok-temp.ensures.apart
 
 pub returns-clause-others : goal.returns-clause-others
 returns-clause-others g c = grind (arith, made_spares)
 
 pub returns-clause-calls : goal.returns-clause-calls
-returns-clause-calls g c = search rules
+returns-clause-calls g c = c.in_ok-temp.ensures.calls
 
 pub returns-clause-same : goal.returns-clause-same
 returns-clause-same g c = search rules
 
 pub returns-clause-free : goal.returns-clause-free
-returns-clause-free g c = search rules
+returns-clause-free g c = c.in_ok-temp.ensures.free
 
 pub returns-clause-later : goal.returns-clause-later
 returns-clause-later g c = search rules
@@ -46,3 +46,6 @@ returns-in_err-temp-clause-failed g c = search rules
 
 pub returns-in_err-temp-clause-later : goal.returns-in_err-temp-clause-later
 returns-in_err-temp-clause-later g c = search rules
+
+pub invariant_of-result : goal.invariant_of-result
+invariant_of-result g c = search rules
