@@ -1,6 +1,6 @@
 //! Tasks that are made.
 
-ghost use Rattle.std.specs.Prelude.{◌≡◌, ◌<◌, ◌∷◌, false, Bool, IfOk, IfSome, IsSomeAnd, None, length, set};
+ghost use Rattle.std.specs.Prelude.{◌≡◌, ◌<◌, ◌∷◌, false, Bool, IfOk, IfSome, IsSomeAnd, None, get_or, is_some, length, set};
 ghost use Rattle.manager_moves.specs.Runs.{Events, Made, Shared};
 ghost use Rattle.manager_core.specs.Answers.{IsDue};
 ghost use Rattle.manager_core.specs.Cells.{KeepsCellsBut};
@@ -15,6 +15,7 @@ use crate::due::Due;
 use crate::manager::Manager;
 use crate::steps::StepSlot;
 use manager_moves::Move;
+use move_core::MoveCore;
 use s3_model::{Config, Limits, OutOfMemory, Task};
 use std::alloc::Global;
 use std::mem;
@@ -83,6 +84,13 @@ fn put(places: &mut Vec<StepSlot>, task: u32, steps: StepSlot)
     places[task as usize] = steps;
 }
 
+/// Whether a task has ended.
+fn has_ended(moves: &MoveCore, task: u32) -> bool
+    ensures { result ≡ is_some (get_or moves.now.outcomes task None) }
+{
+    moves.outcome(task).is_some()
+}
+
 impl Manager {
     /// The jobs of a task are let go once it has ended.
     pub(crate) fn settle(&mut self, task: u32)
@@ -91,7 +99,7 @@ impl Manager {
           steps = settled_steps task self.old.moves.outcomes self.old.steps;
         } }
     {
-        if self.moves.outcome(task).is_some() {
+        if has_ended(&self.moves, task) {
             self.steps[task as usize] = StepSlot::empty();
         }
     }
