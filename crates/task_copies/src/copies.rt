@@ -37,19 +37,40 @@ fn copy_source(source: &Option<Place>) -> Result<Option<Place>, OutOfMemory>
     }
 }
 
+fn copy_places(task: &Task) -> Result<(Option<Place>, Place), OutOfMemory>
+    ensures source { IfOk result (λ places. places.0 ≡ task.now.source) }
+    ensures dest { IfOk result (λ places. places.1 ≡ task.now.dest) }
+{
+    let source = copy_source(&task.source)?;
+    let dest = copy_place(&task.dest)?;
+    Ok((source, dest))
+}
+
+/// The entity tag and the content type.
+fn copy_texts(task: &Task) -> Result<(Text, Option<Text>), OutOfMemory>
+    ensures etag { IfOk result (λ texts. texts.0 ≡ task.now.etag) }
+    ensures content { IfOk result (λ texts. texts.1 ≡ task.now.content) }
+{
+    let etag = task.etag.copy()?;
+    let content = copy_of(&task.content)?;
+    Ok((etag, content))
+}
+
 /// A copy of a task. It takes memory for its texts.
 pub fn copy_task(task: &Task) -> Result<Task, OutOfMemory>
     ensures { IfOk result (λ copy. copy ≡ task.now) }
 {
+    let (source, dest) = copy_places(task)?;
+    let (etag, content) = copy_texts(task)?;
     Ok(Task {
         kind: task.kind,
         moves: task.moves,
-        source: copy_source(&task.source)?,
-        dest: copy_place(&task.dest)?,
+        source,
+        dest,
         size: task.size,
-        etag: task.etag.copy()?,
+        etag,
         micros: task.micros,
-        content: copy_of(&task.content)?,
+        content,
         fresh: task.fresh,
     })
 }
