@@ -1,8 +1,8 @@
 //! What a run keeps to know its next move.
 
-ghost use Rattle.std.specs.Prelude.{◌≡◌, ◌≤◌, ◌<◌, ◌∷◌, [], true, None, IfOk, length, replicate};
+ghost use Rattle.std.specs.Prelude.{◌≡◌, ◌≤◌, ◌<◌, ◌∷◌, [], true, None, IfOk, length, nat_lt, replicate};
 ghost use Rattle.held_parts.specs.Held.{AreSingle};
-ghost use Rattle.lane_queues.specs.Lanes.{IsFreest};
+ghost use Rattle.lane_queues.specs.Lanes.{IsFreest, out_of};
 ghost use Rattle.manager_moves.specs.Moves.{next_move};
 ghost use Rattle.manager_moves.specs.Runs.{Events, Lined, Shared};
 ghost use Rattle.move_core.specs.Means.{IsSharedBy};
@@ -280,11 +280,18 @@ impl MoveCore {
         }
     }
 
+    /// Whether a job is out.
+    fn has_jobs_out(&self) -> bool
+        ensures { result ≡ nat_lt 0 (out_of self.now.lanes) }
+    {
+        self.lanes.out() > 0
+    }
+
     /// A wait, where a job is out, and else the end.
     fn rest(&self) -> Move
         ensures { result ≡ rest_by self.now }
     {
-        if self.lanes.out() > 0 {
+        if self.has_jobs_out() {
             Move::Wait
         } else {
             Move::End
