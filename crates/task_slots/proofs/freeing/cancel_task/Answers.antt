@@ -1,4 +1,4 @@
-use Rattle.std.proofs.Common.{◌∷◌}
+use Rattle.std.proofs.Common.{◌∷◌, rules}
 use Rattle.task_acts.specs.Histories.{Cancelled}
 use Rattle.move_laws.proofs.Cancels.{known_cancelled}
 use Rattle.move_laws.proofs.ToldTable.{cancel_stops}
@@ -12,3 +12,6 @@ returns-then-not-had_stopped-clause-told c room w h is =
 pub returns-else-not-had_stopped-clause-told : goal.returns-else-not-had_stopped-clause-told
 returns-else-not-had_stopped-clause-told c room w h is =
     known_cancelled room w h _ _ is c.args.reason (c.cancel.ensures.stands w is.heard is.stands) c.cancel.ensures.kept
+
+pub returns-else-not-had_stopped-clause-freed : goal.returns-else-not-had_stopped-clause-freed
+returns-else-not-had_stopped-clause-freed c = search rules

@@ -1,4 +1,5 @@
 use Rattle.std.proofs.Common.{◌≡◌, ◌∙◌, ◌==◌, Option, sym, ap, arith, is_some}
+use Rattle.std.proofs.lemmas.Grind.{common_steps}
 use Rattle.jobs.specs.Jobs.{SeenJob}
 use Rattle.held_parts.specs.Held.{held_at}
 use Rattle.kept_jobs.specs.Slots.{job_at}
@@ -65,3 +66,6 @@ loop-number-preserved c =
           is);
       tags = c.free_kept.ensures.tags ∙ now.invariant.tags;
     }
+
+pub returns-clause-held : goal.returns-clause-held
+returns-clause-held c = grind (arith, common_steps)
