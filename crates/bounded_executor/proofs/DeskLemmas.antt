@@ -106,9 +106,9 @@ module _ {W J D : Type 0} where
   all_left carries depth lanes left desk back rest view is none ran = rw (← view, none) (rw is at ran)
 
   -- a lane that has room has fewer jobs out than its depth
-  pub lane_has_room : (depth out : ℕ) (lanes : List (LaneState W J D)) (desk : DeskState W J D) (i : ℕ) (l : LaneState W J D) (room : ℕ) → IsDesk depth out lanes → desk_of depth lanes ≡ desk
-      → i < length lanes → l ≡ get_or lanes i l → room + jobs_out (lane_of desk i) ≡ desk.depth → 0 < room → jobs_out l.exchange < l.depth
-  lane_has_room depth out lanes desk i l room known view in' is left some =
+  pub lane_has_room : (depth out : ℕ) (lanes : List (LaneState W J D)) (desk : DeskState W J D) (i : ℕ) (l : LaneState W J D) → IsDesk depth out lanes → desk_of depth lanes ≡ desk
+      → i < length lanes → l ≡ get_or lanes i l → jobs_out (lane_of desk i) < desk.depth → jobs_out l.exchange < l.depth
+  lane_has_room depth out lanes desk i l known view in' is left =
       let here = ap jobs_out (lane_of-desk_of depth lanes i l in' is) in
       let alike = lane_is_alike depth out lanes i l known in' is in
       omega (arith, ap (λ (d : DeskState W J D). jobs_out (lane_of d i)) view, here, ap (λ (d : DeskState W J D). d.depth) view, alike.0)

@@ -75,6 +75,8 @@ impl<W: Worker> Desk<W> {
       ◌↔◌,
       [],
       length,
+      true,
+      false,
       vec_capacity,
       IsErr,
       IfErr,
@@ -96,7 +98,7 @@ impl<W: Worker> Desk<W> {
         ensures ok { OnOk result (self.new ≡ gives self.old lane job) }
         ensures one_more { OnOk result (all_out self.new ≡ all_out self.old + 1) }
     {
-        if self.room(lane) == 0 {
+        if self.is_full(lane) {
             return Err(job);
         }
         let slot = &mut self.lanes[lane as usize];
@@ -193,6 +195,15 @@ impl<W: Worker> Desk<W> {
         ensures { result ≡ all_out self.now }
     {
         self.out
+    }
+
+    // Whether the lane holds `depth` jobs.
+    fn is_full(&self, lane: u32) -> bool
+        requires { lane < length self.now.lanes }
+        ensures full { result ≡ true → jobs_out (lane_of self.now lane) ≡ self.now.depth }
+        ensures room { result ≡ false → jobs_out (lane_of self.now lane) < self.now.depth }
+    {
+        self.room(lane) == 0
     }
 
     /// How many jobs the lane takes until outcomes are taken back.
