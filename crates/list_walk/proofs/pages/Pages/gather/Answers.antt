@@ -1,4 +1,4 @@
-use Rattle.std.proofs.Common.{arith, refl, sym}
+use Rattle.std.proofs.Common.{arith, refl, rules, sym}
 use Rattle.list_walk.proofs.PageLemmas.{same_sound, sound_taken}
 use Rattle.list_walk.proofs.pages.Pages.gather.Goals as goal
 
@@ -21,3 +21,6 @@ invariant_of-self-in_err-reserve-2 c =
 
 pub invariant_of-self : goal.invariant_of-self
 invariant_of-self c = same_sound _ _ _ _ _ _ c.reserve.ensures.items refl c.self.invariant
+
+pub returns-clause-ok : goal.returns-clause-ok
+returns-clause-ok c = search rules
