@@ -3,11 +3,13 @@ use Rattle.std.specs.Prelude.{◌≡◌, ◌≤◌, ◌<◌, ◌+◌, ℕ, true,
 use Rattle.std.specs.Prelude.{if◌then◌else◌}
 use Rattle.std.specs.Arc.{arc_value}
 use Rattle.attempts.specs.Attempts.{SignedRequest, signed_request}
+use Rattle.jobs.specs.Endings.{SeenCarried}
+use Rattle.jobs.specs.Jobs.{SeenJob}
 use Rattle.jobs.specs.declared.ending.Ending.{Ending}
 use Rattle.jobs.specs.declared.ending.Ending.TheVariants as ending
 use Rattle.jobs.specs.declared.what.What.{What}
 use Rattle.jobs.specs.declared.what.What.TheVariants as what
-use Rattle.lane_jobs.specs.Lanes.{Ends, IsShare, most_attempts}
+use Rattle.lane_jobs.specs.Lanes.{Ends, IsCarriedBy, IsSameJob, IsShare, SeenCarrier, most_attempts}
 use Rattle.job_terms.specs.Attempts.{mark_of}
 use Rattle.s3_model.specs.declared.answers.Class.{Class}
 use Rattle.s3_model.specs.declared.answers.Why.{Why}
@@ -28,7 +30,7 @@ use Rattle.s3_model.specs.declared.tasks.Kind.TheVariants as kind
 use Rattle.s3_model.specs.declared.tasks.Task.{Task}
 use Rattle.s3_model.specs.declared.tries.Mark.{Mark}
 use Rattle.s3_model.specs.Classes.{is_tried_again}
-use Rattle.s3_model.specs.Talks.{Talk, Note}
+use Rattle.s3_model.specs.Talks.{Talk, Note, WireLog}
 use Rattle.s3_outside.specs.Files.{SeenFiles}
 use Rattle.upload_promise.specs.Uploads as any_carrier
 use Rattle.upload_promise.specs.Uploads.{WantsJournal, is_open, put_events, upload_ask}
@@ -89,9 +91,22 @@ outcome_of marks ending.Memory = failed_or_unknown marks cause.Memory
 abbrev pub most_puts : (attempts : ℕ) → ℕ
 most_puts attempts = most_attempts attempts 0
 
--- the outcome wants the job with these marks, whatever the counts of faults of the files
+-- the outcome wants these events, whatever the counts of faults of the files
+abbrev pub WantsEvents : Outcome → List Event → Type 0
+WantsEvents how events = (before after : ℕ) → WantsJournal before after how events
+
+-- the outcome wants the job with these marks
 abbrev pub WantsPut : Outcome → List Mark → Type 0
-WantsPut how marks = (before after : ℕ) → WantsJournal before after how (put_events marks)
+WantsPut how marks = WantsEvents how (put_events marks)
+
+-- The carrier carried this job: the journal has its events alone, and it came to that.
+pub record IsSentBy (carrier : SeenCarrier) (job : SeenJob) (before after : Option WireLog) (events : List Event)
+    (how : Outcome) : Type 0 where
+  pub carried : SeenCarried
+  pub by : IsCarriedBy carrier job before after carried
+  pub same : IsSameJob job carried.job
+  pub journals : events ≡ put_events carried.tries
+  pub comes_to : how ≡ outcome_of carried.tries carried.ending
 
 abbrev pub put_request : Endpoint → Keys → Ask → (body : List ℕ) → SignedRequest
 put_request endpoint keys asked body = signed_request endpoint keys asked body None

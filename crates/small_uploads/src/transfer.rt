@@ -8,8 +8,10 @@ ghost use Rattle.upload_promise.specs.Sources.{LooksAt};
 ghost use Rattle.upload_promise.specs.Uploads.{WantsJournal, is_open, is_uncertain};
 ghost use Rattle.small_uploads.specs.Uploading.{
   IsPutTask,
+  IsSentBy,
   IsStepOf,
   Uploads,
+  WantsEvents,
   WantsPut,
   failed_or_unknown,
   lost_cause,
@@ -138,6 +140,29 @@ fn end_of(carried: Carried) -> Ended
     Ended { tries, outcome }
 }
 
+/// Has a Put carried, with as many attempts as the carrier makes; the journal has its events.
+fn carry_put<W: Wire>(
+    wire: &mut W,
+    carrier: &mut Carrier,
+    put: Job,
+    journal: &mut Journal,
+) -> Outcome
+    requires empty { journal.old.items ≡ [] }
+    requires room { 2 ≤ journal.old.spare }
+    ensures sent { IsSentBy carrier.old put (W.seen wire.old) (W.seen wire.new) journal.new.items result }
+    ensures wants { put.cell ≡ None → WantsEvents result journal.new.items }
+    ensures later { W.faults wire.old ≤ W.faults wire.new }
+{
+    journal.push(Event::Given { job: PUT, lane: 0 });
+    let Ended { tries, outcome } = end_of(carrier.carry(wire, put));
+    journal.push(Event::Came {
+        job: PUT,
+        lane: 0,
+        tries,
+    });
+    outcome
+}
+
 /// Reads the file whole and has its Put carried, with as many attempts as the carrier makes; the journal has the job
 /// once it was given.
 pub fn upload<F: Files, W: Wire>(
@@ -161,16 +186,8 @@ pub fn upload<F: Files, W: Wire>(
     ensures files_later { F.faults files.old ≤ F.faults files.new }
     ensures wire_later { W.faults wire.old ≤ W.faults wire.new }
 {
-    let bytes = match read_whole(alloc, files, path, size) {
-        Ok(bytes) => bytes,
-        Err(fault) => return Outcome::Failed(read_cause(fault)),
-    };
-    journal.push(Event::Given { job: PUT, lane: 0 });
-    let Ended { tries, outcome } = end_of(carrier.carry(wire, job_of(task, size, bytes)));
-    journal.push(Event::Came {
-        job: PUT,
-        lane: 0,
-        tries,
-    });
-    outcome
+    match read_whole(alloc, files, path, size) {
+        Ok(bytes) => carry_put(wire, carrier, job_of(task, size, bytes), journal),
+        Err(fault) => Outcome::Failed(read_cause(fault)),
+    }
 }

@@ -1,4 +1,4 @@
-use Rattle.std.proofs.Common.{◌≡◌, ◌∙◌, ◌+◌, ◌<◌, ℕ, List, Option, Some, None, IfSome, refl, arith, ap, inl, inr, length, length-drop, length-take, subst, sym}
+use Rattle.std.proofs.Common.{◌≡◌, ◌∙◌, ◌+◌, ◌<◌, ℕ, List, Option, Some, None, IfSome, refl, arith, rules, ap, inl, inr, length, length-drop, length-take, subst, sym}
 use Rattle.shared_lemmas.proofs.Clashes.{some_is}
 use Rattle.std.specs.Prelude.{IsErrOf, Err}
 use Rattle.s3_model.specs.Files.{FileStore, HeldFile}
@@ -32,3 +32,9 @@ returns-in-Ok-eq0-clause-short g c =
 pub returns-in-Ok-clause-bytes : goal.returns-in-Ok-clause-bytes
 returns-in-Ok-clause-bytes g c =
     reads_seen _ (λ seen. refl) c.args.path.now c.args.at c.in-Ok.count c.args.bytes.now _ _ _ _ _ _ (omega arith) c.in-Ok.ensures.bound c.in-Ok.ensures.bytes c.in-Ok.ensures.calls
+
+pub returns-in-Ok-eq0-clause-bytes : goal.returns-in-Ok-eq0-clause-bytes
+returns-in-Ok-eq0-clause-bytes g c = search rules
+
+pub returns-in-Ok-clause-failed : goal.returns-in-Ok-clause-failed
+returns-in-Ok-clause-failed g c = search rules

@@ -1,4 +1,4 @@
-use Rattle.std.proofs.Common.{refl, sym, ap, subst, ◌∙◌}
+use Rattle.std.proofs.Common.{refl, rules, sym, ap, subst, ◌∙◌}
 use Rattle.jobs.specs.Endings.{SeenCarried}
 use Rattle.s3_model.specs.declared.outcomes.Outcome.{Outcome}
 use Rattle.upload_promise.specs.Uploads.{WantsJournal, put_events}
@@ -11,3 +11,6 @@ returns-clause-wants c = λ none before after.
     let has_none = ap (λ (s : SeenCarried). s.job.cell) c.carried.view_is ∙ none in
     subst (λ (how : Outcome). WantsJournal before after how (put_events inside.tries)) (sym c.outcome_of-outcome.ensures)
     (ended_wants before after (put_events inside.tries) inside.tries refl inside.ending inside.job.id.op inside.job.part inside.job.cell has_none c.carried.invariant)
+
+pub returns-clause-outcome : goal.returns-clause-outcome
+returns-clause-outcome c = search rules

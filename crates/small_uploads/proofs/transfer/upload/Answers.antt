@@ -1,4 +1,4 @@
-use Rattle.std.proofs.Common.{◌∙◌, List, Err, sym, ap, subst}
+use Rattle.std.proofs.Common.{Err, sym, ap, subst}
 use Rattle.std.specs.Arc.{arc_value}
 use Rattle.s3_model.specs.declared.outcomes.Outcome.TheVariants as outcome
 use Rattle.s3_model.specs.declared.outcomes.Cause.{Cause}
@@ -6,9 +6,7 @@ use Rattle.job_terms.specs.Gains.{Gains}
 use Rattle.upload_promise.specs.Uploads.{WantsJournal}
 use Rattle.small_uploads.specs.Uploading.{Uploads, put_ask}
 use Rattle.jobs.specs.Jobs.{bytes_of}
-use Rattle.s3_model.specs.declared.outcomes.Event.{Event}
-use Rattle.upload_promise.specs.Uploads.{put_events}
-use Rattle.small_uploads.proofs.JobLemmas.{given, no_cell}
+use Rattle.small_uploads.proofs.JobLemmas.{given}
 use Rattle.small_uploads.proofs.UploadLemmas as lemma
 use Rattle.small_uploads.proofs.transfer.upload.Goals as goal
 
@@ -28,18 +26,14 @@ returns-in-Err-clause-wants g c =
     subst (λ (cause : Cause). WantsJournal before after (outcome.Failed cause) c.args.journal.now.items) (sym c.read_cause.ensures)
     (lemma.read_wants before after c.in-Err.fault c.args.journal.now.items (λ e. c.in-Err.ensures.failed (ap Err e)) c.requires.empty)
 
-pub returns-clause-went : goal.returns-clause-went
-returns-clause-went g c =
-    let journal = lemma.journal_of c.args.journal.now.items c.push.new.self.items c.push-2.new.self.items c.end_of-tries.result.tries c.requires.empty c.push.ensures.items c.push-2.ensures.items in
+pub returns-in-Ok-clause-went : goal.returns-in-Ok-clause-went
+returns-in-Ok-clause-went g c =
+    let sent = c.carry_put.ensures.sent in
     given c.args.carrier.now (arc_value c.args.task) c.requires.put c.job_of.result c.job_of.ensures.id c.job_of.ensures.step c.job_of.ensures.cell c.job_of.ensures.had
-    c.carry.result _ _ c.carry.ensures.job c.carry.ensures.carried (g.F.Files.seen c.read_whole.new.files) c.args.path.now c.args.size (g.F.Files.faults c.args.files.now) (g.F.Files.faults c.read_whole.new.files)
-    c.push-2.new.self.items c.end_of-tries.result.outcome c.in-Ok.bytes.bytes
-    (journal ∙ ap put_events c.end_of-tries.ensures.tries) c.end_of-tries.ensures.outcome (ap bytes_of c.job_of.ensures.part) c.in-Ok.ensures.length c.in-Ok.ensures.bytes
+    sent.carried _ _ sent.same sent.by (g.F.Files.seen c.read_whole.new.files) c.args.path.now c.args.size (g.F.Files.faults c.args.files.now) (g.F.Files.faults c.read_whole.new.files)
+    c.carry_put.new.journal.items c.carry_put.result c.in-Ok.bytes.bytes
+    sent.journals sent.comes_to (ap bytes_of c.job_of.ensures.part) c.in-Ok.ensures.length c.in-Ok.ensures.bytes
 
-pub returns-clause-wants : goal.returns-clause-wants
-returns-clause-wants g c =
-    let before = g.F.Files.faults c.args.files.now in
-    let after = g.F.Files.faults c.read_whole.new.files in
-    let journal = lemma.journal_of c.args.journal.now.items c.push.new.self.items c.push-2.new.self.items c.end_of-tries.result.tries c.requires.empty c.push.ensures.items c.push-2.ensures.items in
-    let none = no_cell c.job_of.result.cell c.carry.result.job.cell c.job_of.ensures.cell c.carry.ensures.job.cell in
-    subst (λ (events : List Event). WantsJournal before after c.end_of-tries.result.outcome events) (sym journal) (c.end_of-tries.ensures.wants none before after)
+pub returns-in-Ok-clause-wants : goal.returns-in-Ok-clause-wants
+returns-in-Ok-clause-wants g c =
+    c.carry_put.ensures.wants c.job_of.ensures.cell (g.F.Files.faults c.args.files.now) (g.F.Files.faults c.read_whole.new.files)
