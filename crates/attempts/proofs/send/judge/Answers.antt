@@ -1,4 +1,4 @@
-use Rattle.std.proofs.Common.{ℕ, Option, subst, sym}
+use Rattle.std.proofs.Common.{ℕ, Option, rules, subst, sym}
 use Rattle.answer_dates.proofs.ListedLemmas.{answers_are_dated}
 use Rattle.attempts.specs.Attempts.{IsToldOf}
 use Rattle.attempts.specs.Steps.{IsJudged}
@@ -14,3 +14,6 @@ pub returns-clause-refused : goal.returns-clause-refused
 returns-clause-refused c =
     let judged : IsJudged c.args.ask.now c.args.talked c.classify-class.result = record { broken = c.classify-class.ensures.broken; classed = c.classify-class.ensures.answered } in
     subst (λ (s : Option ℕ). IsToldOf c.classify-class.result s) (sym c.status_of-status.ensures) (told_of c.args.ask.now c.args.talked c.classify-class.result judged)
+
+pub returns-clause-judged : goal.returns-clause-judged
+returns-clause-judged c = search rules
