@@ -1,4 +1,4 @@
-use Rattle.std.proofs.Common.{sym, subst}
+use Rattle.std.proofs.Common.{rules, sym, subst}
 use Rattle.s3_model.specs.declared.requests.Ask.{Ask}
 use Rattle.s3_model.specs.declared.answers.Reply.{Reply}
 use Rattle.reply_xml.specs.Faults.{Tells}
@@ -35,3 +35,6 @@ pub returns-in-Err-clause-refused : goal.returns-in-Err-clause-refused
 returns-in-Err-clause-refused c =
     subst (λ (a : Ask). Tells c.in-Err.fault ((said : Reply) → ¬ (ReadsReply a c.args.doc.now said))) (sym c.in-Copy.is)
     (copy_refused c.in-Copy.bucket c.in-Copy.key c.in-Copy.from_bucket c.in-Copy.from_key c.in-Copy.etag c.args.doc.now c.in-Err.fault c.in-Err.ensures.refused)
+
+pub returns-in-Ok-read_copied-clause-value : goal.returns-in-Ok-read_copied-clause-value
+returns-in-Ok-read_copied-clause-value c = search rules
