@@ -211,6 +211,10 @@ pub other_request : (carrier : SeenCarrier) (asked : Ask) (part : Option Part) (
 other_request carrier (ask.Get b k e r) part size other = absurd (other tt)
 other_request carrier asked part size other = refl
 
+pub other_part : (asked : Ask) (part : Option Part) → (IsGet asked → ⊥) → KeepsPart (op_of asked) part part
+other_part (ask.Get b k e r) part other = absurd (other tt)
+other_part asked part other = refl
+
 pub other_place : (asked : Ask) (part : Option Part) (place : List ℕ) → (IsGet asked → ⊥) → IsPlace asked part place
 other_place (ask.Get b k e r) part place other = absurd (other tt)
 other_place asked part place other = tt

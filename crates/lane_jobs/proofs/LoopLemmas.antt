@@ -13,7 +13,7 @@ use Rattle.s3_model.specs.Classes.{is_tried_again}
 use Rattle.s3_model.specs.Talks.{Talk, Note, WireLog}
 use Rattle.job_terms.specs.Attempts.{mark_of}
 use Rattle.job_terms.specs.Dispatches.{last_of}
-use Rattle.attempts.specs.Attempts.{HasStatusIfRefused, IsOfSomeTalk, IsOneTalk, IsSilent, IsToldOf, Makes, SignedRequest, TellsStatus}
+use Rattle.attempts.specs.Attempts.{HasStatusIfRefused, IsOfSomeTalk, IsOneTalk, IsSilent, IsToldOf, IfMade, Makes, SignedRequest, TellsStatus, tries_of}
 use Rattle.job_terms.specs.Gains.{Gains}
 use Rattle.attempts.specs.declared.send.Attempted.{Attempted}
 use Rattle.attempts.specs.declared.send.Attempted.TheVariants as attempted
@@ -22,7 +22,7 @@ use Rattle.job_terms.proofs.GainLemmas.{gains_as, gains_both, gains_nothing}
 use Rattle.jobs.specs.Holders.{Holder}
 use Rattle.jobs.specs.declared.ending.Ending.{Ending}
 use Rattle.jobs.specs.declared.ending.Ending.TheVariants as ending
-use Rattle.lane_jobs.specs.Lanes.{AreBehind, AreMade, Attempts, Carries, Ends, HasLastStatus, IsGained, IsMade, IsNotedBefore, IsShare, IsWithoutTalk, KeepsCell, Looks, class_ending, ending_by, ending_of, most_attempts, reason_of}
+use Rattle.lane_jobs.specs.Lanes.{AreBehind, AreMade, Attempts, Carries, Ends, EndsIt, HasLastStatus, IsGained, IsMade, IsNotedBefore, IsShare, IsWithoutTalk, KeepsCell, Looks, class_ending, ending_by, ending_of, most_attempts, reason_of}
 use Rattle.lane_jobs.proofs.MadeLemmas.{AreTriedAgain, all_but_last, all_elsewhere, each_again, last_again, last_more, made_more, marks_more, none_last, one_longer, tried_more}
 
 false_is_true : false ≡ true → ⊥
@@ -317,3 +317,26 @@ module _ (r : SignedRequest) (had : ℕ) where
       goes : (l : Option Class) → last_of u.classes ≡ l → IfSome l (λ shown. is_tried_again shown ≡ true)
       goes None e = tt
       goes (Some shown) e = last_again u.classes shown u.each e
+
+  -- ---- by what came of an attempt
+
+  module _ (number : ℕ) (place other : List ℕ) (before now after : Option WireLog) (tries : List Mark) (last : Option Judged) (u : Underway number place before now tries last)
+      (made : Attempted) (one : Gains now after (Attempts r number made other)) (marks : List Mark) (marked : marks ≡ tries ++ tries_of made) where
+    pub goes_on_by : (judged : Judged) → made ≡ attempted.Made judged → is_tried_again judged.class ≡ true → IfMade made HasStatusIfRefused → Underway (number + 1) other before after marks (Some judged)
+    goes_on_by judged is again told =
+        subst (λ (ms : List Mark). Underway (number + 1) other before after ms (Some judged)) (sym (marked ∙ ap (λ (m : Attempted). tries ++ tries_of m) is))
+        (goes_on number place other before now after tries last u judged (subst (λ (m : Attempted). Gains now after (Attempts r number m other)) is one) again
+        (subst (λ (m : Attempted). IfMade m HasStatusIfRefused) is told))
+
+  module _ (number : ℕ) (place other : List ℕ) (before now after : Option WireLog) (tries : List Mark) (last : Option Judged) (u : Underway number place before now tries last)
+      (most : ℕ) (within : number ≤ most) (gave : Option Reason) where
+    pub ends_by : (made : Attempted) → Gains now after (Attempts r number made other) → (marks : List Mark) → marks ≡ tries ++ tries_of made → (ended : Ending)
+        → IfMade made (λ judged. IsOfSomeTalk r.asked r.limit judged.class other) → IfMade made HasStatusIfRefused → EndsIt made ended
+        → Carries r had most gave other before after marks ended
+    ends_by attempted.Memory one marks marked ended classed told is =
+        subst (λ (ms : List Mark). Carries r had most gave other before after ms ended) (sym (marked ∙ append-nil tries))
+        (subst (λ (e : Ending). Carries r had most gave other before after tries e) (sym is) (wants number place other before now after tries last u most within gave one))
+    ends_by (attempted.Made judged) one marks marked ended classed told is =
+        subst (λ (ms : List Mark). Carries r had most gave other before after ms ended) (sym marked)
+        (subst (λ (e : Ending). Carries r had most gave other before after (tries ++ mark_of judged.class ∷ []) e) (sym is.0)
+        (ends_there number place other before now after tries last u judged one most gave within classed told is.1))

@@ -87,6 +87,11 @@ class_ending status (class.Uncertain reason) = ending.Uncertain reason
 abbrev pub ending_of : Judged → Ending
 ending_of judged = class_ending (unwrap_or judged.status 0) judged.class
 
+-- the attempt is the last, with this ending: it is not tried again, or memory ran out before its talk
+abbrev pub EndsIt : Attempted → Ending → Type 0
+EndsIt attempted.Memory ended = ended ≡ ending.Memory
+EndsIt (attempted.Made judged) ended = (ended ≡ ending_of judged) × (is_tried_again judged.class ≡ false)
+
 -- where the cell gave a reason: the ending by the last attempt, if there is one
 abbrev pub ending_by : Reason → Option Judged → Ending
 ending_by reason None = ending.Cancelled reason

@@ -1,8 +1,9 @@
 //! The attempts of one job.
 
-ghost use Rattle.std.specs.Prelude.{◌≡◌, ◌≤◌, ◌<◌, [], None, IfSome, IsSome};
-ghost use Rattle.attempts.specs.Attempts.{HasStatusIfRefused, IsGet, signed_request};
-ghost use Rattle.lane_jobs.specs.Lanes.{Carries, KeepsCell, ending_by, reason_of};
+ghost use Rattle.std.specs.Prelude.{◌≡◌, ◌≤◌, ◌<◌, ◌++◌, [], true, None, IfErr, IfOk, IfSome, IsSome, length};
+ghost use Rattle.s3_model.specs.Classes.{is_tried_again};
+ghost use Rattle.attempts.specs.Attempts.{HasStatusIfRefused, IfMade, IsGet, signed_request, tries_of};
+ghost use Rattle.lane_jobs.specs.Lanes.{Carries, EndsIt, KeepsCell, ending_by, reason_of};
 
 use crate::attempt::{attempt_once, ending_of, look};
 use answer_classes::again;
@@ -28,6 +29,28 @@ fn ending_by(reason: Reason, last: Option<Judged>) -> Ending
     match last {
         Some(judged) => ending_of(judged),
         None => Ending::Cancelled(reason),
+    }
+}
+
+/// Marks an attempt that was made. One that is tried again is handed back, any other ends the job.
+fn came_to(tries: &mut Tries, attempted: Attempted) -> Result<Judged, Ending>
+    requires room { length tries.old < 10 }
+    requires refused { IfMade attempted HasStatusIfRefused }
+    ensures tries { tries.new ≡ tries.old ++ tries_of attempted }
+    ensures made { IfOk result (λ judged. attempted ≡ Attempted.Made judged) }
+    ensures again { IfOk result (λ judged. is_tried_again judged.class ≡ true) }
+    ensures ends { IfErr result (EndsIt attempted) }
+{
+    match attempted {
+        Attempted::Made(judged) => {
+            tries.add(mark_of(&judged.class));
+            if again(&judged.class) {
+                Ok(judged)
+            } else {
+                Err(ending_of(judged))
+            }
+        }
+        Attempted::Memory => Err(Ending::Memory),
     }
 }
 
@@ -68,23 +91,10 @@ pub(crate) fn make_attempts<W: Wire>(
             };
         }
         mem::drop(last);
-        match attempt_once(alloc, wire, client, ask, payload, limit, into, number) {
-            Attempted::Made(judged) => {
-                tries.add(mark_of(&judged.class));
-                if !again(&judged.class) {
-                    return Went {
-                        tries,
-                        ending: ending_of(judged),
-                    };
-                }
-                last = Some(judged);
-            }
-            Attempted::Memory => {
-                return Went {
-                    tries,
-                    ending: Ending::Memory,
-                };
-            }
+        let attempted = attempt_once(alloc, wire, client, ask, payload, limit, into, number);
+        match came_to(&mut tries, attempted) {
+            Ok(judged) => last = Some(judged),
+            Err(ending) => return Went { tries, ending },
         }
     }
     let Some(judged) = last else { unreachable!() };

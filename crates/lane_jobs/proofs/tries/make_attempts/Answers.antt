@@ -1,9 +1,5 @@
-use Rattle.std.proofs.Common.{◌≡◌, ◌∙◌, ◌+◌, ◌++◌, ◌∷◌, [], List, Some, ap, arith, inr, subst, sym, rules}
-use Rattle.s3_model.specs.declared.tries.Mark.{Mark}
-use Rattle.attempts.specs.Attempts.{SignedRequest}
-use Rattle.attempts.specs.declared.send.Attempted.TheVariants as attempted
-use Rattle.job_terms.specs.Attempts.{mark_of}
-use Rattle.lane_jobs.proofs.LoopLemmas.{Underway, ends_there, goes_on, keeps_same, looked, none_made, runs_out, stops, to_service, unheard, wants}
+use Rattle.std.proofs.Common.{◌∙◌, arith, inr, rules}
+use Rattle.lane_jobs.proofs.LoopLemmas.{ends_by, goes_on_by, keeps_same, looked, none_made, runs_out, stops, to_service, unheard}
 use Rattle.lane_jobs.proofs.tries.make_attempts.Goals as goal
 
 pub returns-in-Some-clause-carried : goal.returns-in-Some-clause-carried
@@ -11,42 +7,34 @@ returns-in-Some-clause-carried g c =
     rw c.ending_by.ensures
     (stops _ _ _ _ _ _ _ _ c.loop-number.invariant.underway c.args.most (omega arith) c.in-Some.reason _ (looked _ _ _ c.in-Some.ensures))
 
-pub returns-then-not-again-clause-carried : goal.returns-then-not-again-clause-carried
-returns-then-not-again-clause-carried g c =
+pub returns-in-Err-clause-carried : goal.returns-in-Err-clause-carried
+returns-in-Err-clause-carried g c =
     let is = c.loop-number.invariant in
     let one = to_service c.args.client.now.endpoint c.loop-number.client.endpoint c.args.client.now.signer c.loop-number.client.signer c.args.ask.now c.args.payload.now c.args.limit c.loop-number.number
-    (attempted.Made c.in-Made.judged) c.attempt_once.new.into.bytes (g.W.Wire.seen c.loop-number.wire) (g.W.Wire.seen c.attempt_once.new.wire) is.endpoint is.keys c.in-Made.ensures.gained in
-    rw (c.add.ensures, c.mark_of.ensures, c.ending_of.ensures)
-    (ends_there _ _ _ _ _ _ _ _ _ _ is.underway c.in-Made.judged one c.args.most _ (omega arith) c.in-Made.ensures.classed c.in-Made.ensures.refused (sym c.again.ensures ∙ c.if-not-again.true))
+    c.attempt_once-attempted.result c.attempt_once-attempted.new.into.bytes (g.W.Wire.seen c.loop-number.wire) (g.W.Wire.seen c.attempt_once-attempted.new.wire) is.endpoint is.keys c.attempt_once-attempted.ensures.gained in
+    ends_by _ _ _ _ _ _ _ _ _ _ is.underway c.args.most (omega arith) _ c.attempt_once-attempted.result one _ c.came_to.ensures.tries c.in-Err.ending
+    c.attempt_once-attempted.ensures.classed c.attempt_once-attempted.ensures.refused c.in-Err.ensures.ends
 
-pub returns-then-not-again-clause-cell : goal.returns-then-not-again-clause-cell
-returns-then-not-again-clause-cell g c = keeps_same c.args.cell.now c.loop-number.cell c.look.new.cell c.loop-number.invariant.cell c.in_default.ensures
-
-pub returns-in-Memory-clause-carried : goal.returns-in-Memory-clause-carried
-returns-in-Memory-clause-carried g c =
-    let is = c.loop-number.invariant in
-    let one = to_service c.args.client.now.endpoint c.loop-number.client.endpoint c.args.client.now.signer c.loop-number.client.signer c.args.ask.now c.args.payload.now c.args.limit c.loop-number.number
-    attempted.Memory c.attempt_once.new.into.bytes (g.W.Wire.seen c.loop-number.wire) (g.W.Wire.seen c.attempt_once.new.wire) is.endpoint is.keys c.in-Memory.ensures.gained in
-    wants _ _ _ _ _ _ _ _ _ _ is.underway c.args.most (omega arith) _ one
+pub returns-in-Err-clause-cell : goal.returns-in-Err-clause-cell
+returns-in-Err-clause-cell g c = keeps_same c.args.cell.now c.loop-number.cell c.look.new.cell c.loop-number.invariant.cell c.in_default.ensures
 
 pub loop-number-preserved : goal.loop-number-preserved
 loop-number-preserved g c =
     let is = c.loop-number.invariant in
     let one = to_service c.args.client.now.endpoint c.loop-number.client.endpoint c.args.client.now.signer c.loop-number.client.signer c.args.ask.now c.args.payload.now c.args.limit c.loop-number.number
-    (attempted.Made c.in-Made.judged) c.attempt_once.new.into.bytes (g.W.Wire.seen c.loop-number.wire) (g.W.Wire.seen c.attempt_once.new.wire) is.endpoint is.keys c.in-Made.ensures.gained in
+    c.attempt_once-attempted.result c.attempt_once-attempted.new.into.bytes (g.W.Wire.seen c.loop-number.wire) (g.W.Wire.seen c.attempt_once-attempted.new.wire) is.endpoint is.keys c.attempt_once-attempted.ensures.gained in
     let heard = unheard _ _ c.in_default.ensures in
-    let request : SignedRequest = record { endpoint = c.args.client.now.endpoint; keys = c.args.client.now.signer; asked = c.args.ask.now; body = c.args.payload.now; limit = c.args.limit } in
-    let marks : c.add.new.self ≡ c.loop-number.tries ++ mark_of c.in-Made.judged.class ∷ [] = c.add.ensures ∙ ap (λ (m : Mark). c.loop-number.tries ++ m ∷ []) c.mark_of.ensures in
     record {
-      underway = subst (λ (ts : List Mark). Underway request c.args.had (c.loop-number.number + 1) c.attempt_once.new.into.bytes (g.W.Wire.seen c.args.wire.now) (g.W.Wire.seen c.attempt_once.new.wire) ts (Some c.in-Made.judged))
-          (sym marks) (goes_on _ _ _ _ _ _ _ _ _ _ is.underway c.in-Made.judged one (sym c.again.ensures ∙ c.if-not-again.false) c.in-Made.ensures.refused);
+      underway =
+          goes_on_by _ _ _ _ _ _ _ _ _ _ is.underway c.attempt_once-attempted.result one _ c.came_to.ensures.tries c.in-Ok.judged c.in-Ok.ensures.made c.in-Ok.ensures.again
+          c.attempt_once-attempted.ensures.refused;
       cell = heard.0 ∙ is.cell;
       quiet = inr heard.1;
-      later = omega (arith, is.later, c.attempt_once.ensures.later);
-      endpoint = c.attempt_once.ensures.endpoint ∙ is.endpoint;
-      keys = c.attempt_once.ensures.keys ∙ is.keys;
-      untouched = λ free. c.attempt_once.ensures.untouched free ∙ is.untouched free;
-      room = c.attempt_once.ensures.room ∙ is.room;
+      later = omega (arith, is.later, c.attempt_once-attempted.ensures.later);
+      endpoint = c.attempt_once-attempted.ensures.endpoint ∙ is.endpoint;
+      keys = c.attempt_once-attempted.ensures.keys ∙ is.keys;
+      untouched = λ free. c.attempt_once-attempted.ensures.untouched free ∙ is.untouched free;
+      room = c.attempt_once-attempted.ensures.room ∙ is.room;
     }
 
 pub unreachable-requires : goal.unreachable-requires
@@ -57,7 +45,7 @@ unreachable-requires g c =
 pub returns-clause-carried : goal.returns-clause-carried
 returns-clause-carried g c =
     let below = c.loop-number.auto.number-end (omega (arith, c.requires.left)) in
-    rw c.ending_of-2.ensures
+    rw c.ending_of.ensures
     (runs_out _ _ _ _ _ _ _ _ c.loop-number.invariant.underway c.args.most below c.in-Some-last.judged c.in-Some-last.is (omega (arith, below, c.loop-number-test.false)) _)
 
 pub loop-number-init : goal.loop-number-init

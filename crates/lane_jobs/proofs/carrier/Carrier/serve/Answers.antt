@@ -2,7 +2,7 @@ use Rattle.std.proofs.Common.{Some, refl, subst, sym}
 use Rattle.s3_model.specs.declared.requests.Ask.{Ask}
 use Rattle.attempts.specs.Attempts.{IsGet, SignedRequest}
 use Rattle.lane_jobs.specs.Lanes.{Carries, IsPlace, most_attempts, reason_of}
-use Rattle.lane_jobs.proofs.EndingLemmas.{get_request, no_get, other_place, other_request}
+use Rattle.lane_jobs.proofs.EndingLemmas.{get_request, no_get, other_part, other_place, other_request}
 use Rattle.lane_jobs.proofs.carrier.Carrier.serve.Goals as goal
 
 pub returns-in-Some-clause-carried : goal.returns-in-Some-clause-carried
@@ -25,3 +25,6 @@ returns-in_default-clause-carried g c =
           (g.W.Wire.seen c.send.new.wire) c.send.result.tries c.send.result.ending)
           (other_request c.args.self.now c.args.ask.now c.args.part.now c.args.length other) c.send.ensures.carried.1,
     )
+
+pub returns-in_default-clause-part : goal.returns-in_default-clause-part
+returns-in_default-clause-part g c = other_part c.args.ask.now c.args.part.now (no_get c.args.ask.now c.in_default.not-Get)
