@@ -111,10 +111,11 @@ fn get(task: &Task, number: u32, range: (u64, u64)) -> Result<Ask, OutOfMemory>
         × (asked ≡ ask.Get from.bucket from.key task.now.etag (asked_range number range))) }
 {
     let (bucket, key) = source(task)?;
+    let etag = task.etag.copy()?;
     Ok(Ask::Get {
         bucket,
         key,
-        etag: task.etag.copy()?,
+        etag,
         range: range_of_get(number, range),
     })
 }
