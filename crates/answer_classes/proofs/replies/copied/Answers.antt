@@ -5,4 +5,4 @@ pub returns-in_err-_etag-clause-refused : goal.returns-in_err-_etag-clause-refus
 returns-in_err-_etag-clause-refused c = search rules
 
 pub returns-clause-value : goal.returns-clause-value
-returns-clause-value c = search rules
+returns-clause-value c = (c.in_ok-_etag._etag, c.in_ok-_etag.ensures.value)
