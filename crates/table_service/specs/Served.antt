@@ -53,3 +53,28 @@ IsForUpload (ask.PartCopy bucket key id number from_bucket from_key etag range) 
 IsForUpload (ask.Complete bucket key id etags fresh) = Unit {0}
 IsForUpload (ask.Abort bucket key id) = Unit {0}
 IsForUpload asked = ⊥
+
+-- a request that reads an object
+abbrev pub IsRead : Ask → Type 0
+IsRead (ask.Head bucket key) = Unit {0}
+IsRead (ask.Get bucket key etag range) = Unit {0}
+IsRead asked = ⊥
+
+-- a request that lists buckets or objects
+abbrev pub IsList : Ask → Type 0
+IsList (ask.List bucket prefix delimited token) = Unit {0}
+IsList ask.Buckets = Unit {0}
+IsList asked = ⊥
+
+-- a request that puts an object or takes one away
+abbrev pub IsChange : Ask → Type 0
+IsChange (ask.Put bucket key content fresh) = Unit {0}
+IsChange (ask.Copy bucket key from_bucket from_key etag) = Unit {0}
+IsChange (ask.Delete bucket key) = Unit {0}
+IsChange asked = ⊥
+
+-- a request that puts a part
+abbrev pub IsForPart : Ask → Type 0
+IsForPart (ask.Part bucket key id number) = Unit {0}
+IsForPart (ask.PartCopy bucket key id number from_bucket from_key etag range) = Unit {0}
+IsForPart asked = ⊥

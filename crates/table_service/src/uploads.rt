@@ -9,8 +9,9 @@ ghost use Rattle.s3_service.specs.Serves.{MayRefuse, Succeeds};
 ghost use Rattle.service_answers.specs.Statuses.{refusal_code};
 ghost use Rattle.table_service.specs.Served.{IsForUpload, IsServed};
 
+use crate::parts::serve_part;
 use crate::requests::Manner;
-use object_table::{ObjectTable, Refusal, Source, TableFault};
+use object_table::{ObjectTable, Refusal, TableFault};
 use s3_model::Ask;
 use service_answers::Gained;
 use std::alloc::Global;
@@ -39,36 +40,6 @@ pub(crate) fn serve_upload(
             let id = table.create(alloc, bucket.as_str(), key.as_str())?;
             Ok(Gained::Created(id))
         }
-        Ask::Part {
-            bucket,
-            key,
-            upload,
-            number,
-        } => {
-            let bytes = body.to_vec(alloc)?;
-            let (bucket, key, id) = (bucket.as_str(), key.as_str(), upload.as_str());
-            let etag = table.put_part(alloc, bucket, key, id, *number, bytes)?;
-            Ok(Gained::PartStored(etag))
-        }
-        Ask::PartCopy {
-            bucket,
-            key,
-            upload,
-            number,
-            from_bucket,
-            from_key,
-            etag,
-            range,
-        } => {
-            let source = Source {
-                bucket: from_bucket.as_str(),
-                key: from_key.as_str(),
-                etag: etag.as_str(),
-            };
-            let (bucket, key, id) = (bucket.as_str(), key.as_str(), upload.as_str());
-            let etag = table.copy_part(alloc, bucket, key, id, *number, source, *range)?;
-            Ok(Gained::PartCopied(etag))
-        }
         Ask::Complete {
             bucket,
             key,
@@ -96,6 +67,7 @@ pub(crate) fn serve_upload(
             table.abort(alloc, bucket.as_str(), key.as_str(), upload.as_str())?;
             Ok(Gained::Gone)
         }
+        Ask::Part { .. } | Ask::PartCopy { .. } => serve_part(alloc, table, ask, body),
         _ => unreachable!(),
     }
 }

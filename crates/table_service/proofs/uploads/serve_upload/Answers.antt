@@ -1,25 +1,14 @@
 use Rattle.std.proofs.Common.{◌⊎◌, ℕ, List, inl, inr, rules, subst, sym}
 use Rattle.s3_model.specs.declared.requests.Ask.TheVariants as ask
-use Rattle.s3_service.specs.Serves.{Joins, JoinsAgain, StoresPart}
+use Rattle.s3_service.specs.Serves.{Joins, JoinsAgain}
 use Rattle.std.proofs.lemmas.Result.{err_from_is_err_and}
 use Rattle.shared_lemmas.proofs.Clashes.{false_true}
-use Rattle.table_service.proofs.Rows.{complete_row, part_copy_row, served_as}
+use Rattle.table_service.proofs.Rows.{complete_row, served_as}
 use Rattle.table_service.proofs.uploads.serve_upload.Goals as goal
 
 pub returns-in_ok-id-in-Create-clause-served : goal.returns-in_ok-id-in-Create-clause-served
 returns-in_ok-id-in-Create-clause-served c =
     served_as c.args.manner.now.limits c.args.table.now c.args.ask.now (ask.Create c.as_str.result.now c.as_str-in-Create.result.now c.in-Create.content) _ _ _ (search rules) c.in_ok-id-in-Create.ensures.created
-
-pub returns-in_ok-etag-in-Part-clause-served : goal.returns-in_ok-etag-in-Part-clause-served
-returns-in_ok-etag-in-Part-clause-served c =
-    served_as c.args.manner.now.limits c.args.table.now c.args.ask.now (ask.Part c.as_str-bucket.result.now c.as_str-key.result.now c.as_str-id.result.now c.in-Part.number) _ _ _ (search rules)
-    (subst (λ (bytes : List ℕ). StoresPart c.args.table.now c.as_str-bucket.result.now c.as_str-key.result.now c.as_str-id.result.now c.in-Part.number bytes c.in_ok-etag-in-Part.etag c.put_part.new.self)
-    (search rules) c.in_ok-etag-in-Part.ensures.stored)
-
-pub returns-in_ok-etag-in-PartCopy-clause-served :
-    goal.returns-in_ok-etag-in-PartCopy-clause-served
-returns-in_ok-etag-in-PartCopy-clause-served c =
-    served_as c.args.manner.now.limits c.args.table.now c.args.ask.now (ask.PartCopy c.as_str-bucket-in-PartCopy.result.now c.as_str-key-in-PartCopy.result.now c.as_str-id-in-PartCopy.result.now c.in-PartCopy.number c.as_str-in-PartCopy.result.now c.as_str-in-PartCopy-2.result.now c.as_str-in-PartCopy-3.result.now c.in-PartCopy.range) _ _ _ (search rules) c.in_ok-etag-in-PartCopy.ensures.stored
 
 pub returns-in_ok-complete-in-Complete-clause-served :
     goal.returns-in_ok-complete-in-Complete-clause-served
@@ -32,13 +21,6 @@ returns-in_ok-complete-in-Complete-clause-served c =
 pub returns-in_ok-abort-in-Abort-clause-served : goal.returns-in_ok-abort-in-Abort-clause-served
 returns-in_ok-abort-in-Abort-clause-served c =
     served_as c.args.manner.now.limits c.args.table.now c.args.ask.now (ask.Abort c.as_str-in-Abort.result.now c.as_str-in-Abort-2.result.now c.as_str-in-Abort-3.result.now) _ _ _ (search rules) c.in_ok-abort-in-Abort.ensures.aborted
-
-pub returns-in_err-etag-in-PartCopy-clause-willing :
-    goal.returns-in_err-etag-in-PartCopy-clause-willing
-returns-in_err-etag-in-PartCopy-clause-willing c = λ answered bytes new may.
-    let row = part_copy_row c.args.manner.now.limits c.args.table.now c.args.ask.now c.args.body.now answered bytes new c.as_str-bucket-in-PartCopy.result.now c.as_str-key-in-PartCopy.result.now c.as_str-id-in-PartCopy.result.now c.in-PartCopy.number c.as_str-in-PartCopy.result.now c.as_str-in-PartCopy-2.result.now c.as_str-in-PartCopy-3.result.now c.in-PartCopy.range (search rules) may in
-    let p = err_from_is_err_and c.from_residual-in_err-etag-in-PartCopy.result c.from_residual-in_err-etag-in-PartCopy.ensures.1 in
-    rw (p.1, p.2) (c.in_err-etag-in-PartCopy.ensures.willing row.0 new row.1)
 
 pub returns-in_err-complete-in-Complete-clause-willing :
     goal.returns-in_err-complete-in-Complete-clause-willing
