@@ -18,3 +18,6 @@ returns-clause-created c =
           ∙ ap (λ (t : State). with_upload t c.as_str.result.now made) c.new_id.ensures.same
           ∙ ap (λ (id : List ℕ). with_upload c.args.self.now id made) c.as_str.ensures,
     )
+
+pub returns-then-not-has_bucket-clause-willing : goal.returns-then-not-has_bucket-clause-willing
+returns-then-not-has_bucket-clause-willing c = search rules
