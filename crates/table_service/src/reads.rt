@@ -1,18 +1,18 @@
 //! What a service in memory does for requests that read an object.
 
-ghost use Rattle.std.specs.Prelude.{◌≡◌, ℕ, List, Option, IfOk, length};
+ghost use Rattle.std.specs.Prelude.{◌≡◌, ℕ, List, Option, Some, None, IfOk, OnOk, length};
 ghost use Rattle.std.specs.Option.{is_some};
 ghost use Rattle.object_table.specs.Refused.{IsNotRefused};
 ghost use Rattle.s3_service.specs.Willing.{HasRange, IsWholeObject};
 ghost use Rattle.s3_model.specs.declared.answers.Reply.{Reply};
 ghost use Rattle.s3_model.specs.declared.settings.Limits.{Limits};
 ghost use Rattle.s3_service.specs.ServiceState.{State};
-ghost use Rattle.s3_service.specs.Serves.{Finds, Gets, Succeeds};
+ghost use Rattle.s3_service.specs.Serves.{Finds, Gets, LiesWithin, Succeeds, bytes_within};
 ghost use Rattle.service_answers.specs.Statuses.{got_status};
 ghost use Rattle.table_service.specs.Served.{IsRead, IsServed, reply_of};
 
-use object_table::{ObjectTable, Refusal, TableFault};
-use s3_model::{Ask, Text};
+use object_table::{MemObject, ObjectTable, Refusal, TableFault};
+use s3_model::{Ask, OutOfMemory, Text};
 use service_answers::{FoundObject, Gained, GotObject};
 use std::alloc::Global;
 
@@ -40,6 +40,38 @@ fn find(
     })
 }
 
+// A copy of an object.
+fn whole(alloc: Global, object: &MemObject) -> Result<GotObject, OutOfMemory>
+    ensures range { IfOk result (λ got. got.range ≡ None) }
+    ensures bytes { IfOk result (λ got. got.bytes.items ≡ object.now.bytes) }
+{
+    Ok(GotObject {
+        etag: Text::of(alloc, object.etag())?,
+        micros: object.micros(),
+        range: None,
+        bytes: object.copy_bytes(alloc)?,
+    })
+}
+
+// A copy of a range of an object, which is refused where the object does not reach so far.
+fn piece(alloc: Global, object: &MemObject, range: (u64, u64)) -> Result<GotObject, TableFault>
+    ensures lies { OnOk result (LiesWithin range object.now.bytes) }
+    ensures range { IfOk result (λ got. got.range ≡ Some (range.0, range.1, length object.now.bytes)) }
+    ensures bytes { IfOk result (λ got. got.bytes.items ≡ bytes_within range object.now.bytes) }
+    ensures willing { LiesWithin range object.now.bytes → IsNotRefused result }
+{
+    let etag = Text::of(alloc, object.etag())?;
+    let Some(bytes) = object.within(range) else {
+        return Err(TableFault::Refused(Refusal::InvalidRange));
+    };
+    Ok(GotObject {
+        etag,
+        micros: object.micros(),
+        range: Some((range.0, range.1, object.bytes().len() as u64)),
+        bytes: bytes.to_vec(alloc)?,
+    })
+}
+
 // The bytes of the object there under that entity tag, or of that range of it.
 fn get(
     alloc: Global,
@@ -56,25 +88,16 @@ fn get(
         Gets table.now bucket.now key.now etag.now range status given size bytes new → IsNotRefused result }
 {
     let object = table.find(bucket, key, etag)?;
-    let etag = Text::of(alloc, etag)?;
-    let micros = object.micros();
-    let Some((first, last)) = range else {
-        return Ok(GotObject {
-            etag,
-            micros,
-            range: None,
-            bytes: object.copy_bytes(alloc)?,
-        });
-    };
-    let Some(piece) = object.within((first, last)) else {
-        return Err(TableFault::Refused(Refusal::InvalidRange));
-    };
-    Ok(GotObject {
-        etag,
-        micros,
-        range: Some((first, last, object.bytes().len() as u64)),
-        bytes: piece.to_vec(alloc)?,
-    })
+    match range {
+        Some(range) => {
+            let got = piece(alloc, object, range)?;
+            Ok(got)
+        }
+        None => {
+            let got = whole(alloc, object)?;
+            Ok(got)
+        }
+    }
 }
 
 /// Serves a request that reads an object.
