@@ -112,6 +112,23 @@ fn parts_of(request: &[u8]) -> Option<(RequestHead<'_>, &[u8])> {
     Some((head, body))
 }
 
+/// Of the bytes of an answer those that come, as it ends.
+fn cut(mut bytes: Vec<u8>, ending: Ending) -> Vec<u8>
+    ensures { AreBytesFor ending result.items }
+{
+    match ending {
+        Ending::Heard => bytes,
+        Ending::Cut(count) => {
+            bytes.truncate(count);
+            bytes
+        }
+        _ => {
+            bytes.clear();
+            bytes
+        }
+    }
+}
+
 /// The most bytes that come at once in that form.
 fn most_at_once(form: Form) -> usize {
     match form {
@@ -427,15 +444,9 @@ impl MemTable {
                 self.put_off(request, by)?;
                 Ok(Vec::new(self.alloc))
             }
-            Ending::LostAfter => {
-                self.hear(fate, request)?;
-                Ok(Vec::new(self.alloc))
-            }
-            Ending::Heard => self.hear(fate, request),
-            Ending::Cut(count) => {
-                let mut bytes = self.hear(fate, request)?;
-                bytes.truncate(count);
-                Ok(bytes)
+            ending => {
+                let bytes = self.hear(fate, request)?;
+                Ok(cut(bytes, ending))
             }
         }
     }

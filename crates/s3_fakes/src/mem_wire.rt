@@ -1,6 +1,6 @@
 //! A wire to a service in memory.
 
-ghost use Rattle.std.specs.Prelude.{◌≡◌, ◌<◌, ◌≤◌, [], Some, IfSome, map, false, true};
+ghost use Rattle.std.specs.Prelude.{◌≡◌, ◌<◌, ◌≤◌, [], Some, IfSome, length, map, false, true};
 
 use crate::mem_table::{Coming, SharedTable};
 use outside_memory::{TalkLog, TalkRecord, WireNote};
@@ -95,7 +95,14 @@ impl<R: Wait> MemWire<R> {
         self.faults
     }
 
-    // Counts a connection that was opened, which is none where the last one is kept for that service.
+    // Whether a talk with that service opens a connection, which it does not where the last one is kept for it.
+    fn opens(&self, host: &str, port: u16) -> bool
+        ensures { IfSome self.now.log (λ log. result ≡ opens host.now port true self.now.is_alive log.talks) }
+    {
+        !(self.is_alive && self.log.is_last_service(host, port))
+    }
+
+    // Counts the connection of a talk that opens one.
     fn count_opening(&mut self, host: &str, port: u16)
         ensures log { self.new.log ≡ self.old.log }
         ensures alive { self.new.is_alive ≡ self.old.is_alive }
@@ -103,7 +110,7 @@ impl<R: Wait> MemWire<R> {
         ensures opened { IfSome self.old.log (λ log.
             self.new.opened ≡ count_opening (opens host.now port true self.old.is_alive log.talks) self.old.opened) }
     {
-        if !(self.is_alive && self.log.is_last_service(host, port)) {
+        if self.opens(host, port) {
             self.opened = self.opened.saturating_add(1);
         }
     }
@@ -115,9 +122,10 @@ impl<R: Wait> MemWire<R> {
         ensures counted { Rose self.old.faults self.new.faults }
         ensures later { self.old.faults ≤ self.new.faults }
     {
+        let failed = count_fault(&mut self.faults);
         self.log.fail();
         self.is_alive = false;
-        count_fault(&mut self.faults)
+        failed
     }
 
     // What is left of the present answer.
@@ -134,6 +142,17 @@ impl<R: Wait> MemWire<R> {
             Some(coming) => coming.most,
             None => usize::MAX,
         }
+    }
+
+    // Copies what comes at once to the front of a place, and answers how many bytes these are.
+    fn copy_rest(&self, into: &mut [u8]) -> usize
+        ensures bound { result ≤ length into.new }
+        ensures length { length into.new ≡ length into.old }
+    {
+        let rest = self.rest();
+        let count = into.len().min(self.most()).min(rest.len());
+        into[..count].copy_from_slice(&rest[..count]);
+        count
     }
 
     // Forgets the talk before.
@@ -231,10 +250,7 @@ impl<R: Wait> Wire for MemWire<R> {
     }
 
     fn take(&mut self, into: &mut [u8]) -> Result<usize, Failed> {
-        let most = self.most();
-        let rest = self.rest();
-        let count = into.len().min(most).min(rest.len());
-        into[..count].copy_from_slice(&rest[..count]);
+        let count = self.copy_rest(into);
         if count == 0 && !into.is_empty() {
             self.log.close();
             return Ok(0);
