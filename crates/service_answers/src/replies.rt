@@ -12,21 +12,27 @@ use object_table::{ObjectTable, Refusal};
 use s3_model::{Ask, OutOfMemory, Text};
 use std::alloc::Global;
 
-// Header lines with an entity tag and a time.
-fn add_object_lines(
-    alloc: Global,
-    answer: &mut Answer,
-    etag: &str,
-    micros: u64,
-) -> Result<(), OutOfMemory>
-    ensures status { answer.new.status ≡ answer.old.status }
-    ensures body { answer.new.body ≡ answer.old.body }
-    ensures length { answer.new.length ≡ answer.old.length }
+// An answer without a body that states an entity tag.
+fn tagged(alloc: Global, status: u16, etag: &str) -> Result<Answer, OutOfMemory>
+    ensures status { IfOk result (λ answer. answer.status ≡ status) }
+    ensures body { IfOk result (λ answer. answer.body.items ≡ []) }
+    ensures length { IfOk result (λ answer. answer.length ≡ None) }
 {
+    let mut answer = Answer::empty(alloc, status);
     answer.add_line("etag", etag)?;
+    Ok(answer)
+}
+
+// The same with a time.
+fn described(alloc: Global, status: u16, etag: &str, micros: u64) -> Result<Answer, OutOfMemory>
+    ensures status { IfOk result (λ answer. answer.status ≡ status) }
+    ensures body { IfOk result (λ answer. answer.body.items ≡ []) }
+    ensures length { IfOk result (λ answer. answer.length ≡ None) }
+{
+    let mut answer = tagged(alloc, status, etag)?;
     let time = header_time(alloc, micros)?;
     answer.add_line("last-modified", time.as_str())?;
-    Ok(())
+    Ok(answer)
 }
 
 fn found(alloc: Global, object: &FoundObject) -> Result<Answer, OutOfMemory>
@@ -34,8 +40,7 @@ fn found(alloc: Global, object: &FoundObject) -> Result<Answer, OutOfMemory>
     ensures body { IfOk result (λ answer. answer.body.items ≡ []) }
     ensures length { IfOk result (λ answer. answer.length ≡ Some object.now.size) }
 {
-    let mut answer = Answer::empty(alloc, 200);
-    add_object_lines(alloc, &mut answer, object.etag.as_str(), object.micros)?;
+    let mut answer = described(alloc, 200, object.etag.as_str(), object.micros)?;
     answer.length = Some(object.size);
     Ok(answer)
 }
@@ -57,37 +62,24 @@ fn add_range_line(
     Ok(())
 }
 
+// The status of the answer to a Get: that of a range, where there is one.
+fn status_got(range: Option<(u64, u64, u64)>) -> u16
+    ensures { result ≡ got_status range }
+{
+    if range.is_some() { 206 } else { 200 }
+}
+
 // The answer to a Get, whose body is a copy of the bytes.
 fn got(alloc: Global, object: &GotObject) -> Result<Answer, OutOfMemory>
     ensures status { IfOk result (λ answer. answer.status ≡ got_status object.now.range) }
     ensures body { IfOk result (λ answer. answer.body.items ≡ object.now.bytes.items) }
     ensures length { IfOk result (λ answer. answer.length ≡ None) }
 {
-    let status = if object.range.is_some() { 206 } else { 200 };
-    let mut answer = Answer::empty(alloc, status);
-    add_object_lines(alloc, &mut answer, object.etag.as_str(), object.micros)?;
+    let status = status_got(object.range);
+    let mut answer = described(alloc, status, object.etag.as_str(), object.micros)?;
     add_range_line(alloc, &mut answer, object.range)?;
     answer.body = object.bytes.as_slice().to_vec(alloc)?;
     Ok(answer)
-}
-
-// An answer without a body that states an entity tag.
-fn tagged(alloc: Global, etag: &str) -> Result<Answer, OutOfMemory>
-    ensures status { IfOk result (λ answer. answer.status ≡ 200) }
-    ensures body { IfOk result (λ answer. answer.body.items ≡ []) }
-    ensures length { IfOk result (λ answer. answer.length ≡ None) }
-{
-    let mut answer = Answer::empty(alloc, 200);
-    answer.add_line("etag", etag)?;
-    Ok(answer)
-}
-
-// An answer with a document.
-fn documented(alloc: Global, document: String) -> Answer
-    ensures status { result.status ≡ 200 }
-    ensures length { result.length ≡ None }
-{
-    Answer::document(alloc, 200, document)
 }
 
 // The names of the object that a request is about.
@@ -150,6 +142,31 @@ fn document_of(
     }
 }
 
+// The answer to a Put.
+fn stored(alloc: Global, table: &ObjectTable, ask: &Ask) -> Result<Answer, OutOfMemory>
+    ensures status { IfOk result (λ answer. answer.status ≡ 200) }
+    ensures body { IfOk result (λ answer. answer.body.items ≡ []) }
+    ensures length { IfOk result (λ answer. answer.length ≡ None) }
+{
+    let (bucket, key) = names_of(ask);
+    tagged(alloc, 200, etag_at(table, bucket, key))
+}
+
+// An answer with a document.
+fn documented(
+    alloc: Global,
+    table: &ObjectTable,
+    micros: u64,
+    ask: &Ask,
+    gained: &Gained,
+) -> Result<Answer, OutOfMemory>
+    ensures status { IfOk result (λ answer. answer.status ≡ 200) }
+    ensures length { IfOk result (λ answer. answer.length ≡ None) }
+{
+    let document = document_of(alloc, table, micros, ask, gained)?;
+    Ok(Answer::document(alloc, 200, document))
+}
+
 /// The answer to a request that was served and gained this. `table` is what stands since, and `micros` the time.
 pub fn answer_of(
     alloc: Global,
@@ -166,12 +183,9 @@ pub fn answer_of(
         Gained::Found(object) => found(alloc, object),
         Gained::Got(object) => got(alloc, object),
         Gained::Gone => Ok(Answer::empty(alloc, 204)),
-        Gained::PartStored(etag) => tagged(alloc, etag.as_str()),
-        Gained::Stored => {
-            let (bucket, key) = names_of(ask);
-            tagged(alloc, etag_at(table, bucket, key))
-        }
-        _ => Ok(documented(alloc, document_of(alloc, table, micros, ask, gained)?)),
+        Gained::PartStored(etag) => tagged(alloc, 200, etag.as_str()),
+        Gained::Stored => stored(alloc, table, ask),
+        _ => documented(alloc, table, micros, ask, gained),
     }
 }
 
