@@ -1,6 +1,6 @@
 //! A tree of minima over a row of numbers.
 
-ghost use Rattle.std.specs.Prelude.{◌≡◌, ◌≤◌, ◌<◌, ◌^◌, All, IfOk, get_or, length, set};
+ghost use Rattle.std.specs.Prelude.{◌≡◌, ◌≤◌, ◌<◌, ◌^◌, ◌*◌, ◌+◌, All, IfOk, get_or, length, min, set};
 ghost use Rattle.minimum_tree.specs.Least.{IsLeast};
 ghost use Rattle.minimum_tree.specs.Trees.{HasLevels};
 
@@ -42,6 +42,14 @@ fn leaves_for(count: u32) -> usize
     leaves
 }
 
+/// The lesser of the numbers of a node's children.
+fn lesser_child(nodes: &[u32], node: usize) -> u32
+    requires { 2 * node + 1 < length nodes.now }
+    ensures { result ≡ min (get_or nodes.now (2 * node) 0) (get_or nodes.now (2 * node + 1) 0) }
+{
+    nodes[2 * node].min(nodes[2 * node + 1])
+}
+
 impl MinimumTree {
     /// At least `count` numbers, all of them `value`.
     pub fn make(alloc: Global, count: u32, value: u32) -> Result<MinimumTree, AllocError>
@@ -78,7 +86,7 @@ impl MinimumTree {
         self.nodes[node] = value;
         while node > 1 {
             node /= 2;
-            self.nodes[node] = self.nodes[2 * node].min(self.nodes[2 * node + 1]);
+            self.nodes[node] = lesser_child(&self.nodes, node);
         }
     }
 
