@@ -1,13 +1,14 @@
 -- Texts of headers, one more header at a time.
 use Rattle.std.proofs.Common.{◌≡◌, ◌<◌, ◌+◌, ◌++◌, ◌∷◌, ℕ, suc, Bool, true, false, nat_eq, List, [], Bor, sym, refl, length, get_or, take, map, append_assoc, append-nil, arith, String, Global, string_bytes}
-use Rattle.std.specs.List.{join_with_byte}
+use Rattle.std.specs.List.{flat_map, join_with_byte}
+use Rattle.std.proofs.lemmas.Grind.{flat_map-append}
 use Rattle.std.proofs.lemmas.List.{map_more, length-map, length-take-le, length-append, map-append}
 use Rattle.std.proofs.lemmas.Bool.Decides.{nat_tests}
 use Rattle.std.proofs.lemmas.List.Elements.{filter-append}
 use Rattle.s3_signing.specs.declared.headers.Header.{Header}
 use Rattle.s3_signing.specs.Pairs.{Pair}
 use Rattle.s3_signing.specs.Headers.{text_pairs, pairs_of, next_piece}
-use Rattle.s3_signing.specs.Signing.{parameter, parameters, signed_names, words}
+use Rattle.s3_signing.specs.Signing.{canonical_header, parameter, parameters, signed_names, words}
 
 suc_not_zero : (n : ℕ) → nat_eq (suc n) 0 ≡ false
 suc_not_zero n = grind (arith, nat_tests)
@@ -39,6 +40,13 @@ more_not_empty pieces piece = rw length-append (grind (arith, nat_tests))
 -- a text that ends in the first names, after one more name
 pub signed_names_step : (headers : List Header) (i : ℕ) (d : Header) (before after old : List ℕ) → i < length headers → before ≡ old ++ signed_names (pairs_of (take i headers)) → after ≡ before ++ next_piece (59 ∷ []) (nat_eq i 0) (get_or headers i d).name.now → after ≡ old ++ signed_names (pairs_of (take (i + 1) headers))
 signed_names_step headers i d before after old h b a = rw (a, b, signed_names_more headers i d h, append_assoc)
+
+-- one more header
+pub canonical_headers_step : (headers : List Header) (i : ℕ) (d : Header) (before after old : List ℕ) → i < length headers → before ≡ old ++ flat_map canonical_header (pairs_of (take i headers)) → after ≡ before ++ canonical_header ((get_or headers i d).name.now, (get_or headers i d).value.now) → after ≡ old ++ flat_map canonical_header (pairs_of (take (i + 1) headers))
+canonical_headers_step headers i d before after old h b a =
+    let one : Pair = ((get_or headers i d).name.now, (get_or headers i d).value.now) in
+    let front = pairs_of (take i headers) in
+    rw (a, b, map_more {Y = Pair} (λ (h : Header). (h.name.now, h.value.now)) headers i d h, flat_map-append canonical_header front (one ∷ []), append-nil (canonical_header one), append_assoc old (flat_map canonical_header front) (canonical_header one)) refl
 
 -- what follows the first part of a piece
 pub next_piece-append : (separator : List ℕ) (first : Bool) (a b : List ℕ) → next_piece separator first a ++ b ≡ next_piece separator first (a ++ b)

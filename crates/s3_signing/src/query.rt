@@ -44,6 +44,15 @@ fn sort(pairs: &mut Vec<(String, String)>) -> Result<(), AllocError>
     pairs.sort()
 }
 
+/// The pairs, escaped, in the order in which they are signed.
+fn escaped_in_order(alloc: Global, query: &Pairs) -> Result<Vec<(String, String)>, AllocError>
+    ensures { IfOk result (λ out. text_pairs out.items ≡ sort_pairs (map spec.encode_pair query.now.items)) }
+{
+    let mut pairs = escape_all(alloc, query)?;
+    sort(&mut pairs)?;
+    Ok(pairs)
+}
+
 /// Adds one escaped parameter, with `&` in front of it unless it is the first.
 fn push_parameter(out: &mut String, first: bool, pair: &(String, String)) -> Result<(), AllocError>
     ensures { OnOk result (string_bytes out.new
@@ -70,8 +79,7 @@ fn push_parameters(out: &mut String, pairs: &[(String, String)]) -> Result<(), A
 pub fn canonical_query(alloc: Global, query: &Pairs) -> Result<String, AllocError>
     ensures { IfOk result (λ text. string_bytes text ≡ spec.canonical_query query.now.items) }
 {
-    let mut pairs = escape_all(alloc, query)?;
-    sort(&mut pairs)?;
+    let pairs = escaped_in_order(alloc, query)?;
     let mut out = String::new(alloc);
     push_parameters(&mut out, &pairs)?;
     Ok(out)
