@@ -98,3 +98,12 @@ returns-clause-well c front found =
     (fresh_none bucket_list_table front c.args.child.now.element element.Buckets
     (sym c.is_the.ensures ∙ c.if-not-is_the.false)
     (sym (sym c.is_some.ensures ∙ c.if-is_some.false) ∙ found))
+
+pub returns-then-is_some-clause-value : goal.returns-then-is_some-clause-value
+returns-then-is_some-clause-value c = tt
+
+pub returns-then-is_some-clause-known : goal.returns-then-is_some-clause-known
+returns-then-is_some-clause-known c = tt
+
+pub returns-then-is_some-clause-well : goal.returns-then-is_some-clause-well
+returns-then-is_some-clause-well c = tt

@@ -75,3 +75,9 @@ returns-clause-complete c front found =
     (missing_later element.ETag c.args.self.etag c.in-Some-etag.etag front _ _ c.in-Some-etag.is found.2
     (missing_later element.Size c.args.self.size c.in-Some-size.size front _ _ c.in-Some-size.is found.3
     (refl))))
+
+pub returns-in_default-size-clause-value : goal.returns-in_default-size-clause-value
+returns-in_default-size-clause-value c = tt
+
+pub returns-in_default-size-clause-complete : goal.returns-in_default-size-clause-complete
+returns-in_default-size-clause-complete c = tt
