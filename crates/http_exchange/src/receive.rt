@@ -1,6 +1,6 @@
 //! Taking the head of an answer.
 
-ghost use Rattle.std.specs.Prelude.{◌≡◌, ◌<◌, ◌==◌, not, [], length, take};
+ghost use Rattle.std.specs.Prelude.{◌≡◌, ◌<◌, ◌==◌, not, [], length, nat_lt, take};
 ghost use Rattle.std.specs.List.{list_all};
 ghost use Rattle.answer_grammar.specs.Parts.{IsHeadAt, ReadsStep};
 ghost use Rattle.answer_grammar.specs.declared.head.Head.{Head};
@@ -30,13 +30,20 @@ pub(crate) fn take_head<W: Wire>(
             room.incoming.skip(head.len);
             return Ok(head);
         }
-        if room.incoming.bytes().len() >= HEAD_LIMIT {
+        if is_full(&room.incoming) {
             return Err(Why::HeadTooLong);
         }
         if take_lines(wire, &mut room.incoming)? {
             return Err(why_no_head(alloc, &mut room.heads, room.incoming.bytes(), head_only));
         }
     }
+}
+
+/// Whether as many bytes came as a head may have.
+fn is_full(incoming: &Incoming) -> bool
+    ensures { result ≡ nat_lt 65_535 (length incoming.now) }
+{
+    incoming.bytes().len() >= HEAD_LIMIT
 }
 
 /// The head at the front of the first bytes that it may stand in.

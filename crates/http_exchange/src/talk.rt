@@ -84,6 +84,13 @@ pub fn exchange<W: Wire>(
     }
 }
 
+/// Whether the connection stays open: that is asked for, the answer allows it, and nothing stands behind the answer.
+fn stays_open(asked: bool, allowed: bool, is_entire: bool) -> bool
+    ensures { result ≡ (asked && (allowed && is_entire)) }
+{
+    asked && allowed && is_entire
+}
+
 /// Ends a talk, and keeps the connection where that is asked for, the answer allows it, and nothing stands behind it.
 fn end<W: Wire>(wire: &mut W, keep: bool, is_entire: bool, answer: Result<Answered, Why>) -> Talked
     ensures talked { result ≡ talked_of answer }
@@ -93,7 +100,7 @@ fn end<W: Wire>(wire: &mut W, keep: bool, is_entire: bool, answer: Result<Answer
 {
     match answer {
         Ok(answered) => {
-            wire.finish(keep && (answered.keep && is_entire));
+            wire.finish(stays_open(keep, answered.keep, is_entire));
             Talked::Answered(answered)
         }
         Err(why) => {

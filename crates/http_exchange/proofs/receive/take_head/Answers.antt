@@ -1,4 +1,5 @@
 use Rattle.std.proofs.Common.{ℕ, ◌<◌, List, [], ◌++◌, length, take, drop, sym, refl, ap, subst, ◌∙◌, arith, inl, inr}
+use Rattle.std.proofs.lemmas.Bool.{ltb-false, ltb-true}
 use Rattle.std.proofs.lemmas.List.{length-take, take-append-drop, drop-append-le}
 use Rattle.std.proofs.lemmas.Result.{err_from_is_err_and}
 use Rattle.s3_model.specs.Talks.{Finished}
@@ -49,8 +50,8 @@ returns-in-Some-clause-heard g c =
       },
     )
 
-pub returns-then-bytes-ge-HEAD_LIMIT-clause-heard : goal.returns-then-bytes-ge-HEAD_LIMIT-clause-heard
-returns-then-bytes-ge-HEAD_LIMIT-clause-heard g c =
+pub returns-then-is_full-clause-heard : goal.returns-then-is_full-clause-heard
+returns-then-is_full-clause-heard g c =
     let B : List ℕ → Type 0 = λ bytes. BeginsHead (take 65536 bytes) in
     let begins = subst B c.bytes.ensures (rw c.in_default.is at c.in_ok-head.ensures) in (
       c.loop-head.room.incoming,
@@ -58,9 +59,12 @@ returns-then-bytes-ge-HEAD_LIMIT-clause-heard g c =
       c.loop-head.invariant.heard,
       record {
         pieces = c.loop-head.invariant.pieces;
-        comes = inr (finished_fine Finished refl, inr (inl (omega (arith, c.if-bytes-ge-HEAD_LIMIT.true, ap length c.bytes-in-loop-head.ensures), begins, refl)));
+        comes = inr (finished_fine Finished refl, inr (inl (omega (arith, ltb-true _ _ (sym c.is_full.ensures ∙ c.if-is_full.true)), begins, refl)));
       },
     )
+
+pub take_lines-requires : goal.take_lines-requires
+take_lines-requires g c = omega (arith, ltb-false _ _ (sym c.is_full.ensures ∙ c.if-is_full.false))
 
 pub returns-in_err-take_lines-clause-heard : goal.returns-in_err-take_lines-clause-heard
 returns-in_err-take_lines-clause-heard g c =
@@ -68,7 +72,7 @@ returns-in_err-take_lines-clause-heard g c =
     let got = c.loop-head.room.incoming in
     let now = c.in_err-take_lines.ensures.heard in
     let B : List ℕ → Type 0 = λ bytes. BeginsHead (take 65536 bytes) in
-    let short : length got < 65536 = omega (arith, c.if-bytes-ge-HEAD_LIMIT.false, ap length c.bytes-in-loop-head.ensures) in
+    let short : length got < 65536 = omega (arith, ltb-false _ _ (sym c.is_full.ensures ∙ c.if-is_full.false)) in
     let begins = begins_all got short (subst B c.bytes.ensures (rw c.in_default.is at c.in_ok-head.ensures)) in
     rw (p.1, p.2) (
       got ++ now.0,
@@ -85,7 +89,7 @@ why_no_head-requires g c found at =
     let got = c.loop-head.room.incoming in
     let now = rw c.if-branch.true at c.in_ok-take_lines.ensures.heard in
     let B : List ℕ → Type 0 = λ bytes. BeginsHead (take 65536 bytes) in
-    let short : length got < 65536 = omega (arith, c.if-bytes-ge-HEAD_LIMIT.false, ap length c.bytes-in-loop-head.ensures) in
+    let short : length got < 65536 = omega (arith, ltb-false _ _ (sym c.is_full.ensures ∙ c.if-is_full.false)) in
     let begins = begins_all got short (subst B c.bytes.ensures (rw c.in_default.is at c.in_ok-head.ensures)) in
     let A : List ℕ → Type 0 = λ bytes. IsHeadAt c.args.head_only (take 65536 bytes) found in
     head_at_lines c.args.head_only got now.0 found (omega (arith, now.3.2, ap length now.3.0)) begins now.3.1 (subst A (c.bytes-then-branch.ensures ∙ now.3.0) at)
@@ -95,7 +99,7 @@ returns-then-branch-clause-heard g c =
     let got = c.loop-head.room.incoming in
     let now = rw c.if-branch.true at c.in_ok-take_lines.ensures.heard in
     let B : List ℕ → Type 0 = λ bytes. BeginsHead (take 65536 bytes) in
-    let short : length got < 65536 = omega (arith, c.if-bytes-ge-HEAD_LIMIT.false, ap length c.bytes-in-loop-head.ensures) in
+    let short : length got < 65536 = omega (arith, ltb-false _ _ (sym c.is_full.ensures ∙ c.if-is_full.false)) in
     let begins = begins_all got short (subst B c.bytes.ensures (rw c.in_default.is at c.in_ok-head.ensures)) in
     let W : List ℕ → Type 0 = λ bytes. IsWhyNoHead c.args.head_only (take 65536 bytes) c.why_no_head.result in
     let all : length (got ++ now.0) < 65536 = omega (arith, now.3.2, ap length now.3.0) in (
@@ -116,7 +120,7 @@ loop-head-preserved g c =
     let got = c.loop-head.room.incoming in
     let now = rw c.if-branch.false at c.in_ok-take_lines.ensures.heard in
     let B : List ℕ → Type 0 = λ bytes. BeginsHead (take 65536 bytes) in
-    let short : length got < 65536 = omega (arith, c.if-bytes-ge-HEAD_LIMIT.false, ap length c.bytes-in-loop-head.ensures) in
+    let short : length got < 65536 = omega (arith, ltb-false _ _ (sym c.is_full.ensures ∙ c.if-is_full.false)) in
     let begins = begins_all got short (subst B c.bytes.ensures (rw c.in_default.is at c.in_ok-head.ensures)) in
     let heard = ending_is (got ++ now.0) now.1 Finished _ _ now.3.2 (heard_after got now.0 Finished now.1 _ _ _ refl c.loop-head.invariant.heard now.2) in
     let I : List ℕ → Type 0 = λ bytes. InPieces BeginsByLine [] bytes Finished in
