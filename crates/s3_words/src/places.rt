@@ -1,6 +1,6 @@
 //! The paths of a command.
 
-ghost use Rattle.std.specs.Prelude.{◌≡◌, ◌≢◌, ◌≤◌, codes, length, nat_eq, true, OnOk, IfOk, IfErr, Some, None};
+ghost use Rattle.std.specs.Prelude.{◌≡◌, ◌≢◌, ◌≤◌, ◌&&◌, ◌||◌, codes, length, nat_eq, true, OnOk, IfOk, IfErr, Some, None};
 ghost use Rattle.std.specs.List.{ends_with, list_all, list_any};
 ghost use Rattle.s3_words.specs.Commands.{first_of, second_of};
 ghost use Rattle.s3_words.specs.Places.{
@@ -135,6 +135,13 @@ fn has_object(places: &[Place]) -> bool
     places.iter().any(|place| is_object(place))
 }
 
+/// Whether something can be copied from the first place to the second.
+fn is_transfer(recursive: bool, places: &[Place]) -> bool
+    ensures { result ≡ (list_any is_object places.now && (recursive || first_is_single_source places.now)) }
+{
+    has_object(places) && (recursive || first_is_single_source(places))
+}
+
 /// Whether the places fit the command, where they are as many as it wants.
 pub(crate) fn is_pair(verb: Verb, recursive: bool, places: &[Place]) -> bool
     ensures { result ≡ is_pair verb recursive places.now }
@@ -144,9 +151,7 @@ pub(crate) fn is_pair(verb: Verb, recursive: bool, places: &[Place]) -> bool
         Verb::Presign => have_keys(places),
         Verb::Rm => are_objects(places) && (recursive || have_keys(places)),
         Verb::Sync => has_object(places),
-        Verb::Cp | Verb::Mv => {
-            has_object(places) && (recursive || first_is_single_source(places))
-        }
+        Verb::Cp | Verb::Mv => is_transfer(recursive, places),
     }
 }
 

@@ -99,6 +99,13 @@ impl<'a> Reader<'a> {
         self.roles.push(role).map_err(|_| WordFault::Memory)
     }
 
+    /// The index of the next word in the command line.
+    fn next_index(&self) -> usize
+        ensures { result ≡ length (read self.now) + 1 }
+    {
+        self.roles.len() + 1
+    }
+
     /// Takes the next word; `last` says that no word follows.
     fn take(&mut self, alloc: Global, word: &'a str, last: bool) -> Result<(), WordFault>
         ensures right { OnOk result (role_fault self.old.verb (length (read self.old) + 1) (read self.old) last
@@ -108,7 +115,7 @@ impl<'a> Reader<'a> {
             role_fault self.old.verb (length (read self.old) + 1) (read self.old) last
             (role_of self.old.expected word.now) ≡ Some fault) }
     {
-        let at = self.roles.len() + 1;
+        let at = self.next_index();
         let role = self.expected.role_of(word);
         if let Some(fault) = option_fault(self.verb, at, &self.roles, last, role) {
             return Err(fault);
