@@ -1,11 +1,11 @@
 use Rattle.std.proofs.Common.{◌≡◌, ◌∙◌, ◌+◌, ◌||◌, sym, ap, arith, map, false}
 use Rattle.std.specs.Str.Lines.{lines}
-use Rattle.std.proofs.lemmas.Bool.{not-true}
+use Rattle.std.proofs.lemmas.Bool.{not-false, not-true}
 use Rattle.aws_profile.specs.Contexts.{above, section_name}
 use Rattle.aws_profile.specs.Lines.{kind_of}
 use Rattle.aws_profile.specs.Sections.{has_section, is_wrong, reading_of, readings_from}
 use Rattle.aws_profile.specs.Slots.{filled, slot_shown}
-use Rattle.aws_profile.proofs.ReaderLemmas.{wrong_more, has_more, slots_more, filled_none}
+use Rattle.aws_profile.proofs.ReaderLemmas.{wrong_here, wrong_more, has_more, slots_more, filled_none}
 use Rattle.aws_profile.proofs.reader.read_file.Goals as goal
 
 pub loop-text-preserved : goal.loop-text-preserved
@@ -34,3 +34,10 @@ returns-clause-slots c =
     sym (c.loop-text.invariant.slots
     ∙ ap (λ rest. map (filled section (readings_from (c.loop-text.number + 1) (above c.loop-text.context) rest)) slots) c.in_default.ensures.parts
     ∙ filled_none section slots)
+
+pub returns-in-None-clause-wrong : goal.returns-in-None-clause-wrong
+returns-in-None-clause-wrong c =
+    let old = above c.loop-text.context in
+    let wrong = not-false _ (sym c.in-None.ensures.right) in
+    c.loop-text.invariant.wrong
+    ∙ wrong_here (c.loop-text.number + 1) old old c.in-Some.text.now (lines c.loop-text.rest.now) (lines c.in-Some.after.now) c.in-Some.ensures.parts wrong
