@@ -1,5 +1,6 @@
 //! The head of a request: the request line, the headers with the signature, and an empty line.
 ghost use Rattle.std.specs.Prelude.{◌≡◌, ◌++◌, ◌<◌, [], OnOk, codes, string_bytes};
+ghost use Rattle.std.specs.List.{flat_map};
 ghost use Rattle.s3_requests.specs.Requests as spec;
 ghost use Rattle.s3_requests.specs.Descriptions.{has_body_in, path_in, query_in, request_in};
 ghost use Rattle.s3_signing.specs.Headers.{pairs_of};
@@ -94,6 +95,21 @@ fn push_length_line(out: &mut String, body: Body<'_>, length: u64) -> Result<(),
             push_header_line(out, "content-length", Buffer::new().format(length))
         }
     }
+}
+
+/// Adds the lines of the headers, and the content length behind them.
+fn push_lines(
+    out: &mut String,
+    headers: &[Header<'_>],
+    body: Body<'_>,
+    length: u64,
+) -> Result<(), AllocError>
+    ensures { OnOk result (string_bytes out.new
+        ≡ string_bytes out.old
+        ++ (flat_map spec.header_line (pairs_of headers.now) ++ spec.length_line (has_body_in body.entry) length)) }
+{
+    push_header_lines(out, headers)?;
+    push_length_line(out, body, length)
 }
 
 /// Adds the signature of a canonical request. What is signed is written in `room`.
@@ -237,8 +253,7 @@ fn write_head_with(
     write_pieces(pieces, request, headers, payload_hash)?;
     out.clear();
     push_request_line(out, request, pieces.path.as_str(), pieces.query.as_str())?;
-    push_header_lines(out, headers)?;
-    push_length_line(out, request.body, length)?;
+    push_lines(out, headers, request.body, length)?;
     push_authorization_line(
         out,
         &mut pieces.to_sign,
