@@ -3,6 +3,9 @@ use Rattle.path_filters.proofs.MatchLemmas.{first_found, star_at_end, star_moves
 use Rattle.path_filters.proofs.TextLemmas.{chars_empty, iff_chain}
 use Rattle.path_filters.proofs.runs.first_run.Goals as goal
 
+pub loop-left-init : goal.loop-left-init
+loop-left-init c = (search rules, (λ m. m, λ m. m))
+
 pub returns-in-Some-clause-left : goal.returns-in-Some-clause-left
 returns-in-Some-clause-left c =
     iff_chain c.loop-left.invariant.1 (first_found c.in-Some.left.now c.in-Some.ensures.left c.in-Some.ensures.stops (λ e. chars_empty _ (c.in-Some.ensures.end e)))
