@@ -233,3 +233,6 @@ returns-clause-value c = record {
   between = (c.split_run-2.result.0.now, c.split_run-2.ensures.value);
   names = named_so _ _ _ _ (c.if-not-is_same.ensures ∙ c.as_bytes.ensures.value) c.in_ok-name.ensures.value;
 }
+
+pub returns-clause-named : goal.returns-clause-named
+returns-clause-named c = c.if-not-is_same.ensures ∙ c.as_bytes.ensures.value

@@ -1,3 +1,4 @@
+use Rattle.std.proofs.lemmas.Bool.{true≢false}
 use Rattle.std.proofs.Common.{arith, length, sym}
 use Rattle.std.proofs.lemmas.List.{take_all}
 use Rattle.reply_xml.proofs.RunLemmas.{no_reference_to, plain_to, plain_whole, text_to, text_whole}
@@ -29,3 +30,6 @@ returns-in-Some-memchr-clause-value c =
 
 pub returns-in-None-clause-value : goal.returns-in-None-clause-value
 returns-in-None-clause-value c = text_whole c.args.bytes.now c.in-None.ensures
+
+pub returns-in-Some-memchr-clause-plain : goal.returns-in-Some-memchr-clause-plain
+returns-in-Some-memchr-clause-plain c e = absurd (true≢false e)

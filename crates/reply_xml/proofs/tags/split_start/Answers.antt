@@ -134,3 +134,12 @@ returns-clause-value c = record {
   opens = c.in-Some.ensures.value;
   named = c.in_ok-name.ensures.value;
 }
+
+pub returns-in_default-first-clause-value : goal.returns-in_default-first-clause-value
+returns-in_default-first-clause-value c = tt
+
+pub returns-in_default-first-clause-shorter : goal.returns-in_default-first-clause-shorter
+returns-in_default-first-clause-shorter c = tt
+
+pub returns-in_default-first-clause-ended : goal.returns-in_default-first-clause-ended
+returns-in_default-first-clause-ended c = tt

@@ -65,3 +65,9 @@ returns-in-Some-bad_reference-clause-bad c = (
   ),
   c.in-Some-bad_reference.ensures.bad,
 )
+
+pub returns-in-Some-clause-bad : goal.returns-in-Some-clause-bad
+returns-in-Some-clause-bad c = tt
+
+pub returns-in-Some-clause-uncut : goal.returns-in-Some-clause-uncut
+returns-in-Some-clause-uncut c = tt
