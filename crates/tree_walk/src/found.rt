@@ -86,7 +86,8 @@ impl Found {
         if self.files.insert(alloc, path, look).is_err() {
             return Err(WalkFault::Memory);
         }
-        if MOST_FILES < self.files.len() {
+        let count = self.files.len();
+        if MOST_FILES < count {
             return Err(WalkFault::TooMany);
         }
         Ok(())

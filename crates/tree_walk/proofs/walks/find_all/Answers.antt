@@ -1,7 +1,7 @@
-use Rattle.std.proofs.Common.{Err, inl, rules}
+use Rattle.std.proofs.Common.{Err, arith, inl, rules}
 use Rattle.std.proofs.lemmas.Result.{err_from_is_err_and}
 use Rattle.tree_walk.specs.declared.found.Found.{Found}
-use Rattle.tree_walk.proofs.WalkLemmas.{keeps_then, no_look, one_look, untold_seen}
+use Rattle.tree_walk.proofs.WalkLemmas.{keeps_then, no_folder, no_look, one_look, untold_seen}
 use Rattle.tree_walk.proofs.walks.find_all.Goals as goal
 
 pub returns-in_err-shape_of-clause-alone : goal.returns-in_err-shape_of-clause-alone
@@ -22,3 +22,6 @@ returns-clause-alone g c = no_look _ _ c.in_ok-shape_of.field-0 c.bare.ensures (
 pub returns-clause-kept : goal.returns-clause-kept
 returns-clause-kept g c = keeps_then _ _ _ _ _ _ c.shape_of.ensures.later c.find_below.ensures.later c.shape_of.ensures.kept
     c.find_below.ensures.kept
+
+pub returns-then-ne-clause-found : goal.returns-then-ne-clause-found
+returns-then-ne-clause-found g c = grind (arith, no_folder)
