@@ -55,6 +55,13 @@ fn removes(kind: Kind) -> bool
     matches!(kind, Kind::RemoveObject | Kind::RemoveFile)
 }
 
+/// Whether a piece is read before it is sent.
+fn reads_first(kind: Kind) -> bool
+    ensures { result ≡ reads_first kind }
+{
+    matches!(kind, Kind::Upload)
+}
+
 /// How many pieces are moved.
 fn piece_count(work: &Work) -> u32
     ensures { result ≡ piece_count work.now }
@@ -71,7 +78,7 @@ impl TaskStages {
         ensures waiting { IfOk result (λ stages. (of_act : Act) → stage_by stages of_act ≡ at.Waiting) }
     {
         let count = piece_count(&work);
-        let pieces = Pieces::make(alloc, count, matches!(work.of_kind, Kind::Upload))?;
+        let pieces = Pieces::make(alloc, count, reads_first(work.of_kind))?;
         Ok(TaskStages {
             work,
             singles: Singles::none(),
