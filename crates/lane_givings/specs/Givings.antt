@@ -87,7 +87,7 @@ abbrev pub IsGivenNext : (room : ℕ) → Shared → Events → (task : ℕ) →
 IsGivenNext room s events task of_op number job = (w : Work) → slice_get s.works task ≡ Some w
     → IsGivenAs room (job_of task of_op number) (kept_job w (share w task events) (act.Send of_op number)) job
 
--- the same job, whatever bytes its part has by now and whatever its cell came to know
+-- the same id and attempts before, and a cell and a part exactly where the job had them
 pub record IsSameJob (given now : SeenJob) : Type 0 where
   pub id : now.id ≡ given.id
   pub cell : is_some now.cell ≡ is_some given.cell

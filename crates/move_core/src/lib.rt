@@ -1,4 +1,4 @@
-//! The moves of a run of many tasks, without the bytes of parts and without the journal.
+//! The moves of a run of many tasks, with the parts that it holds and without the journal.
 #![tactic(auto)]
 
 mod calling;

@@ -30,13 +30,13 @@ pub record Scene : Type 0 where
   pub others : List (List ℕ)
 
 -- what the warnings of a run except: temporary files that stayed, files whose time could not be set,
--- and, where memory ran out for a warning, those that it would have named
+-- and, where memory ran out for any warning, all that a warning could name
 pub record Excused : Type 0 where
   pub left : List (List ℕ)
   pub untimed : List (List ℕ)
   pub wanted_memory : Bool
 
--- it has the name of a temporary file, and a warning names it or memory ran out for its warning
+-- it has the name of a temporary file, and a warning names it or memory ran out for some warning of the run
 abbrev pub IsLeft : Excused → List ℕ → Type 0
 IsLeft excused path = (is_temp_name path ≡ true) × (Contains excused.left path ⊎ (excused.wanted_memory ≡ true))
 

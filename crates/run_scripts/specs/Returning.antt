@@ -27,7 +27,7 @@ abbrev pub room_of : Option Part → Option ℕ
 room_of None = None
 room_of (Some part) = Some part.bytes.room
 
--- the same job, whatever bytes its part has by now
+-- the same id, cell and attempts before, and a part with the same room, whatever bytes it has by now
 pub record IsSameJob (given now : SeenJob) : Type 0 where
   pub id : now.id ≡ given.id
   pub cell : now.cell ≡ given.cell

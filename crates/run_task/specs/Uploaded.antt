@@ -41,7 +41,7 @@ pub record IsStopped (run : Run) (talks : List Talk) (notes : List Note) : Type 
   pub no_talk : talks ≡ []
   pub no_note : notes ≡ []
 
--- the one task was done
+-- the run has the one task, and no early end
 pub record HasTask (task : Task) (run : Run) : Type 0 where
   pub fatal : run.fatal ≡ None
   pub one_task : run.plan.tasks.items ≡ task ∷ []

@@ -107,8 +107,8 @@ abbrev pub failed_for : Option Cause → Option Outcome
 failed_for None = None
 failed_for (Some why) = Some (outcome.Failed why)
 
--- Done where every step succeeded, Unknown where nobody can know, Copied where only the source of a move stayed, and
--- Failed at every other end.
+-- Done where what the task is for has happened and the source of a move went, Unknown where nobody can know, Copied
+-- where only the source of a move stayed, and Failed at every other end.
 abbrev pub how_ended : Work → History → Option Outcome
 how_ended w history =
     if is_whole w history then Some outcome.Done

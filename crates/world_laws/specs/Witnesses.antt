@@ -192,7 +192,7 @@ pub record IsTaskMet (bucket key : List ℕ) (IsSuch : Setting → Run → Task 
   pub object : IsObjectTask setting (moments run) 0 task bucket key
   pub such : IsSuch setting run task
 
--- a small copy that is moved, with its copy and its Delete
+-- a copy that is moved, whose deciding request and whose Delete came with success
 pub record IsMovedCopy (from_bucket from_key : List ℕ) (setting : Setting) (run : Run) (task : Task) : Type 0 where
   pub is_copy : task.kind ≡ kind.Copy
   pub moves : task.moves ≡ true
