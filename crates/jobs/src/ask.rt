@@ -43,26 +43,62 @@ fn copy_all(alloc: Global, texts: &Texts) -> Result<Texts, OutOfMemory>
     Ok(copies)
 }
 
-/// The object that a task writes or removes: its bucket and its key.
-fn dest(task: &Task) -> Result<(Text, Text), OutOfMemory>
+/// A bucket and a key in it.
+#[derive(Drop)]
+struct Object {
+    bucket: Text,
+    key: Text,
+}
+
+fn object_of(bucket: &Text, key: &Text) -> Result<Object, OutOfMemory>
+    ensures bucket { IfOk result (λ object. object.bucket ≡ bucket.now) }
+    ensures key { IfOk result (λ object. object.key ≡ key.now) }
+{
+    Ok(Object {
+        bucket: bucket.copy()?,
+        key: key.copy()?,
+    })
+}
+
+/// The object that a task writes or removes.
+fn dest(task: &Task) -> Result<Object, OutOfMemory>
     requires { Target task.now }
-    ensures { IfOk result (λ object. IsObject task.now.dest object.0 object.1) }
+    ensures { IfOk result (λ object. IsObject task.now.dest object.bucket object.key) }
 {
     let Place::Object { bucket, key } = &task.dest else {
         unreachable!()
     };
-    Ok((bucket.copy()?, key.copy()?))
+    object_of(bucket, key)
 }
 
-/// The object that a task reads or moves: its bucket and its key.
-fn source(task: &Task) -> Result<(Text, Text), OutOfMemory>
+/// The object that a task reads or moves.
+fn source(task: &Task) -> Result<Object, OutOfMemory>
     requires { Origin task.now }
-    ensures { IfOk result (λ object. IsSource task.now.source object.0 object.1) }
+    ensures { IfOk result (λ object. IsSource task.now.source object.bucket object.key) }
 {
     let Some(Place::Object { bucket, key }) = &task.source else {
         unreachable!()
     };
-    Ok((bucket.copy()?, key.copy()?))
+    object_of(bucket, key)
+}
+
+/// Where a copy goes, and where it comes from.
+#[derive(Drop)]
+struct Route {
+    to: Object,
+    from: Object,
+}
+
+fn route_of(task: &Task) -> Result<Route, OutOfMemory>
+    requires to { Target task.now }
+    requires from { Origin task.now }
+    ensures to { IfOk result (λ route. IsObject task.now.dest route.to.bucket route.to.key) }
+    ensures from { IfOk result (λ route. IsSource task.now.source route.from.bucket route.from.key) }
+{
+    Ok(Route {
+        to: dest(task)?,
+        from: source(task)?,
+    })
 }
 
 /// The text of an upload that is there.
@@ -72,6 +108,25 @@ fn upload_of(alloc: Global, upload: &Option<UploadId>) -> Result<Text, OutOfMemo
 {
     let Some(id) = upload else { unreachable!() };
     Text::of(alloc, id.as_str())
+}
+
+/// An upload in parts, with the object that it makes.
+#[derive(Drop)]
+struct Upload {
+    to: Object,
+    id: Text,
+}
+
+fn upload_to(alloc: Global, task: &Task, upload: &Option<UploadId>) -> Result<Upload, OutOfMemory>
+    requires to { Target task.now }
+    requires upload { (id : List ℕ) × (upload.now ≡ Some id) }
+    ensures to { IfOk result (λ made. IsObject task.now.dest made.to.bucket made.to.key) }
+    ensures id { IfOk result (λ made. upload.now ≡ Some made.id) }
+{
+    Ok(Upload {
+        to: dest(task)?,
+        id: upload_of(alloc, upload)?,
+    })
 }
 
 /// The first and the last byte of a range that has one.
@@ -95,10 +150,10 @@ fn put(task: &Task) -> Result<Ask, OutOfMemory>
     ensures { IfOk result (λ asked. (to : Target task.now)
         × (asked ≡ ask.Put to.bucket to.key task.now.content task.now.fresh)) }
 {
-    let (bucket, key) = dest(task)?;
+    let to = dest(task)?;
     Ok(Ask::Put {
-        bucket,
-        key,
+        bucket: to.bucket,
+        key: to.key,
         content: copy_of(&task.content)?,
         fresh: task.fresh,
     })
@@ -110,11 +165,11 @@ fn get(task: &Task, number: u32, range: (u64, u64)) -> Result<Ask, OutOfMemory>
     ensures { IfOk result (λ asked. (from : Origin task.now)
         × (asked ≡ ask.Get from.bucket from.key task.now.etag (asked_range number range))) }
 {
-    let (bucket, key) = source(task)?;
+    let from = source(task)?;
     let etag = task.etag.copy()?;
     Ok(Ask::Get {
-        bucket,
-        key,
+        bucket: from.bucket,
+        key: from.key,
         etag,
         range: range_of_get(number, range),
     })
@@ -126,13 +181,12 @@ fn copy(task: &Task) -> Result<Ask, OutOfMemory>
     ensures { IfOk result (λ asked. (to : Target task.now) × (from : Origin task.now)
         × (asked ≡ ask.Copy to.bucket to.key from.bucket from.key task.now.etag)) }
 {
-    let (bucket, key) = dest(task)?;
-    let (from_bucket, from_key) = source(task)?;
+    let route = route_of(task)?;
     Ok(Ask::Copy {
-        bucket,
-        key,
-        from_bucket,
-        from_key,
+        bucket: route.to.bucket,
+        key: route.to.key,
+        from_bucket: route.from.bucket,
+        from_key: route.from.key,
         etag: task.etag.copy()?,
     })
 }
@@ -141,11 +195,14 @@ fn delete(task: &Task) -> Result<Ask, OutOfMemory>
     requires { (asked : Ask) × IsDelete task.now task.now.kind asked }
     ensures { IfOk result (IsDelete task.now task.now.kind) }
 {
-    let (bucket, key) = match task.kind {
+    let object = match task.kind {
         Kind::RemoveObject => dest(task)?,
         _ => source(task)?,
     };
-    Ok(Ask::Delete { bucket, key })
+    Ok(Ask::Delete {
+        bucket: object.bucket,
+        key: object.key,
+    })
 }
 
 /// The content type that an upload in parts states.
@@ -163,15 +220,14 @@ fn create(task: &Task) -> Result<Ask, OutOfMemory>
     ensures { IfOk result (λ asked. (to : Target task.now)
         × (asked ≡ ask.Create to.bucket to.key (stated_content task.now.kind task.now.content))) }
 {
-    let (bucket, key) = dest(task)?;
+    let to = dest(task)?;
     Ok(Ask::Create {
-        bucket,
-        key,
+        bucket: to.bucket,
+        key: to.key,
         content: content_of(task)?,
     })
 }
 
-#[tactic(auto, using(crate::proofs::AskLemmas::part))]
 fn part(
     alloc: Global,
     task: &Task,
@@ -183,16 +239,15 @@ fn part(
     ensures { IfOk result (λ asked. (to : Target task.now) × (id : List ℕ) × (upload.now ≡ Some id)
         × (asked ≡ ask.Part to.bucket to.key id number)) }
 {
-    let (bucket, key) = dest(task)?;
+    let made = upload_to(alloc, task, upload)?;
     Ok(Ask::Part {
-        bucket,
-        key,
-        upload: upload_of(alloc, upload)?,
+        bucket: made.to.bucket,
+        key: made.to.key,
+        upload: made.id,
         number,
     })
 }
 
-#[tactic(auto, using(crate::proofs::AskLemmas::part_copy))]
 fn part_copy(
     alloc: Global,
     task: &Task,
@@ -208,15 +263,14 @@ fn part_copy(
         × (upload.now ≡ Some id) × (asked ≡ ask.PartCopy to.bucket to.key id number from.bucket from.key task.now.etag
         (ends_of range))) }
 {
-    let (bucket, key) = dest(task)?;
-    let (from_bucket, from_key) = source(task)?;
+    let route = route_of(task)?;
     Ok(Ask::PartCopy {
-        bucket,
-        key,
+        bucket: route.to.bucket,
+        key: route.to.key,
         upload: upload_of(alloc, upload)?,
         number,
-        from_bucket,
-        from_key,
+        from_bucket: route.from.bucket,
+        from_key: route.from.key,
         etag: task.etag.copy()?,
         range: ends(range),
     })
@@ -235,29 +289,28 @@ fn complete(
         × (upload.now ≡ Some id) × (etags.now ≡ Some given) × (asked ≡ ask.Complete to.bucket to.key id
         (record { items = given.items; spare = spare }) task.now.fresh)) }
 {
-    let (bucket, key) = dest(task)?;
     let Some(etags) = etags else { unreachable!() };
+    let made = upload_to(alloc, task, upload)?;
     Ok(Ask::Complete {
-        bucket,
-        key,
-        upload: upload_of(alloc, upload)?,
+        bucket: made.to.bucket,
+        key: made.to.key,
+        upload: made.id,
         etags: copy_all(alloc, etags)?,
         fresh: task.fresh,
     })
 }
 
-#[tactic(auto, using(crate::proofs::AskLemmas::abort))]
 fn abort(alloc: Global, task: &Task, upload: &Option<UploadId>) -> Result<Ask, OutOfMemory>
     requires to { Target task.now }
     requires upload { (id : List ℕ) × (upload.now ≡ Some id) }
     ensures { IfOk result (λ asked. (to : Target task.now) × (id : List ℕ) × (upload.now ≡ Some id)
         × (asked ≡ ask.Abort to.bucket to.key id)) }
 {
-    let (bucket, key) = dest(task)?;
+    let made = upload_to(alloc, task, upload)?;
     Ok(Ask::Abort {
-        bucket,
-        key,
-        upload: upload_of(alloc, upload)?,
+        bucket: made.to.bucket,
+        key: made.to.key,
+        upload: made.id,
     })
 }
 
@@ -288,27 +341,45 @@ fn step(
     }
 }
 
+fn head(bucket: &Text, key: &Text) -> Result<Ask, OutOfMemory>
+    ensures { IfOk result (λ asked. asked ≡ ask.Head bucket.now key.now) }
+{
+    let object = object_of(bucket, key)?;
+    Ok(Ask::Head {
+        bucket: object.bucket,
+        key: object.key,
+    })
+}
+
+fn list(
+    bucket: &Text,
+    prefix: &Text,
+    delimited: bool,
+    token: &Option<Text>,
+) -> Result<Ask, OutOfMemory>
+    ensures { IfOk result (λ asked. asked ≡ ask.List bucket.now prefix.now delimited token.now) }
+{
+    Ok(Ask::List {
+        bucket: bucket.copy()?,
+        prefix: prefix.copy()?,
+        delimited,
+        token: copy_of(token)?,
+    })
+}
+
 /// A copy of a request of the planning.
 fn planned(ask: &Ask) -> Result<Ask, OutOfMemory>
     requires { IsPlanning ask.now }
     ensures { IfOk result (λ asked. asked ≡ ask.now) }
 {
     match ask {
-        Ask::Head { bucket, key } => Ok(Ask::Head {
-            bucket: bucket.copy()?,
-            key: key.copy()?,
-        }),
+        Ask::Head { bucket, key } => head(bucket, key),
         Ask::List {
             bucket,
             prefix,
             delimited,
             token,
-        } => Ok(Ask::List {
-            bucket: bucket.copy()?,
-            prefix: prefix.copy()?,
-            delimited: *delimited,
-            token: copy_of(token)?,
-        }),
+        } => list(bucket, prefix, *delimited, token),
         Ask::Buckets => Ok(Ask::Buckets),
         _ => unreachable!(),
     }
