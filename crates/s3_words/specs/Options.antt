@@ -83,13 +83,27 @@ row_of NoGuessMimeType = row (codes "--no-guess-mime-type") NoValue transfers
 row_of NoProgress = row (codes "--no-progress") NoValue transfers
 row_of ExpiresIn = row (codes "--expires-in") Seconds is_presign
 
+-- the first of these that has the name
+abbrev pub named_in : List OptionName → List ℕ → Option OptionName
+named_in options name = find (λ option. bytes_eq name (row_of option).name) options
+
 abbrev pub options : List OptionName
 options =
     EndpointUrl ∷ Region ∷ Profile ∷ Recursive ∷ Exclude ∷ Include ∷ Dryrun ∷ Quiet ∷ OnlyShowErrors ∷ SizeOnly
     ∷ ExactTimestamps ∷ Delete ∷ ContentType ∷ NoGuessMimeType ∷ NoProgress ∷ ExpiresIn ∷ []
 
 abbrev pub option_named : List ℕ → Option OptionName
-option_named name = find (λ option. bytes_eq name (row_of option).name) options
+option_named name = named_in options name
+
+-- those that `rm` takes
+abbrev pub common_options : List OptionName
+common_options =
+    EndpointUrl ∷ Region ∷ Profile ∷ Recursive ∷ Exclude ∷ Include ∷ Dryrun ∷ Quiet ∷ OnlyShowErrors ∷ []
+
+-- those that it does not
+abbrev pub special_options : List OptionName
+special_options =
+    SizeOnly ∷ ExactTimestamps ∷ Delete ∷ ContentType ∷ NoGuessMimeType ∷ NoProgress ∷ ExpiresIn ∷ []
 
 -- the two are one option
 abbrev pub same_option : OptionName → OptionName → Bool

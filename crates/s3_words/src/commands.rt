@@ -6,7 +6,7 @@ ghost use Rattle.s3_words.specs.Options.{changes, recurses, transfers, verb_name
 use path_filters::Filters;
 use s3_model::{Endpoint, Mode, Place, Text, Times};
 
-#[derive(Clone, Copy, Debug, PartialEq, Eq)]
+#[derive(Clone, Copy)]
 pub enum Verb {
     Cp,
     Mv,

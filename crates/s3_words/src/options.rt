@@ -1,7 +1,16 @@
 //! The options of the command line.
 
 ghost use Rattle.std.specs.Prelude.{◌≡◌};
-ghost use Rattle.s3_words.specs.Options.{is_single, kind_of, option_named, takes_option, takes_value};
+ghost use Rattle.s3_words.specs.Options.{
+  common_options,
+  is_single,
+  kind_of,
+  named_in,
+  option_named,
+  special_options,
+  takes_option,
+  takes_value,
+};
 
 use crate::commands::Verb;
 
@@ -53,28 +62,47 @@ impl ValueKind {
     }
 }
 
+/// An option that `rm` takes.
+fn common_option(name: &str) -> Option<OptionName>
+    ensures { result ≡ named_in common_options name.now }
+{
+    match name {
+        "--endpoint-url" => Some(OptionName::EndpointUrl),
+        "--region" => Some(OptionName::Region),
+        "--profile" => Some(OptionName::Profile),
+        "--recursive" => Some(OptionName::Recursive),
+        "--exclude" => Some(OptionName::Exclude),
+        "--include" => Some(OptionName::Include),
+        "--dryrun" => Some(OptionName::Dryrun),
+        "--quiet" => Some(OptionName::Quiet),
+        "--only-show-errors" => Some(OptionName::OnlyShowErrors),
+        _ => None,
+    }
+}
+
+/// An option that `rm` does not take.
+fn special_option(name: &str) -> Option<OptionName>
+    ensures { result ≡ named_in special_options name.now }
+{
+    match name {
+        "--size-only" => Some(OptionName::SizeOnly),
+        "--exact-timestamps" => Some(OptionName::ExactTimestamps),
+        "--delete" => Some(OptionName::Delete),
+        "--content-type" => Some(OptionName::ContentType),
+        "--no-guess-mime-type" => Some(OptionName::NoGuessMimeType),
+        "--no-progress" => Some(OptionName::NoProgress),
+        "--expires-in" => Some(OptionName::ExpiresIn),
+        _ => None,
+    }
+}
+
 impl OptionName {
     pub(crate) fn named(name: &str) -> Option<OptionName>
         ensures { result ≡ option_named name.now }
     {
-        match name {
-            "--endpoint-url" => Some(OptionName::EndpointUrl),
-            "--region" => Some(OptionName::Region),
-            "--profile" => Some(OptionName::Profile),
-            "--recursive" => Some(OptionName::Recursive),
-            "--exclude" => Some(OptionName::Exclude),
-            "--include" => Some(OptionName::Include),
-            "--dryrun" => Some(OptionName::Dryrun),
-            "--quiet" => Some(OptionName::Quiet),
-            "--only-show-errors" => Some(OptionName::OnlyShowErrors),
-            "--size-only" => Some(OptionName::SizeOnly),
-            "--exact-timestamps" => Some(OptionName::ExactTimestamps),
-            "--delete" => Some(OptionName::Delete),
-            "--content-type" => Some(OptionName::ContentType),
-            "--no-guess-mime-type" => Some(OptionName::NoGuessMimeType),
-            "--no-progress" => Some(OptionName::NoProgress),
-            "--expires-in" => Some(OptionName::ExpiresIn),
-            _ => None,
+        match common_option(name) {
+            Some(option) => Some(option),
+            None => special_option(name),
         }
     }
 

@@ -120,19 +120,19 @@ fn first_is_single_source(places: &[Place]) -> bool
 fn are_objects(places: &[Place]) -> bool
     ensures { result ≡ list_all is_object places.now }
 {
-    places.iter().all(|place| is_object(place))
+    places.iter().all(is_object)
 }
 
 fn have_keys(places: &[Place]) -> bool
     ensures { result ≡ list_all has_key places.now }
 {
-    places.iter().all(|place| has_key(place))
+    places.iter().all(has_key)
 }
 
 fn has_object(places: &[Place]) -> bool
     ensures { result ≡ list_any is_object places.now }
 {
-    places.iter().any(|place| is_object(place))
+    places.iter().any(is_object)
 }
 
 /// Whether something can be copied from the first place to the second.
