@@ -194,6 +194,29 @@ fn file_name(credentials: bool) -> &'static str
     }
 }
 
+fn bad_line_text(alloc: Global, credentials: bool, line: u32) -> Result<Text, OutOfMemory>
+    ensures { IfOk result (λ text. text ≡ program_line (codes "line " ++ decimal line ++ codes " of the "
+        ++ file_name credentials ++ codes " is not understood")) }
+{
+    let line = number(alloc, u64::from(line))?;
+    let (place, file) = (line.as_str(), file_name(credentials));
+    let back = " is not understood\n";
+    let text = Text::joined(alloc, &["s3: line ", place, " of the ", file, back]);
+    mem::drop(line);
+    text
+}
+
+fn bad_value_text(alloc: Global, name: &str, line: u32) -> Result<Text, OutOfMemory>
+    ensures { IfOk result (λ text. text ≡ program_line (codes "bad value of " ++ name.now ++ codes " in line "
+        ++ decimal line)) }
+{
+    let line = number(alloc, u64::from(line))?;
+    let front = "bad value of ";
+    let text = four_in_line(alloc, PROGRAM, front, name, " in line ", line.as_str());
+    mem::drop(line);
+    text
+}
+
 /// The line of settings that were refused; lines of files are counted from 1.
 pub fn profile_line(alloc: Global, fault: &ProfileFault) -> Result<Text, OutOfMemory>
     ensures { IfOk result (λ text. text ≡ program_line (profile_text fault.now)) }
@@ -204,17 +227,8 @@ pub fn profile_line(alloc: Global, fault: &ProfileFault) -> Result<Text, OutOfMe
         ProfileFault::NoProfile(name) => {
             three_in_line(alloc, PROGRAM, "profile ", name.as_str(), " not found")
         }
-        ProfileFault::BadLine { credentials, line } => {
-            let line = number(alloc, u64::from(*line))?;
-            let (line, file) = (line.as_str(), file_name(*credentials));
-            let back = " is not understood\n";
-            Text::joined(alloc, &["s3: line ", line, " of the ", file, back])
-        }
-        ProfileFault::BadSetting { line, name } => {
-            let line = number(alloc, u64::from(*line))?;
-            let (line, name) = (line.as_str(), name.as_str());
-            four_in_line(alloc, PROGRAM, "bad value of ", name, " in line ", line)
-        }
+        ProfileFault::BadLine { credentials, line } => bad_line_text(alloc, *credentials, *line),
+        ProfileFault::BadSetting { line, name } => bad_value_text(alloc, name.as_str(), *line),
         ProfileFault::Memory => Text::of(alloc, "s3: out of memory\n"),
     }
 }

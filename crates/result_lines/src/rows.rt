@@ -133,6 +133,17 @@ fn size_text(alloc: Global, size: u64) -> Result<Text, OutOfMemory>
     Ok(Text::from(format!(in alloc; "{size:>10}")?))
 }
 
+/// What stands behind the time in the row of an object.
+fn size_and_name(alloc: Global, size: u64, name: &str) -> Result<Text, OutOfMemory>
+    ensures { IfOk result (λ text.
+        text ≡ codes " " ++ right_in 10 32 (decimal size) ++ codes " " ++ name.now ++ codes "\n") }
+{
+    let size = size_text(alloc, size)?;
+    let text = Text::joined(alloc, &[" ", size.as_str(), " ", name, "\n"]);
+    mem::drop(size);
+    text
+}
+
 /// The row of an object under that name, as the AWS CLI prints it: its time in UTC, its size right in 10 places, its
 /// name.
 ///
@@ -141,9 +152,10 @@ pub fn ls_row(alloc: Global, entry: &Entry, name: &str) -> Result<Text, OutOfMem
     requires { entry.now.micros < 253402300800000000 }
     ensures { IfOk result (IsRow entry.now name.now) }
 {
-    let size = size_text(alloc, entry.size)?;
-    let rest = Text::joined(alloc, &[" ", size.as_str(), " ", name, "\n"])?;
-    timed_row(alloc, entry.micros, rest.as_str())
+    let rest = size_and_name(alloc, entry.size, name)?;
+    let row = timed_row(alloc, entry.micros, rest.as_str());
+    mem::drop(rest);
+    row
 }
 
 /// The row of a prefix: `PRE` right in 30 places, and its name.

@@ -24,6 +24,7 @@ use crate::causes::cause_text;
 use crate::lines::{three_in_line, two_in_line};
 use s3_model::{Cause, Kind, Mode, OutOfMemory, Outcome, Outcomes, Place, Task, Text};
 use std::alloc::Global;
+use std::mem;
 
 /// A line that is printed, with its line feed: to standard error or to standard output.
 #[derive(Drop)]
@@ -103,24 +104,52 @@ fn cause_line<'a>(
     Text::joined(alloc, &[verb, ending, names, " ", cause.as_str(), "\n"])
 }
 
+/// The text of a task with what it names and the text of its destination.
+fn outcome_line(
+    alloc: Global,
+    task: &Task,
+    outcome: &Outcome,
+    places: &str,
+    dest: &str,
+) -> Result<Text, OutOfMemory>
+    requires cause { HasShownCause outcome.now }
+    requires places { places.now ≡ names task.now }
+    requires dest { dest.now ≡ place_text task.now.dest }
+    ensures { IfOk result (λ text. text ≡ task_text task.now outcome.now ++ codes "\n") }
+{
+    let verb = verb(task);
+    match outcome {
+        Outcome::Done => two_in_line(alloc, verb, ": ", places),
+        Outcome::Dry => three_in_line(alloc, "(dryrun) ", verb, ": ", places),
+        Outcome::Failed(cause) => cause_line(alloc, verb, " failed: ", places, cause, dest),
+        Outcome::Unknown(cause) => cause_line(alloc, verb, " unknown: ", places, cause, dest),
+        Outcome::Copied(cause) => cause_line(alloc, "move", " copied: ", places, cause, dest),
+        Outcome::Skipped => two_in_line(alloc, verb, " skipped: ", places),
+    }
+}
+
+/// The text of a task whose destination has that text.
+fn text_to(alloc: Global, task: &Task, outcome: &Outcome, dest: &str) -> Result<Text, OutOfMemory>
+    requires source { HasSource task.now }
+    requires cause { HasShownCause outcome.now }
+    requires dest { dest.now ≡ place_text task.now.dest }
+    ensures { IfOk result (λ text. text ≡ task_text task.now outcome.now ++ codes "\n") }
+{
+    let places = names(alloc, task, dest)?;
+    let text = outcome_line(alloc, task, outcome, places.as_str(), dest);
+    mem::drop(places);
+    text
+}
+
 fn task_text(alloc: Global, task: &Task, outcome: &Outcome) -> Result<Text, OutOfMemory>
     requires source { HasSource task.now }
     requires cause { HasShownCause outcome.now }
     ensures { IfOk result (λ text. text ≡ task_text task.now outcome.now ++ codes "\n") }
 {
     let dest = place_text(alloc, &task.dest)?;
-    let dest = dest.as_str();
-    let names = names(alloc, task, dest)?;
-    let names = names.as_str();
-    let verb = verb(task);
-    match outcome {
-        Outcome::Done => two_in_line(alloc, verb, ": ", names),
-        Outcome::Dry => three_in_line(alloc, "(dryrun) ", verb, ": ", names),
-        Outcome::Failed(cause) => cause_line(alloc, verb, " failed: ", names, cause, dest),
-        Outcome::Unknown(cause) => cause_line(alloc, verb, " unknown: ", names, cause, dest),
-        Outcome::Copied(cause) => cause_line(alloc, "move", " copied: ", names, cause, dest),
-        Outcome::Skipped => two_in_line(alloc, verb, " skipped: ", names),
-    }
+    let text = text_to(alloc, task, outcome, dest.as_str());
+    mem::drop(dest);
+    text
 }
 
 fn goes_to_err(outcome: &Outcome) -> bool
