@@ -37,20 +37,6 @@ struct Pieces {
     to_sign: String,
 }
 
-fn write_path(out: &mut String, request: &Description<'_>) -> Result<(), AllocError>
-    ensures { OnOk result (string_bytes out.new ≡ encode_path (path_in request.now.resource)) }
-{
-    out.clear();
-    push_resource(out, request.resource)
-}
-
-fn write_query(out: &mut String, request: &Description<'_>) -> Result<(), AllocError>
-    ensures { OnOk result (string_bytes out.new ≡ canonical_query (query_in request.now.query)) }
-{
-    out.clear();
-    push_signed_query(out, request.query)
-}
-
 /// Adds the method and the escaped path.
 #[tactic(auto, unfolding(crate::specs::Requests::method_and_path))]
 fn push_method_and_path(
@@ -221,8 +207,10 @@ fn write_pieces(
         ≡ canonical_request request.now.method.now (path_in request.now.resource) (query_in request.now.query)
         (pairs_of headers.now) payload_hash.now) }
 {
-    write_path(&mut pieces.path, request)?;
-    write_query(&mut pieces.query, request)?;
+    pieces.path.clear();
+    push_resource(&mut pieces.path, request.resource)?;
+    pieces.query.clear();
+    push_signed_query(&mut pieces.query, request.query)?;
     write_canonical_request(
         &mut pieces.canonical,
         request,
@@ -309,7 +297,14 @@ impl HeadRoom {
     pub(crate) fn into_string(self) -> String
         ensures { string_bytes result ≡ self }
     {
-        self.head
+        let HeadRoom {
+            written,
+            pieces,
+            head,
+        } = self;
+        mem::drop(written);
+        mem::drop(pieces);
+        head
     }
 
     /// Writes the head of a request, under the signing key of the moment's date.

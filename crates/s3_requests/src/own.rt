@@ -111,15 +111,6 @@ fn write_source(out: &mut String, own: &OwnHeaders<'_>) -> Result<(), AllocError
     }
 }
 
-/// Writes the moment as YYYYMMDDTHHMMSSZ.
-fn write_date(out: &mut String, moment: u64) -> Result<(), AllocError>
-    requires { moment < 253402300800 }
-    ensures { OnOk result (string_bytes out.new ≡ basic_time moment) }
-{
-    out.clear();
-    push_basic_time(out, moment)
-}
-
 /// Writes the values of a request's headers at a moment.
 pub fn write_values(
     values: &mut WrittenValues,
@@ -131,7 +122,8 @@ pub fn write_values(
     ensures range { OnOk result (string_bytes values.new.range ≡ range_text own.now) }
     ensures source { OnOk result (string_bytes values.new.source ≡ source_text own.now) }
 {
-    write_date(&mut values.date, moment)?;
+    values.date.clear();
+    push_basic_time(&mut values.date, moment)?;
     write_range(&mut values.range, own)?;
     write_source(&mut values.source, own)
 }

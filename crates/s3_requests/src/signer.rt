@@ -1,5 +1,5 @@
 //! Heads of requests, and a signer that keeps the key of a day.
-ghost use Rattle.std.specs.Prelude.{◌≡◌, ◌<◌, IfOk, OnOk, string_bytes};
+ghost use Rattle.std.specs.Prelude.{◌≡◌, ◌<◌, IfOk, OnOk};
 ghost use Rattle.s3_requests.specs.Requests as spec;
 ghost use Rattle.s3_signing.specs.Signing.{signing_key};
 ghost use Rattle.s3_signing.specs.Times.{basic_date};
@@ -9,6 +9,7 @@ use s3_model::{Ask, Endpoint, Keys, OutOfMemory, Text};
 use s3_signing::key_at;
 use std::alloc::{AllocError, Global};
 use std::marker::Model;
+use std::mem;
 
 const SECONDS_PER_DAY: u64 = 86_400;
 
@@ -93,34 +94,11 @@ impl Signer {
             moment,
             key: &key,
         };
-        room.write(alloc, ask, endpoint, &with, payload_hash, length)?;
-        Ok(())
+        match room.write(alloc, ask, endpoint, &with, payload_hash, length) {
+            Ok(()) => Ok(()),
+            Err(AllocError) => Err(OutOfMemory),
+        }
     }
-}
-
-/// The head as [`head_text`] gives it.
-fn sign_one_head(
-    alloc: Global,
-    ask: &Ask,
-    endpoint: &Endpoint,
-    keys: &Keys,
-    moment: u64,
-    payload_hash: &str,
-    length: u64,
-) -> Result<String, AllocError>
-    requires { moment < 253402300800 }
-    ensures { IfOk result (λ text. string_bytes text
-        ≡ spec.request_head ask.now endpoint.now keys.now moment payload_hash.now length) }
-{
-    let key = key_at(alloc, keys.secret.as_str(), moment, keys.region.as_str())?;
-    let with = Key {
-        keys,
-        moment,
-        key: &key,
-    };
-    let mut room = HeadRoom::new(alloc);
-    room.write(alloc, ask, endpoint, &with, payload_hash, length)?;
-    Ok(room.into_string())
 }
 
 /// The head of a request, as [`Signer::write_head`] writes it, with a signing key that is made for it alone.
@@ -137,6 +115,18 @@ pub fn head_text(
     ensures { IfOk result (λ text. text
         ≡ spec.request_head ask.now endpoint.now keys.now moment payload_hash.now length) }
 {
-    let text = sign_one_head(alloc, ask, endpoint, keys, moment, payload_hash, length)?;
-    Ok(Text::from(text))
+    let key = key_at(alloc, keys.secret.as_str(), moment, keys.region.as_str())?;
+    let with = Key {
+        keys,
+        moment,
+        key: &key,
+    };
+    let mut room = HeadRoom::new(alloc);
+    match room.write(alloc, ask, endpoint, &with, payload_hash, length) {
+        Ok(()) => Ok(Text::from(room.into_string())),
+        Err(AllocError) => {
+            mem::drop(room);
+            Err(OutOfMemory)
+        }
+    }
 }

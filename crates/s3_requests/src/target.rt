@@ -31,14 +31,6 @@ fn push_parameter(out: &mut String, name: &str, value: &str) -> Result<(), Alloc
     push_query(out, value)
 }
 
-#[tactic(auto, using(crate::proofs::RequestLemmas::queries))]
-fn push_upload_query(out: &mut String, upload: &str) -> Result<(), AllocError>
-    ensures { OnOk result (string_bytes out.new
-        ≡ string_bytes out.old ++ canonical_query (spec.upload_id upload.now ∷ [])) }
-{
-    push_parameter(out, "uploadId=", upload)
-}
-
 fn push_part_number(out: &mut String, number: u32) -> Result<(), AllocError>
     ensures { OnOk result (string_bytes out.new
         ≡ string_bytes out.old ++ (codes "partNumber=" ++ encode_query (decimal number))) }
@@ -71,9 +63,10 @@ fn push_delimiter(out: &mut String, delimited: bool) -> Result<(), AllocError>
     ensures { OnOk result (string_bytes out.new ≡ string_bytes out.old ++ delimiter_text delimited) }
 {
     if delimited {
-        out.push_str("delimiter=%2F&")?;
+        out.push_str("delimiter=%2F&")
+    } else {
+        Ok(())
     }
-    Ok(())
 }
 
 #[tactic(auto, using(crate::proofs::RequestLemmas::listing_written))]
@@ -101,7 +94,7 @@ pub fn push_signed_query(out: &mut String, query: Query<'_>) -> Result<(), Alloc
     match query {
         Query::Empty => Ok(()),
         Query::Uploads => out.push_str("uploads="),
-        Query::Upload(upload) => push_upload_query(out, upload),
+        Query::Upload(upload) => push_parameter(out, "uploadId=", upload),
         Query::Part(number, upload) => push_part_query(out, number, upload),
         Query::Listing {
             prefix,

@@ -69,20 +69,6 @@ fn write_text_to_sign(
     push_hex(out, Sha256::digest(canonical.as_bytes()))
 }
 
-fn text_to_sign(
-    alloc: Global,
-    moment: u64,
-    region: &str,
-    canonical: &str,
-) -> Result<String, AllocError>
-    requires { moment < 253402300800 }
-    ensures { IfOk result (λ text. string_bytes text ≡ spec.string_to_sign moment region.now canonical.now) }
-{
-    let mut out = String::with_capacity(alloc, 192)?;
-    write_text_to_sign(&mut out, moment, region, canonical)?;
-    Ok(out)
-}
-
 /// The string to sign of a canonical request. The moment is in seconds since 1970, before the year 10000.
 pub fn string_to_sign(
     alloc: Global,
@@ -93,7 +79,11 @@ pub fn string_to_sign(
     requires { moment < 253402300800 }
     ensures { IfOk result (λ text. text ≡ spec.string_to_sign moment region.now canonical.now) }
 {
-    Ok(Text::from(text_to_sign(alloc, moment, region, canonical)?))
+    let mut out = String::with_capacity(alloc, 192)?;
+    match write_text_to_sign(&mut out, moment, region, canonical) {
+        Ok(()) => Ok(Text::from(out)),
+        Err(AllocError) => Err(OutOfMemory),
+    }
 }
 
 #[tactic(auto, unfolding(crate::specs::Signing::signing_key))]
@@ -172,15 +162,6 @@ pub fn signature_under(
     Ok(out)
 }
 
-fn signed(alloc: Global, keys: &Keys, moment: u64, canonical: &str) -> Result<String, AllocError>
-    requires { moment < 253402300800 }
-    ensures { IfOk result (λ text. string_bytes text ≡ spec.signature keys.now moment canonical.now) }
-{
-    let region = keys.region.as_str();
-    let key = key_at(alloc, keys.secret.as_str(), moment, region)?;
-    signature_under(alloc, &key, moment, region, canonical)
-}
-
 /// The signature of a canonical request in 64 lower-case hexadecimal digits.
 /// The moment is in seconds since 1970, before the year 10000.
 pub fn signature(
@@ -192,5 +173,10 @@ pub fn signature(
     requires { moment < 253402300800 }
     ensures { IfOk result (λ text. text ≡ spec.signature keys.now moment canonical.now) }
 {
-    Ok(Text::from(signed(alloc, keys, moment, canonical)?))
+    let region = keys.region.as_str();
+    let key = key_at(alloc, keys.secret.as_str(), moment, region)?;
+    match signature_under(alloc, &key, moment, region, canonical) {
+        Ok(text) => Ok(Text::from(text)),
+        Err(AllocError) => Err(OutOfMemory),
+    }
 }
