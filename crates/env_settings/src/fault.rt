@@ -3,7 +3,7 @@
 use s3_model::{OutOfMemory, ProfileFault};
 
 /// Why the settings of a run were not read.
-#[derive(Debug, Drop)]
+#[derive(Drop)]
 pub enum SettingsFault {
     /// What is read does not make settings. Never `ProfileFault::Memory`.
     Profile(ProfileFault),

@@ -90,26 +90,6 @@ fn read_path<E: Env>(
     }
 }
 
-fn read_config_path<E: Env>(alloc: Global, env: &mut E) -> Result<Option<Text>, OutOfMemory>
-    ensures value { IfSome (E.seen env.old) (λ seen. IfOk result (λ path. path ≡ config_path seen.variables)) }
-    ensures same { E.seen env.new ≡ E.seen env.old }
-    ensures limits { E.allows env.new ≡ E.allows env.old }
-    ensures later { E.faults env.old ≤ E.faults env.new }
-{
-    read_path(alloc, env, "AWS_CONFIG_FILE", "/.aws/config")
-}
-
-fn read_credentials_path<E: Env>(alloc: Global, env: &mut E) -> Result<Option<Text>, OutOfMemory>
-    ensures value { IfSome (E.seen env.old) (λ seen. IfOk result (λ path. path ≡
-        credentials_path seen.variables)) }
-    ensures same { E.seen env.new ≡ E.seen env.old }
-    ensures limits { E.allows env.new ≡ E.allows env.old }
-    ensures later { E.faults env.old ≤ E.faults env.new }
-{
-    let name = "AWS_SHARED_CREDENTIALS_FILE";
-    read_path(alloc, env, name, "/.aws/credentials")
-}
-
 fn read_paths<E: Env>(alloc: Global, env: &mut E) -> Result<Paths, OutOfMemory>
     ensures config { IfSome (E.seen env.old) (λ seen. IfOk result (λ paths. paths.config ≡
         config_path seen.variables)) }
@@ -119,8 +99,9 @@ fn read_paths<E: Env>(alloc: Global, env: &mut E) -> Result<Paths, OutOfMemory>
     ensures limits { E.allows env.new ≡ E.allows env.old }
     ensures later { E.faults env.old ≤ E.faults env.new }
 {
-    let config = read_config_path(alloc, env)?;
-    match read_credentials_path(alloc, env) {
+    let config = read_path(alloc, env, "AWS_CONFIG_FILE", "/.aws/config")?;
+    let name = "AWS_SHARED_CREDENTIALS_FILE";
+    match read_path(alloc, env, name, "/.aws/credentials") {
         Ok(credentials) => Ok(Paths {
             config,
             credentials,
@@ -185,7 +166,7 @@ fn read_region<E: Env>(
 fn is_named(profile: &Option<Text>) -> bool
     ensures { result ≡ is_some profile.now }
 {
-    matches!(profile, Some(_))
+    profile.is_some()
 }
 
 /// The profile of the command line, else that of the variables.
