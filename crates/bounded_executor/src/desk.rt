@@ -101,8 +101,7 @@ impl<W: Worker> Desk<W> {
         if self.is_full(lane) {
             return Err(job);
         }
-        let slot = &mut self.lanes[lane as usize];
-        slot.give(job);
+        self.lanes[lane as usize].give(job);
         self.out += 1;
         Ok(())
     }

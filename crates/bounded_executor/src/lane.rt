@@ -58,12 +58,6 @@ impl<W: Worker> Lane<W> {
     ghost use Rattle.bounded_executor.specs.Exchange.{jobs_out, with_given, with_taken};
     ghost use Rattle.bounded_executor.specs.Runs.{Runs};
 
-    pub(crate) fn out(&self) -> u32
-        ensures { result ≡ jobs_out self.now.exchange }
-    {
-        self.out
-    }
-
     pub(crate) fn room(&self) -> u32
         ensures { result + jobs_out self.now.exchange ≡ self.now.depth }
     {

@@ -27,21 +27,19 @@ where
 {
     let Parts {
         depth,
-        rings,
-        bells,
+        rings: Rings {
+            mut outbox,
+            jobs,
+            to,
+            outcomes,
+        },
+        bells: Bells {
+            bell,
+            worker_bell,
+            ready,
+        },
         rt: thread_rt,
     } = parts;
-    let Rings {
-        mut outbox,
-        jobs,
-        to,
-        outcomes,
-    } = rings;
-    let Bells {
-        bell,
-        worker_bell,
-        ready,
-    } = bells;
     let start = Snapshot::of(&worker);
     let station = Station {
         worker,
