@@ -1,6 +1,6 @@
 use Rattle.std.proofs.Common.{◌∙◌, ◌≤◌, ◌==◌, ◌&&◌, ℕ, None, Some, Option, refl, sym, ap, set, subst}
 use Rattle.std.specs.Prelude.{if◌then◌else◌}
-use Rattle.held_parts.specs.Held.{IsHere, SeenParts, held_at, part_of}
+use Rattle.held_parts.specs.Held.{IsHere, SeenParts, held_at, lent_in, part_of}
 use Rattle.held_parts.specs.declared.held.Held.{Held}
 use Rattle.held_parts.proofs.SlotLemmas as lemmas
 use Rattle.held_parts.proofs.held.HeldParts.take.Goals as goal
@@ -52,3 +52,12 @@ returns-clause-held c x y =
     ∙ lemmas.held_now c.args.task c.args.number s.pool s.slots c.place-place.result at c.self.invariant
     (Some (away c.args.task c.args.number)) (refl, refl) x y
     ∙ ap (λ (z : SeenParts). if (c.args.task == x) && (c.args.number == y) then Some None else held_at z.slots x y) c.self.view_is
+
+pub returns-clause-lent : goal.returns-clause-lent
+returns-clause-lent c =
+    let s : SeenParts = record { pool = c.self.inside.pool; slots = c.self.inside.slots.items } in
+    let at = lemmas.placed c.args.self.now s c.args.task c.args.number c.place-place.result c.self.view_is c.place-place.ensures.place in
+    ap (λ (n : Option Held). lent_in (set s.slots c.place-place.result n)) c.replace-before.ensures.after
+    ∙ lemmas.lent_now c.args.task c.args.number s.pool s.slots c.place-place.result at c.self.invariant
+    (away c.args.task c.args.number)
+    ∙ ap (λ (z : SeenParts). lent_in z.slots) c.self.view_is
