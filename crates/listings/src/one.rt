@@ -10,6 +10,7 @@ use attempts::{Attempted, Client, Payload, attempt, tries_of};
 use s3_model::{Ask, Bytes, Class, Event, JobId, Journal, Op};
 use s3_outside::Wire;
 use std::alloc::Global;
+use std::mem;
 
 /// Gives a request as the planning job of that number, and makes its one attempt: the class of its talk, or None where
 /// memory ran out before it. The journal has the job, unless memory ran out before that.
@@ -34,8 +35,8 @@ pub(crate) fn give<W: Wire>(
     ensures keys { client.new.signer ≡ client.old.signer }
 {
     journal.reserve(2).ok()?;
-    let payload = Payload::empty();
     let mut into = Bytes::make(alloc, 0).ok()?;
+    let payload = Payload::empty();
     let job = JobId {
         task: None,
         op,
@@ -43,6 +44,8 @@ pub(crate) fn give<W: Wire>(
     };
     journal.push(Event::Given { job, lane: 0 });
     let attempted = attempt(alloc, wire, client, ask, &payload, None, &mut into, true);
+    mem::drop(payload);
+    mem::drop(into);
     let tries = tries_of(&attempted);
     journal.push(Event::Came {
         job,

@@ -30,6 +30,7 @@ use s3_model::{Limits, Mode, OutOfMemory, Settings, WalkFault};
 use s3_outside::{Env, Files, Wire};
 use s3_words::Command;
 use std::alloc::Global;
+use std::mem;
 use upload_plans::{Fate, is_listing, is_presign, places_of, plan_upload};
 
 /// Looks at the file of a command, and says what copying it comes to, which takes over the command's texts.
@@ -117,8 +118,14 @@ fn execute_command<W: Wire, F: Files>(
         Ok(Fate::Upload(task)) => {
             execute_upload(alloc, words, mode, service_of(start), task, files, wire)
         }
-        Ok(fate) => end_with(alloc, words, mode, fate),
-        Err(fatal) => end_early(alloc, words, fatal),
+        Ok(fate) => {
+            mem::drop(start);
+            end_with(alloc, words, mode, fate)
+        }
+        Err(fatal) => {
+            mem::drop(start);
+            end_early(alloc, words, fatal)
+        }
     }
 }
 

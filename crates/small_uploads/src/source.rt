@@ -9,7 +9,7 @@ use s3_outside::Files;
 use std::alloc::Global;
 
 /// Why the bytes of a file did not come.
-#[derive(Clone, Copy, Debug, PartialEq, Eq)]
+#[derive(Clone, Copy)]
 pub(crate) enum ReadFault {
     Failed,
     Short,

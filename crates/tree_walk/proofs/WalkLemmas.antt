@@ -88,6 +88,29 @@ pub keeps_all : (a : Option SeenFiles) (x : ℕ) → OnlyLooks a a x x
 keeps_all None x = tt
 keeps_all (Some seen) x = (refl, [], sym (append_none seen.calls), tt)
 
+-- claims that say nothing, under what they suppose
+pub unsaid : (If : SeenFiles → Type 0) (seen : Option SeenFiles) → IfSome seen (λ now. If now → Unit {0})
+unsaid If None = tt
+unsaid If (Some now) = λ held. tt
+
+pub unsaid_of_both : (If And : SeenFiles → Type 0) (seen : Option SeenFiles) → IfSome seen (λ now. If now → And now → Unit {0})
+unsaid_of_both If And None = tt
+unsaid_of_both If And (Some now) = λ held. λ and. tt
+
+pub says_nothing : (seen : Option SeenFiles) → IfSome seen (λ now. Unit {0})
+says_nothing None = tt
+says_nothing (Some now) = tt
+
+-- what is said in any case is said in one
+pub anyway : (If Then : SeenFiles → Type 0) (seen : Option SeenFiles) → IfSome seen (λ now. Then now) → IfSome seen (λ now. If now → Then now)
+anyway If Then None said = tt
+anyway If Then (Some now) said = λ held. said
+
+-- what is supposed is said
+pub still_so : (If : SeenFiles → Type 0) (seen : Option SeenFiles) → IfSome seen (λ now. If now → If now)
+still_so If None = tt
+still_so If (Some now) = λ held. held
+
 none_some : (V : Type 0) → IsSome {T = V} None → ⊥
 none_some V h = cc
 

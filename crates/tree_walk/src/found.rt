@@ -10,6 +10,7 @@ use file_table::TextMap;
 use s3_model::Text;
 use s3_outside::Shape;
 use std::alloc::Global;
+use std::mem;
 
 /// How many files a tree may have.
 const MOST_FILES: usize = 1_000_000;
@@ -58,8 +59,13 @@ impl Found {
         ensures memory { IfErr result (λ fault. fault ≡ WalkFault.Memory) }
     {
         let mut found = Found::make(alloc);
-        found.push_folder(alloc, "")?;
-        Ok(found)
+        match found.push_folder(alloc, "") {
+            Ok(()) => Ok(found),
+            Err(fault) => {
+                mem::drop(found);
+                Err(fault)
+            }
+        }
     }
 
     /// Adds what stands at a path.

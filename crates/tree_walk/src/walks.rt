@@ -16,6 +16,7 @@ use crate::paths::{bare, child, path_at, place_of};
 use s3_model::{Entries, Text, Texts};
 use s3_outside::{Failed, FileFault, Files, Names, Shape};
 use std::alloc::Global;
+use std::mem;
 
 /// The files of a tree by their paths from the root on, in byte order, with their sizes and times; the paths of what is
 /// neither file nor folder, in byte order; and how many names are no text, in all folders together, up to 2^64 - 1.
@@ -49,7 +50,9 @@ pub fn walk<F: Files>(alloc: Global, files: &mut F, root: &str) -> Result<Walked
     ensures later { F.faults files.old ≤ F.faults files.new }
 {
     let found = find_all(alloc, files, root)?;
-    gather(alloc, &found)
+    let walked = gather(alloc, &found);
+    mem::drop(found);
+    walked
 }
 
 // All that stands below a root.
@@ -78,8 +81,13 @@ fn find_below<F: Files>(alloc: Global, files: &mut F, root: &str) -> Result<Foun
     ensures later { F.faults files.old ≤ F.faults files.new }
 {
     let mut found = Found::begin(alloc)?;
-    visit_all(alloc, files, root, &mut found)?;
-    Ok(found)
+    match visit_all(alloc, files, root, &mut found) {
+        Ok(()) => Ok(found),
+        Err(fault) => {
+            mem::drop(found);
+            Err(fault)
+        }
+    }
 }
 
 #[tactic(auto, using(crate::proofs::WalkLemmas::keeps_kind))]

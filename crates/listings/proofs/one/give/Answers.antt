@@ -23,16 +23,16 @@ pub returns-in-Made-clause-some : goal.returns-in-Made-clause-some
 returns-in-Made-clause-some g c =
     made_of_some _ _ _ _ _ _ _ _ _ _ _ c.requires c.reserve.ensures.items c.push.ensures.items c.push-2.ensures.items c.tries_of-tries.ensures.marks _ c.attempt-attempted.new.into.bytes c.in-Made.is c.attempt-attempted.ensures.classed
 
-pub returns-clause-some : goal.returns-clause-some
-returns-clause-some g c =
+pub returns-in-Memory-clause-some : goal.returns-in-Memory-clause-some
+returns-in-Memory-clause-some g c =
     silent_of_some c.args.client.now.endpoint c.args.client.now.signer _ _ _ _ _ _ _ _ _ c.requires c.reserve.ensures.items c.push.ensures.items c.push-2.ensures.items c.tries_of-tries.ensures.marks c.in-Memory.is
 
-pub returns-clause-given : goal.returns-clause-given
-returns-clause-given g c =
+pub returns-in-Memory-clause-given : goal.returns-in-Memory-clause-given
+returns-in-Memory-clause-given g c =
     silent_given _ _ _ _ _ _ _ _ _ _ _ _ _ _ _ c.requires c.reserve.ensures.items c.push.ensures.items c.push-2.ensures.items c.tries_of-tries.ensures.marks c.in-Memory.is c.attempt-attempted.ensures.gained
 
-pub returns-clause-few : goal.returns-clause-few
-returns-clause-few g c = two_more _ _ _ _ _ _ c.reserve.ensures.items c.push.ensures.items c.push-2.ensures.items
+pub returns-in-Memory-clause-few : goal.returns-in-Memory-clause-few
+returns-in-Memory-clause-few g c = two_more _ _ _ _ _ _ c.reserve.ensures.items c.push.ensures.items c.push-2.ensures.items
 
 pub returns-in-Made-clause-few : goal.returns-in-Made-clause-few
 returns-in-Made-clause-few g c = two_more _ _ _ _ _ _ c.reserve.ensures.items c.push.ensures.items c.push-2.ensures.items

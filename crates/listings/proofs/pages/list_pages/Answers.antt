@@ -71,3 +71,33 @@ loop-number-preserved g c =
       endpoint = c.next_page.ensures.endpoint ∙ before_is.endpoint;
       keys = c.next_page.ensures.keys ∙ before_is.keys;
     }
+
+pub returns-in-Ok-false-clause-dated : goal.returns-in-Ok-false-clause-dated
+returns-in-Ok-false-clause-dated g c = c.in-Ok-false.ensures.dated
+
+pub returns-in-Ok-false-clause-no_cancel : goal.returns-in-Ok-false-clause-no_cancel
+returns-in-Ok-false-clause-no_cancel g c = tt
+
+pub returns-in-Ok-false-clause-later : goal.returns-in-Ok-false-clause-later
+returns-in-Ok-false-clause-later g c = omega (arith, c.loop-number.invariant.later, c.next_page.ensures.later)
+
+pub returns-in-Ok-false-clause-endpoint : goal.returns-in-Ok-false-clause-endpoint
+returns-in-Ok-false-clause-endpoint g c = c.next_page.ensures.endpoint ∙ c.loop-number.invariant.endpoint
+
+pub returns-in-Ok-false-clause-keys : goal.returns-in-Ok-false-clause-keys
+returns-in-Ok-false-clause-keys g c = c.next_page.ensures.keys ∙ c.loop-number.invariant.keys
+
+pub returns-in-Err-clause-dated : goal.returns-in-Err-clause-dated
+returns-in-Err-clause-dated g c = tt
+
+pub returns-in-Err-clause-no_cancel : goal.returns-in-Err-clause-no_cancel
+returns-in-Err-clause-no_cancel g c = c.in-Err.ensures.no_cancel
+
+pub returns-in-Err-clause-later : goal.returns-in-Err-clause-later
+returns-in-Err-clause-later g c = omega (arith, c.loop-number.invariant.later, c.next_page.ensures.later)
+
+pub returns-in-Err-clause-endpoint : goal.returns-in-Err-clause-endpoint
+returns-in-Err-clause-endpoint g c = c.next_page.ensures.endpoint ∙ c.loop-number.invariant.endpoint
+
+pub returns-in-Err-clause-keys : goal.returns-in-Err-clause-keys
+returns-in-Err-clause-keys g c = c.next_page.ensures.keys ∙ c.loop-number.invariant.keys

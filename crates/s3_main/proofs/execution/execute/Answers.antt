@@ -1,9 +1,12 @@
-use Rattle.std.proofs.Common.{◌∙◌, Global, map, string_bytes, refl, ap, is_some, subst, sym, inl, inr}
+use Rattle.upload_promise.proofs.SourceLemmas.{looks_none}
+use Rattle.std.specs.Prelude.{IfSome}
+use Rattle.s3_model.specs.Validity.{IsValidLimits}
+use Rattle.std.proofs.Common.{◌∙◌, Global, map, string_bytes, refl, ap, is_some, subst, sym, inl, inr, None}
 use Rattle.s3_model.specs.declared.settings.Limits.{Limits}
 use Rattle.job_terms.specs.Gains.{Gains}
 use Rattle.job_terms.proofs.GainLemmas.{gains_as}
 use Rattle.s3_main.specs.Listings.{IsListing}
-use Rattle.s3_main.specs.Runs.{GoesAs}
+use Rattle.s3_main.specs.Runs.{GoesAs, StopsFor, Undertakes}
 use Rattle.s3_main.specs.Urls.{IsPresigned}
 use Rattle.s3_main.proofs.BeginLemmas as lemma
 use Rattle.s3_main.proofs.ListingLemmas.{listing_does, listing_goes, listing_line_is, listing_stops, same_status}
@@ -102,3 +105,84 @@ returns-in-Err-clause-went g c =
 pub returns-in-Err-clause-line : goal.returns-in-Err-clause-line
 returns-in-Err-clause-line g c =
     stopped_line (map (string_bytes {Z = Global}) c.args.words.now) _ _ _ c.end_early.result.run c.end_early.result.line (ap is_some c.end_early.ensures.run.fatal) c.end_early.ensures.line
+
+pub returns-in-Ok-clause-valid : goal.returns-in-Ok-clause-valid
+returns-in-Ok-clause-valid g c = subst IsValidLimits c.limits-limits.ensures.value c.limits-limits.ensures.valid
+
+pub returns-in-Ok-clause-files : goal.returns-in-Ok-clause-files
+returns-in-Ok-clause-files g c = looks_none _ _
+
+pub returns-in-Ok-clause-wire_later : goal.returns-in-Ok-clause-wire_later
+returns-in-Ok-clause-wire_later g c = c.execute_presign.ensures.later
+
+pub returns-in-Ok-clause-asked : goal.returns-in-Ok-clause-asked
+returns-in-Ok-clause-asked g c = c.read_start.ensures.asked
+
+pub returns-in-Ok-clause-env_later : goal.returns-in-Ok-clause-env_later
+returns-in-Ok-clause-env_later g c = c.read_start.ensures.later
+
+pub returns-in-Ok-2-clause-valid : goal.returns-in-Ok-2-clause-valid
+returns-in-Ok-2-clause-valid g c = subst IsValidLimits c.limits-limits.ensures.value c.limits-limits.ensures.valid
+
+pub returns-in-Ok-2-clause-files : goal.returns-in-Ok-2-clause-files
+returns-in-Ok-2-clause-files g c = looks_none _ _
+
+pub returns-in-Ok-2-clause-wire_later : goal.returns-in-Ok-2-clause-wire_later
+returns-in-Ok-2-clause-wire_later g c = c.execute_listing.ensures.later
+
+pub returns-in-Ok-2-clause-asked : goal.returns-in-Ok-2-clause-asked
+returns-in-Ok-2-clause-asked g c = c.read_start.ensures.asked
+
+pub returns-in-Ok-2-clause-env_later : goal.returns-in-Ok-2-clause-env_later
+returns-in-Ok-2-clause-env_later g c = c.read_start.ensures.later
+
+pub returns-in-Ok-3-clause-valid : goal.returns-in-Ok-3-clause-valid
+returns-in-Ok-3-clause-valid g c = subst IsValidLimits c.limits-limits.ensures.value c.limits-limits.ensures.valid
+
+pub returns-in-Ok-3-clause-wire_later : goal.returns-in-Ok-3-clause-wire_later
+returns-in-Ok-3-clause-wire_later g c = c.execute_command.ensures.wire_later
+
+pub returns-in-Ok-3-clause-asked : goal.returns-in-Ok-3-clause-asked
+returns-in-Ok-3-clause-asked g c = c.read_start.ensures.asked
+
+pub returns-in-Ok-3-clause-env_later : goal.returns-in-Ok-3-clause-env_later
+returns-in-Ok-3-clause-env_later g c = c.read_start.ensures.later
+
+pub returns-in-Err-clause-valid : goal.returns-in-Err-clause-valid
+returns-in-Err-clause-valid g c = subst IsValidLimits c.limits-limits.ensures.value c.limits-limits.ensures.valid
+
+pub returns-in-Err-clause-files : goal.returns-in-Err-clause-files
+returns-in-Err-clause-files g c = looks_none _ _
+
+pub returns-in-Err-clause-asked : goal.returns-in-Err-clause-asked
+returns-in-Err-clause-asked g c = c.read_start.ensures.asked
+
+pub returns-in-Err-clause-env_later : goal.returns-in-Err-clause-env_later
+returns-in-Err-clause-env_later g c = c.read_start.ensures.later
+
+pub returns-in-Ok-3-clause-files_later : goal.returns-in-Ok-3-clause-files_later
+returns-in-Ok-3-clause-files_later g c = c.execute_command.ensures.files_later
+
+pub returns-in-Ok-3-clause-stops : goal.returns-in-Ok-3-clause-stops
+returns-in-Ok-3-clause-stops g c =
+    let words = map (string_bytes {Z = Global}) c.args.words.now in
+    subst (λ (limits : Limits). IfSome c.execute_command.result.run.fatal (StopsFor words (g.E.Env.seen c.read_start.new.env) (g.E.Env.faults c.args.env.now) (g.E.Env.faults c.read_start.new.env) limits
+    (g.F.Files.seen c.args.files.now) (g.F.Files.faults c.args.files.now) (g.F.Files.faults c.execute_command.new.files))) c.limits-limits.ensures.value
+    (lemma.begun_stops words _ _ _ _ _ None _ _ c.execute_command.result.run c.in-Ok.start.command c.in-Ok.start.settings c.in-Ok.ensures.begun (sym c.is_presign.ensures ∙ c.if-is_presign.false)
+    (sym c.is_listing.ensures ∙ c.if-is_listing.false) c.execute_command.ensures.stops)
+
+pub returns-in-Ok-3-clause-does : goal.returns-in-Ok-3-clause-does
+returns-in-Ok-3-clause-does g c =
+    let words = map (string_bytes {Z = Global}) c.args.words.now in
+    subst (λ (limits : Limits). Undertakes words limits (g.F.Files.faults c.args.files.now) (g.F.Files.faults c.execute_command.new.files) c.execute_command.result.run) c.limits-limits.ensures.value
+    (lemma.begun_does words (g.E.Env.seen c.read_start.new.env) 0 0 _ None None _ _ c.execute_command.result.run c.in-Ok.start.command c.in-Ok.start.settings c.in-Ok.ensures.begun (sym c.is_presign.ensures ∙ c.if-is_presign.false)
+    (sym c.is_listing.ensures ∙ c.if-is_listing.false) c.execute_command.ensures.does)
+
+pub returns-in-Err-clause-stops : goal.returns-in-Err-clause-stops
+returns-in-Err-clause-stops g c =
+    lemma.early_stops (map (string_bytes {Z = Global}) c.args.words.now) _ _ _ _ _ None _ _ c.end_early.result.run c.in-Err.fatal c.end_early.ensures.run c.in-Err.ensures.stops
+
+pub returns-in-Err-clause-does : goal.returns-in-Err-clause-does
+returns-in-Err-clause-does g c =
+    lemma.early_does (map (string_bytes {Z = Global}) c.args.words.now) (g.E.Env.seen c.read_start.new.env) (g.E.Env.faults c.args.env.now) (g.E.Env.faults c.read_start.new.env) _ None None _ _ c.end_early.result.run c.in-Err.fatal
+    c.end_early.ensures.run c.in-Err.ensures.stops

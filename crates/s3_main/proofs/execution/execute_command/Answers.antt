@@ -58,3 +58,43 @@ pub returns-in-Err-clause-went : goal.returns-in-Err-clause-went
 returns-in-Err-clause-went g c =
     lemma.unseen_goes c.args.start.command c.args.start.settings c.args.limits.now (g.F.Files.seen c.args.files.now) (g.F.Files.seen c.find_fate.new.files)
     (g.F.Files.faults c.args.files.now) (g.F.Files.faults c.args.files.now) (g.F.Files.faults c.find_fate.new.files) c.end_early.result.run (g.W.Wire.seen c.args.wire.now) c.in-Err.fatal c.end_early.ensures.run c.in-Err.ensures.fault
+
+pub execute_upload-requires-clause-source : goal.execute_upload-requires-clause-source
+execute_upload-requires-clause-source g c =
+    let fated = subst (λ (f : Fate). IsFate c.args.start.command c.args.start.settings c.args.limits.now (g.F.Files.seen c.args.files.now) f) c.in-Ok-Upload.field-0-is c.in-Ok-Upload.ensures.fate in
+    (lemma.is_upload c.args.start.command c.args.start.settings c.args.limits.now (g.F.Files.seen c.args.files.now) c.in-Ok-Upload.task fated).1
+
+pub returns-in-Ok-Upload-clause-line : goal.returns-in-Ok-Upload-clause-line
+returns-in-Ok-Upload-clause-line g c = c.execute_upload.ensures.line
+
+pub returns-in-Ok-Upload-clause-stops : goal.returns-in-Ok-Upload-clause-stops
+returns-in-Ok-Upload-clause-stops g c =
+    lemma.uploaded_stops c.args.start.command c.args.start.settings c.args.limits.now (g.F.Files.seen c.args.files.now) (g.F.Files.seen c.execute_upload.new.files)
+    (g.F.Files.faults c.args.files.now) (g.F.Files.faults c.find_fate.new.files) (g.F.Files.faults c.execute_upload.new.files) c.execute_upload.result.run c.in-Ok-Upload.task
+    c.in-Ok-Upload.ensures.later c.execute_upload.ensures.does
+
+pub returns-in-Ok-Upload-clause-does : goal.returns-in-Ok-Upload-clause-does
+returns-in-Ok-Upload-clause-does g c =
+    let fated = subst (λ (f : Fate). IsFate c.args.start.command c.args.start.settings c.args.limits.now (g.F.Files.seen c.args.files.now) f) c.in-Ok-Upload.field-0-is c.in-Ok-Upload.ensures.fate in
+    lemma.uploaded_does c.args.start.command c.args.start.settings c.args.limits.now (g.F.Files.seen c.args.files.now) (g.F.Files.seen c.execute_upload.new.files)
+    (g.F.Files.faults c.args.files.now) (g.F.Files.faults c.find_fate.new.files) (g.F.Files.faults c.execute_upload.new.files) c.execute_upload.result.run c.in-Ok-Upload.task
+    c.in-Ok-Upload.ensures.later fated c.execute_upload.ensures.does
+
+pub returns-in-Ok-Upload-clause-wire_later : goal.returns-in-Ok-Upload-clause-wire_later
+returns-in-Ok-Upload-clause-wire_later g c = c.execute_upload.ensures.wire_later
+
+pub returns-in-Err-clause-stops : goal.returns-in-Err-clause-stops
+returns-in-Err-clause-stops g c =
+    lemma.unseen_stops c.args.start.command c.args.start.settings c.args.limits.now (g.F.Files.seen c.args.files.now) (g.F.Files.seen c.find_fate.new.files)
+    (g.F.Files.faults c.args.files.now) (g.F.Files.faults c.args.files.now) (g.F.Files.faults c.find_fate.new.files) c.end_early.result.run c.in-Err.fatal c.end_early.ensures.run c.in-Err.ensures.fault
+
+pub returns-in-Err-clause-does : goal.returns-in-Err-clause-does
+returns-in-Err-clause-does g c =
+    lemma.unseen_does c.args.start.command c.args.start.settings c.args.limits.now (g.F.Files.seen c.args.files.now) (g.F.Files.seen c.find_fate.new.files)
+    (g.F.Files.faults c.args.files.now) (g.F.Files.faults c.args.files.now) (g.F.Files.faults c.find_fate.new.files) c.end_early.result.run c.in-Err.fatal c.end_early.ensures.run c.in-Err.ensures.fault
+
+pub returns-in-Err-clause-files : goal.returns-in-Err-clause-files
+returns-in-Err-clause-files g c = c.in-Err.ensures.files
+
+pub returns-in-Err-clause-files_later : goal.returns-in-Err-clause-files_later
+returns-in-Err-clause-files_later g c = c.in-Err.ensures.later

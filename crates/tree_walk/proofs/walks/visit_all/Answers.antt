@@ -1,6 +1,6 @@
 use Rattle.std.proofs.Common.{◌∙◌, List, ℕ, ap, rules, length, arith}
 use Rattle.tree_walk.proofs.StepLemmas.{got_at, way_ends, way_refused, way_step}
-use Rattle.tree_walk.proofs.WalkLemmas.{keeps_then}
+use Rattle.tree_walk.proofs.WalkLemmas.{keeps_then, keeps_all, still_so, unsaid}
 use Rattle.std.proofs.lemmas.Result.{err_from_is_err_and}
 use Rattle.tree_walk.proofs.walks.visit_all.Goals as goal
 
@@ -21,3 +21,47 @@ returns-in_err-visit-clause-refused g c =
     let why = err_from_is_err_and c.from_residual.result c.from_residual.ensures.1 in
     rw (why.1, why.2) (way_refused _ _ _ _ c.visit.ensures.kept c.args.root.now c.as_str.result.now c.loop-place.place c.args.found.now c.loop-place.found
     c.loop-place.invariant.visited c.in_err-visit.field-0.0 c.in_err-visit.ensures.refused)
+
+pub loop-place-init : goal.loop-place-init
+loop-place-init g c = record { kept = keeps_all _ _; later = search rules; visited = still_so _ _ }
+
+pub returns-in_default-clause-kept : goal.returns-in_default-clause-kept
+returns-in_default-clause-kept g c = c.loop-place.invariant.kept
+
+pub returns-in_default-clause-refused : goal.returns-in_default-clause-refused
+returns-in_default-clause-refused g c = unsaid _ _
+
+pub returns-in_default-clause-later : goal.returns-in_default-clause-later
+returns-in_default-clause-later g c = c.loop-place.invariant.later
+
+pub returns-in_default-copy-clause-visited : goal.returns-in_default-copy-clause-visited
+returns-in_default-copy-clause-visited g c = unsaid _ _
+
+pub returns-in_default-copy-clause-kept : goal.returns-in_default-copy-clause-kept
+returns-in_default-copy-clause-kept g c = c.loop-place.invariant.kept
+
+pub returns-in_default-copy-clause-refused : goal.returns-in_default-copy-clause-refused
+returns-in_default-copy-clause-refused g c = unsaid _ _
+
+pub returns-in_default-copy-clause-later : goal.returns-in_default-copy-clause-later
+returns-in_default-copy-clause-later g c = c.loop-place.invariant.later
+
+pub returns-in_err-visit-clause-visited : goal.returns-in_err-visit-clause-visited
+returns-in_err-visit-clause-visited g c =
+    let why = err_from_is_err_and c.from_residual.result c.from_residual.ensures.1 in
+    rw why.1 (unsaid _ _)
+
+pub returns-in_err-visit-clause-kept : goal.returns-in_err-visit-clause-kept
+returns-in_err-visit-clause-kept g c = keeps_then _ _ _ _ _ _ c.loop-place.invariant.later c.visit.ensures.later c.loop-place.invariant.kept c.visit.ensures.kept
+
+pub returns-clause-visited : goal.returns-clause-visited
+returns-clause-visited g c = unsaid _ _
+
+pub returns-clause-kept : goal.returns-clause-kept
+returns-clause-kept g c = c.loop-place.invariant.kept
+
+pub returns-clause-refused : goal.returns-clause-refused
+returns-clause-refused g c = unsaid _ _
+
+pub returns-clause-later : goal.returns-clause-later
+returns-clause-later g c = c.loop-place.invariant.later
