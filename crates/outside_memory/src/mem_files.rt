@@ -1,6 +1,6 @@
 //! Local files in memory, with a list of the calls on them.
 
-ghost use Rattle.std.specs.Prelude.{◌≡◌, ◌≢◌, ◌≤◌, ◌⊎◌, [], Some, None, OnErr, IfOk, IfSome};
+ghost use Rattle.std.specs.Prelude.{◌≡◌, ◌≢◌, ◌≤◌, ◌⊎◌, [], Some, None, OnErr, IfOk, IfSome, true};
 ghost use Rattle.s3_model.specs.Counts.{Rose};
 ghost use Rattle.s3_outside.specs.Seen.{IsSeenAfter};
 ghost use Rattle.s3_outside.specs.Files.{called};
@@ -87,10 +87,19 @@ impl MemFiles {
         (number, self.failing.contains(&number))
     }
 
-    // The most bytes that a read gives.
-    fn most(&self, number: usize) -> usize {
-        let listed = self.short.iter().find(|(call, _)| *call == number);
-        listed.map_or(usize::MAX, |(_, most)| *most)
+    // The most bytes that a read with that room gives.
+    fn most(&self, number: usize, room: usize) -> usize
+        ensures bound { result ≤ room }
+        ensures whole { self.now.is_seen ≡ true → result ≡ room }
+    {
+        if !self.is_seen {
+            for (call, most) in &self.short {
+                if *call == number {
+                    return room.min(*most);
+                }
+            }
+        }
+        room
     }
 
     // Adds a call to the list.
@@ -143,11 +152,7 @@ impl Files for MemFiles {
     fn read_at(&mut self, path: &str, at: u64, into: &mut [u8]) -> Result<usize, Failed> {
         let (number, is_failing) = self.next_call();
         let room = into.len();
-        let most = if self.is_seen {
-            room
-        } else {
-            self.most(number).min(room)
-        };
+        let most = self.most(number, room);
         let answer = match read_in(&self.table, path, at, &mut into[..most]) {
             Some(count) if !is_failing => Ok(count),
             _ => Err(count_fault(&mut self.faults)),

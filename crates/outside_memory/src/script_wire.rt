@@ -7,7 +7,7 @@ use s3_outside::{Failed, Wire, count_fault};
 use std::alloc::Global;
 
 /// The calls of a wire that may fail.
-#[derive(Clone, Copy, Debug, PartialEq, Eq)]
+#[derive(Clone, Copy, PartialEq, Eq)]
 pub enum WireCall {
     Begin,
     Send,

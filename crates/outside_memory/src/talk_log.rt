@@ -73,7 +73,7 @@ impl TalkRecord {
 }
 
 /// What a wire noted, in order. Numbers are seconds.
-#[derive(Clone, Copy, Debug, PartialEq, Eq)]
+#[derive(Clone, Copy)]
 pub enum WireNote {
     Moment(u64),
     Pause(u32),

@@ -13,7 +13,7 @@ use s3_model::Text;
 use std::alloc::Global;
 
 /// Why character data spells no text.
-#[derive(Clone, Copy, Debug, PartialEq, Eq)]
+#[derive(Clone, Copy, Debug)]
 pub enum ReferenceFault {
     /// The place of the `&` of the first bad reference.
     Bad(usize),
@@ -103,7 +103,7 @@ pub fn unescape(alloc: Global, raw: &str) -> Result<Text, ReferenceFault>
 }
 
 /// A `&` of a text that begins no reference.
-#[derive(Clone, Copy, Debug, PartialEq, Eq)]
+#[derive(Clone, Copy)]
 pub struct BadReference {
     /// Its place in bytes.
     pub place: usize,

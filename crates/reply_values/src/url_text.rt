@@ -9,7 +9,7 @@ use s3_model::Text;
 use std::alloc::Global;
 
 /// Why an escaped text cannot be read.
-#[derive(Clone, Copy, Debug, PartialEq, Eq)]
+#[derive(Clone, Copy, Debug)]
 pub enum UrlFault {
     /// A `%` without two hexadecimal digits behind it, or bytes that are not UTF-8.
     Bad,
