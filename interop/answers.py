@@ -1,7 +1,8 @@
-"""What answers mean, written from the documents and not from the program: `crates/answer_rows` prints the same.
+"""What answers mean, written from the documents and not from the program: `crates/outside_rows` prints the same.
 
-    python3 interop/answers.py rows swift=FOLDER ceph=FOLDER > crates/answer_rows/stdin
-    python3 interop/answers.py classes < crates/answer_rows/stdin > crates/answer_rows/stdout
+    python3 interop/answers.py rows swift=FOLDER ceph=FOLDER | python3 interop/parts.py crates/outside_rows/stdin answers put
+    python3 interop/parts.py crates/outside_rows/stdin answers | python3 interop/answers.py classes \\
+        | python3 interop/parts.py crates/outside_rows/stdout answers put
 
 Rows are the lines of a table of classes, each with its class written by hand, and answers that services gave. A FOLDER
 has INDEX.tsv and, of each line there, NAME.txt: every byte that a service sent for one request, up to 65,536. An answer

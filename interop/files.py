@@ -1,4 +1,4 @@
-"""Files of a real disk: what the program `file_uses` does there and answers, beside what Python sees.
+"""Files of a real disk: what the program `outside_rows` does there and answers, beside what Python sees.
 
 As root it also mounts a small disk in memory, and tries folders without permission as the user nobody, who has no
 rights over them. Another user tries these folders alone, and what needs root is skipped.
@@ -17,6 +17,7 @@ IS_ROOT = os.geteuid() == 0
 ODD = ["a b", "é", "\n", "-x", "*", "'", '"', "\\", "..x", "x..", " ", "%2F", "a.b", "ab", "\x7f", "日本", "~", "#", "&"]
 ODD.append("x" * 251)
 STAMP = 1_369_353_600_000_007
+HEADING = "== files"
 
 
 def put(path, content=b""):
@@ -44,6 +45,7 @@ class Calls:
         self.running = subprocess.Popen([*under, disk.program], cwd=disk.top, **pipes, **how)
 
     def __enter__(self):
+        self.answer(HEADING)
         self.answer("disk")
         return self
 
@@ -79,8 +81,9 @@ class Disk:
 
     def whole(self, *calls):
         """The whole output of some calls, in which names may have line ends."""
-        given = "".join(call + "\n" for call in calls)
-        return subprocess.run([self.program], input=given.encode(), capture_output=True, timeout=300, check=True).stdout
+        given = "".join(call + "\n" for call in (HEADING, *calls))
+        ran = subprocess.run([self.program], input=given.encode(), capture_output=True, timeout=300, check=True)
+        return ran.stdout.removeprefix(f"{HEADING}\n".encode())
 
     def is_clean(self, where, folder):
         self.check(f"no temporary file is left {where}", leftovers(folder) == [], ", ".join(leftovers(folder)))

@@ -1,8 +1,8 @@
-"""Plans, worked out from the rules and not by a merge: `crates/plan_rows`, which says how a row is written, prints the
-same.
+"""Plans, worked out from the rules and not by a merge: `crates/call_rows`, which says in `src/plans.rt` how a row is
+written, prints the same.
 
-    python3 interop/plans.py rows > crates/plan_rows/stdin
-    python3 interop/plans.py answers > crates/plan_rows/stdout
+    python3 interop/plans.py rows | python3 interop/parts.py crates/call_rows/stdin plans put
+    python3 interop/plans.py answers | python3 interop/parts.py crates/call_rows/stdout plans put
 
 The first rows are written by hand, with their answers. 300 follow that are drawn at random from one seed. Answers come
 from sets of names: which relative paths there are on either side, which of them are chosen, in which order they stand.

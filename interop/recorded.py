@@ -1,8 +1,8 @@
 """`ls` of listings that real services answered, page by page: each answer is played byte for byte to its own request.
 
-The answers of Ceph's gateway and of OpenStack Swift stand in the rows of `answer_rows`; they came to requests of few
-names a page. A request has to be one of these but for its number of names and for what it leaves empty, else it is
-refused.
+The answers of Ceph's gateway and of OpenStack Swift stand behind `== answers` in the rows of `outside_rows`; they came to
+requests of few names a page. A request has to be one of these but for its number of names and for what it leaves empty,
+else it is refused.
 """
 
 import datetime
@@ -10,12 +10,13 @@ import os
 import urllib.parse
 import xml.etree.ElementTree as ElementTree
 
-import answers as answer_rows
+import answers
 import hostile
+import parts
 import service
 from listings import first_difference, row
 
-ROWS = os.path.join(os.path.dirname(os.path.dirname(os.path.abspath(__file__))), "crates/answer_rows/stdin")
+ROWS = os.path.join(os.path.dirname(os.path.dirname(os.path.abspath(__file__))), "crates/outside_rows/stdin")
 NAMESPACE = "{http://s3.amazonaws.com/doc/2006-03-01/}"
 
 
@@ -46,10 +47,9 @@ def query_of(prefix, delimited, token):
 
 
 def read_answers():
-    """The bytes of each row of `answer_rows`."""
-    with open(ROWS, encoding="utf-8") as file:
-        rows = (line.rstrip("\n").split(" ", 2) for line in file)
-        return {row[0]: answer_rows.row_bytes(row[2]) for row in rows if len(row) == 3}
+    """The bytes of each row of answers."""
+    rows = (line.split(" ", 2) for line in parts.lines_of(ROWS, "answers"))
+    return {row[0]: answers.row_bytes(row[2]) for row in rows if len(row) == 3}
 
 
 def document(answered):

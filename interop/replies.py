@@ -1,9 +1,9 @@
-"""Documents of a service and what they say, written from the grammar and not from the program: `crates/read_replies_rows`
-prints the same.
+"""Documents of a service and what they say, written from the grammar and not from the program: `crates/call_rows` prints
+the same.
 
     python3 interop/replies.py made SEED COUNT > ROWS      documents made at random, two of three of them spoilt
     python3 interop/replies.py read < ROWS > ANSWERS       the value of each, or its first fault
-    python3 interop/replies.py picked < ROWS               the shortest rows of each sort, for the crate's stdin
+    python3 interop/replies.py picked < ROWS               the shortest rows of each sort, for `== documents` of the crate's stdin
 
 A row is a reader, a space, and the document's bytes, in which `\\xHH` stands for a byte and `\\\\` for `\\`. The judge here
 collects every fault of a document with its place, and then takes the first.

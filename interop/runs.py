@@ -1,8 +1,9 @@
 """Whole runs of a few tasks, move by move, worked out from the rules of acts, lanes and parts: `crates/run_rows`, which
-says how a row is written, prints the same.
+says in `src/runs.rt` how a row is written, prints the same.
 
-    python3 interop/runs.py drawn >> crates/run_rows/stdin
-    python3 interop/runs.py answers < crates/run_rows/stdin > crates/run_rows/stdout
+    python3 interop/runs.py drawn       the last rows behind `== runs` in crates/run_rows/stdin
+    python3 interop/parts.py crates/run_rows/stdin runs | python3 interop/runs.py answers \\
+        | python3 interop/parts.py crates/run_rows/stdout runs put
 
 The last 200 rows are drawn at random from one seed, those before them are written by hand. A task is a table of its
 acts with what came of each. At each move it is looked at anew which acts may be given, which lane is the freest, and

@@ -1,8 +1,8 @@
 """What an S3 service answers, worked out from the rules and not by the service in memory: `crates/service_rows`, which
-says how a step is written, prints the same.
+says in `src/steps.rt` how a step is written, prints the same.
 
-    python3 interop/services.py rows > crates/service_rows/stdin
-    python3 interop/services.py answers > crates/service_rows/stdout
+    python3 interop/services.py rows | python3 interop/parts.py crates/service_rows/stdin steps put
+    python3 interop/services.py answers | python3 interop/parts.py crates/service_rows/stdout steps put
 
 The first steps are written by hand, with their answers. Services that are asked at random from one seed follow.
 """

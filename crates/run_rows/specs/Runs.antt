@@ -10,8 +10,8 @@ use Rattle.manager_moves.specs.Runs.{Events, Shared}
 use Rattle.manager_moves.specs.declared.moves.Move.{Move}
 use Rattle.manager_moves.specs.declared.moves.Move.TheVariants as move
 use Rattle.run_needs.specs.Needs.{most_bytes}
-use Rattle.run_rows.specs.declared.steps.Step.{Step}
-use Rattle.run_rows.specs.declared.steps.Step.TheVariants as step
+use Rattle.run_rows.specs.declared.runs.steps.Step.{Step}
+use Rattle.run_rows.specs.declared.runs.steps.Step.TheVariants as step
 use Rattle.task_acts.specs.declared.acts.Act.{Act}
 
 -- these events have happened, and in the lanes are the jobs that are out

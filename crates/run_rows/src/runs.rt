@@ -1,14 +1,34 @@
-//! Whole runs, and what is printed of them.
+//! Whole runs of a few tasks, with the moves of each and how its tasks ended.
+//!
+//! A line is `TASKS | LANES QUEUE BUFFERS | SCRIPT`, the tasks and the sayings of the script with commas between. A
+//! task is a kind and a size in bytes, with `move` in front where the source goes, and `COUNT times` before all where
+//! there are many. Below 8 bytes a task goes in one piece, from there on in pieces of 4 bytes and at most 4 of them,
+//! else in longer ones; a job has 3 attempts. Each call on files is fine, each job is gained, and comes back from the
+//! first lane that has one, but for what a script says, where each saying counts once:
+//!
+//! - `TASK ACT NUMBER CAME`: what comes of a call on files, without the number where the act has none: `fine`, `short`,
+//!   `fault`, `memory` or `blocked/LENGTH`; or of a job: `lost` and `refused/STATUS/CODE`, as often as it was, the last
+//!   attempt also `ok`, `lost/WHY` or a Get's `got/STATUS/LENGTH` or `got/STATUS/FIRST-LAST/SIZE`, or in its place
+//!   `memory`; or in place of all `cut/REASON`;
+//! - `cancel MOVES REASON`: the run is cancelled after so many moves;
+//! - `back LANE`: the next job comes back from that lane.
+
+pub(crate) mod conductor;
+mod lane;
+pub(crate) mod scenes;
+mod shown;
+mod steps;
 
 ghost use Rattle.run_rows.specs.Runs.{IsFree};
 
-use crate::conductor::Conductor;
-use crate::scenes::read_run;
-use crate::shown::Shown;
-use crate::steps::steps;
+use crate::lines::row;
+use crate::runs::conductor::Conductor;
+use crate::runs::scenes::read_run;
+use crate::runs::shown::Shown;
+use crate::runs::steps::steps;
 use run_scripts::Script;
 use s3_model::OutOfMemory;
-use std::alloc::Global;
+use std::alloc::{AllocError, Global};
 use std::mem;
 
 /// Does a run, and shows how it ended.
@@ -54,12 +74,20 @@ fn row_shown(
 }
 
 /// What is printed of a line.
-pub(crate) fn answer_of(alloc: Global, line: &str) -> Result<String, OutOfMemory> {
+fn answer_of(alloc: Global, line: &str) -> Result<String, OutOfMemory> {
     let mut parts = line.split(" | ");
     let tasks = parts.next().unwrap_or("");
     let config = parts.next().unwrap_or("");
     let script = Script::read(alloc, parts.next().unwrap_or(""))?;
     row_shown(alloc, tasks, config, script)
+}
+
+/// A line with its run.
+pub(crate) fn row_of(alloc: Global, line: &str) -> Result<String, AllocError> {
+    match answer_of(alloc, line) {
+        Ok(answer) => row(alloc, line, answer.as_str()),
+        Err(OutOfMemory) => Err(AllocError),
+    }
 }
 
 /// How many moves a run has. None where it does not come to its end.

@@ -1,71 +1,121 @@
-//! Does what is written to a service in memory, one step a line, and prints after each what came of it.
+//! Services in memory, one line of what is done to them a line, each printed with what comes of it.
 //!
-//! A step is words with one space between them, of which the first names it. `-` is the empty text, or nothing; escapes
-//! are those of a URL, and `+` is a space. `interop/services.py` writes the steps and, from the rules, the answers.
+//! A line that begins with `== ` is a heading, and is printed as it is. It says what the lines behind it are: the file of
+//! each part says how they are written.
 //!
-//! `new` begins with a service without buckets and a wire to it, `rewire` takes a new wire to the same service, and
-//! `bucket NAME` and `page N` add a bucket and set the most names of a page. `script TURN N TEXT` says what is done to
-//! the Nth request that begins with the text, or with `*` to each: `lost-before`, `lost-after`, `late:N`, `cut:N`,
-//! `refuse:STATUS:CODE`, `close`, `followed`, `chunked:N` or `split:N`. `foreign N put BUCKET KEY BYTES` and
-//! `foreign N remove BUCKET KEY` are what somebody else does before the Nth request of all.
-//!
-//! A step with the name of a request sends it. A Put and a Part begin with their bytes, entity tags stand without
-//! quotes, ranges are `A-B`, `fresh` at the end replaces nothing, and `/` delimits a listing. `upload BYTES BUCKET KEY`
-//! has a Put carried with three attempts, whose marks stand before its outcome. `show BUCKET KEY` is what stands there,
-//! and `wire` what the wire shows: its talks, its connections, its faults, its pauses in seconds.
+//! `service_rows HOST PORT BUCKET COUNT` reads no lines. It sends that many Puts to a service, one after the other over one
+//! lane, and prints the nanoseconds and how many were stored, for `bench/puts`.
 #![tactic(auto)]
 
-mod asks;
-mod desk;
-mod scripts;
-mod setting;
-mod shown;
+mod lanes;
+mod services;
 mod steps;
+mod timing;
 mod uploads;
-mod words;
 
-use desk::Desk;
 use s3_model::OutOfMemory;
 use std::alloc::{AllocError, Global};
+use std::process::ExitCode;
+use std::rt::Clock;
 use std::sync::Wait;
+use std::thread::Threads;
 use std::{io, mem};
-use steps::result_of;
+use steps::desk::Desk;
+use timing::{Wanted, read_wanted, time_puts, words_of};
 
-/// Does a step, and prints what came of it.
-fn show_row<R: Wait + Clone + Drop>(
-    host: &HostRuntime,
-    alloc: Global,
+/// The status where the words are not understood.
+const REFUSED: u8 = 2;
+
+/// What lines are.
+#[derive(Clone, Copy)]
+enum Part {
+    Steps,
+    Lanes,
+    Unknown,
+}
+
+/// What the lines behind a heading are.
+fn part_named(heading: &str) -> Part {
+    match heading {
+        "== steps" => Part::Steps,
+        "== lanes" => Part::Lanes,
+        _ => Part::Unknown,
+    }
+}
+
+/// What is printed of a line.
+fn row_of<R>(
     rt: &R,
+    alloc: Global,
     desk: &mut Desk<R>,
+    part: Part,
     line: &str,
-) -> io::Result<()> {
-    match result_of(alloc, rt, desk, line) {
-        Ok(result) => println!(host; "{line} => {result}"),
-        Err(OutOfMemory) => Err(AllocError.into()),
+) -> Result<String, OutOfMemory>
+where
+    R: Threads + Wait + Clock + Clone + Send + Sync + Drop,
+{
+    match part {
+        Part::Steps => steps::row_of(alloc, rt, desk, line),
+        Part::Lanes => lanes::row_of(rt, alloc, line),
+        Part::Unknown => Ok(String::from_str(alloc, "no heading")?),
     }
 }
 
-fn show_rows<R: Wait + Clone + Drop>(
+/// Prints a line, and answers what the next one is.
+fn print_row<R>(
     host: &HostRuntime,
-    alloc: Global,
     rt: &R,
     desk: &mut Desk<R>,
-) -> io::Result<()> {
-    for line in host.lines(alloc) {
-        let line = line?;
-        show_row(host, alloc, rt, desk, line.as_str())?;
+    part: Part,
+    line: &str,
+) -> io::Result<Part>
+where
+    R: Threads + Wait + Clock + Clone + Send + Sync + Drop,
+{
+    if line.starts_with("== ") {
+        host.println(line)?;
+        return Ok(part_named(line));
     }
-    Ok(())
+    let Ok(row) = row_of(rt, host.alloc(), desk, part, line) else {
+        return Err(AllocError.into());
+    };
+    host.println(row.as_str())?;
+    Ok(part)
 }
 
-fn main(rt: HostRuntime) -> io::Result<()> {
-    let alloc = rt.alloc();
-    match Desk::make(alloc, &rt) {
+fn print_rows<R>(host: &HostRuntime, rt: &R, desk: &mut Desk<R>) -> io::Result<u8>
+where
+    R: Threads + Wait + Clock + Clone + Send + Sync + Drop,
+{
+    let mut part = Part::Unknown;
+    for line in host.lines(host.alloc()) {
+        let line = line?;
+        part = print_row(host, rt, desk, part, line.as_str())?;
+    }
+    Ok(0)
+}
+
+fn show_rows<R>(host: &HostRuntime, rt: &R) -> io::Result<u8>
+where
+    R: Threads + Wait + Clock + Clone + Send + Sync + Drop,
+{
+    match Desk::make(host.alloc(), rt) {
         Ok(mut desk) => {
-            let shown = show_rows(&rt, alloc, &rt, &mut desk);
+            let shown = print_rows(host, rt, &mut desk);
             mem::drop(desk);
             shown
         }
         Err(OutOfMemory) => Err(AllocError.into()),
     }
+}
+
+fn main(rt: HostRuntime) -> io::Result<ExitCode> {
+    let alloc = rt.alloc();
+    let words = words_of(&rt, alloc)?;
+    let status = match read_wanted(words.as_slice()) {
+        Wanted::Rows => show_rows(&rt, &rt)?,
+        Wanted::Timed(goal) => time_puts(&rt, alloc, goal)?,
+        Wanted::Nothing => REFUSED,
+    };
+    Ok(ExitCode::from(status))
 }

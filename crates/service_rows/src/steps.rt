@@ -1,11 +1,33 @@
-//! The steps.
+//! What is done to a service in memory, with what comes of each step.
+//!
+//! A step is words with one space between them, of which the first names it. `-` is the empty text, or nothing; escapes
+//! are those of a URL, and `+` is a space. `interop/services.py` writes the steps and, from the rules, the answers.
+//!
+//! `new` begins with a service without buckets and a wire to it, `rewire` takes a new wire to the same service, and
+//! `bucket NAME` and `page N` add a bucket and set the most names of a page. `script TURN N TEXT` says what is done to
+//! the Nth request that begins with the text, or with `*` to each: `lost-before`, `lost-after`, `late:N`, `cut:N`,
+//! `refuse:STATUS:CODE`, `close`, `followed`, `chunked:N` or `split:N`. `foreign N put BUCKET KEY BYTES` and
+//! `foreign N remove BUCKET KEY` are what somebody else does before the Nth request of all.
+//!
+//! A step with the name of a request sends it. A Put and a Part begin with their bytes, entity tags stand without
+//! quotes, ranges are `A-B`, `fresh` at the end replaces nothing, and `/` delimits a listing. `upload BYTES BUCKET KEY`
+//! has a Put carried with three attempts, whose marks stand before its outcome. `show BUCKET KEY` is what stands there,
+//! and `wire` what the wire shows: its talks, its connections, its faults, its pauses in seconds.
 
-use crate::asks::{Request, op_named, request_of};
-use crate::desk::{Answer, Desk, send};
-use crate::setting::{arrange, shown_object};
-use crate::shown::answer_text;
-use crate::uploads::carry_upload;
-use crate::words::Words;
+mod asks;
+pub(crate) mod desk;
+mod scripts;
+mod setting;
+mod shown;
+mod uploads;
+mod words;
+
+use crate::steps::asks::{Request, op_named, request_of};
+use crate::steps::desk::{Answer, Desk, send};
+use crate::steps::setting::{arrange, shown_object};
+use crate::steps::shown::answer_text;
+use crate::steps::uploads::carry_upload;
+use crate::steps::words::Words;
 use outside_memory::WireNote;
 use s3_model::OutOfMemory;
 use s3_outside::Wire;
@@ -151,7 +173,7 @@ fn other<R: Wait + Clone + Drop>(
 }
 
 /// Does a step, and says what came of it.
-pub(crate) fn result_of<R: Wait + Clone + Drop>(
+fn result_of<R: Wait + Clone + Drop>(
     alloc: Global,
     rt: &R,
     desk: &mut Desk<R>,
@@ -163,4 +185,15 @@ pub(crate) fn result_of<R: Wait + Clone + Drop>(
         Some(op) => sent(alloc, &mut desk.wire, request_of(alloc, op, &mut words)),
         None => other(alloc, rt, desk, name, &mut words),
     }
+}
+
+/// A step with what comes of it.
+pub(crate) fn row_of<R: Wait + Clone + Drop>(
+    alloc: Global,
+    rt: &R,
+    desk: &mut Desk<R>,
+    line: &str,
+) -> Result<String, OutOfMemory> {
+    let result = result_of(alloc, rt, desk, line)?;
+    Ok(format!(in alloc; "{line} => {result}")?)
 }

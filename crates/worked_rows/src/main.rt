@@ -1,118 +1,82 @@
-//! Worked rows: command lines with settings and answers, one a line, each printed with what a run of them came to.
+//! Runs of the whole program, one a line, each printed with what it came to.
 //!
-//! A line is a number and fields `name=value`, parted by semicolons: `words` for each command that is run, one behind the
-//! other; `variables`, how many of id, secret and region are set; `config` and `credentials`; `unreadable`, where the first
-//! settings file cannot be read; `room`, how many bytes each output takes; `answer` for each talk. In a line `¶` stands for
-//! the end of a line of HTTP, `§` for that of a file, and `|12×ab|` for twelve times `ab`. The files are `a.txt`, of the
-//! five bytes `hello`, `d/b.txt`, and `dev`, which is no file.
+//! A line that begins with `== ` is a heading, and is printed as it is. It says what the lines behind it are: the file of
+//! each part says how they are written.
 #![tactic(auto)]
 
-mod fields;
-mod given;
-mod play;
-mod shown;
+mod settings;
+mod sockets;
+mod worked;
 
-use fields::{value_in, written};
-use given::wires;
-use outside_memory::ScriptWire;
-use play::play;
 use s3_model::OutOfMemory;
-use shown::push_talks;
-use std::alloc::{AllocError, Global};
+use std::alloc::AllocError;
 use std::io;
 use std::sync::Wait;
 use std::thread::Threads;
 
-/// Runs the command of a line over the wires of its row, and adds what it came to.
-fn push_play<R>(
-    rt: &R,
-    alloc: Global,
-    shown: &mut String,
-    row: &str,
-    line: &str,
-    wires: &mut Vec<ScriptWire>,
-) -> Result<(), OutOfMemory>
-where
-    R: Threads + Wait + Clone + Send + Sync + Drop + 'static,
-{
-    let seen = play(rt, alloc, row, line, wires)?;
-    Ok(shown.push_str(seen.as_str())?)
+/// What lines are.
+#[derive(Clone, Copy)]
+enum Part {
+    Worked,
+    Sockets,
+    Unknown,
 }
 
-/// Runs the commands of a row over its wires, and adds what each came to.
-fn push_plays<R>(
-    rt: &R,
-    alloc: Global,
-    shown: &mut String,
-    row: &str,
-    wires: &mut Vec<ScriptWire>,
-) -> Result<(), OutOfMemory>
-where
-    R: Threads + Wait + Clone + Send + Sync + Drop + 'static,
-{
-    for field in row.split("; ") {
-        if let Some(line) = value_in(field, "words") {
-            push_play(rt, alloc, shown, row, line, wires)?;
-        }
+/// What the lines behind a heading are.
+fn part_named(heading: &str) -> Part {
+    match heading {
+        "== worked rows" => Part::Worked,
+        "== over sockets" => Part::Sockets,
+        _ => Part::Unknown,
     }
-    Ok(())
 }
 
-/// Adds what the commands of a row came to over its wires, and what these then sent.
-fn push_runs<R>(
-    rt: &R,
-    alloc: Global,
-    shown: &mut String,
-    row: &str,
-    wires: &mut Vec<ScriptWire>,
-) -> Result<(), OutOfMemory>
-where
-    R: Threads + Wait + Clone + Send + Sync + Drop + 'static,
-{
-    push_plays(rt, alloc, shown, row, wires)?;
-    push_talks(alloc, shown, wires.as_slice())
-}
-
-fn push_row<R>(rt: &R, alloc: Global, shown: &mut String, row: &str) -> Result<(), OutOfMemory>
-where
-    R: Threads + Wait + Clone + Send + Sync + Drop + 'static,
-{
-    let mut wires = wires(alloc, row)?;
-    push_runs(rt, alloc, shown, row, &mut wires)
-}
-
-/// What is printed of a line.
-fn row_of<R>(rt: &R, alloc: Global, line: &str) -> Result<String, OutOfMemory>
-where
-    R: Threads + Wait + Clone + Send + Sync + Drop + 'static,
-{
-    let (number, row) = line.split_once(' ').unwrap_or((line, ""));
-    let mut shown = String::from_str(alloc, number)?;
-    push_row(rt, alloc, &mut shown, row)?;
-    Ok(shown)
-}
-
-/// What is printed of a line as it is spelled.
-fn answer_of<R>(rt: &R, alloc: Global, spelled: &str) -> Result<String, OutOfMemory>
-where
-    R: Threads + Wait + Clone + Send + Sync + Drop + 'static,
-{
-    let line = written(alloc, spelled)?;
-    row_of(rt, alloc, line.as_str())
-}
-
-/// Prints what was made of a line.
-fn show(rt: &HostRuntime, row: Result<String, OutOfMemory>) -> io::Result<()> {
+/// What was made of a line of worked rows.
+fn made(row: Result<String, OutOfMemory>) -> io::Result<String> {
     match row {
-        Ok(row) => println!(rt; "{row}"),
+        Ok(row) => Ok(row),
         Err(OutOfMemory) => Err(AllocError.into()),
     }
 }
 
-fn main(rt: HostRuntime) -> io::Result<()> {
-    for line in rt.lines(rt.alloc()) {
+/// What is printed of a line.
+fn row_of<R>(rt: &R, host: &HostRuntime, part: Part, line: &str) -> io::Result<String>
+where
+    R: Threads + Wait + Clone + Send + Sync + Drop + 'static,
+{
+    match part {
+        Part::Worked => made(worked::row_of(rt, host.alloc(), line)),
+        Part::Sockets => sockets::row_of(rt, host, line),
+        Part::Unknown => Ok(String::from_str(host.alloc(), "no heading")?),
+    }
+}
+
+/// Prints a line, and answers what the next one is.
+fn print_row<R>(rt: &R, host: &HostRuntime, part: Part, line: &str) -> io::Result<Part>
+where
+    R: Threads + Wait + Clone + Send + Sync + Drop + 'static,
+{
+    if line.starts_with("== ") {
+        host.println(line)?;
+        return Ok(part_named(line));
+    }
+    let row = row_of(rt, host, part, line)?;
+    host.println(row.as_str())?;
+    Ok(part)
+}
+
+fn print_rows<R>(rt: &R, host: &HostRuntime) -> io::Result<()>
+where
+    R: Threads + Wait + Clone + Send + Sync + Drop + 'static,
+{
+    let mut part = Part::Unknown;
+    for line in host.lines(host.alloc()) {
         let line = line?;
-        show(&rt, answer_of(&rt, rt.alloc(), line.as_str()))?;
+        part = print_row(rt, host, part, line.as_str())?;
     }
     Ok(())
+}
+
+fn main(rt: HostRuntime) -> io::Result<()> {
+    print_rows(&rt, &rt)
 }

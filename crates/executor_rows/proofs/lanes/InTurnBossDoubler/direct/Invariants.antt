@@ -1,5 +1,0 @@
-use Rattle.bounded_executor.specs.Desk.{SameDesk}
-use Rattle.executor_rows.proofs.lanes.InTurnBossDoubler.direct.Given as goal
-
-abbrev pub invariant-loop-job : goal.invariant-loop-job
-invariant-loop-job g l = SameDesk l.initial.desk l.desk

@@ -1,5 +1,0 @@
-use Rattle.bounded_executor.specs.Desk.{SameDesk}
-use Rattle.executor_rows.proofs.lanes.give_in_turn.Given as goal
-
-abbrev pub invariant-loop : goal.invariant-loop
-invariant-loop g l = SameDesk l.initial.desk l.desk

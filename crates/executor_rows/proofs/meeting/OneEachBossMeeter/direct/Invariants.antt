@@ -1,5 +1,0 @@
-use Rattle.bounded_executor.specs.Desk.{SameDesk}
-use Rattle.executor_rows.proofs.meeting.OneEachBossMeeter.direct.Given as goal
-
-abbrev pub invariant-loop-lane : goal.invariant-loop-lane
-invariant-loop-lane g l = SameDesk l.initial.desk l.desk

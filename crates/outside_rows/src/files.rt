@@ -1,0 +1,23 @@
+//! Calls on files, with the answer of each.
+//!
+//! `memory FAILING | ITEM | ITEM ..` chooses files in memory, and `disk` those of the system. FAILING are the numbers of
+//! the calls that fail, and of reads that give less: `1x2` says that the second call gives two bytes. An item is a file
+//! `PATH=BYTES`, a folder `PATH/`, names that are no text `FOLDER?COUNT`, so many empty files `FOLDER*COUNT`, or else
+//! the path of something that is neither. `make`, `place`, `finish` and `drop` put files together, several at a time:
+//! the one that was made first is meant.
+
+mod assemblies;
+mod calls;
+pub(crate) mod chosen;
+mod memory;
+mod trees;
+
+use crate::files::chosen::Chosen;
+use crate::lines::row;
+use std::io;
+
+/// A call with its answer.
+pub(crate) fn row_of(rt: &HostRuntime, files: &mut Chosen, line: &str) -> io::Result<String> {
+    let answer = files.answer(rt, line)?;
+    Ok(row(rt.alloc(), line, answer.as_str())?)
+}

@@ -1,0 +1,225 @@
+//! Files that are put together.
+
+use crate::lines::{count, number, word_and_rest};
+use s3_model::{Bytes, OutOfMemory, Part};
+use s3_outside::{Failed, FileFault, Files};
+use std::alloc::{AllocError, Global};
+use temp_files::Assembly;
+
+/// The answer of a call that gives nothing.
+pub(crate) fn unit_shown(alloc: Global, answer: Result<(), Failed>) -> Result<String, AllocError> {
+    format!(in alloc; "{answer:?}")
+}
+
+/// Holds a file that was begun; the path of its temporary file.
+fn hold(alloc: Global, held: &mut Vec<Assembly>, assembly: Assembly) -> Result<String, AllocError> {
+    let shown = String::from_str(alloc, assembly.temp());
+    held.push(assembly)?;
+    shown
+}
+
+/// Begins a file of so many bytes; the path of its temporary file.
+pub(crate) fn make<F: Files>(
+    files: &mut F,
+    alloc: Global,
+    held: &mut Vec<Assembly>,
+    text: &str,
+) -> Result<String, AllocError> {
+    let (size, dest) = word_and_rest(text);
+    match Assembly::make(alloc, files, dest, number(size)) {
+        Ok(assembly) => hold(alloc, held, assembly),
+        Err(fault) => format!(in alloc; "{fault:?}"),
+    }
+}
+
+fn part_of(alloc: Global, bytes: &[u8]) -> Result<Part, OutOfMemory> {
+    let mut part = Bytes::make(alloc, bytes.len() as u64)?;
+    part.add(bytes);
+    Ok(Part { bytes: part })
+}
+
+// None where the bytes do not fit.
+fn place_part<F: Files>(
+    files: &mut F,
+    assembly: &mut Assembly,
+    at: u64,
+    part: &Part,
+) -> Option<Result<(), Failed>> {
+    let left = assembly.size().checked_sub(at)?;
+    if left < part.bytes.as_slice().len() as u64 {
+        return None;
+    }
+    Some(assembly.place(files, at, part))
+}
+
+// What placing a part in the file that was made first answers.
+fn place_first<F: Files>(
+    files: &mut F,
+    alloc: Global,
+    held: &mut Vec<Assembly>,
+    at: u64,
+    part: &Part,
+) -> Result<String, AllocError> {
+    let Some(assembly) = held.first_mut() else {
+        return String::from_str(alloc, "?");
+    };
+    match place_part(files, assembly, at, part) {
+        Some(answer) => unit_shown(alloc, answer),
+        None => String::from_str(alloc, "too long"),
+    }
+}
+
+/// Writes bytes at a place, where they fit.
+pub(crate) fn place<F: Files>(
+    files: &mut F,
+    alloc: Global,
+    held: &mut Vec<Assembly>,
+    text: &str,
+) -> Result<String, AllocError> {
+    let (at, text) = word_and_rest(text);
+    match part_of(alloc, text.as_bytes()) {
+        Ok(part) => place_first(files, alloc, held, number(at), &part),
+        Err(OutOfMemory) => Err(AllocError),
+    }
+}
+
+fn take_first(held: &mut Vec<Assembly>) -> Option<Assembly> {
+    if held.is_empty() {
+        return None;
+    }
+    Some(held.remove(0))
+}
+
+// Holds the file again, and says why it was not finished.
+fn hold_again(
+    alloc: Global,
+    held: &mut Vec<Assembly>,
+    assembly: Assembly,
+    fault: FileFault,
+) -> Result<String, AllocError> {
+    held.insert(0, assembly)?;
+    format!(in alloc; "{fault:?}")
+}
+
+/// Puts the file in the place of its destination; where it was not, it is still held.
+pub(crate) fn finish<F: Files>(
+    files: &mut F,
+    alloc: Global,
+    held: &mut Vec<Assembly>,
+) -> Result<String, AllocError> {
+    let Some(assembly) = take_first(held) else {
+        return String::from_str(alloc, "?");
+    };
+    match assembly.finish(files) {
+        Ok(()) => String::from_str(alloc, "Ok(())"),
+        Err((assembly, fault)) => hold_again(alloc, held, assembly, fault),
+    }
+}
+
+/// Takes the temporary file away.
+pub(crate) fn drop_first<F: Files>(
+    files: &mut F,
+    alloc: Global,
+    held: &mut Vec<Assembly>,
+) -> Result<String, AllocError> {
+    match take_first(held) {
+        Some(assembly) => unit_shown(alloc, assembly.drop_it(files)),
+        None => String::from_str(alloc, "?"),
+    }
+}
+
+// Writes what of the part still has room behind a place; how many bytes these are.
+fn place_next<F: Files>(
+    files: &mut F,
+    assembly: &mut Assembly,
+    at: u64,
+    part: &mut Part,
+) -> Result<u64, Failed> {
+    let left = assembly.size().saturating_sub(at);
+    if left < part.bytes.as_slice().len() as u64 {
+        part.bytes.truncate(left as usize);
+    }
+    let length = part.bytes.as_slice().len() as u64;
+    if length > 0 {
+        assembly.place(files, at, part)?;
+    }
+    Ok(length)
+}
+
+// Writes the part again and again, to the end of the file.
+fn place_all<F: Files>(
+    files: &mut F,
+    assembly: &mut Assembly,
+    part: &mut Part,
+) -> Result<(), Failed> {
+    let mut at: u64 = 0;
+    for _ in 0..u64::MAX {
+        let length = place_next(files, assembly, at, part)?;
+        if length == 0 {
+            return Ok(());
+        }
+        at = at.saturating_add(length);
+    }
+    Ok(())
+}
+
+// Places all and puts the file in its place, or gives it back with the name of what was not done.
+fn put_together<F: Files>(
+    files: &mut F,
+    mut assembly: Assembly,
+    part: &mut Part,
+) -> Result<(), (Assembly, &'static str)> {
+    if place_all(files, &mut assembly, part).is_err() {
+        return Err((assembly, "place"));
+    }
+    match assembly.finish(files) {
+        Ok(()) => Ok(()),
+        Err((assembly, _)) => Err((assembly, "finish")),
+    }
+}
+
+fn fill_with<F: Files>(
+    files: &mut F,
+    assembly: Assembly,
+    part: &mut Part,
+) -> Result<(), &'static str> {
+    let Err((assembly, what)) = put_together(files, assembly, part) else {
+        return Ok(());
+    };
+    match assembly.drop_it(files) {
+        Ok(()) => Err(what),
+        Err(_) => Err("drop"),
+    }
+}
+
+fn filled<F: Files>(
+    files: &mut F,
+    alloc: Global,
+    assembly: Assembly,
+    part: &mut Part,
+) -> Result<String, AllocError> {
+    format!(in alloc; "{:?}", fill_with(files, assembly, part))
+}
+
+// A part of so many zeros.
+fn zeros(alloc: Global, length: &str) -> Result<Part, OutOfMemory> {
+    let bytes = vec![in alloc; 0u8; count(length)]?;
+    part_of(alloc, &bytes)
+}
+
+/// Puts a file of zeros together from pieces, and names what was not done.
+pub(crate) fn fill<F: Files>(
+    files: &mut F,
+    alloc: Global,
+    text: &str,
+) -> Result<String, AllocError> {
+    let (size, rest) = word_and_rest(text);
+    let (piece, dest) = word_and_rest(rest);
+    let Ok(mut part) = zeros(alloc, piece) else {
+        return Err(AllocError);
+    };
+    match Assembly::make(alloc, files, dest, number(size)) {
+        Ok(assembly) => filled(files, alloc, assembly, &mut part),
+        Err(fault) => format!(in alloc; "{fault:?}"),
+    }
+}
