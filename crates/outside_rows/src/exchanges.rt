@@ -12,17 +12,14 @@ mod cuts;
 mod shown;
 mod spelled;
 
-use crate::exchanges::calls::answer_of;
-use crate::lines::row;
+use crate::exchanges::calls::add_answer;
+use crate::rows::add;
 use crate::sessions::Session;
-use std::alloc::{AllocError, Global};
+use std::alloc::Global;
 
-/// A line with what it comes to.
-pub(crate) fn row_of(
-    alloc: Global,
-    session: &mut Session,
-    line: &str,
-) -> Result<String, AllocError> {
-    let answer = answer_of(alloc, session, line)?;
-    row(alloc, line, answer.as_str())
+/// Adds a line with what it comes to.
+pub(crate) fn add_row(alloc: Global, session: &mut Session, row: &mut String, line: &str) {
+    add(row, line);
+    add(row, " => ");
+    add_answer(alloc, session, row, line);
 }

@@ -13,11 +13,11 @@ mod memory;
 mod trees;
 
 use crate::files::chosen::Chosen;
-use crate::lines::row;
-use std::io;
+use crate::rows::add;
 
-/// A call with its answer.
-pub(crate) fn row_of(rt: &HostRuntime, files: &mut Chosen, line: &str) -> io::Result<String> {
-    let answer = files.answer(rt, line)?;
-    Ok(row(rt.alloc(), line, answer.as_str())?)
+/// Adds a call with its answer.
+pub(crate) fn add_row(rt: &HostRuntime, files: &mut Chosen, row: &mut String, line: &str) {
+    add(row, line);
+    add(row, " => ");
+    files.add_answer(rt, row, line);
 }

@@ -1,8 +1,7 @@
-//! What lines spell, and how answers are shown.
+//! What lines spell. Where there is no memory it is empty, so that its row is wrong.
 
 use s3_model::{OutOfMemory, Text};
 use std::alloc::{AllocError, Global};
-use std::io;
 
 /// The word in front of the first space, and the rest.
 pub(crate) fn word_and_rest(text: &str) -> (&str, &str) {
@@ -22,18 +21,24 @@ pub(crate) fn count(text: &str) -> usize {
     text.parse::<usize>().unwrap_or(0)
 }
 
+/// Adds an item to a list, which is empty then where there is no memory.
+pub(crate) fn push<T: Drop>(items: &mut Vec<T>, item: T) {
+    if items.push(item).is_err() {
+        items.clear();
+    }
+}
+
 /// The numbers of a list, parted by commas.
-pub(crate) fn numbers(alloc: Global, text: &str) -> Result<Vec<usize>, AllocError> {
+pub(crate) fn numbers(alloc: Global, text: &str) -> Vec<usize> {
     let mut found = Vec::new(alloc);
     for piece in text.split(',') {
         if let Ok(number) = piece.parse::<usize>() {
-            found.push(number)?;
+            push(&mut found, number);
         }
     }
-    Ok(found)
+    found
 }
 
-/// A text; an empty one where there is no memory, so that its row is wrong.
 pub(crate) fn text_of(alloc: Global, text: &str) -> Text {
     match Text::of(alloc, text) {
         Ok(text) => text,
@@ -41,21 +46,16 @@ pub(crate) fn text_of(alloc: Global, text: &str) -> Text {
     }
 }
 
-/// Bytes that came.
-pub(crate) fn bytes_shown(alloc: Global, bytes: &[u8]) -> Result<String, AllocError> {
-    match str::from_utf8(bytes) {
-        Ok(text) => format!(in alloc; "{text:?}"),
-        Err(_) => String::from_str(alloc, "no UTF-8"),
+/// A text that was made.
+pub(crate) fn made(alloc: Global, text: Result<String, AllocError>) -> String {
+    match text {
+        Ok(text) => text,
+        Err(AllocError) => String::new(alloc),
     }
 }
 
-/// What is shown of a call that answers nothing.
-pub(crate) fn done(alloc: Global, came: io::Result<()>) -> io::Result<String> {
-    came?;
-    Ok(String::from_str(alloc, "done")?)
-}
-
-/// A line with its answer.
-pub(crate) fn row(alloc: Global, line: &str, answer: &str) -> Result<String, AllocError> {
-    format!(in alloc; "{line} => {answer}")
+/// The text with each `¶` as the end of a line of HTTP, and each `↵` as a line feed.
+pub(crate) fn http(alloc: Global, text: &str) -> String {
+    let text = made(alloc, text.replace(alloc, '¶', "\r\n"));
+    made(alloc, text.replace(alloc, '↵', "\n"))
 }

@@ -10,6 +10,7 @@ mod exchanges;
 mod files;
 mod lines;
 mod outside;
+mod rows;
 mod sessions;
 mod settings;
 
@@ -57,28 +58,30 @@ impl Host {
         Ok(Host { files, session })
     }
 
-    /// What is printed of a line that reaches no system.
-    fn row_in_memory(
-        &mut self,
-        alloc: Global,
-        part: Part,
-        line: &str,
-    ) -> Result<String, AllocError> {
+    /// Adds what is printed of a line that reaches no system.
+    fn add_row_in_memory(&mut self, alloc: Global, part: Part, row: &mut String, line: &str) {
         match part {
-            Part::Settings => settings::row_of(alloc, line),
-            Part::Exchanges => exchanges::row_of(alloc, &mut self.session, line),
-            Part::Answers => answers::row_of(alloc, &mut self.session, line),
-            _ => String::from_str(alloc, "no heading"),
+            Part::Settings => settings::add_row(alloc, row, line),
+            Part::Exchanges => exchanges::add_row(alloc, &mut self.session, row, line),
+            Part::Answers => answers::add_row(alloc, &mut self.session, row, line),
+            _ => rows::add(row, "no heading"),
         }
     }
 
-    /// What is printed of a line.
-    fn row_of(&mut self, rt: &HostRuntime, part: Part, line: &str) -> io::Result<String> {
+    /// Adds what is printed of a line.
+    fn add_row(
+        &mut self,
+        rt: &HostRuntime,
+        part: Part,
+        row: &mut String,
+        line: &str,
+    ) -> io::Result<()> {
         match part {
-            Part::Outside => outside::row_of(rt, line),
-            Part::Files => files::row_of(rt, &mut self.files, line),
-            _ => Ok(self.row_in_memory(rt.alloc(), part, line)?),
+            Part::Outside => return outside::add_row(rt, row, line),
+            Part::Files => files::add_row(rt, &mut self.files, row, line),
+            _ => self.add_row_in_memory(rt.alloc(), part, row, line),
         }
+        Ok(())
     }
 }
 
@@ -88,7 +91,8 @@ fn print_row(rt: &HostRuntime, host: &mut Host, part: Part, line: &str) -> io::R
         rt.println(line)?;
         return Ok(part_named(line));
     }
-    let row = host.row_of(rt, part, line)?;
+    let mut row = String::new(rt.alloc());
+    host.add_row(rt, part, &mut row, line)?;
     rt.println(row.as_str())?;
     Ok(part)
 }

@@ -11,23 +11,24 @@ mod sockets;
 mod wires;
 
 use crate::lines::word_and_rest;
+use crate::rows::add;
 use std::io;
 
-/// The answers to the calls of a line.
-fn answers(rt: &HostRuntime, made: &str, calls: &str) -> io::Result<String> {
-    let alloc = rt.alloc();
+/// Adds the answers to the calls of a line.
+fn add_answers(rt: &HostRuntime, row: &mut String, made: &str, calls: &str) -> io::Result<()> {
     let (kind, how) = word_and_rest(made);
     match kind {
-        "script" => scripts::answers(alloc, how, calls),
-        "socket" => sockets::answers(rt, how, calls),
-        "output" => outputs::answers(rt, how, calls),
-        _ => environments::answers(rt, how, calls),
+        "script" => scripts::add_answers(rt.alloc(), row, how, calls),
+        "socket" => return sockets::add_answers(rt, row, how, calls),
+        "output" => outputs::add_answers(rt, row, how, calls),
+        _ => return environments::add_answers(rt, row, how, calls),
     }
+    Ok(())
 }
 
-/// The calls of a line with their answers.
-pub(crate) fn row_of(rt: &HostRuntime, line: &str) -> io::Result<String> {
+/// Adds the calls of a line with their answers.
+pub(crate) fn add_row(rt: &HostRuntime, row: &mut String, line: &str) -> io::Result<()> {
     let (made, calls) = line.split_once(": ").unwrap_or((line, ""));
-    let shown = answers(rt, made, calls)?;
-    Ok(format!(in rt.alloc(); "{made}{shown}")?)
+    add(row, made);
+    add_answers(rt, row, made, calls)
 }

@@ -11,20 +11,17 @@ mod shown;
 mod spelled;
 
 use crate::lines::word_and_rest;
-use std::alloc::{AllocError, Global};
+use crate::rows::add;
+use std::alloc::Global;
 
-/// What a case gives.
-fn answer_of(alloc: Global, case: &str) -> Result<String, AllocError> {
-    let (name, fields) = word_and_rest(case);
-    match name {
-        "words" => files::answer(alloc, fields),
-        _ => environments::answer(alloc, fields),
-    }
-}
-
-/// The number of a case, and what the case gives.
-pub(crate) fn row_of(alloc: Global, line: &str) -> Result<String, AllocError> {
+/// Adds the number of a case, and what the case gives.
+pub(crate) fn add_row(alloc: Global, row: &mut String, line: &str) {
     let (number, case) = word_and_rest(line);
-    let answer = answer_of(alloc, case)?;
-    format!(in alloc; "{number} {answer}")
+    let (name, fields) = word_and_rest(case);
+    add(row, number);
+    add(row, " ");
+    match name {
+        "words" => files::add_answer(alloc, row, fields),
+        _ => environments::add_answer(alloc, row, fields),
+    }
 }

@@ -4,10 +4,51 @@ use crate::lines::text_of;
 use s3_model::{Ask, Texts};
 use std::alloc::Global;
 
-fn head(alloc: Global) -> Ask {
-    Ask::Head {
-        bucket: text_of(alloc, "b"),
-        key: text_of(alloc, "k"),
+/// A request that says nothing but its object.
+fn of_object(alloc: Global, operation: &str) -> Ask {
+    let bucket = text_of(alloc, "b");
+    let key = text_of(alloc, "k");
+    match operation {
+        "Head" => Ask::Head { bucket, key },
+        "Put" => Ask::Put {
+            bucket,
+            key,
+            content: None,
+            fresh: false,
+        },
+        "Delete" => Ask::Delete { bucket, key },
+        _ => Ask::Create {
+            bucket,
+            key,
+            content: None,
+        },
+    }
+}
+
+/// A request of an upload in parts.
+fn of_upload(alloc: Global, operation: &str) -> Ask {
+    let bucket = text_of(alloc, "b");
+    let key = text_of(alloc, "k");
+    let upload = text_of(alloc, "upload");
+    match operation {
+        "Part" => Ask::Part {
+            bucket,
+            key,
+            upload,
+            number: 1,
+        },
+        "Complete" => Ask::Complete {
+            bucket,
+            key,
+            upload,
+            etags: Texts::make(alloc),
+            fresh: false,
+        },
+        _ => Ask::Abort {
+            bucket,
+            key,
+            upload,
+        },
     }
 }
 
@@ -20,15 +61,6 @@ fn get(alloc: Global) -> Ask {
     }
 }
 
-fn put(alloc: Global) -> Ask {
-    Ask::Put {
-        bucket: text_of(alloc, "b"),
-        key: text_of(alloc, "k"),
-        content: None,
-        fresh: false,
-    }
-}
-
 fn copy(alloc: Global) -> Ask {
     Ask::Copy {
         bucket: text_of(alloc, "b"),
@@ -36,30 +68,6 @@ fn copy(alloc: Global) -> Ask {
         from_bucket: text_of(alloc, "other"),
         from_key: text_of(alloc, "source"),
         etag: text_of(alloc, "\"e\""),
-    }
-}
-
-fn delete(alloc: Global) -> Ask {
-    Ask::Delete {
-        bucket: text_of(alloc, "b"),
-        key: text_of(alloc, "k"),
-    }
-}
-
-fn create(alloc: Global) -> Ask {
-    Ask::Create {
-        bucket: text_of(alloc, "b"),
-        key: text_of(alloc, "k"),
-        content: None,
-    }
-}
-
-fn part(alloc: Global) -> Ask {
-    Ask::Part {
-        bucket: text_of(alloc, "b"),
-        key: text_of(alloc, "k"),
-        upload: text_of(alloc, "upload"),
-        number: 1,
     }
 }
 
@@ -76,24 +84,6 @@ fn part_copy(alloc: Global) -> Ask {
     }
 }
 
-fn complete(alloc: Global) -> Ask {
-    Ask::Complete {
-        bucket: text_of(alloc, "b"),
-        key: text_of(alloc, "k"),
-        upload: text_of(alloc, "upload"),
-        etags: Texts::make(alloc),
-        fresh: false,
-    }
-}
-
-fn abort(alloc: Global) -> Ask {
-    Ask::Abort {
-        bucket: text_of(alloc, "b"),
-        key: text_of(alloc, "k"),
-        upload: text_of(alloc, "upload"),
-    }
-}
-
 fn list(alloc: Global) -> Ask {
     Ask::List {
         bucket: text_of(alloc, "b"),
@@ -103,27 +93,15 @@ fn list(alloc: Global) -> Ask {
     }
 }
 
-/// A request of an upload in parts or of a listing. Any other name is that of the list of buckets.
-fn other_request(alloc: Global, operation: &str) -> Ask {
-    match operation {
-        "Create" => create(alloc),
-        "Part" => part(alloc),
-        "PartCopy" => part_copy(alloc),
-        "Complete" => complete(alloc),
-        "Abort" => abort(alloc),
-        "List" => list(alloc),
-        _ => Ask::Buckets,
-    }
-}
-
-/// A request of that operation.
+/// A request of that operation. Any other name is that of the list of buckets.
 pub(crate) fn request_named(alloc: Global, operation: &str) -> Ask {
     match operation {
-        "Head" => head(alloc),
+        "Head" | "Put" | "Delete" | "Create" => of_object(alloc, operation),
+        "Part" | "Complete" | "Abort" => of_upload(alloc, operation),
         "Get" | "LargeGet" => get(alloc),
-        "Put" => put(alloc),
         "Copy" => copy(alloc),
-        "Delete" => delete(alloc),
-        _ => other_request(alloc, operation),
+        "PartCopy" => part_copy(alloc),
+        "List" => list(alloc),
+        _ => Ask::Buckets,
     }
 }

@@ -1,95 +1,94 @@
 //! Classes as text.
 
-use s3_model::{Class, Entries, Entry, Listed, Reply, Text, Why};
-use std::alloc::AllocError;
-use std::fmt;
+use crate::rows::{add, add_number, add_shown};
+use s3_model::{Class, Entry, Listed, Reply, Text};
 
-/// A text as its bytes are written in a row.
-#[derive(Clone, Copy)]
-struct Written<'a>(&'a Text);
-
-fn write_byte<W: fmt::Write>(f: &mut fmt::Formatter<W>, byte: u8) -> fmt::Result {
-    match byte {
-        b'\\' => write!(f, "\\x{byte:02x}"),
-        b' '..=b'~' => f.write_char(char::from(byte)),
-        _ => write!(f, "\\x{byte:02x}"),
+fn add_escaped(row: &mut String, byte: u8) {
+    if write!(row, "\\x{byte:02x}").is_err() {
+        row.clear();
     }
 }
 
-impl fmt::Display for Written<'_> {
-    fn fmt<W: fmt::Write>(&self, f: &mut fmt::Formatter<W>) -> fmt::Result {
-        for byte in self.0.as_str().bytes() {
-            write_byte(f, byte)?;
-        }
-        Ok(())
+fn add_char(row: &mut String, char: char) {
+    if row.push(char).is_err() {
+        row.clear();
     }
+}
+
+/// Adds a text as its bytes are written in a row.
+fn add_written(row: &mut String, text: &str) {
+    for byte in text.bytes() {
+        match byte {
+            b' '..=b'[' | b']'..=b'~' => add_char(row, char::from(byte)),
+            _ => add_escaped(row, byte),
+        }
+    }
+}
+
+/// Adds a text behind a word.
+fn add_named(row: &mut String, name: &str, text: &Text) {
+    add(row, name);
+    add_written(row, text.as_str());
 }
 
 /// Adds an entry with its key, size, entity tag and time in microseconds since 1970.
-fn push_entry(out: &mut String, entry: &Entry) -> Result<(), AllocError> {
-    let (key, etag) = (Written(&entry.key), Written(&entry.etag));
-    write!(out, " [{key} {} {etag} {}]", entry.size, entry.micros)
+fn add_entry(row: &mut String, entry: &Entry) {
+    add_named(row, " [", &entry.key);
+    add_number(row, entry.size);
+    add_named(row, " ", &entry.etag);
+    add_number(row, entry.micros);
+    add(row, "]");
 }
 
-fn push_entries(out: &mut String, entries: &[Entry]) -> Result<(), AllocError> {
+fn add_entries(row: &mut String, entries: &[Entry]) {
     for entry in entries {
-        push_entry(out, entry)?;
+        add_entry(row, entry);
     }
-    Ok(())
 }
 
-fn push_prefix(out: &mut String, prefix: &Text) -> Result<(), AllocError> {
-    write!(out, " {{{}}}", Written(prefix))
-}
-
-fn push_prefixes(out: &mut String, prefixes: &[Text]) -> Result<(), AllocError> {
+fn add_prefixes(row: &mut String, prefixes: &[Text]) {
     for prefix in prefixes {
-        push_prefix(out, prefix)?;
-    }
-    Ok(())
-}
-
-fn push_token(out: &mut String, token: &Option<Text>) -> Result<(), AllocError> {
-    match token {
-        Some(token) => write!(out, " then {}", Written(token)),
-        None => Ok(()),
+        add_named(row, " {", prefix);
+        add(row, "}");
     }
 }
 
-fn push_page(out: &mut String, page: &Listed) -> Result<(), AllocError> {
-    out.push_str(if page.more { "page more" } else { "page last" })?;
-    push_token(out, &page.token)?;
-    push_entries(out, page.entries.as_slice())?;
-    push_prefixes(out, page.prefixes.as_slice())
-}
-
-fn push_buckets(out: &mut String, buckets: &Entries) -> Result<(), AllocError> {
-    out.push_str("buckets")?;
-    push_entries(out, buckets.as_slice())
-}
-
-fn push_found(out: &mut String, size: u64, etag: &Text, micros: u64) -> Result<(), AllocError> {
-    write!(out, "found {size} {} {micros}", Written(etag))
-}
-
-fn push_got(
-    out: &mut String,
-    status: u16,
-    length: u64,
-    range: Option<(u64, u64, u64)>,
-) -> Result<(), AllocError> {
-    match range {
-        Some((first, last, size)) => write!(out, "got {status} {length} {first}-{last}/{size}"),
-        None => write!(out, "got {status} {length}"),
+fn add_token(row: &mut String, token: &Option<Text>) {
+    if let Some(token) = token {
+        add_named(row, " then ", token);
     }
 }
 
-fn push_created(out: &mut String, upload: &str) -> Result<(), AllocError> {
-    write!(out, "created {upload}")
+fn add_page(row: &mut String, page: &Listed) {
+    add(row, if page.more { "page more" } else { "page last" });
+    add_token(row, &page.token);
+    add_entries(row, page.entries.as_slice());
+    add_prefixes(row, page.prefixes.as_slice());
 }
 
-fn push_part(out: &mut String, etag: &Text) -> Result<(), AllocError> {
-    write!(out, "part {}", Written(etag))
+fn add_found(row: &mut String, size: u64, etag: &Text, micros: u64) {
+    add(row, "found");
+    add_number(row, size);
+    add_named(row, " ", etag);
+    add_number(row, micros);
+}
+
+fn add_range(row: &mut String, range: (u64, u64, u64)) {
+    let (first, last, size) = range;
+    add_number(row, first);
+    add(row, "-");
+    add_shown(row, last);
+    add(row, "/");
+    add_shown(row, size);
+}
+
+fn add_got(row: &mut String, status: u16, length: u64, range: Option<(u64, u64, u64)>) {
+    add(row, "got");
+    add_number(row, u64::from(status));
+    add_number(row, length);
+    if let Some(range) = range {
+        add_range(row, range);
+    }
 }
 
 fn plain_name(reply: &Reply) -> &'static str {
@@ -101,35 +100,39 @@ fn plain_name(reply: &Reply) -> &'static str {
     }
 }
 
-fn push_reply(out: &mut String, reply: &Reply) -> Result<(), AllocError> {
+fn add_reply(row: &mut String, reply: &Reply) {
     match reply {
-        Reply::Found { size, etag, micros } => push_found(out, *size, etag, *micros),
+        Reply::Found { size, etag, micros } => add_found(row, *size, etag, *micros),
         Reply::Got {
             status,
             range,
             length,
-        } => push_got(out, *status, *length, *range),
-        Reply::Created { upload } => push_created(out, upload.as_str()),
-        Reply::PartStored { etag } => push_part(out, etag),
-        Reply::Listed(page) => push_page(out, page),
-        Reply::BucketList(buckets) => push_buckets(out, buckets),
-        _ => out.push_str(plain_name(reply)),
+        } => add_got(row, *status, *length, *range),
+        Reply::Created { upload } => {
+            add(row, "created ");
+            add(row, upload.as_str());
+        }
+        Reply::PartStored { etag } => add_named(row, "part ", etag),
+        Reply::Listed(page) => add_page(row, page),
+        Reply::BucketList(buckets) => {
+            add(row, "buckets");
+            add_entries(row, buckets.as_slice());
+        }
+        _ => add(row, plain_name(reply)),
     }
 }
 
-fn push_refusal(out: &mut String, code: &Text, message: &Text) -> Result<(), AllocError> {
-    write!(out, "refused {}: {}", Written(code), Written(message))
-}
-
-fn push_open(out: &mut String, why: Why) -> Result<(), AllocError> {
-    write!(out, "open: {why:?}")
-}
-
 /// Adds what an answer means.
-pub(crate) fn push_class(out: &mut String, class: &Class) -> Result<(), AllocError> {
+pub(crate) fn add_class(row: &mut String, class: &Class) {
     match class {
-        Class::Success(reply) => push_reply(out, reply),
-        Class::Refusal { code, message } => push_refusal(out, code, message),
-        Class::Uncertain(why) => push_open(out, *why),
+        Class::Success(reply) => add_reply(row, reply),
+        Class::Refusal { code, message } => {
+            add_named(row, "refused ", code);
+            add_named(row, ": ", message);
+        }
+        Class::Uncertain(why) => {
+            add(row, "open: ");
+            add_shown(row, *why);
+        }
     }
 }

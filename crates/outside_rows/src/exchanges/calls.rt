@@ -1,12 +1,13 @@
 //! The calls that lines name.
 
-use crate::exchanges::cuts::{cuts, in_pieces};
-use crate::exchanges::shown::{exchange_shown, head_shown};
+use crate::exchanges::cuts::{add_cuts, add_pieces};
+use crate::exchanges::shown::{add_exchange, add_head_of};
 use crate::exchanges::spelled::{LARGE, large_answer, written};
 use crate::lines::{count, word_and_rest};
-use crate::sessions::{Request, Session, place_for, single, wire};
-use outside_memory::{ScriptWire, TalkEnding, TalkRecord, WireCall};
-use std::alloc::{AllocError, Global};
+use crate::rows::{add, add_shown};
+use crate::sessions::{Request, Session, failing_calls, pair, single, wire};
+use outside_memory::{ScriptWire, TalkEnding, TalkRecord};
+use std::alloc::Global;
 
 /// The request of every exchange.
 const SENT: &[u8; 23] = b"PUT / HTTP/1.1\r\n\r\nhello";
@@ -37,93 +38,83 @@ fn sizes_of(text: &str) -> (usize, usize) {
     (count(least), count(most))
 }
 
-/// What an answer comes to in pieces.
-fn answer(
+/// Adds what an answer comes to in pieces.
+fn add_spelled(
     alloc: Global,
     session: &mut Session,
+    row: &mut String,
     request: Request,
     given: &str,
-) -> Result<String, AllocError> {
+) {
     let (sizes, spelled) = word_and_rest(given);
-    let answer = written(alloc, spelled)?;
-    in_pieces(alloc, session, request, answer.as_bytes(), sizes_of(sizes))
+    let answer = written(alloc, spelled);
+    add_pieces(
+        alloc,
+        session,
+        row,
+        request,
+        answer.as_bytes(),
+        sizes_of(sizes),
+    );
 }
 
-fn large(alloc: Global, session: &mut Session, given: &str) -> Result<String, AllocError> {
+fn add_large(alloc: Global, session: &mut Session, row: &mut String, given: &str) {
     let (sizes, spelled) = word_and_rest(given);
-    let answer = large_answer(alloc, spelled)?;
-    in_pieces(alloc, session, OF_A_LARGE_BODY, &answer, sizes_of(sizes))
+    let answer = large_answer(alloc, spelled);
+    add_pieces(
+        alloc,
+        session,
+        row,
+        OF_A_LARGE_BODY,
+        &answer,
+        sizes_of(sizes),
+    );
 }
 
-fn call_named(name: &str) -> WireCall {
-    match name {
-        "begin" => WireCall::Begin,
-        "send" => WireCall::Send,
-        _ => WireCall::Take,
-    }
+fn add_life(row: &mut String, wire: &ScriptWire) {
+    add(row, ", alive ");
+    add_shown(row, wire.is_alive());
 }
 
-/// A wire of which that call fails. It moves at most eight bytes at a time.
-fn failing_wire(
-    alloc: Global,
-    answer: &[u8],
-    failing: (WireCall, usize),
-) -> Result<ScriptWire, AllocError> {
-    let failing = vec![in alloc; failing]?;
-    let answers = single(alloc, answer)?;
-    let mut wire = ScriptWire::make(alloc, answers, failing, 0);
-    wire.move_at_most(8);
-    Ok(wire)
-}
-
-/// What a wire comes to, and whether it is alive then.
-fn with_life(
-    alloc: Global,
-    session: &mut Session,
-    wire: &mut ScriptWire,
-) -> Result<String, AllocError> {
-    let shown = exchange_shown(alloc, session, wire, PLAIN)?;
-    format!(in alloc; "{shown}, alive {}", wire.is_alive())
-}
-
-/// What comes of a wire of which a call fails.
-fn failing(alloc: Global, session: &mut Session, given: &str) -> Result<String, AllocError> {
+/// A wire of which a call fails. It moves at most eight bytes at a time.
+fn failing_wire(alloc: Global, given: &str) -> ScriptWire {
     let (call, given) = word_and_rest(given);
     let (number, spelled) = word_and_rest(given);
-    let answer = written(alloc, spelled)?;
-    let failing = (call_named(call), count(number));
-    let mut wire = failing_wire(alloc, answer.as_bytes(), failing)?;
-    with_life(alloc, session, &mut wire)
+    let answer = written(alloc, spelled);
+    let failing = failing_calls(alloc, call, count(number));
+    let mut wire = ScriptWire::make(alloc, single(alloc, answer.as_bytes()), failing, 0);
+    wire.move_at_most(8);
+    wire
 }
 
-fn life(alloc: Global, session: &mut Session, wire: &mut ScriptWire) -> Result<String, AllocError> {
-    exchange_shown(alloc, session, wire, PLAIN)?;
-    format!(in alloc; "{}", wire.is_alive())
+/// Adds what comes of a wire of which a call fails, and whether it is alive then.
+fn add_failing(alloc: Global, session: &mut Session, row: &mut String, given: &str) {
+    let mut wire = failing_wire(alloc, given);
+    add_exchange(alloc, session, row, &mut wire, PLAIN);
+    add_life(row, &wire);
 }
 
-/// Whether the connection is kept after an answer.
-fn kept(alloc: Global, session: &mut Session, spelled: &str) -> Result<String, AllocError> {
-    let answer = written(alloc, spelled)?;
-    let mut wire = wire(alloc, answer.as_bytes(), 100)?;
-    life(alloc, session, &mut wire)
+/// Adds whether the connection is kept after an answer.
+fn add_kept(alloc: Global, session: &mut Session, row: &mut String, spelled: &str) {
+    let answer = written(alloc, spelled);
+    let mut wire = wire(alloc, answer.as_bytes(), 100);
+    session.play(alloc, &mut wire, PLAIN);
+    add_shown(row, wire.is_alive());
 }
 
-/// An answer, and a second one without a body.
-fn two_answers(alloc: Global, spelled: &str) -> Result<Vec<Vec<u8>>, AllocError> {
-    let text = written(alloc, spelled)?;
-    let mut answers = Vec::new(alloc);
-    answers.push(text.as_bytes().to_vec(alloc)?)?;
-    answers.push(b"HTTP/1.1 204 No\r\n\r\n".to_vec(alloc)?)?;
-    Ok(answers)
+/// A wire with an answer, and a second one without a body.
+fn wire_of_two(alloc: Global, spelled: &str) -> ScriptWire {
+    let first = written(alloc, spelled);
+    let answers = pair(alloc, first.as_bytes(), b"HTTP/1.1 204 No\r\n\r\n");
+    ScriptWire::make(alloc, answers, Vec::new(alloc), 0)
 }
 
-/// How many connections two talks open, of which the first gets this answer.
-fn opened(alloc: Global, session: &mut Session, spelled: &str) -> Result<String, AllocError> {
-    let answers = two_answers(alloc, spelled)?;
-    let mut wire = ScriptWire::make(alloc, answers, Vec::new(alloc), 0);
-    exchange_shown(alloc, session, &mut wire, PLAIN)?;
-    exchange_shown(alloc, session, &mut wire, PLAIN)?;
-    format!(in alloc; "{}", wire.opened())
+/// Adds how many connections two talks open, of which the first gets this answer.
+fn add_opened(alloc: Global, session: &mut Session, row: &mut String, spelled: &str) {
+    let mut wire = wire_of_two(alloc, spelled);
+    session.play(alloc, &mut wire, PLAIN);
+    session.play(alloc, &mut wire, PLAIN);
+    add_shown(row, wire.opened());
 }
 
 /// Whether a talk sent its request, got these bytes, and was finished.
@@ -140,32 +131,16 @@ fn is_one_whole_talk(talks: &[TalkRecord], answer: &[u8]) -> bool {
     }
 }
 
-fn head_by(
-    alloc: Global,
-    session: &mut Session,
-    wire: &mut ScriptWire,
-) -> Result<String, AllocError> {
-    let mut into = place_for(alloc, LIMITED.limit)?;
-    let talked = session.talk(alloc, wire, LIMITED, &mut into);
-    head_shown(alloc, &talked)
-}
-
-fn head_and_talk(
-    alloc: Global,
-    session: &mut Session,
-    wire: &mut ScriptWire,
-    answer: &[u8],
-) -> Result<String, AllocError> {
-    let head = head_by(alloc, session, wire)?;
-    let is_whole = is_one_whole_talk(wire.talks(), answer);
-    format!(in alloc; "{head} whole {is_whole} alive {}", wire.is_alive())
-}
-
-/// What the head of an answer says, and whether the whole of it is taken in one talk.
-fn head(alloc: Global, session: &mut Session, spelled: &str) -> Result<String, AllocError> {
-    let answer = written(alloc, spelled)?;
-    let mut wire = wire(alloc, answer.as_bytes(), 7)?;
-    head_and_talk(alloc, session, &mut wire, answer.as_bytes())
+/// Adds what the head of an answer says, and whether the whole of it is taken in one talk.
+fn add_head(alloc: Global, session: &mut Session, row: &mut String, spelled: &str) {
+    let answer = written(alloc, spelled);
+    let mut wire = wire(alloc, answer.as_bytes(), 7);
+    session.play(alloc, &mut wire, LIMITED);
+    add_head_of(row, session.last());
+    add(row, " whole ");
+    add_shown(row, is_one_whole_talk(wire.talks(), answer.as_bytes()));
+    add(row, " alive ");
+    add_shown(row, wire.is_alive());
 }
 
 fn last_got(wire: &ScriptWire) -> usize {
@@ -175,56 +150,40 @@ fn last_got(wire: &ScriptWire) -> usize {
     }
 }
 
-fn got_and_life(
-    alloc: Global,
-    session: &mut Session,
-    wire: &mut ScriptWire,
-) -> Result<String, AllocError> {
-    exchange_shown(alloc, session, wire, OF_A_LARGE_BODY)?;
-    format!(in alloc; "{}, alive {}", last_got(wire), wire.is_alive())
+/// Adds how many bytes are taken of what a service says, and whether the connection is kept.
+fn add_taken(alloc: Global, session: &mut Session, row: &mut String, spelled: &str) {
+    let answer = large_answer(alloc, spelled);
+    let mut wire = wire(alloc, &answer, 1_000_000);
+    session.play(alloc, &mut wire, OF_A_LARGE_BODY);
+    add_shown(row, last_got(&wire));
+    add_life(row, &wire);
 }
 
-/// How many bytes are taken of what a service says, and whether the connection is kept.
-fn taken(alloc: Global, session: &mut Session, spelled: &str) -> Result<String, AllocError> {
-    let answer = large_answer(alloc, spelled)?;
-    let mut wire = wire(alloc, &answer, 1_000_000)?;
-    got_and_life(alloc, session, &mut wire)
+/// Adds what the fronts of an answer come to.
+fn add_fronts(alloc: Global, session: &mut Session, row: &mut String, spelled: &str) {
+    let answer = written(alloc, spelled);
+    add_cuts(alloc, session, row, answer.as_bytes());
 }
 
-fn connection(
-    alloc: Global,
-    session: &mut Session,
-    call: &str,
-    given: &str,
-) -> Result<String, AllocError> {
+fn add_connection(alloc: Global, session: &mut Session, row: &mut String, call: &str, given: &str) {
     match call {
-        "kept" => kept(alloc, session, given),
-        "opened" => opened(alloc, session, given),
-        "taken" => taken(alloc, session, given),
-        _ => failing(alloc, session, given),
+        "kept" => add_kept(alloc, session, row, given),
+        "opened" => add_opened(alloc, session, row, given),
+        "taken" => add_taken(alloc, session, row, given),
+        _ => add_failing(alloc, session, row, given),
     }
 }
 
-/// What the fronts of an answer come to.
-fn fronts(alloc: Global, session: &mut Session, spelled: &str) -> Result<String, AllocError> {
-    let answer = written(alloc, spelled)?;
-    cuts(alloc, session, answer.as_bytes())
-}
-
-/// What a line comes to.
-pub(crate) fn answer_of(
-    alloc: Global,
-    session: &mut Session,
-    line: &str,
-) -> Result<String, AllocError> {
+/// Adds what a line comes to.
+pub(crate) fn add_answer(alloc: Global, session: &mut Session, row: &mut String, line: &str) {
     let (call, given) = word_and_rest(line);
     match call {
-        "answer" => answer(alloc, session, PLAIN, given),
-        "limited" => answer(alloc, session, LIMITED, given),
-        "bodyless" => answer(alloc, session, HEAD_ONLY, given),
-        "large" => large(alloc, session, given),
-        "head" => head(alloc, session, given),
-        "cuts" => fronts(alloc, session, given),
-        _ => connection(alloc, session, call, given),
+        "answer" => add_spelled(alloc, session, row, PLAIN, given),
+        "limited" => add_spelled(alloc, session, row, LIMITED, given),
+        "bodyless" => add_spelled(alloc, session, row, HEAD_ONLY, given),
+        "large" => add_large(alloc, session, row, given),
+        "head" => add_head(alloc, session, row, given),
+        "cuts" => add_fronts(alloc, session, row, given),
+        _ => add_connection(alloc, session, row, call, given),
     }
 }

@@ -1,10 +1,11 @@
 //! What an exchange came to, as text.
 
 use crate::exchanges::spelled::{LARGE, large_byte};
-use crate::sessions::{Request, Session, place_for};
+use crate::rows::{add, add_shown};
+use crate::sessions::{Request, Session};
 use outside_memory::ScriptWire;
-use s3_model::{Answered, Bytes, Talked};
-use std::alloc::{AllocError, Global};
+use s3_model::{Answered, Talked};
+use std::alloc::Global;
 
 fn is_large_body(bytes: &[u8]) -> bool {
     for (place, byte) in bytes.iter().enumerate() {
@@ -15,60 +16,76 @@ fn is_large_body(bytes: &[u8]) -> bool {
     bytes.len() == LARGE
 }
 
-/// A body that is text, or whether it is the large one.
-fn body_shown(alloc: Global, bytes: &[u8]) -> Result<String, AllocError> {
+/// Adds a body that is text, or whether it is the large one.
+fn add_body(row: &mut String, bytes: &[u8]) {
     match str::from_utf8(bytes) {
-        Ok(text) => format!(in alloc; "{text:?}"),
-        Err(_) if is_large_body(bytes) => String::from_str(alloc, "the large body"),
-        Err(_) => String::from_str(alloc, "another body"),
+        Ok(text) => add_shown(row, text),
+        Err(_) if is_large_body(bytes) => add(row, "the large body"),
+        Err(_) => add(row, "another body"),
     }
 }
 
-/// The body, behind ` in place` where it stands in the place that the request has for it.
-fn bodies_shown(alloc: Global, answered: &Answered, into: &Bytes) -> Result<String, AllocError> {
-    let own = answered.body.as_slice();
-    if into.as_slice().is_empty() || !own.is_empty() {
-        return body_shown(alloc, own);
+/// Adds the body, in front of ` in place` where it stands in the place that the request has for it.
+fn add_bodies(row: &mut String, own: &[u8], placed: &[u8]) {
+    if placed.is_empty() || !own.is_empty() {
+        return add_body(row, own);
     }
-    let body = body_shown(alloc, into.as_slice())?;
-    format!(in alloc; "{body} in place")
+    add_body(row, placed);
+    add(row, " in place");
 }
 
-fn answered_shown(alloc: Global, answered: &Answered, into: &Bytes) -> Result<String, AllocError> {
-    let body = bodies_shown(alloc, answered, into)?;
-    let (status, length, taken) = (answered.status, answered.length, answered.taken);
-    format!(in alloc; "{status} {length:?} {taken} {body}")
+fn add_answered(row: &mut String, answered: &Answered, placed: &[u8]) {
+    add_shown(row, answered.status);
+    add(row, " ");
+    add_shown(row, answered.length);
+    add(row, " ");
+    add_shown(row, answered.taken);
+    add(row, " ");
+    add_bodies(row, answered.body.as_slice(), placed);
 }
 
-/// What an exchange came to, with the place of its body.
-fn talked_shown(alloc: Global, talked: &Talked, into: &Bytes) -> Result<String, AllocError> {
+/// Adds what an exchange came to, with the place of its body.
+fn add_talked(row: &mut String, talked: &Talked, placed: &[u8]) {
     match talked {
-        Talked::Answered(answered) => answered_shown(alloc, answered, into),
-        Talked::Broken(why) => format!(in alloc; "{why:?}"),
+        Talked::Answered(answered) => add_answered(row, answered, placed),
+        Talked::Broken(why) => add_shown(row, *why),
     }
 }
 
-/// What one exchange comes to.
-pub(crate) fn exchange_shown(
+/// Adds what one exchange comes to.
+pub(crate) fn add_exchange(
     alloc: Global,
     session: &mut Session,
+    row: &mut String,
     wire: &mut ScriptWire,
     request: Request,
-) -> Result<String, AllocError> {
-    let mut into = place_for(alloc, request.limit)?;
-    let talked = session.talk(alloc, wire, request, &mut into);
-    talked_shown(alloc, &talked, &into)
+) {
+    session.play(alloc, wire, request);
+    add_talked(row, session.last(), session.placed());
 }
 
-/// What the head of an answer says.
-pub(crate) fn head_shown(alloc: Global, talked: &Talked) -> Result<String, AllocError> {
-    let Talked::Answered(answered) = talked else {
-        return String::from_str(alloc, "no answer");
-    };
-    let etag = match &answered.etag {
+fn etag_of(answered: &Answered) -> &str {
+    match &answered.etag {
         Some(etag) => etag.as_str(),
         None => "none",
-    };
-    let (keep, range, micros) = (answered.keep, answered.range, answered.micros);
-    format!(in alloc; "keep {keep} range {range:?} micros {micros:?} etag {etag}")
+    }
+}
+
+fn add_head(row: &mut String, answered: &Answered) {
+    add(row, "keep ");
+    add_shown(row, answered.keep);
+    add(row, " range ");
+    add_shown(row, answered.range);
+    add(row, " micros ");
+    add_shown(row, answered.micros);
+    add(row, " etag ");
+    add(row, etag_of(answered));
+}
+
+/// Adds what the head of an answer says.
+pub(crate) fn add_head_of(row: &mut String, talked: &Talked) {
+    match talked {
+        Talked::Answered(answered) => add_head(row, answered),
+        Talked::Broken(_) => add(row, "no answer"),
+    }
 }

@@ -1,27 +1,30 @@
 //! Answers as lines spell them.
 
-use crate::lines::count;
-use std::alloc::{AllocError, Global};
+use crate::bytes::add_bytes;
+use crate::lines::{count, http, made, push};
+use crate::rows::add;
+use std::alloc::Global;
 
 /// The length of a large body.
 pub(crate) const LARGE: usize = 600_007;
 
-fn push_piece(alloc: Global, text: &mut String, piece: &str) -> Result<(), AllocError> {
-    let Some((times, unit)) = piece.split_once('×') else {
-        return text.push_str(piece);
-    };
-    let many = unit.repeat(alloc, count(times))?;
-    text.push_str(many.as_str())
+fn add_piece(alloc: Global, text: &mut String, piece: &str) {
+    match piece.split_once('×') {
+        Some((times, unit)) => {
+            let many = made(alloc, unit.repeat(alloc, count(times)));
+            add(text, many.as_str());
+        }
+        None => add(text, piece),
+    }
 }
 
 /// The text that is spelled so.
-pub(crate) fn written(alloc: Global, spelled: &str) -> Result<String, AllocError> {
+pub(crate) fn written(alloc: Global, spelled: &str) -> String {
     let mut text = String::new(alloc);
     for piece in spelled.split('|') {
-        push_piece(alloc, &mut text, piece)?;
+        add_piece(alloc, &mut text, piece);
     }
-    let text = text.replace(alloc, '¶', "\r\n")?;
-    text.replace(alloc, '↵', "\n")
+    http(alloc, text.as_str())
 }
 
 /// The byte of a large body at that place: no two pieces of it are the same.
@@ -29,22 +32,18 @@ pub(crate) fn large_byte(place: usize) -> u8 {
     (place % 251) as u8
 }
 
-/// Adds a large body.
-fn push_large_body(bytes: &mut Vec<u8>) -> Result<(), AllocError> {
+fn add_large_body(bytes: &mut Vec<u8>) {
     for place in 0..LARGE {
-        bytes.push(large_byte(place))?;
+        push(bytes, large_byte(place));
     }
-    Ok(())
 }
 
 /// The bytes that are spelled so, with a large body where the bar is.
-pub(crate) fn large_answer(alloc: Global, spelled: &str) -> Result<Vec<u8>, AllocError> {
+pub(crate) fn large_answer(alloc: Global, spelled: &str) -> Vec<u8> {
     let (front, behind) = spelled.split_once('|').unwrap_or((spelled, ""));
-    let front = written(alloc, front)?;
-    let behind = written(alloc, behind)?;
-    let mut bytes = Vec::new(alloc);
-    bytes.extend_from_slice(front.as_bytes())?;
-    push_large_body(&mut bytes)?;
-    bytes.extend_from_slice(behind.as_bytes())?;
-    Ok(bytes)
+    let mut bytes = written(alloc, front).into_bytes();
+    add_large_body(&mut bytes);
+    let behind = written(alloc, behind);
+    add_bytes(&mut bytes, behind.as_bytes());
+    bytes
 }

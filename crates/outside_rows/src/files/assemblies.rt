@@ -1,34 +1,30 @@
 //! Files that are put together.
 
-use crate::lines::{count, number, word_and_rest};
+use crate::lines::{count, number, push, word_and_rest};
+use crate::rows::{add, add_shown};
 use s3_model::{Bytes, OutOfMemory, Part};
 use s3_outside::{Failed, FileFault, Files};
-use std::alloc::{AllocError, Global};
+use std::alloc::Global;
 use temp_files::Assembly;
 
-/// The answer of a call that gives nothing.
-pub(crate) fn unit_shown(alloc: Global, answer: Result<(), Failed>) -> Result<String, AllocError> {
-    format!(in alloc; "{answer:?}")
+/// Holds a file that was begun, and adds the path of its temporary file.
+fn hold(row: &mut String, held: &mut Vec<Assembly>, assembly: Assembly) {
+    add(row, assembly.temp());
+    push(held, assembly);
 }
 
-/// Holds a file that was begun; the path of its temporary file.
-fn hold(alloc: Global, held: &mut Vec<Assembly>, assembly: Assembly) -> Result<String, AllocError> {
-    let shown = String::from_str(alloc, assembly.temp());
-    held.push(assembly)?;
-    shown
-}
-
-/// Begins a file of so many bytes; the path of its temporary file.
+/// Begins a file of so many bytes, and adds the path of its temporary file.
 pub(crate) fn make<F: Files>(
     files: &mut F,
     alloc: Global,
     held: &mut Vec<Assembly>,
+    row: &mut String,
     text: &str,
-) -> Result<String, AllocError> {
+) {
     let (size, dest) = word_and_rest(text);
     match Assembly::make(alloc, files, dest, number(size)) {
-        Ok(assembly) => hold(alloc, held, assembly),
-        Err(fault) => format!(in alloc; "{fault:?}"),
+        Ok(assembly) => hold(row, held, assembly),
+        Err(fault) => add_shown(row, fault),
     }
 }
 
@@ -52,20 +48,20 @@ fn place_part<F: Files>(
     Some(assembly.place(files, at, part))
 }
 
-// What placing a part in the file that was made first answers.
+// Places a part in the file that was made first.
 fn place_first<F: Files>(
     files: &mut F,
-    alloc: Global,
     held: &mut Vec<Assembly>,
+    row: &mut String,
     at: u64,
     part: &Part,
-) -> Result<String, AllocError> {
+) {
     let Some(assembly) = held.first_mut() else {
-        return String::from_str(alloc, "?");
+        return add(row, "?");
     };
     match place_part(files, assembly, at, part) {
-        Some(answer) => unit_shown(alloc, answer),
-        None => String::from_str(alloc, "too long"),
+        Some(answer) => add_shown(row, answer),
+        None => add(row, "too long"),
     }
 }
 
@@ -74,12 +70,13 @@ pub(crate) fn place<F: Files>(
     files: &mut F,
     alloc: Global,
     held: &mut Vec<Assembly>,
+    row: &mut String,
     text: &str,
-) -> Result<String, AllocError> {
+) {
     let (at, text) = word_and_rest(text);
     match part_of(alloc, text.as_bytes()) {
-        Ok(part) => place_first(files, alloc, held, number(at), &part),
-        Err(OutOfMemory) => Err(AllocError),
+        Ok(part) => place_first(files, held, row, number(at), &part),
+        Err(OutOfMemory) => add(row, "no memory"),
     }
 }
 
@@ -91,40 +88,29 @@ fn take_first(held: &mut Vec<Assembly>) -> Option<Assembly> {
 }
 
 // Holds the file again, and says why it was not finished.
-fn hold_again(
-    alloc: Global,
-    held: &mut Vec<Assembly>,
-    assembly: Assembly,
-    fault: FileFault,
-) -> Result<String, AllocError> {
-    held.insert(0, assembly)?;
-    format!(in alloc; "{fault:?}")
+fn hold_again(row: &mut String, held: &mut Vec<Assembly>, assembly: Assembly, fault: FileFault) {
+    add_shown(row, fault);
+    if held.insert(0, assembly).is_err() {
+        row.clear();
+    }
 }
 
 /// Puts the file in the place of its destination; where it was not, it is still held.
-pub(crate) fn finish<F: Files>(
-    files: &mut F,
-    alloc: Global,
-    held: &mut Vec<Assembly>,
-) -> Result<String, AllocError> {
+pub(crate) fn finish<F: Files>(files: &mut F, held: &mut Vec<Assembly>, row: &mut String) {
     let Some(assembly) = take_first(held) else {
-        return String::from_str(alloc, "?");
+        return add(row, "?");
     };
     match assembly.finish(files) {
-        Ok(()) => String::from_str(alloc, "Ok(())"),
-        Err((assembly, fault)) => hold_again(alloc, held, assembly, fault),
+        Ok(()) => add(row, "Ok(())"),
+        Err((assembly, fault)) => hold_again(row, held, assembly, fault),
     }
 }
 
 /// Takes the temporary file away.
-pub(crate) fn drop_first<F: Files>(
-    files: &mut F,
-    alloc: Global,
-    held: &mut Vec<Assembly>,
-) -> Result<String, AllocError> {
+pub(crate) fn drop_first<F: Files>(files: &mut F, held: &mut Vec<Assembly>, row: &mut String) {
     match take_first(held) {
-        Some(assembly) => unit_shown(alloc, assembly.drop_it(files)),
-        None => String::from_str(alloc, "?"),
+        Some(assembly) => add_shown(row, assembly.drop_it(files)),
+        None => add(row, "?"),
     }
 }
 
@@ -192,15 +178,6 @@ fn fill_with<F: Files>(
     }
 }
 
-fn filled<F: Files>(
-    files: &mut F,
-    alloc: Global,
-    assembly: Assembly,
-    part: &mut Part,
-) -> Result<String, AllocError> {
-    format!(in alloc; "{:?}", fill_with(files, assembly, part))
-}
-
 // A part of so many zeros.
 fn zeros(alloc: Global, length: &str) -> Result<Part, OutOfMemory> {
     let bytes = vec![in alloc; 0u8; count(length)]?;
@@ -208,18 +185,14 @@ fn zeros(alloc: Global, length: &str) -> Result<Part, OutOfMemory> {
 }
 
 /// Puts a file of zeros together from pieces, and names what was not done.
-pub(crate) fn fill<F: Files>(
-    files: &mut F,
-    alloc: Global,
-    text: &str,
-) -> Result<String, AllocError> {
+pub(crate) fn fill<F: Files>(files: &mut F, alloc: Global, row: &mut String, text: &str) {
     let (size, rest) = word_and_rest(text);
     let (piece, dest) = word_and_rest(rest);
     let Ok(mut part) = zeros(alloc, piece) else {
-        return Err(AllocError);
+        return add(row, "no memory");
     };
     match Assembly::make(alloc, files, dest, number(size)) {
-        Ok(assembly) => filled(files, alloc, assembly, &mut part),
-        Err(fault) => format!(in alloc; "{fault:?}"),
+        Ok(assembly) => add_shown(row, fill_with(files, assembly, &mut part)),
+        Err(fault) => add_shown(row, fault),
     }
 }

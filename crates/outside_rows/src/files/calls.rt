@@ -1,62 +1,63 @@
 //! Calls on files.
 
-use crate::files::assemblies::{drop_first, fill, finish, make, place, unit_shown};
-use crate::files::trees::{counts, list};
-use crate::lines::{bytes_shown, number, word_and_rest};
+use crate::files::assemblies::{drop_first, fill, finish, make, place};
+use crate::files::trees::{add_counts, add_list};
+use crate::lines::{number, word_and_rest};
+use crate::rows::{add, add_came, add_shown};
 use file_table::TextMap;
 use s3_model::{OutOfMemory, Texts};
 use s3_outside::{Failed, Files, Names, Shape};
-use std::alloc::{AllocError, Global};
+use std::alloc::Global;
 use temp_files::Assembly;
 
-/// What stands at a path, without its time.
-fn size<F: Files>(files: &mut F, alloc: Global, path: &str) -> Result<String, AllocError> {
+/// Adds what stands at a path, without its time.
+fn add_size<F: Files>(files: &mut F, row: &mut String, path: &str) {
     match files.kind(path) {
-        Ok(Shape::File { size, .. }) => format!(in alloc; "{size}"),
-        answer => format!(in alloc; "{answer:?}"),
+        Ok(Shape::File { size, .. }) => add_shown(row, size),
+        answer => add_shown(row, answer),
     }
 }
 
-/// Three bytes from a place on.
-fn read<F: Files>(files: &mut F, alloc: Global, text: &str) -> Result<String, AllocError> {
+/// Adds three bytes from a place on.
+fn add_read<F: Files>(files: &mut F, row: &mut String, text: &str) {
     let (at, path) = word_and_rest(text);
     let mut into = [0u8; 3];
     match files.read_at(path, number(at), &mut into) {
-        Ok(count) => bytes_shown(alloc, into.get(..count).unwrap_or(&[])),
-        Err(fault) => format!(in alloc; "{fault:?}"),
+        Ok(count) => add_came(row, into.get(..count).unwrap_or(&[])),
+        Err(fault) => add_shown(row, fault),
     }
 }
 
-fn kind<F: Files>(files: &mut F, alloc: Global, path: &str) -> Result<String, AllocError> {
-    format!(in alloc; "{:?}", files.kind(path))
-}
-
-fn push_name(shown: &mut String, name: &str) -> Result<(), AllocError> {
-    write!(shown, ", {name}")
-}
-
-fn names_shown(alloc: Global, unnamed: u64, names: &Texts) -> Result<String, AllocError> {
-    let mut shown = format!(in alloc; "{unnamed} unnamed")?;
+/// The names in their order.
+fn in_order(alloc: Global, names: &Texts) -> Result<Texts, OutOfMemory> {
+    let mut ordered = TextMap::make(alloc);
     for name in names.as_slice() {
-        push_name(&mut shown, name.as_str())?;
+        ordered.insert(alloc, name.as_str(), ())?;
     }
-    Ok(shown)
+    ordered.texts(alloc)
 }
 
-fn in_order(alloc: Global, found: &Names) -> Result<String, OutOfMemory> {
-    let mut names = TextMap::make(alloc);
-    for name in found.names.as_slice() {
-        names.insert(alloc, name.as_str(), ())?;
+fn add_each(row: &mut String, names: &Texts) {
+    for name in names.as_slice() {
+        add(row, ", ");
+        add(row, name.as_str());
     }
-    let names = names.texts(alloc)?;
-    Ok(names_shown(alloc, found.unnamed, &names)?)
 }
 
-/// The names in a folder, in order, and how many more there are.
-fn names<F: Files>(files: &mut F, alloc: Global, folder: &str) -> Result<String, AllocError> {
+fn add_found(row: &mut String, alloc: Global, found: &Names) {
+    add_shown(row, found.unnamed);
+    add(row, " unnamed");
+    match in_order(alloc, &found.names) {
+        Ok(names) => add_each(row, &names),
+        Err(OutOfMemory) => add(row, "no memory"),
+    }
+}
+
+/// Adds the names in a folder, in order, and how many more there are.
+fn add_names<F: Files>(files: &mut F, alloc: Global, row: &mut String, folder: &str) {
     match files.names(alloc, folder) {
-        Ok(found) => in_order(alloc, &found).map_err(|_| AllocError),
-        Err(fault) => format!(in alloc; "{fault:?}"),
+        Ok(found) => add_found(row, alloc, &found),
+        Err(fault) => add_shown(row, fault),
     }
 }
 
@@ -66,36 +67,37 @@ fn stamp<F: Files>(files: &mut F, text: &str) -> Result<(), Failed> {
     files.stamp(path, number(micros))
 }
 
-/// What a call that looks at files answers.
-fn look<F: Files>(files: &mut F, alloc: Global, call: &str) -> Result<String, AllocError> {
+/// Adds what a call that looks at files answers.
+fn look<F: Files>(files: &mut F, alloc: Global, row: &mut String, call: &str) {
     let (name, text) = word_and_rest(call);
     match name {
-        "kind" => kind(files, alloc, text),
-        "size" => size(files, alloc, text),
-        "read" => read(files, alloc, text),
-        "names" => names(files, alloc, text),
-        "walk" => counts(files, alloc, text),
-        "list" => list(files, alloc, text),
-        _ => String::from_str(alloc, "?"),
+        "kind" => add_shown(row, files.kind(text)),
+        "size" => add_size(files, row, text),
+        "read" => add_read(files, row, text),
+        "names" => add_names(files, alloc, row, text),
+        "walk" => add_counts(files, alloc, row, text),
+        "list" => add_list(files, alloc, row, text),
+        _ => add(row, "?"),
     }
 }
 
-/// What a call answers.
-pub(crate) fn answer_of<F: Files>(
+/// Adds what a call answers.
+pub(crate) fn add_answer<F: Files>(
     files: &mut F,
     alloc: Global,
     held: &mut Vec<Assembly>,
+    row: &mut String,
     call: &str,
-) -> Result<String, AllocError> {
+) {
     let (name, text) = word_and_rest(call);
     match name {
-        "make" => make(files, alloc, held, text),
-        "place" => place(files, alloc, held, text),
-        "finish" => finish(files, alloc, held),
-        "drop" => drop_first(files, alloc, held),
-        "fill" => fill(files, alloc, text),
-        "remove" => unit_shown(alloc, files.remove(text)),
-        "stamp" => unit_shown(alloc, stamp(files, text)),
-        _ => look(files, alloc, call),
+        "make" => make(files, alloc, held, row, text),
+        "place" => place(files, alloc, held, row, text),
+        "finish" => finish(files, held, row),
+        "drop" => drop_first(files, held, row),
+        "fill" => fill(files, alloc, row, text),
+        "remove" => add_shown(row, files.remove(text)),
+        "stamp" => add_shown(row, stamp(files, text)),
+        _ => look(files, alloc, row, call),
     }
 }

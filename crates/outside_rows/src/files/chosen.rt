@@ -1,8 +1,9 @@
 //! The files that calls go to.
 
-use crate::files::calls::answer_of;
+use crate::files::calls;
 use crate::files::memory::{empty_files, files_of};
-use crate::lines::{done, word_and_rest};
+use crate::lines::word_and_rest;
+use crate::rows::{add_done, add_shown};
 use outside_memory::MemFiles;
 use outside_system::DiskFiles;
 use std::alloc::{AllocError, Global};
@@ -34,17 +35,16 @@ impl Chosen {
         })
     }
 
-    /// What a line comes to.
-    pub(crate) fn answer(&mut self, rt: &HostRuntime, line: &str) -> io::Result<String> {
-        let alloc = rt.alloc();
+    /// Adds what a line comes to.
+    pub(crate) fn add_answer(&mut self, rt: &HostRuntime, row: &mut String, line: &str) {
         let (name, text) = word_and_rest(line);
         match name {
-            "memory" => done(alloc, self.use_memory(alloc, text)),
-            "disk" => done(alloc, self.use_disk()),
-            "put" => done(alloc, put(rt, text)),
-            "folder" => done(alloc, fs::create_dir_all(rt, text)),
-            "clear" => done(alloc, fs::remove_dir_all(rt, text)),
-            _ => Ok(self.call(alloc, line)?),
+            "memory" => add_done(row, self.use_memory(rt.alloc(), text)),
+            "disk" => add_done(row, self.use_disk()),
+            "put" => add_done(row, put(rt, text)),
+            "folder" => add_done(row, fs::create_dir_all(rt, text)),
+            "clear" => add_done(row, fs::remove_dir_all(rt, text)),
+            _ => self.call(rt.alloc(), row, line),
         }
     }
 
@@ -65,23 +65,20 @@ impl Chosen {
         Ok(())
     }
 
-    fn call(&mut self, alloc: Global, line: &str) -> Result<String, AllocError> {
+    fn call(&mut self, alloc: Global, row: &mut String, line: &str) {
         if self.is_disk {
-            return answer_of(&mut self.disk, alloc, &mut self.held, line);
+            calls::add_answer(&mut self.disk, alloc, &mut self.held, row, line);
+        } else {
+            self.call_memory(alloc, row, line);
         }
+    }
+
+    fn call_memory(&mut self, alloc: Global, row: &mut String, line: &str) {
         let (name, path) = word_and_rest(line);
         match name {
-            "calls" => self.calls(alloc),
-            "held" => self.holds(alloc, path),
-            _ => answer_of(&mut self.memory, alloc, &mut self.held, line),
+            "calls" => add_shown(row, self.memory.calls().len()),
+            "held" => add_shown(row, self.memory.table().file(path).is_some()),
+            _ => calls::add_answer(&mut self.memory, alloc, &mut self.held, row, line),
         }
-    }
-
-    fn calls(&self, alloc: Global) -> Result<String, AllocError> {
-        format!(in alloc; "{}", self.memory.calls().len())
-    }
-
-    fn holds(&self, alloc: Global, path: &str) -> Result<String, AllocError> {
-        format!(in alloc; "{}", self.memory.table().file(path).is_some())
     }
 }

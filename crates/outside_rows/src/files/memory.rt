@@ -1,9 +1,10 @@
 //! Files in memory, as a line spells them.
 
-use crate::lines::{count, field_and_rest, number, numbers};
+use crate::bytes::copied;
+use crate::lines::{count, field_and_rest, number, numbers, push};
 use outside_memory::{FileTable, MemFile, MemFiles};
 use s3_model::OutOfMemory;
-use std::alloc::{AllocError, Global};
+use std::alloc::Global;
 use std::mem;
 
 /// The time of each file that is spelled.
@@ -20,20 +21,20 @@ pub(crate) fn empty_files(alloc: Global) -> MemFiles {
 
 pub(crate) fn files_of(alloc: Global, text: &str) -> Result<MemFiles, OutOfMemory> {
     let (calls, items) = field_and_rest(text);
-    let failing = numbers(alloc, calls)?;
-    let short = short_reads(alloc, calls)?;
     let table = table_of(alloc, items)?;
+    let failing = numbers(alloc, calls);
+    let short = short_reads(alloc, calls);
     Ok(MemFiles::make(alloc, table, failing, short))
 }
 
-fn short_reads(alloc: Global, text: &str) -> Result<Vec<(usize, usize)>, AllocError> {
+fn short_reads(alloc: Global, text: &str) -> Vec<(usize, usize)> {
     let mut short = Vec::new(alloc);
     for piece in text.split(',') {
         if let Some((call, most)) = piece.split_once('x') {
-            short.push((count(call), count(most)))?;
+            push(&mut short, (count(call), count(most)));
         }
     }
-    Ok(short)
+    short
 }
 
 fn put_all(alloc: Global, table: &mut FileTable, items: &str) -> Result<(), OutOfMemory> {
@@ -66,8 +67,7 @@ fn put_file(
     path: &str,
     text: &str,
 ) -> Result<(), OutOfMemory> {
-    let bytes = text.as_bytes().to_vec(alloc)?;
-    table.put_file(alloc, path, file(bytes))
+    table.put_file(alloc, path, file(copied(alloc, text.as_bytes())))
 }
 
 fn put(alloc: Global, table: &mut FileTable, item: &str) -> Result<(), OutOfMemory> {

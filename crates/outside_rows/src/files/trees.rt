@@ -1,8 +1,9 @@
 //! Walks over trees of files.
 
+use crate::rows::{add, add_number, add_shown};
 use s3_model::{Entries, Entry, Texts};
 use s3_outside::Files;
-use std::alloc::{AllocError, Global};
+use std::alloc::Global;
 use std::mem;
 use tree_walk::{Walked, walk};
 
@@ -14,75 +15,59 @@ fn bytes_of(entries: &Entries) -> u64 {
     bytes
 }
 
-fn counts_shown(alloc: Global, walked: &Walked) -> Result<String, AllocError> {
-    let (entries, others) = (walked.entries.len(), walked.others.len());
-    let bytes = bytes_of(&walked.entries);
-    format!(in alloc; "{entries} {others} {} {bytes}", walked.unnamed)
+fn add_counts_of(row: &mut String, walked: &Walked) {
+    add_shown(row, walked.entries.len());
+    add_number(row, walked.others.len() as u64);
+    add_number(row, walked.unnamed);
+    add_number(row, bytes_of(&walked.entries));
 }
 
-/// How many files, other paths and names that are no text a tree has, and how many bytes.
-pub(crate) fn counts<F: Files>(
-    files: &mut F,
-    alloc: Global,
-    root: &str,
-) -> Result<String, AllocError> {
+/// Adds how many files, other paths and names that are no text a tree has, and how many bytes.
+pub(crate) fn add_counts<F: Files>(files: &mut F, alloc: Global, row: &mut String, root: &str) {
     match walk(alloc, files, root) {
         Ok(walked) => {
-            let shown = counts_shown(alloc, &walked);
+            add_counts_of(row, &walked);
             mem::drop(walked);
-            shown
         }
-        Err(fault) => format!(in alloc; "{fault:?}"),
+        Err(fault) => add_shown(row, fault),
     }
 }
 
-fn push_entry(shown: &mut String, entry: &Entry) -> Result<(), AllocError> {
-    let (key, size, micros) = (entry.key.as_str(), entry.size, entry.micros);
-    write!(shown, "{key} {size} {micros}, ")
+fn add_entry(row: &mut String, entry: &Entry) {
+    add(row, entry.key.as_str());
+    add_number(row, entry.size);
+    add_number(row, entry.micros);
+    add(row, ", ");
 }
 
-fn push_entries(shown: &mut String, entries: &Entries) -> Result<(), AllocError> {
+fn add_entries(row: &mut String, entries: &Entries) {
     for entry in entries.as_slice() {
-        push_entry(shown, entry)?;
+        add_entry(row, entry);
     }
-    Ok(())
 }
 
-fn push_other(shown: &mut String, path: &str) -> Result<(), AllocError> {
-    write!(shown, "other {path}, ")
-}
-
-fn push_others(shown: &mut String, others: &Texts) -> Result<(), AllocError> {
+fn add_others(row: &mut String, others: &Texts) {
     for path in others.as_slice() {
-        push_other(shown, path.as_str())?;
+        add(row, "other ");
+        add(row, path.as_str());
+        add(row, ", ");
     }
-    Ok(())
 }
 
-fn push_walked(shown: &mut String, walked: &Walked) -> Result<(), AllocError> {
-    push_entries(shown, &walked.entries)?;
-    push_others(shown, &walked.others)?;
-    write!(shown, "{} unnamed", walked.unnamed)
+fn add_walked(row: &mut String, walked: &Walked) {
+    add_entries(row, &walked.entries);
+    add_others(row, &walked.others);
+    add_shown(row, walked.unnamed);
+    add(row, " unnamed");
 }
 
-fn walked_shown(alloc: Global, walked: &Walked) -> Result<String, AllocError> {
-    let mut shown = String::new(alloc);
-    push_walked(&mut shown, walked)?;
-    Ok(shown)
-}
-
-/// The files of a tree with size and time, the other paths, and how many names are no text.
-pub(crate) fn list<F: Files>(
-    files: &mut F,
-    alloc: Global,
-    root: &str,
-) -> Result<String, AllocError> {
+/// Adds the files of a tree with size and time, the other paths, and how many names are no text.
+pub(crate) fn add_list<F: Files>(files: &mut F, alloc: Global, row: &mut String, root: &str) {
     match walk(alloc, files, root) {
         Ok(walked) => {
-            let shown = walked_shown(alloc, &walked);
+            add_walked(row, &walked);
             mem::drop(walked);
-            shown
         }
-        Err(fault) => format!(in alloc; "{fault:?}"),
+        Err(fault) => add_shown(row, fault),
     }
 }

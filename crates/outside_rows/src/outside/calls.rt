@@ -1,36 +1,24 @@
 //! Calls in their order, each with its answer.
 
-use std::alloc::{AllocError, Global};
-use std::io;
+use crate::rows::add;
+use std::alloc::Global;
 
-/// The text with each `¶` as the end of a line of HTTP.
-pub(crate) fn http(alloc: Global, text: &str) -> Result<String, AllocError> {
-    text.replace(alloc, '¶', "\r\n")
-}
-
-/// Adds a call and its answer to a line.
-pub(crate) fn push_answer(shown: &mut String, call: &str, answer: &str) -> Result<(), AllocError> {
-    for piece in ["; ", call, " => ", answer] {
-        shown.push_str(piece)?;
-    }
-    Ok(())
+/// Adds a call, in front of its answer.
+pub(crate) fn add_call(row: &mut String, call: &str) {
+    add(row, "; ");
+    add(row, call);
+    add(row, " => ");
 }
 
 /// What a line calls.
 pub(crate) trait Called {
-    fn answer(&mut self, alloc: Global, call: &str) -> io::Result<String>;
+    fn add_answer(&mut self, alloc: Global, row: &mut String, call: &str);
 }
 
-/// Calls in their order, each with its answer.
-pub(crate) fn answers_of<C: Called>(
-    called: &mut C,
-    alloc: Global,
-    calls: &str,
-) -> io::Result<String> {
-    let mut shown = String::new(alloc);
+/// Adds calls in their order, each with its answer.
+pub(crate) fn add_calls<C: Called>(called: &mut C, alloc: Global, row: &mut String, calls: &str) {
     for call in calls.split("; ") {
-        let answer = called.answer(alloc, call)?;
-        push_answer(&mut shown, call, answer.as_str())?;
+        add_call(row, call);
+        called.add_answer(alloc, row, call);
     }
-    Ok(shown)
 }

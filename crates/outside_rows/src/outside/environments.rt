@@ -1,124 +1,111 @@
 //! Environments.
 
 use crate::lines::{count, numbers, word_and_rest};
-use crate::outside::calls::{Called, answers_of};
+use crate::outside::calls::{Called, add_calls};
+use crate::rows::{add, add_shown};
 use outside_memory::MemEnv;
 use outside_system::RealEnv;
 use s3_model::OutOfMemory;
 use s3_outside::{Env, EnvFault, S3_LIMITS};
-use std::alloc::{AllocError, Global};
-use std::{fs, io};
+use std::alloc::Global;
+use std::{fs, io, mem};
 
-fn word<E: Env>(env: &mut E, alloc: Global, name: &str) -> Result<String, AllocError> {
+fn add_word<E: Env>(env: &mut E, alloc: Global, row: &mut String, name: &str) {
     match env.word(alloc, name) {
-        Ok(Some(value)) => format!(in alloc; "{:?}", value.as_str()),
-        Ok(None) => String::from_str(alloc, "None"),
-        Err(_) => Err(AllocError),
+        Ok(Some(value)) => add_shown(row, value.as_str()),
+        Ok(None) => add(row, "None"),
+        Err(_) => add(row, "no memory"),
     }
 }
 
 /// How many bytes a file has.
 fn length<E: Env>(env: &mut E, alloc: Global, path: &str) -> Result<Option<usize>, EnvFault> {
-    Ok(env.file(alloc, path)?.map(|bytes| bytes.len()))
+    match env.file(alloc, path) {
+        Ok(Some(bytes)) => Ok(Some(bytes.len())),
+        Ok(None) => Ok(None),
+        Err(fault) => Err(fault),
+    }
 }
 
-fn file<E: Env>(env: &mut E, alloc: Global, path: &str) -> Result<String, AllocError> {
-    format!(in alloc; "{:?}", length(env, alloc, path))
-}
-
-fn parts<E: Env>(env: &mut E, alloc: Global) -> Result<String, AllocError> {
-    format!(in alloc; "{}", env.limits().max_parts)
-}
-
-fn answer_of<E: Env>(env: &mut E, alloc: Global, call: &str) -> Result<String, AllocError> {
+fn add_answer<E: Env>(env: &mut E, alloc: Global, row: &mut String, call: &str) {
     let (name, text) = word_and_rest(call);
     match name {
-        "word" => word(env, alloc, text),
-        "file" => file(env, alloc, text),
-        "parts" => parts(env, alloc),
-        _ => String::from_str(alloc, "?"),
+        "word" => add_word(env, alloc, row, text),
+        "file" => add_shown(row, length(env, alloc, text)),
+        "parts" => add_shown(row, env.limits().max_parts),
+        _ => add(row, "?"),
     }
 }
 
-/// An environment in memory.
-#[derive(Drop)]
-struct InMemory {
-    env: MemEnv,
+/// Sets a variable.
+fn set(env: &mut MemEnv, alloc: Global, given: &str) -> Result<(), OutOfMemory> {
+    let (name, value) = word_and_rest(given);
+    env.set(alloc, name, value)
 }
 
-impl InMemory {
-    /// Sets a variable.
-    fn set(&mut self, alloc: Global, given: &str) -> Result<(), OutOfMemory> {
-        let (name, value) = word_and_rest(given);
-        self.env.set(alloc, name, value)
-    }
-
-    /// Puts a file of so many bytes.
-    fn put(&mut self, alloc: Global, given: &str) -> Result<(), OutOfMemory> {
-        let (path, length) = word_and_rest(given);
-        let bytes = vec![in alloc; 7u8; count(length)]?;
-        self.env.put_file(alloc, path, bytes)
-    }
-
-    fn asked(&self, alloc: Global) -> Result<String, AllocError> {
-        format!(in alloc; "{}", self.env.asked().len())
-    }
+/// Puts a file of so many bytes.
+fn put(env: &mut MemEnv, alloc: Global, given: &str) -> Result<(), OutOfMemory> {
+    let (path, length) = word_and_rest(given);
+    let bytes = vec![in alloc; 7u8; count(length)]?;
+    env.put_file(alloc, path, bytes)
 }
 
-fn made(alloc: Global, came: Result<(), OutOfMemory>) -> Result<String, AllocError> {
+fn add_made(row: &mut String, came: Result<(), OutOfMemory>) {
     match came {
-        Ok(()) => String::from_str(alloc, "made"),
-        Err(OutOfMemory) => Err(AllocError),
+        Ok(()) => add(row, "made"),
+        Err(OutOfMemory) => add(row, "no memory"),
     }
 }
 
-impl Called for InMemory {
-    fn answer(&mut self, alloc: Global, call: &str) -> io::Result<String> {
+impl Called for MemEnv {
+    fn add_answer(&mut self, alloc: Global, row: &mut String, call: &str) {
         let (name, given) = word_and_rest(call);
-        let answer = match name {
-            "set" => made(alloc, self.set(alloc, given)),
-            "put" => made(alloc, self.put(alloc, given)),
-            "asked" => self.asked(alloc),
-            _ => answer_of(&mut self.env, alloc, call),
-        };
-        Ok(answer?)
+        match name {
+            "set" => add_made(row, set(self, alloc, given)),
+            "put" => add_made(row, put(self, alloc, given)),
+            "asked" => add_shown(row, self.asked().len()),
+            _ => add_answer(self, alloc, row, call),
+        }
     }
 }
 
-/// The environment of the system.
-#[derive(Drop)]
-struct OfTheSystem {
-    env: RealEnv<HostRuntime>,
-}
-
-impl Called for OfTheSystem {
-    fn answer(&mut self, alloc: Global, call: &str) -> io::Result<String> {
-        Ok(answer_of(&mut self.env, alloc, call)?)
+impl Called for RealEnv<HostRuntime> {
+    fn add_answer(&mut self, alloc: Global, row: &mut String, call: &str) {
+        add_answer(self, alloc, row, call);
     }
 }
 
-fn in_memory(alloc: Global, failing: &str, calls: &str) -> io::Result<String> {
-    let failing = numbers(alloc, failing)?;
-    let mut memory = InMemory {
-        env: MemEnv::make_failing(alloc, S3_LIMITS, failing),
-    };
-    answers_of(&mut memory, alloc, calls)
+/// An environment in memory, of which these reads fail.
+fn add_in_memory(alloc: Global, row: &mut String, failing: &str, calls: &str) {
+    let mut env = MemEnv::make_failing(alloc, S3_LIMITS, numbers(alloc, failing));
+    add_calls(&mut env, alloc, row, calls);
+    mem::drop(env);
+}
+
+fn add_of_the_system(rt: &HostRuntime, row: &mut String, calls: &str) -> io::Result<()> {
+    let mut env = RealEnv::new(rt.clone()?);
+    add_calls(&mut env, rt.alloc(), row, calls);
+    Ok(())
 }
 
 /// The environment of the system, in which a settings file is made.
-fn of_the_system(rt: &HostRuntime, calls: &str) -> io::Result<String> {
+fn add_with_file(rt: &HostRuntime, row: &mut String, calls: &str) -> io::Result<()> {
     fs::write(rt, "settings.bin", "hello")?;
-    let mut system = OfTheSystem {
-        env: RealEnv::new(rt.clone()?),
-    };
-    let shown = answers_of(&mut system, rt.alloc(), calls)?;
-    fs::remove_file(rt, "settings.bin")?;
-    Ok(shown)
+    add_of_the_system(rt, row, calls)?;
+    fs::remove_file(rt, "settings.bin")
 }
 
-pub(crate) fn answers(rt: &HostRuntime, how: &str, calls: &str) -> io::Result<String> {
+pub(crate) fn add_answers(
+    rt: &HostRuntime,
+    row: &mut String,
+    how: &str,
+    calls: &str,
+) -> io::Result<()> {
     match how {
-        "of the system" => of_the_system(rt, calls),
-        _ => in_memory(rt.alloc(), how, calls),
+        "of the system" => add_with_file(rt, row, calls),
+        _ => {
+            add_in_memory(rt.alloc(), row, how, calls);
+            Ok(())
+        }
     }
 }

@@ -1,8 +1,9 @@
 //! Wires over sockets. The system completes a connection before it is accepted, so one thread plays both sides.
 
-use crate::lines::{bytes_shown, done, word_and_rest};
-use crate::outside::calls::{Called, answers_of, http};
-use crate::outside::wires::answer_of;
+use crate::lines::{http, word_and_rest};
+use crate::outside::calls::{Called, add_calls};
+use crate::outside::wires::add_answer;
+use crate::rows::{add, add_came, add_done, add_shown};
 use outside_system::SocketWire;
 use s3_outside::Wire;
 use std::alloc::Global;
@@ -27,6 +28,14 @@ fn started(rt: &HostRuntime) -> io::Result<Service> {
     })
 }
 
+fn add_heard(peer: &mut TcpStream, row: &mut String) {
+    let mut into = [0u8; 8];
+    match peer.read(&mut into) {
+        Ok(count) => add_came(row, into.get(..count).unwrap_or(&[])),
+        Err(_) => add(row, "not heard"),
+    }
+}
+
 impl Service {
     fn accept(&mut self) -> io::Result<()> {
         if let Some(listener) = &self.listener {
@@ -36,14 +45,12 @@ impl Service {
         Ok(())
     }
 
-    /// What the other side said.
-    fn hear(&mut self, alloc: Global) -> io::Result<String> {
-        let mut into = [0u8; 8];
-        let count = match &mut self.peer {
-            Some(peer) => peer.read(&mut into)?,
-            None => 0,
-        };
-        Ok(bytes_shown(alloc, into.get(..count).unwrap_or(&[]))?)
+    /// Adds what the other side said.
+    fn hear(&mut self, row: &mut String) {
+        match &mut self.peer {
+            Some(peer) => add_heard(peer, row),
+            None => add(row, "no connection"),
+        }
     }
 
     fn say(&mut self, bytes: &[u8]) -> io::Result<()> {
@@ -86,40 +93,6 @@ fn is_answered<W: Wire>(wire: &mut W, said: &str) -> bool {
     sent == Ok(4) && got == Ok(12) && said.as_bytes().starts_with(&into)
 }
 
-impl Played {
-    /// Whether the front of what the service said comes, after it has refused early.
-    fn heard(&mut self, alloc: Global, text: &str) -> io::Result<String> {
-        let said = http(alloc, text)?;
-        let begun = has_begun(&mut self.wire, self.service.port);
-        self.service.refuse(said.as_str())?;
-        let heard = begun && is_answered(&mut self.wire, said.as_str());
-        Ok(String::from_str(alloc, if heard { "true" } else { "false" })?)
-    }
-
-    /// What the wire answers.
-    fn called(&mut self, alloc: Global, call: &str) -> io::Result<String> {
-        let service = ("127.0.0.1", self.service.port);
-        Ok(answer_of(&mut self.wire, alloc, service, call)?)
-    }
-}
-
-impl Called for Played {
-    fn answer(&mut self, alloc: Global, call: &str) -> io::Result<String> {
-        let (name, text) = word_and_rest(call);
-        match name {
-            "accept" => done(alloc, self.service.accept()),
-            "say" => done(alloc, self.service.say(text.as_bytes())),
-            "close" => {
-                self.service.close();
-                done(alloc, Ok(()))
-            }
-            "hear" => self.service.hear(alloc),
-            "heard" => self.heard(alloc, text),
-            _ => self.called(alloc, call),
-        }
-    }
-}
-
 fn wire_of(rt: HostRuntime, how: &str) -> SocketWire<HostRuntime> {
     match how {
         "impatient" => SocketWire::with_limit(rt, 1),
@@ -127,13 +100,59 @@ fn wire_of(rt: HostRuntime, how: &str) -> SocketWire<HostRuntime> {
     }
 }
 
-pub(crate) fn answers(rt: &HostRuntime, how: &str, calls: &str) -> io::Result<String> {
-    let mut played = Played {
-        wire: wire_of(rt.clone()?, how),
-        service: started(rt)?,
-    };
+impl Played {
+    fn make(rt: &HostRuntime, how: &str) -> io::Result<Played> {
+        let service = started(rt)?;
+        let wire = wire_of(rt.clone()?, how);
+        Ok(Played { wire, service })
+    }
+
+    /// Whether the front of what the service said comes, after it has refused early.
+    fn is_heard(&mut self, said: &str) -> bool {
+        has_begun(&mut self.wire, self.service.port)
+            && self.service.refuse(said).is_ok()
+            && is_answered(&mut self.wire, said)
+    }
+
+    fn add_heard(&mut self, alloc: Global, row: &mut String, text: &str) {
+        let said = http(alloc, text);
+        add_shown(row, self.is_heard(said.as_str()));
+    }
+
+    /// Adds what the wire answers.
+    fn add_called(&mut self, row: &mut String, call: &str) {
+        let service = ("127.0.0.1", self.service.port);
+        add_answer(&mut self.wire, row, service, call);
+    }
+}
+
+impl Called for Played {
+    fn add_answer(&mut self, alloc: Global, row: &mut String, call: &str) {
+        let (name, text) = word_and_rest(call);
+        match name {
+            "accept" => add_done(row, self.service.accept()),
+            "say" => add_done(row, self.service.say(text.as_bytes())),
+            "close" => {
+                self.service.close();
+                add(row, "done");
+            }
+            "hear" => self.service.hear(row),
+            "heard" => self.add_heard(alloc, row, text),
+            _ => self.add_called(row, call),
+        }
+    }
+}
+
+pub(crate) fn add_answers(
+    rt: &HostRuntime,
+    row: &mut String,
+    how: &str,
+    calls: &str,
+) -> io::Result<()> {
+    let mut played = Played::make(rt, how)?;
     if how == "refused" {
         played.service.listener = None;
     }
-    answers_of(&mut played, rt.alloc(), calls)
+    add_calls(&mut played, rt.alloc(), row, calls);
+    Ok(())
 }

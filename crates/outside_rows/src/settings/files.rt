@@ -2,10 +2,12 @@
 
 use crate::bytes::bytes_of;
 use crate::lines::{field_and_rest, word_and_rest};
-use crate::settings::shown::{fault_shown, settings_shown};
+use crate::rows::add;
+use crate::settings::shown::{add_fault, add_settings};
 use crate::settings::spelled::option;
-use aws_profile::{EnvWords, settings};
-use std::alloc::{AllocError, Global};
+use aws_profile::{EnvWords, ProfileFault, Settings, settings};
+use std::alloc::Global;
+use std::mem;
 
 /// The words of a list: an id, a secret, a token, a region, a profile, and whether it was named.
 fn words(alloc: Global, list: &str) -> EnvWords {
@@ -24,26 +26,29 @@ fn words(alloc: Global, list: &str) -> EnvWords {
     }
 }
 
-fn answered(
-    alloc: Global,
-    words: &EnvWords,
-    config: &[u8],
-    credentials: &[u8],
-) -> Result<String, AllocError> {
+fn add_read(alloc: Global, row: &mut String, words: &EnvWords, config: &[u8], credentials: &[u8]) {
     if config.len() > 1_048_576 || credentials.len() > 1_048_576 {
-        return String::from_str(alloc, "a file is too long");
+        return add(row, "a file is too long");
     }
-    match settings(alloc, words, config, credentials) {
-        Ok(settings) => settings_shown(alloc, &settings),
-        Err(fault) => fault_shown(alloc, &fault),
+    let found = settings(alloc, words, config, credentials);
+    add_found(row, &found);
+    mem::drop(found);
+}
+
+fn add_found(row: &mut String, found: &Result<Settings, ProfileFault>) {
+    match found {
+        Ok(settings) => add_settings(row, settings),
+        Err(fault) => add_fault(row, fault),
     }
 }
 
-/// What words and files give.
-pub(crate) fn answer(alloc: Global, fields: &str) -> Result<String, AllocError> {
+/// Adds what words and files give.
+pub(crate) fn add_answer(alloc: Global, row: &mut String, fields: &str) {
     let (list, files) = field_and_rest(fields);
     let (config, credentials) = field_and_rest(files);
-    let config = bytes_of(alloc, config)?;
-    let credentials = bytes_of(alloc, credentials)?;
-    answered(alloc, &words(alloc, list), &config, &credentials)
+    let config = bytes_of(alloc, config);
+    let credentials = bytes_of(alloc, credentials);
+    let words = words(alloc, list);
+    add_read(alloc, row, &words, &config, &credentials);
+    mem::drop(words);
 }

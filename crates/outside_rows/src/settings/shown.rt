@@ -1,21 +1,14 @@
 //! Settings and their faults as text.
 
+use crate::rows::{add, add_number, add_shown};
 use aws_profile::{Config, Keys, ProfileFault, Settings};
-use std::alloc::{AllocError, Global};
 
-fn push_number(alloc: Global, shown: &mut String, number: u64) -> Result<(), AllocError> {
-    let number = format!(in alloc; " {number}")?;
-    shown.push_str(number.as_str())
-}
-
-fn push_amounts(alloc: Global, shown: &mut String, config: &Config) -> Result<(), AllocError> {
-    let counts = [config.lanes, config.queue, config.buffers, config.attempts];
-    push_number(alloc, shown, config.threshold)?;
-    push_number(alloc, shown, config.chunk)?;
-    for count in counts {
-        push_number(alloc, shown, u64::from(count))?;
+fn add_amounts(row: &mut String, config: &Config) {
+    add_number(row, config.threshold);
+    add_number(row, config.chunk);
+    for count in [config.lanes, config.queue, config.buffers, config.attempts] {
+        add_number(row, u64::from(count));
     }
-    Ok(())
 }
 
 fn token_of(keys: &Keys) -> &str {
@@ -25,45 +18,43 @@ fn token_of(keys: &Keys) -> &str {
     }
 }
 
-fn push_word(shown: &mut String, word: &str) -> Result<(), AllocError> {
-    shown.push_str(" ")?;
-    shown.push_str(word)
+fn add_keys(row: &mut String, keys: &Keys) {
+    add(row, keys.id.as_str());
+    for word in [keys.secret.as_str(), token_of(keys), keys.region.as_str()] {
+        add(row, " ");
+        add(row, word);
+    }
 }
 
-/// Adds what stands behind the id of the keys.
-fn push_rest(shown: &mut String, keys: &Keys) -> Result<(), AllocError> {
-    push_word(shown, keys.secret.as_str())?;
-    push_word(shown, token_of(keys))?;
-    push_word(shown, keys.region.as_str())
+/// Adds keys, region and numbers.
+pub(crate) fn add_settings(row: &mut String, settings: &Settings) {
+    add_keys(row, &settings.keys);
+    add_amounts(row, &settings.config);
 }
 
-/// Keys, region and numbers.
-pub(crate) fn settings_shown(alloc: Global, settings: &Settings) -> Result<String, AllocError> {
-    let mut shown = String::from_str(alloc, settings.keys.id.as_str())?;
-    push_rest(&mut shown, &settings.keys)?;
-    push_amounts(alloc, &mut shown, &settings.config)?;
-    Ok(shown)
+fn add_line(row: &mut String, line: u32, credentials: bool) {
+    add(row, "line");
+    add_number(row, u64::from(line));
+    add(row, " ");
+    add_shown(row, credentials);
 }
 
-fn profile_shown(alloc: Global, name: &str) -> Result<String, AllocError> {
-    format!(in alloc; "no profile {name}")
+fn add_setting(row: &mut String, name: &str, line: u32) {
+    add(row, name);
+    add(row, " in");
+    add_number(row, u64::from(line));
 }
 
-fn line_shown(alloc: Global, line: u32, credentials: bool) -> Result<String, AllocError> {
-    format!(in alloc; "line {line} {credentials}")
-}
-
-fn value_shown(alloc: Global, name: &str, line: u32) -> Result<String, AllocError> {
-    format!(in alloc; "{name} in {line}")
-}
-
-pub(crate) fn fault_shown(alloc: Global, fault: &ProfileFault) -> Result<String, AllocError> {
+pub(crate) fn add_fault(row: &mut String, fault: &ProfileFault) {
     match fault {
-        ProfileFault::NoProfile(name) => profile_shown(alloc, name.as_str()),
-        ProfileFault::BadLine { credentials, line } => line_shown(alloc, *line, *credentials),
-        ProfileFault::BadSetting { line, name } => value_shown(alloc, name.as_str(), *line),
-        ProfileFault::NoKeys => String::from_str(alloc, "no keys"),
-        ProfileFault::NoRegion => String::from_str(alloc, "no region"),
-        ProfileFault::Memory => String::from_str(alloc, "memory"),
+        ProfileFault::NoProfile(name) => {
+            add(row, "no profile ");
+            add(row, name.as_str());
+        }
+        ProfileFault::BadLine { credentials, line } => add_line(row, *line, *credentials),
+        ProfileFault::BadSetting { line, name } => add_setting(row, name.as_str(), *line),
+        ProfileFault::NoKeys => add(row, "no keys"),
+        ProfileFault::NoRegion => add(row, "no region"),
+        ProfileFault::Memory => add(row, "memory"),
     }
 }
