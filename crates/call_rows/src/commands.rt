@@ -6,10 +6,11 @@
 
 mod shown;
 
-use crate::commands::shown::command_shown;
-use crate::lines::{row, value_shown};
+use crate::commands::shown::push_command;
+use crate::lines::{push_line, push_value};
 use s3_words::read_words;
 use std::alloc::{AllocError, Global};
+use std::mem;
 
 /// The word that a piece of a line stands for.
 fn word_of(alloc: Global, piece: &str) -> Result<String, AllocError> {
@@ -23,32 +24,47 @@ fn word_of(alloc: Global, piece: &str) -> Result<String, AllocError> {
     Ok(word)
 }
 
-fn words_of(alloc: Global, line: &str) -> Result<Vec<String>, AllocError> {
+fn push_word(alloc: Global, words: &mut Vec<String>, piece: &str) -> Result<(), AllocError> {
+    let word = word_of(alloc, piece)?;
+    words.push(word)?;
+    Ok(())
+}
+
+/// Adds the word, or the two words, that a piece of a line stands for.
+fn push_piece(alloc: Global, words: &mut Vec<String>, piece: &str) -> Result<(), AllocError> {
+    if piece == "@" {
+        push_word(alloc, words, "--endpoint-url")?;
+        return push_word(alloc, words, "http://h");
+    }
+    push_word(alloc, words, piece)
+}
+
+/// The words of a line.
+pub(crate) fn words_of(alloc: Global, line: &str) -> Result<Vec<String>, AllocError> {
     let mut words = Vec::new(alloc);
     if line.is_empty() {
         return Ok(words);
     }
     for piece in line.split(' ') {
-        if piece == "@" {
-            words.push(String::from_str(alloc, "--endpoint-url")?)?;
-            words.push(String::from_str(alloc, "http://h")?)?;
-        } else {
-            words.push(word_of(alloc, piece)?)?;
-        }
+        push_piece(alloc, &mut words, piece)?;
     }
     Ok(words)
 }
 
-fn answer_of(alloc: Global, line: &str) -> Result<String, AllocError> {
-    let words = words_of(alloc, line)?;
-    match read_words(alloc, &words) {
-        Ok(command) => command_shown(alloc, &command),
-        Err(fault) => value_shown(alloc, fault),
+fn push_answer(alloc: Global, out: &mut String, words: &[String]) -> Result<(), AllocError> {
+    match read_words(alloc, words) {
+        Ok(command) => {
+            let pushed = push_command(out, &command);
+            mem::drop(command);
+            pushed
+        }
+        Err(fault) => push_value(out, fault),
     }
 }
 
-/// A line with what it asks for.
-pub(crate) fn row_of(alloc: Global, line: &str) -> Result<String, AllocError> {
-    let answer = answer_of(alloc, line)?;
-    row(alloc, line, answer.as_str())
+/// Adds a line with what it asks for.
+pub(crate) fn push_row(alloc: Global, out: &mut String, line: &str) -> Result<(), AllocError> {
+    push_line(out, line)?;
+    let words = words_of(alloc, line)?;
+    push_answer(alloc, out, &words)
 }

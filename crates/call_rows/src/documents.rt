@@ -5,7 +5,8 @@
 
 mod shown;
 
-use crate::documents::shown::answer_of;
+use crate::documents::shown::push_answer;
+use crate::lines::word_and_rest;
 use std::alloc::{AllocError, Global};
 
 /// The byte of two hexadecimal digits.
@@ -38,11 +39,9 @@ fn bytes_of(alloc: Global, line: &[u8]) -> Result<Vec<u8>, AllocError> {
     }
 }
 
-/// What a reader answers to the document of a line.
-pub(crate) fn row_of(alloc: Global, line: &str) -> Result<String, AllocError> {
-    let Some((reader, text)) = line.split_once(' ') else {
-        return String::from_str(alloc, "?");
-    };
+/// Adds what a reader answers to the document of a line.
+pub(crate) fn push_row(alloc: Global, out: &mut String, line: &str) -> Result<(), AllocError> {
+    let (reader, text) = word_and_rest(line);
     let doc = bytes_of(alloc, text.as_bytes())?;
-    answer_of(alloc, reader, &doc)
+    push_answer(alloc, out, reader, &doc)
 }

@@ -8,19 +8,14 @@ mod paths;
 pub(crate) mod patterns;
 mod values;
 
-use crate::leaves::paths::path_answer;
-use crate::lines::{row, word_and_rest, written};
+use crate::leaves::paths::push_path_answer;
+use crate::lines::{push_line, word_and_rest, written};
 use std::alloc::{AllocError, Global};
 
-/// What the call that a line names answers.
-fn answer_of(alloc: Global, line: &str) -> Result<String, AllocError> {
+/// Adds a call with its answer.
+pub(crate) fn push_row(alloc: Global, out: &mut String, line: &str) -> Result<(), AllocError> {
+    push_line(out, line)?;
     let (call, text) = word_and_rest(line);
     let text = written(alloc, text)?;
-    path_answer(alloc, call, text.as_str())
-}
-
-/// A call with its answer.
-pub(crate) fn row_of(alloc: Global, line: &str) -> Result<String, AllocError> {
-    let answer = answer_of(alloc, line)?;
-    row(alloc, line, answer.as_str())
+    push_path_answer(alloc, out, call, text.as_str())
 }

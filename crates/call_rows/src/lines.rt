@@ -1,4 +1,4 @@
-//! What lines spell, and how answers are shown.
+//! What lines spell, and how values are shown.
 
 use s3_model::{OutOfMemory, Text};
 use std::alloc::{AllocError, Global};
@@ -48,11 +48,22 @@ pub(crate) fn written(alloc: Global, spelled: &str) -> Result<String, AllocError
     Ok(text)
 }
 
-pub(crate) fn value_shown(alloc: Global, value: impl Debug + Drop) -> Result<String, AllocError> {
-    format!(in alloc; "{value:?}")
+pub(crate) fn push_value(out: &mut String, value: impl Debug + Drop) -> Result<(), AllocError> {
+    write!(out, "{value:?}")
 }
 
-/// A line with what comes of it.
-pub(crate) fn row(alloc: Global, line: &str, answer: &str) -> Result<String, AllocError> {
-    format!(in alloc; "{line} => {answer}")
+/// Adds an answer that is a text, or why there is none.
+pub(crate) fn push_text<F: Debug + Drop>(
+    out: &mut String,
+    answer: Result<Text, F>,
+) -> Result<(), AllocError> {
+    match answer {
+        Ok(text) => push_value(out, text.as_str()),
+        Err(fault) => push_value(out, fault),
+    }
+}
+
+/// Adds a line, behind which its answer stands.
+pub(crate) fn push_line(out: &mut String, line: &str) -> Result<(), AllocError> {
+    write!(out, "{line} => ")
 }

@@ -44,17 +44,17 @@ fn part_named(heading: &str) -> Part {
     }
 }
 
-/// What is printed of a line.
-fn row_of(alloc: Global, part: Part, line: &str) -> Result<String, AllocError> {
+/// Adds what is printed of a line.
+fn push_row(alloc: Global, row: &mut String, part: Part, line: &str) -> Result<(), AllocError> {
     match part {
-        Part::Leaves => leaves::row_of(alloc, line),
-        Part::Commands => commands::row_of(alloc, line),
-        Part::Models => models::row_of(alloc, line),
-        Part::Printed => printed::row_of(alloc, line),
-        Part::Documents => documents::row_of(alloc, line),
-        Part::Requests => requests::row_of(alloc, line),
-        Part::Plans => plans::row_of(alloc, line),
-        Part::Unknown => String::from_str(alloc, "no heading"),
+        Part::Leaves => leaves::push_row(alloc, row, line),
+        Part::Commands => commands::push_row(alloc, row, line),
+        Part::Models => models::push_row(alloc, row, line),
+        Part::Printed => printed::push_row(alloc, row, line),
+        Part::Documents => documents::push_row(alloc, row, line),
+        Part::Requests => requests::push_row(alloc, row, line),
+        Part::Plans => plans::push_row(alloc, row, line),
+        Part::Unknown => row.push_str("no heading"),
     }
 }
 
@@ -64,7 +64,8 @@ fn print_row(rt: &HostRuntime, part: Part, line: &str) -> io::Result<Part> {
         rt.println(line)?;
         return Ok(part_named(line));
     }
-    let row = row_of(rt.alloc(), part, line)?;
+    let mut row = String::new(rt.alloc());
+    push_row(rt.alloc(), &mut row, part, line)?;
     rt.println(row.as_str())?;
     Ok(part)
 }

@@ -10,39 +10,34 @@ mod owned;
 mod pieces;
 mod pools;
 
-use crate::lines::{row, word_and_rest};
-use s3_model::OutOfMemory;
+use crate::lines::{push_line, push_value, word_and_rest};
+use crate::models::names::NAMES;
+use s3_model::content_of;
 use std::alloc::{AllocError, Global};
 
-fn single(alloc: Global, name: &str) -> Result<String, OutOfMemory> {
+/// Adds what comes of a single case.
+fn push_single(alloc: Global, out: &mut String, name: &str) -> Result<(), AllocError> {
     match name {
-        "texts" => owned::texts(alloc),
-        "lists" => owned::lists(alloc),
-        "bytes" => owned::bytes(alloc),
-        "tries" => owned::tries(alloc),
-        "pool" => pools::lent(alloc),
-        "large" => pools::large(alloc),
-        _ => held::held(alloc),
+        "texts" => owned::push_texts(alloc, out),
+        "lists" => owned::push_list(alloc, out),
+        "bytes" => owned::push_bytes(alloc, out),
+        "tries" => owned::push_tries(out),
+        "pool" => pools::push_lent(alloc, out),
+        "large" => pools::push_large(alloc, out),
+        _ => held::push_held(alloc, out),
     }
 }
 
-/// What comes of a case.
-fn answer_of(alloc: Global, line: &str) -> Result<String, OutOfMemory> {
+/// Adds a case with what comes of it.
+pub(crate) fn push_row(alloc: Global, out: &mut String, line: &str) -> Result<(), AllocError> {
+    push_line(out, line)?;
     let (name, given) = word_and_rest(line);
     match name {
-        "content" => names::content(alloc, given),
-        "find" => names::found(alloc, given),
-        "upload" => names::upload(alloc, given),
-        "pieces" => pieces::pieces(alloc, given),
-        "range" => pieces::range(alloc, given),
-        _ => single(alloc, name),
-    }
-}
-
-/// A case with what comes of it.
-pub(crate) fn row_of(alloc: Global, line: &str) -> Result<String, AllocError> {
-    match answer_of(alloc, line) {
-        Ok(answer) => row(alloc, line, answer.as_str()),
-        Err(OutOfMemory) => Err(AllocError),
+        "content" => push_value(out, content_of(given)),
+        "find" => push_value(out, NAMES.find(given)),
+        "upload" => names::push_upload(alloc, out, given),
+        "pieces" => pieces::push_pieces(out, given),
+        "range" => pieces::push_range(out, given),
+        _ => push_single(alloc, out, name),
     }
 }

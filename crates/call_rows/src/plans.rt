@@ -11,31 +11,27 @@ mod shown;
 mod sides;
 mod words;
 
-use crate::lines::row;
+use crate::lines::push_line;
 use crate::plans::errands::planned;
-use crate::plans::shown::{fault_shown, plan_shown};
+use crate::plans::shown::{push_fault, push_plan};
 use crate::plans::words::words_of;
 use std::alloc::{AllocError, Global};
 use std::mem;
 
-fn answer_of(alloc: Global, line: &str) -> Result<String, AllocError> {
+/// Adds a line with what comes of it.
+pub(crate) fn push_row(alloc: Global, out: &mut String, line: &str) -> Result<(), AllocError> {
+    push_line(out, line)?;
     match planned(alloc, &words_of(line)) {
         Some(Ok(plan)) => {
-            let shown = plan_shown(alloc, &plan);
+            let pushed = push_plan(alloc, out, &plan);
             mem::drop(plan);
-            shown
+            pushed
         }
         Some(Err(fault)) => {
-            let shown = fault_shown(alloc, &fault);
+            let pushed = push_fault(out, &fault);
             mem::drop(fault);
-            shown
+            pushed
         }
-        None => String::from_str(alloc, "no errand"),
+        None => out.push_str("no errand"),
     }
-}
-
-/// A line with what comes of it.
-pub(crate) fn row_of(alloc: Global, line: &str) -> Result<String, AllocError> {
-    let answer = answer_of(alloc, line)?;
-    row(alloc, line, answer.as_str())
 }

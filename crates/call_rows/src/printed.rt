@@ -10,7 +10,7 @@ mod tasks;
 mod values;
 mod warnings;
 
-use crate::lines::word_and_rest;
+use crate::lines::{push_line, push_text, word_and_rest};
 use crate::printed::faults::fault_line;
 use s3_model::{OutOfMemory, Text};
 use std::alloc::{AllocError, Global};
@@ -30,10 +30,8 @@ fn answer_of(alloc: Global, line: &str) -> Result<Text, OutOfMemory> {
     }
 }
 
-/// A call with the text that it answers, in quotation marks.
-pub(crate) fn row_of(alloc: Global, line: &str) -> Result<String, AllocError> {
-    match answer_of(alloc, line) {
-        Ok(answer) => format!(in alloc; "{line} => {:?}", answer.as_str()),
-        Err(OutOfMemory) => Err(AllocError),
-    }
+/// Adds a call with the text that it answers, in quotation marks.
+pub(crate) fn push_row(alloc: Global, out: &mut String, line: &str) -> Result<(), AllocError> {
+    push_line(out, line)?;
+    push_text(out, answer_of(alloc, line))
 }

@@ -10,38 +10,25 @@ mod sent;
 mod signed;
 
 use crate::lines::{word_and_rest, written};
-use s3_model::OutOfMemory;
 use std::alloc::{AllocError, Global};
 
-/// What the call of that name answers.
-fn answer_of(alloc: Global, call: &str, text: &str) -> Result<String, OutOfMemory> {
+/// Adds what the call of that name answers.
+fn push_answer(alloc: Global, out: &mut String, call: &str, text: &str) -> Result<(), AllocError> {
     match call {
-        "canonical" | "signed" => signed::canonical(alloc, call, text),
-        "keyed" => signed::keyed(alloc, text),
-        "to_sign" => signed::to_sign(alloc, text),
-        "key" => signed::key_of_a_day(alloc, text),
-        "url" => signed::url(alloc, text),
-        _ => sent::sent(alloc, call, text),
+        "canonical" | "signed" => signed::push_canonical(alloc, out, call, text),
+        "keyed" => signed::push_keyed(alloc, out, text),
+        "to_sign" => signed::push_string_to_sign(alloc, out, text),
+        "key" => signed::push_key_of_a_day(alloc, out, text),
+        "url" => signed::push_url(alloc, out, text),
+        _ => sent::push_sent(alloc, out, call, text),
     }
 }
 
-fn numbered(alloc: Global, number: &str, call: &str, text: &str) -> Result<String, OutOfMemory> {
-    let answer = answer_of(alloc, call, text)?;
-    Ok(format!(in alloc; "{number} {answer}")?)
-}
-
-/// What the call of a line answers, behind the number of the line.
-fn line_shown(alloc: Global, line: &str) -> Result<String, OutOfMemory> {
+/// Adds the number of a line with its answer.
+pub(crate) fn push_row(alloc: Global, out: &mut String, line: &str) -> Result<(), AllocError> {
     let (number, rest) = word_and_rest(line);
     let (call, spelled) = word_and_rest(rest);
+    write!(out, "{number} ")?;
     let text = written(alloc, spelled)?;
-    numbered(alloc, number, call, text.as_str())
-}
-
-/// The number of a line with its answer.
-pub(crate) fn row_of(alloc: Global, line: &str) -> Result<String, AllocError> {
-    match line_shown(alloc, line) {
-        Ok(row) => Ok(row),
-        Err(OutOfMemory) => Err(AllocError),
-    }
+    push_answer(alloc, out, call, text.as_str())
 }

@@ -1,8 +1,12 @@
 //! Commands as text.
 
-use s3_model::{Place, Times};
+use path_filters::Filters;
+use s3_model::{Endpoint, Place, Text, Times};
 use s3_words::{Command, Verb};
-use std::alloc::{AllocError, Global};
+use std::alloc::AllocError;
+
+/// The names that filters are asked about.
+const NAMES: [&str; 3] = ["a.txt", "b.log", "d/a.txt"];
 
 fn verb_name(verb: Verb) -> &'static str {
     match verb {
@@ -15,89 +19,99 @@ fn verb_name(verb: Verb) -> &'static str {
     }
 }
 
-fn place_shown(alloc: Global, place: &Option<Place>) -> Result<String, AllocError> {
+fn push_place(out: &mut String, place: &Option<Place>) -> Result<(), AllocError> {
     match place {
         Some(Place::Object { bucket, key }) => {
-            format!(in alloc; "s3:{}:{}", bucket.as_str(), key.as_str())
+            write!(out, " s3:{}:{}", bucket.as_str(), key.as_str())
         }
-        Some(Place::File { path }) => String::from_str(alloc, path.as_str()),
-        None => String::from_str(alloc, "-"),
+        Some(Place::File { path }) => write!(out, " {}", path.as_str()),
+        None => out.push_str(" -"),
     }
 }
 
-fn push_flag(text: &mut String, name: &str, given: bool) -> Result<(), AllocError> {
+fn push_endpoint(out: &mut String, endpoint: &Endpoint) -> Result<(), AllocError> {
+    write!(
+        out,
+        " at {},{},{}",
+        endpoint.written.as_str(),
+        endpoint.host.as_str(),
+        endpoint.port
+    )
+}
+
+fn push_flag(out: &mut String, name: &str, given: bool) -> Result<(), AllocError> {
     if given {
-        text.push_str(" ")?;
-        text.push_str(name)?;
+        write!(out, " {name}")
+    } else {
+        Ok(())
+    }
+}
+
+fn push_text(out: &mut String, name: &str, text: &Option<Text>) -> Result<(), AllocError> {
+    match text {
+        Some(text) => write!(out, " {name} {}", text.as_str()),
+        None => Ok(()),
+    }
+}
+
+/// Adds the flags that were given.
+fn push_flags(out: &mut String, command: &Command) -> Result<(), AllocError> {
+    let flags = [
+        ("recursive", command.recursive),
+        ("size-only", matches!(command.times, Times::SizeOnly)),
+        ("exact", matches!(command.times, Times::Exact)),
+        ("delete", command.remove_extra),
+        ("dryrun", command.mode.dryrun),
+        ("quiet", command.mode.quiet),
+        ("errors", command.mode.only_errors),
+    ];
+    for (name, given) in flags {
+        push_flag(out, name, given)?;
     }
     Ok(())
 }
 
-/// The flags that were given.
-fn push_flags(text: &mut String, command: &Command) -> Result<(), AllocError> {
-    push_flag(text, "recursive", command.recursive)?;
-    match command.times {
-        Times::Usual => {}
-        Times::SizeOnly => text.push_str(" size-only")?,
-        Times::Exact => text.push_str(" exact")?,
+fn keeps_all(filters: &Filters) -> bool {
+    for name in NAMES {
+        if !filters.keeps(name) {
+            return false;
+        }
     }
-    push_flag(text, "delete", command.remove_extra)?;
-    push_flag(text, "dryrun", command.mode.dryrun)?;
-    push_flag(text, "quiet", command.mode.quiet)?;
-    push_flag(text, "errors", command.mode.only_errors)
+    true
 }
 
-/// Which of three names the filters keep, where they do not keep all.
-fn push_kept(text: &mut String, command: &Command) -> Result<(), AllocError> {
-    let names = ["a.txt", "b.log", "d/a.txt"];
-    if names.iter().all(|name| command.filters.keeps(name)) {
+/// Adds which of the names the filters keep, where they do not keep all.
+fn push_kept(out: &mut String, filters: &Filters) -> Result<(), AllocError> {
+    if keeps_all(filters) {
         return Ok(());
     }
-    text.push_str(" keeps")?;
-    for name in names {
-        push_flag(text, name, command.filters.keeps(name))?;
+    out.push_str(" keeps")?;
+    for name in NAMES {
+        push_flag(out, name, filters.keeps(name))?;
     }
     Ok(())
 }
 
-fn push_values(alloc: Global, text: &mut String, command: &Command) -> Result<(), AllocError> {
-    if let Some(content) = &command.content {
-        text.push_str(" type ")?;
-        text.push_str(content.as_str())?;
+fn push_values(out: &mut String, command: &Command) -> Result<(), AllocError> {
+    push_text(out, "type", &command.content)?;
+    push_flag(out, "no-guess", !command.guess)?;
+    if command.expires != 3600 {
+        write!(out, " expires {}", command.expires)?;
     }
-    push_flag(text, "no-guess", !command.guess)?;
-    let expires = command.expires;
-    if expires != 3600 {
-        let number = format!(in alloc; " expires {expires}")?;
-        text.push_str(number.as_str())?;
-    }
-    push_kept(text, command)
+    push_kept(out, &command.filters)
 }
 
-fn push_profile(text: &mut String, command: &Command) -> Result<(), AllocError> {
-    if let Some(region) = &command.region {
-        text.push_str(" region ")?;
-        text.push_str(region.as_str())?;
-    }
-    if let Some(profile) = &command.profile {
-        text.push_str(" profile ")?;
-        text.push_str(profile.as_str())?;
-    }
-    Ok(())
+fn push_profile(out: &mut String, command: &Command) -> Result<(), AllocError> {
+    push_text(out, "region", &command.region)?;
+    push_text(out, "profile", &command.profile)
 }
 
-pub(crate) fn command_shown(alloc: Global, command: &Command) -> Result<String, AllocError> {
-    let verb = verb_name(command.verb);
-    let from = place_shown(alloc, &command.from)?;
-    let to = place_shown(alloc, &command.to)?;
-    let (written, host) = (
-        command.endpoint.written.as_str(),
-        command.endpoint.host.as_str(),
-    );
-    let port = command.endpoint.port;
-    let mut text = format!(in alloc; "{verb} {from} {to} at {written},{host},{port}")?;
-    push_profile(&mut text, command)?;
-    push_flags(&mut text, command)?;
-    push_values(alloc, &mut text, command)?;
-    Ok(text)
+pub(crate) fn push_command(out: &mut String, command: &Command) -> Result<(), AllocError> {
+    out.push_str(verb_name(command.verb))?;
+    push_place(out, &command.from)?;
+    push_place(out, &command.to)?;
+    push_endpoint(out, &command.endpoint)?;
+    push_profile(out, command)?;
+    push_flags(out, command)?;
+    push_values(out, command)
 }

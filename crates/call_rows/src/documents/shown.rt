@@ -1,6 +1,6 @@
 //! Values and faults as lines.
 
-use crate::lines::value_shown;
+use crate::lines::push_value;
 use s3_model::{Entry, Listed, Text};
 use s3_replies::{
     DocFault, read_buckets, read_completed, read_copied, read_created, read_error, read_list,
@@ -8,120 +8,105 @@ use s3_replies::{
 use std::alloc::{AllocError, Global};
 use std::mem;
 
-fn text_shown(alloc: Global, answer: Result<Text, DocFault>) -> Result<String, AllocError> {
+fn push_text(out: &mut String, answer: Result<Text, DocFault>) -> Result<(), AllocError> {
     match answer {
-        Ok(text) => format!(in alloc; "Ok {:?}", text.as_str()),
-        Err(fault) => value_shown(alloc, fault),
+        Ok(text) => write!(out, "Ok {:?}", text.as_str()),
+        Err(fault) => push_value(out, fault),
     }
 }
 
-fn error_shown(alloc: Global, doc: &[u8]) -> Result<String, AllocError> {
+fn push_error(alloc: Global, out: &mut String, doc: &[u8]) -> Result<(), AllocError> {
     match read_error(alloc, doc) {
-        Ok((code, message)) => {
-            format!(in alloc; "Ok {:?} {:?}", code.as_str(), message.as_str())
-        }
-        Err(fault) => value_shown(alloc, fault),
+        Ok((code, message)) => write!(out, "Ok {:?} {:?}", code.as_str(), message.as_str()),
+        Err(fault) => push_value(out, fault),
     }
 }
 
-fn completed_shown(alloc: Global, doc: &[u8]) -> Result<String, AllocError> {
+fn push_completed(alloc: Global, out: &mut String, doc: &[u8]) -> Result<(), AllocError> {
     match read_completed(alloc, doc) {
-        Ok(()) => String::from_str(alloc, "Ok"),
-        Err(fault) => value_shown(alloc, fault),
+        Ok(()) => out.push_str("Ok"),
+        Err(fault) => push_value(out, fault),
     }
 }
 
-fn entry_shown(alloc: Global, entry: &Entry) -> Result<String, AllocError> {
-    format!(in alloc;
-        " [{:?} {} {:?} {}]",
-        entry.key.as_str(),
-        entry.size,
-        entry.etag.as_str(),
-        entry.micros
-    )
+fn push_entry(out: &mut String, entry: &Entry) -> Result<(), AllocError> {
+    let (key, etag) = (entry.key.as_str(), entry.etag.as_str());
+    write!(out, " [{key:?} {} {etag:?} {}]", entry.size, entry.micros)
 }
 
-fn push_entry(alloc: Global, shown: &mut String, entry: &Entry) -> Result<(), AllocError> {
-    let entry = entry_shown(alloc, entry)?;
-    shown.push_str(entry.as_str())
-}
-
-fn push_entries(alloc: Global, shown: &mut String, entries: &[Entry]) -> Result<(), AllocError> {
+fn push_entries(out: &mut String, entries: &[Entry]) -> Result<(), AllocError> {
     for entry in entries {
-        push_entry(alloc, shown, entry)?;
+        push_entry(out, entry)?;
     }
     Ok(())
 }
 
-/// A text behind a word.
-fn with_text(alloc: Global, word: &str, text: &str) -> Result<String, AllocError> {
-    format!(in alloc; "{word}{text:?}")
+fn push_prefix(out: &mut String, prefix: &Text) -> Result<(), AllocError> {
+    write!(out, " {:?}", prefix.as_str())
 }
 
-fn push_text(alloc: Global, shown: &mut String, word: &str, text: &Text) -> Result<(), AllocError> {
-    let text = with_text(alloc, word, text.as_str())?;
-    shown.push_str(text.as_str())
-}
-
-fn push_prefixes(alloc: Global, shown: &mut String, prefixes: &[Text]) -> Result<(), AllocError> {
+fn push_prefixes(out: &mut String, prefixes: &[Text]) -> Result<(), AllocError> {
     for prefix in prefixes {
-        push_text(alloc, shown, " ", prefix)?;
+        push_prefix(out, prefix)?;
     }
     Ok(())
 }
 
-fn push_token(alloc: Global, shown: &mut String, token: &Option<Text>) -> Result<(), AllocError> {
+fn push_token(out: &mut String, token: &Option<Text>) -> Result<(), AllocError> {
     match token {
-        Some(token) => push_text(alloc, shown, " token ", token),
+        Some(token) => write!(out, " token {:?}", token.as_str()),
         None => Ok(()),
     }
 }
 
-fn page_shown(alloc: Global, page: &Listed) -> Result<String, AllocError> {
-    let mut shown = String::from_str(alloc, if page.more { "Ok true" } else { "Ok false" })?;
-    push_token(alloc, &mut shown, &page.token)?;
-    push_entries(alloc, &mut shown, page.entries.as_slice())?;
-    push_prefixes(alloc, &mut shown, page.prefixes.as_slice())?;
-    Ok(shown)
+fn push_page(out: &mut String, page: &Listed) -> Result<(), AllocError> {
+    out.push_str(if page.more { "Ok true" } else { "Ok false" })?;
+    push_token(out, &page.token)?;
+    push_entries(out, page.entries.as_slice())?;
+    push_prefixes(out, page.prefixes.as_slice())
 }
 
-fn list_shown(alloc: Global, doc: &[u8]) -> Result<String, AllocError> {
+fn push_list(alloc: Global, out: &mut String, doc: &[u8]) -> Result<(), AllocError> {
     match read_list(alloc, doc) {
         Ok(page) => {
-            let shown = page_shown(alloc, &page);
+            let pushed = push_page(out, &page);
             mem::drop(page);
-            shown
+            pushed
         }
-        Err(fault) => value_shown(alloc, fault),
+        Err(fault) => push_value(out, fault),
     }
 }
 
-fn rows_shown(alloc: Global, entries: &[Entry]) -> Result<String, AllocError> {
-    let mut shown = String::from_str(alloc, "Ok")?;
-    push_entries(alloc, &mut shown, entries)?;
-    Ok(shown)
+fn push_rows(out: &mut String, entries: &[Entry]) -> Result<(), AllocError> {
+    out.push_str("Ok")?;
+    push_entries(out, entries)
 }
 
-fn buckets_shown(alloc: Global, doc: &[u8]) -> Result<String, AllocError> {
+fn push_buckets(alloc: Global, out: &mut String, doc: &[u8]) -> Result<(), AllocError> {
     match read_buckets(alloc, doc) {
         Ok(entries) => {
-            let shown = rows_shown(alloc, entries.as_slice());
+            let pushed = push_rows(out, entries.as_slice());
             mem::drop(entries);
-            shown
+            pushed
         }
-        Err(fault) => value_shown(alloc, fault),
+        Err(fault) => push_value(out, fault),
     }
 }
 
-/// What a reader answers to a document.
-pub(crate) fn answer_of(alloc: Global, reader: &str, doc: &[u8]) -> Result<String, AllocError> {
+/// Adds what a reader answers to a document.
+pub(crate) fn push_answer(
+    alloc: Global,
+    out: &mut String,
+    reader: &str,
+    doc: &[u8],
+) -> Result<(), AllocError> {
     match reader {
-        "created" => text_shown(alloc, read_created(alloc, doc)),
-        "copied" => text_shown(alloc, read_copied(alloc, doc, false)),
-        "part" => text_shown(alloc, read_copied(alloc, doc, true)),
-        "completed" => completed_shown(alloc, doc),
-        "buckets" => buckets_shown(alloc, doc),
-        "list" => list_shown(alloc, doc),
-        _ => error_shown(alloc, doc),
+        "created" => push_text(out, read_created(alloc, doc)),
+        "copied" => push_text(out, read_copied(alloc, doc, false)),
+        "part" => push_text(out, read_copied(alloc, doc, true)),
+        "completed" => push_completed(alloc, out, doc),
+        "buckets" => push_buckets(alloc, out, doc),
+        "list" => push_list(alloc, out, doc),
+        _ => push_error(alloc, out, doc),
     }
 }

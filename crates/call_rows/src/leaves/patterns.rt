@@ -10,11 +10,7 @@ pub(crate) fn stands(alloc: Global, pattern: &str, path: &str) -> Result<bool, O
 }
 
 /// Adds the filter that a word spells: `+*.txt` keeps what matches, `-*.txt` leaves it out.
-pub(crate) fn push_filter(
-    alloc: Global,
-    filters: &mut Filters,
-    word: &str,
-) -> Result<(), OutOfMemory> {
+fn push_filter(alloc: Global, filters: &mut Filters, word: &str) -> Result<(), OutOfMemory> {
     if let Some(pattern) = word.strip_prefix("+") {
         return filters.push(true, Pattern::read(alloc, pattern)?);
     }
@@ -24,11 +20,17 @@ pub(crate) fn push_filter(
     Ok(())
 }
 
-/// Whether these filters keep a path.
-pub(crate) fn keeps(alloc: Global, words: &str, path: &str) -> Result<bool, OutOfMemory> {
+/// The filters that words spell.
+pub(crate) fn filters_of(alloc: Global, words: &str) -> Result<Filters, OutOfMemory> {
     let mut filters = Filters::make(alloc);
     for word in words.split(' ') {
         push_filter(alloc, &mut filters, word)?;
     }
+    Ok(filters)
+}
+
+/// Whether these filters keep a path.
+pub(crate) fn keeps(alloc: Global, words: &str, path: &str) -> Result<bool, OutOfMemory> {
+    let filters = filters_of(alloc, words)?;
     Ok(filters.keeps(path))
 }

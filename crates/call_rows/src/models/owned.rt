@@ -1,12 +1,21 @@
 //! Texts, lists, bytes and tries, with ample memory.
 
+ghost use Rattle.std.specs.Prelude.{◌≡◌, []};
+
+use crate::lines::push_value;
 use s3_model::{Bytes, List, Mark, OutOfMemory, Text, Tries};
 use std::alloc::{AllocError, Global};
 
-pub(crate) fn texts(alloc: Global) -> Result<String, OutOfMemory> {
-    let copy = Text::of(alloc, "key é")?.copy()?;
+fn copy_of(alloc: Global, text: &str) -> Result<Text, OutOfMemory> {
+    Text::of(alloc, text)?.copy()
+}
+
+pub(crate) fn push_texts(alloc: Global, out: &mut String) -> Result<(), AllocError> {
     let owned = Text::from(String::from_str(alloc, "ab")?);
-    Ok(format!(in alloc; "{}, {}", copy.as_str(), owned.as_str())?)
+    match copy_of(alloc, "key é") {
+        Ok(copy) => write!(out, "{}, {}", copy.as_str(), owned.as_str()),
+        Err(fault) => push_value(out, fault),
+    }
 }
 
 /// How many items there are, whether there are none, and the items of three places.
@@ -21,41 +30,59 @@ fn seen(list: &List<u32>) -> (usize, bool, Option<u32>, Option<u32>, Option<u32>
     )
 }
 
-pub(crate) fn lists(alloc: Global) -> Result<String, OutOfMemory> {
-    let mut list: List<u32> = List::make(alloc);
-    let empty = seen(&list);
+fn push_seen(out: &mut String, list: &List<u32>) -> Result<(), AllocError> {
+    write!(out, "{:?} ", seen(list))
+}
+
+fn two_items(alloc: Global) -> Result<List<u32>, OutOfMemory> {
+    let mut list = List::make(alloc);
     list.reserve(2)?;
     list.push(7);
     list.push(9);
-    let full = seen(&list);
-    Ok(format!(in alloc; "{empty:?} {full:?} {:?}", list.as_slice())?)
+    Ok(list)
 }
 
-fn push_bytes(alloc: Global, shown: &mut String, bytes: &Bytes) -> Result<(), AllocError> {
+pub(crate) fn push_list(alloc: Global, out: &mut String) -> Result<(), AllocError> {
+    push_seen(out, &List::make(alloc))?;
+    match two_items(alloc) {
+        Ok(list) => write!(out, "{:?} {:?}", seen(&list), list.as_slice()),
+        Err(fault) => push_value(out, fault),
+    }
+}
+
+fn push_state(out: &mut String, bytes: &Bytes) -> Result<(), AllocError> {
     let text = str::from_utf8(bytes.as_slice()).unwrap_or("no UTF-8");
-    let piece = format!(in alloc; " {text:?} of {};", bytes.room())?;
-    shown.push_str(piece.as_str())
+    write!(out, " {text:?} of {};", bytes.room())
 }
 
-pub(crate) fn bytes(alloc: Global) -> Result<String, OutOfMemory> {
-    let mut shown = String::from_str(alloc, "bytes:")?;
-    let mut bytes = Bytes::make(alloc, 4)?;
+/// Adds the states of a place for four bytes: one that is filled, one without bytes, and one that was written anew.
+fn push_changes(out: &mut String, bytes: &mut Bytes) -> Result<(), AllocError>
+    requires empty { bytes.old.bytes ≡ [] }
+    requires room { bytes.old.room ≡ 4 }
+{
     bytes.add(b"ab");
     bytes.add(b"cd");
-    push_bytes(alloc, &mut shown, &bytes)?;
+    push_state(out, bytes)?;
     bytes.clear();
-    push_bytes(alloc, &mut shown, &bytes)?;
+    push_state(out, bytes)?;
     bytes.add(b"x");
     bytes.grow(3);
     bytes.as_mut_slice().copy_from_slice(b"wxyz");
     bytes.truncate(3);
-    push_bytes(alloc, &mut shown, &bytes)?;
-    Ok(shown)
+    push_state(out, bytes)
 }
 
-pub(crate) fn tries(alloc: Global) -> Result<String, OutOfMemory> {
+pub(crate) fn push_bytes(alloc: Global, out: &mut String) -> Result<(), AllocError> {
+    out.push_str("bytes:")?;
+    match Bytes::make(alloc, 4) {
+        Ok(mut bytes) => push_changes(out, &mut bytes),
+        Err(fault) => push_value(out, fault),
+    }
+}
+
+pub(crate) fn push_tries(out: &mut String) -> Result<(), AllocError> {
     let mut tries = Tries::none();
     tries.add(Mark::Uncertain);
     tries.add(Mark::Success);
-    Ok(format!(in alloc; "{:?}", tries.as_slice())?)
+    push_value(out, tries.as_slice())
 }

@@ -1,12 +1,11 @@
 //! Pieces at the sizes in use.
 
-ghost use Rattle.std.specs.Prelude.{◌≤◌, IfSome};
 ghost use Rattle.s3_model.specs.Validity.{IsValidLimits};
 
 use crate::lines::{number, small_number, word_and_rest};
 use chunk_plan::{adjust, part_count, part_range, pieces_cover_the_object};
-use s3_model::{Limits, OutOfMemory};
-use std::alloc::{AllocError, Global};
+use s3_model::Limits;
+use std::alloc::AllocError;
 
 const S3: Limits = Limits {
     min_part: 5242880,
@@ -31,46 +30,43 @@ fn limits_named(name: &str) -> Limits
     }
 }
 
-/// A part, where there is one of that number.
-fn range_shown(alloc: Global, size: u64, length: u64, number: u32) -> Result<String, AllocError> {
+/// Adds a part, where there is one of that number.
+fn push_part(out: &mut String, size: u64, length: u64, number: u32) -> Result<(), AllocError> {
     if length == 0 || size > 1_099_511_627_776 {
-        return String::from_str(alloc, "no length");
+        return out.push_str("no length");
     }
     if size.div_ceil(length) > 10_000 {
-        return String::from_str(alloc, "too many parts");
+        return out.push_str("too many parts");
     }
     if number == 0 || number > part_count(size, length) {
-        return String::from_str(alloc, "no part");
+        return out.push_str("no part");
     }
     let (place, length) = part_range(size, length, number);
-    format!(in alloc; "{place} {length}")
+    write!(out, "{place} {length}")
 }
 
-pub(crate) fn range(alloc: Global, given: &str) -> Result<String, OutOfMemory> {
+pub(crate) fn push_range(out: &mut String, given: &str) -> Result<(), AllocError> {
     let (size, given) = word_and_rest(given);
     let (length, part) = word_and_rest(given);
-    Ok(range_shown(alloc, number(size), number(length), small_number(part))?)
+    push_part(out, number(size), number(length), small_number(part))
 }
 
-/// The length of a part, and how many parts there are, where the limits allow the chunk and the size.
-fn adjusted(limits: &Limits, chunk: u64, size: u64) -> Option<(u64, u32)>
+/// Adds how long the parts of an object are, how many there are, and the last, where the limits allow chunk and size.
+fn push_adjusted(out: &mut String, limits: &Limits, chunk: u64, size: u64) -> Result<(), AllocError>
     requires { IsValidLimits limits.now }
 {
     if chunk == 0 || size > limits.max_object {
-        return None;
+        return out.push_str("not within the limits");
     }
     let length = adjust(chunk, size, limits);
-    Some((length, part_count(size, length)))
+    let count = part_count(size, length);
+    write!(out, "{length} {count} ")?;
+    push_part(out, size, length, count)
 }
 
-pub(crate) fn pieces(alloc: Global, given: &str) -> Result<String, OutOfMemory> {
+pub(crate) fn push_pieces(out: &mut String, given: &str) -> Result<(), AllocError> {
     pieces_cover_the_object();
     let (name, given) = word_and_rest(given);
     let (chunk, size) = word_and_rest(given);
-    let limits = limits_named(name);
-    let Some((length, count)) = adjusted(&limits, number(chunk), number(size)) else {
-        return Ok(String::from_str(alloc, "not within the limits")?);
-    };
-    let last = range_shown(alloc, number(size), length, count)?;
-    Ok(format!(in alloc; "{length} {count} {last}")?)
+    push_adjusted(out, &limits_named(name), number(chunk), number(size))
 }

@@ -2,9 +2,10 @@
 
 ghost use Rattle.std.specs.Prelude.{◌≡◌, ◌≤◌, ◌+◌, []};
 
+use crate::lines::push_value;
 use chunk_plan::{Part, PartPool};
 use s3_model::OutOfMemory;
-use std::alloc::Global;
+use std::alloc::{AllocError, Global};
 
 /// How many parts are free, and how many are lent.
 fn counts(pool: &PartPool) -> (u32, u32) {
@@ -60,7 +61,9 @@ fn lend_both(pool: &mut PartPool) -> Seen
 }
 
 /// The sizes of both parts, and the counts when they are back.
-fn lend_larger(pool: &mut PartPool) -> ((usize, u64), (usize, u64), (u32, u32))
+type Larger = ((usize, u64), (usize, u64), (u32, u32));
+
+fn lend_larger(pool: &mut PartPool) -> Larger
     requires { pool.old.free ≡ 2 }
 {
     let (first, second) = two_of(pool);
@@ -71,13 +74,19 @@ fn lend_larger(pool: &mut PartPool) -> ((usize, u64), (usize, u64), (u32, u32))
 }
 
 /// A pool whose parts are lent, are enlarged, then by less than they have, and are lent again.
-pub(crate) fn lent(alloc: Global) -> Result<String, OutOfMemory> {
+fn lend_and_enlarge(alloc: Global) -> Result<(Seen, Larger), OutOfMemory> {
     let mut pool = PartPool::make(alloc, 2, 4)?;
     let seen = lend_both(&mut pool);
     pool.enlarge(16)?;
     pool.enlarge(8)?;
-    let larger = lend_larger(&mut pool);
-    Ok(format!(in alloc; "{seen:?} {larger:?}")?)
+    Ok((seen, lend_larger(&mut pool)))
+}
+
+pub(crate) fn push_lent(alloc: Global, out: &mut String) -> Result<(), AllocError> {
+    match lend_and_enlarge(alloc) {
+        Ok((seen, larger)) => write!(out, "{seen:?} {larger:?}"),
+        Err(fault) => push_value(out, fault),
+    }
 }
 
 /// The room of a part, which comes back.
@@ -94,19 +103,26 @@ fn room_of_one(pool: &mut PartPool) -> u64
     room
 }
 
-/// One part of 1 GiB.
-fn single(alloc: Global) -> Result<u64, OutOfMemory> {
-    let mut pool = PartPool::make(alloc, 1, 8388608)?;
-    pool.enlarge(1073741824)?;
-    Ok(room_of_one(&mut pool))
+/// The rooms of one of so many parts of 8 MiB, and of one that is enlarged to so many bytes.
+fn rooms_of_one(alloc: Global, count: u32, bytes: u64) -> Result<(u64, u64), OutOfMemory>
+    requires { 1 ≤ count }
+{
+    let mut pool = PartPool::make(alloc, count, 8388608)?;
+    let before = room_of_one(&mut pool);
+    pool.enlarge(bytes)?;
+    Ok((before, room_of_one(&mut pool)))
 }
 
 /// The sizes of transfers: ten parts of 8 MiB, then of 128 MiB, and one part of 1 GiB.
-pub(crate) fn large(alloc: Global) -> Result<String, OutOfMemory> {
-    let single = single(alloc)?;
-    let mut pool = PartPool::make(alloc, 10, 8388608)?;
-    let before = room_of_one(&mut pool);
-    pool.enlarge(134217728)?;
-    let after = room_of_one(&mut pool);
-    Ok(format!(in alloc; "{before} {after} {single}")?)
+fn transfer_sizes(alloc: Global) -> Result<(u64, u64, u64), OutOfMemory> {
+    let (_, single) = rooms_of_one(alloc, 1, 1073741824)?;
+    let (before, after) = rooms_of_one(alloc, 10, 134217728)?;
+    Ok((before, after, single))
+}
+
+pub(crate) fn push_large(alloc: Global, out: &mut String) -> Result<(), AllocError> {
+    match transfer_sizes(alloc) {
+        Ok((before, after, single)) => write!(out, "{before} {after} {single}"),
+        Err(fault) => push_value(out, fault),
+    }
 }

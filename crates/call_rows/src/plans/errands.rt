@@ -4,7 +4,7 @@ ghost use Rattle.std.specs.Prelude.{◌≡◌, IfSome, Some, None};
 ghost use Rattle.call_rows.specs.Sides.{IsListedAt, IsListedBy};
 ghost use Rattle.sync_plan.specs.Errands.{RemovesFrom, TransfersBetween};
 
-use crate::leaves::patterns::push_filter;
+use crate::leaves::patterns::filters_of;
 use crate::lines::text_of;
 use crate::plans::sides::{pages_at, pages_of, place_of};
 use crate::plans::words::Words;
@@ -26,15 +26,6 @@ fn limits_of(flags: &str) -> Limits {
             8
         },
     }
-}
-
-/// The filters of a line; those for which there is memory.
-fn filters_of(alloc: Global, text: &str) -> Filters {
-    let mut filters = Filters::make(alloc);
-    for word in text.split(' ') {
-        let _ = push_filter(alloc, &mut filters, word);
-    }
-    filters
 }
 
 fn times_of(word: &str) -> Times {
@@ -86,7 +77,7 @@ fn content_of(alloc: Global, flags: &str) -> Option<Text> {
 
 fn wish_of(alloc: Global, words: &Words<'_>) -> Wish {
     Wish {
-        filters: filters_of(alloc, words.filters),
+        filters: filters_of(alloc, words.filters).unwrap_or(Filters::make(alloc)),
         content: content_of(alloc, words.flags),
     }
 }

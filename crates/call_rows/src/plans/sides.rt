@@ -3,7 +3,7 @@
 ghost use Rattle.std.specs.Prelude.{◌≡◌, IfSome};
 ghost use Rattle.call_rows.specs.Sides.{IsListedAt, IsListedBy};
 
-use crate::lines::text_of;
+use crate::lines::{number, parted, text_of};
 use list_walk::Pages;
 use s3_model::{Entries, Entry, Listed, OutOfMemory, Place, Texts};
 use std::alloc::Global;
@@ -21,42 +21,33 @@ pub(crate) fn place_of(alloc: Global, text: &str) -> Place {
     }
 }
 
-fn entry_of(alloc: Global, text: &str) -> Option<Entry> {
-    let (key, rest) = text.split_once(',')?;
-    let (size, rest) = rest.split_once(',')?;
-    let (micros, etag) = rest.split_once(',')?;
-    let size = size.parse().ok()?;
-    let micros = micros.parse().ok()?;
-    Some(Entry {
+fn entry_of(alloc: Global, word: &str) -> Entry {
+    let (key, rest) = parted(word, ",");
+    let (size, rest) = parted(rest, ",");
+    let (micros, etag) = parted(rest, ",");
+    Entry {
         key: text_of(alloc, key),
-        size,
+        size: number(size),
         etag: text_of(alloc, etag),
-        micros,
-    })
-}
-
-fn push_entry(alloc: Global, entries: &mut Entries, word: &str) -> Option<()> {
-    let entry = entry_of(alloc, word)?;
-    match entries.reserve(1) {
-        Ok(()) => {
-            entries.push(entry);
-            Some(())
-        }
-        Err(OutOfMemory) => {
-            mem::drop(entry);
-            None
-        }
+        micros: number(micros),
     }
 }
 
-fn entries_of(alloc: Global, text: &str) -> Option<Entries> {
+fn push_entry(alloc: Global, entries: &mut Entries, word: &str) -> Result<(), OutOfMemory> {
+    entries.reserve(1)?;
+    entries.push(entry_of(alloc, word));
+    Ok(())
+}
+
+/// The entries of a list; those for which there is memory.
+fn entries_of(alloc: Global, text: &str) -> Entries {
     let mut entries = Entries::make(alloc);
     for word in text.split(' ') {
         if !word.is_empty() {
-            push_entry(alloc, &mut entries, word)?;
+            let _ = push_entry(alloc, &mut entries, word);
         }
     }
-    Some(entries)
+    entries
 }
 
 /// A listing of which this page has come, if it is in byte order.
@@ -94,7 +85,7 @@ fn listed(alloc: Global, prefix: &str, entries: Entries) -> Option<Pages>
 pub(crate) fn pages_of(alloc: Global, at: &Place, entries: &str) -> Option<Pages>
     ensures { IfSome result (λ pages. IsListedBy at.now pages.prefix) }
 {
-    let entries = entries_of(alloc, entries)?;
+    let entries = entries_of(alloc, entries);
     match at {
         Place::Object { key, .. } => listed(alloc, key.as_str(), entries),
         Place::File { .. } => listed(alloc, "", entries),

@@ -7,6 +7,7 @@ use crate::printed::values::{front_and_rest, op_of, why_of};
 use result_lines::cause_text;
 use s3_model::{Cause, FileCall, OutOfMemory, Reason, Text};
 use std::alloc::Global;
+use std::mem;
 
 /// A service's refusal: the operation, the code and the message.
 fn refusal(alloc: Global, given: &str) -> Cause
@@ -85,5 +86,8 @@ pub(crate) fn cause_of(alloc: Global, written: &str) -> Cause
 /// The text of a cause, behind which the destination stands.
 pub(crate) fn answer(alloc: Global, given: &str) -> Result<Text, OutOfMemory> {
     let (cause, dest) = front_and_rest(given);
-    cause_text(alloc, &cause_of(alloc, cause), dest)
+    let cause = cause_of(alloc, cause);
+    let text = cause_text(alloc, &cause, dest);
+    mem::drop(cause);
+    text
 }

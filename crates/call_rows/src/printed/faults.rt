@@ -2,6 +2,7 @@
 
 ghost use Rattle.result_lines.specs.Faults.{IsListingFault, IsPlanFault, IsWalkFault};
 
+use crate::commands::words_of;
 use crate::lines::{number, small_number, text_of, word_and_rest};
 use crate::printed::causes::cause_of;
 use crate::printed::values::front_and_rest;
@@ -12,15 +13,8 @@ use result_lines::{
 use s3_model::{
     BadListing, EndpointFault, OutOfMemory, PlanFault, ProfileFault, Text, WalkFault, WordFault,
 };
-use std::alloc::{AllocError, Global};
-
-fn words(alloc: Global, line: &str) -> Result<Vec<String>, AllocError> {
-    let mut words = Vec::new(alloc);
-    for word in line.split(' ') {
-        words.push(String::from_str(alloc, word)?)?;
-    }
-    Ok(words)
-}
+use std::alloc::Global;
+use std::mem;
 
 /// A fault of the words, of which it names that one.
 fn word_fault(name: &str, place: usize) -> WordFault {
@@ -46,7 +40,7 @@ fn word_fault(name: &str, place: usize) -> WordFault {
 fn of_words(alloc: Global, given: &str) -> Result<Text, OutOfMemory> {
     let (fault, line) = front_and_rest(given);
     let (name, place) = word_and_rest(fault);
-    let words = words(alloc, line)?;
+    let words = words_of(alloc, line)?;
     word_line(
         alloc,
         words.as_slice(),
@@ -79,7 +73,10 @@ fn plan_fault(alloc: Global, name: &str, given: &str) -> PlanFault
 
 fn of_a_plan(alloc: Global, given: &str) -> Result<Text, OutOfMemory> {
     let (name, given) = word_and_rest(given);
-    plan_line(alloc, &plan_fault(alloc, name, given))
+    let fault = plan_fault(alloc, name, given);
+    let line = plan_line(alloc, &fault);
+    mem::drop(fault);
+    line
 }
 
 fn walk_fault(name: &str) -> WalkFault
@@ -117,6 +114,13 @@ fn listing_fault(alloc: Global, name: &str, given: &str) -> BadListing
 fn of_a_listing(alloc: Global, given: &str) -> Result<Text, OutOfMemory> {
     let (name, given) = word_and_rest(given);
     listing_line(alloc, &listing_fault(alloc, name, given))
+}
+
+fn of_an_answer(alloc: Global, given: &str) -> Result<Text, OutOfMemory> {
+    let cause = cause_of(alloc, given);
+    let line = answer_line(alloc, &cause);
+    mem::drop(cause);
+    line
 }
 
 fn bad_setting(alloc: Global, given: &str) -> ProfileFault {
@@ -159,7 +163,7 @@ pub(crate) fn fault_line(alloc: Global, call: &str, given: &str) -> Result<Text,
         "settings" => of_settings(alloc, given),
         "plan" => of_a_plan(alloc, given),
         "walk" => walk_line(alloc, walk_fault(given)),
-        "answer" => answer_line(alloc, &cause_of(alloc, given)),
+        "answer" => of_an_answer(alloc, given),
         "listing" => of_a_listing(alloc, given),
         "unread" => Text::of(alloc, unread_line()),
         _ => Text::of(alloc, memory_line()),

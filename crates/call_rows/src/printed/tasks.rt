@@ -8,6 +8,7 @@ use crate::printed::values::{front_and_rest, place_of};
 use result_lines::{Line, Mode, line_of, status_of};
 use s3_model::{Kind, OutOfMemory, Outcome, Outcomes, Task, Text};
 use std::alloc::Global;
+use std::mem;
 
 fn kind_of(name: &str) -> Kind {
     match name {
@@ -81,7 +82,10 @@ pub(crate) fn line(alloc: Global, given: &str) -> Result<Text, OutOfMemory> {
     let (options, given) = front_and_rest(given);
     let (ended, task) = front_and_rest(given);
     let task = task_of(alloc, options.contains("moves"), task);
-    let line = line_of(alloc, &task, &outcome_of(alloc, ended), mode_of(options));
+    let outcome = outcome_of(alloc, ended);
+    let line = line_of(alloc, &task, &outcome, mode_of(options));
+    mem::drop(outcome);
+    mem::drop(task);
     answer(alloc, line)
 }
 

@@ -7,6 +7,7 @@ use crate::printed::values::place_of;
 use result_lines::warning_of;
 use s3_model::{KeySkip, OutOfMemory, Text, Warning};
 use std::alloc::Global;
+use std::mem;
 
 /// A place that is left out.
 fn skipped(alloc: Global, why: &str, place: &str) -> Warning
@@ -37,5 +38,8 @@ fn warning(alloc: Global, name: &str, given: &str) -> Warning
 /// The line of a warning.
 pub(crate) fn line(alloc: Global, given: &str) -> Result<Text, OutOfMemory> {
     let (name, given) = word_and_rest(given);
-    warning_of(alloc, &warning(alloc, name, given))
+    let warning = warning(alloc, name, given);
+    let line = warning_of(alloc, &warning);
+    mem::drop(warning);
+    line
 }

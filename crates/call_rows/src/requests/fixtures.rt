@@ -61,11 +61,6 @@ pub(crate) fn pairs(alloc: Global, spelled: &str) -> Pairs {
     pairs
 }
 
-/// A text between quotes, with its escapes.
-pub(crate) fn text_shown(alloc: Global, text: &str) -> Result<String, OutOfMemory> {
-    Ok(format!(in alloc; "{text:?}")?)
-}
-
 /// The keys of Amazon's examples, with the session token of the values.
 pub(crate) fn keys(alloc: Global, values: &str) -> Keys {
     Keys {

@@ -1,11 +1,11 @@
 //! What goes out for an ask: its document and its head.
 
-use crate::lines::word_and_rest;
+use crate::lines::{push_text, push_value, word_and_rest};
 use crate::requests::asks::ask_named;
-use crate::requests::fixtures::{MOMENT, endpoint, keys, said, text_shown};
+use crate::requests::fixtures::{MOMENT, endpoint, keys, said};
 use s3_model::{Ask, Endpoint, OutOfMemory, Text};
 use s3_requests::{HeadRoom, HexHash, Signer, body_text, head_text, payload_hash};
-use std::alloc::Global;
+use std::alloc::{AllocError, Global};
 use std::mem;
 
 /// The SHA-256 and the length of a body.
@@ -80,45 +80,61 @@ fn second_head(
 }
 
 /// A head, the second one where that is asked for.
-fn head(alloc: Global, call: &str, ask: &Ask, values: &str) -> Result<String, OutOfMemory> {
+fn head(alloc: Global, call: &str, ask: &Ask, values: &str) -> Result<Text, OutOfMemory> {
     let payload = payload_of(alloc, ask, values)?;
-    let head = match call {
+    match call {
         "second" => second_head(alloc, ask, &payload, values),
         _ => single_head(alloc, ask, &payload, values),
-    };
-    text_shown(alloc, head?.as_str())
-}
-
-/// The document of an ask.
-fn document(alloc: Global, ask: &Ask) -> Result<String, OutOfMemory> {
-    let document = body_text(alloc, ask)?;
-    let text = str::from_utf8(document.as_slice()).unwrap_or("no UTF-8");
-    text_shown(alloc, text)
-}
-
-fn payload_shown(alloc: Global, payload: &Payload) -> Result<String, OutOfMemory> {
-    Ok(format!(in alloc; "{} {}", payload.length, payload.hash.as_str())?)
-}
-
-/// The length of the document of an ask, and its SHA-256.
-fn size(alloc: Global, ask: &Ask) -> Result<String, OutOfMemory> {
-    let document = body_text(alloc, ask)?;
-    payload_shown(alloc, &hashed(document.as_slice()))
-}
-
-fn sent_for(alloc: Global, call: &str, ask: &Ask, values: &str) -> Result<String, OutOfMemory> {
-    match call {
-        "size" => size(alloc, ask),
-        "body" => document(alloc, ask),
-        _ => head(alloc, call, ask, values),
     }
 }
 
-/// What is sent for the ask that a text names, by its operation and its values.
-pub(crate) fn sent(alloc: Global, call: &str, text: &str) -> Result<String, OutOfMemory> {
+/// Adds the document of an ask.
+fn push_document(alloc: Global, out: &mut String, ask: &Ask) -> Result<(), AllocError> {
+    match body_text(alloc, ask) {
+        Ok(document) => {
+            let text = str::from_utf8(document.as_slice()).unwrap_or("no UTF-8");
+            push_value(out, text)
+        }
+        Err(fault) => push_value(out, fault),
+    }
+}
+
+fn push_payload(out: &mut String, payload: &Payload) -> Result<(), AllocError> {
+    write!(out, "{} {}", payload.length, payload.hash.as_str())
+}
+
+/// Adds the length of the document of an ask, and its SHA-256.
+fn push_size(alloc: Global, out: &mut String, ask: &Ask) -> Result<(), AllocError> {
+    match body_text(alloc, ask) {
+        Ok(document) => push_payload(out, &hashed(document.as_slice())),
+        Err(fault) => push_value(out, fault),
+    }
+}
+
+fn push_sent_for(
+    alloc: Global,
+    out: &mut String,
+    call: &str,
+    ask: &Ask,
+    values: &str,
+) -> Result<(), AllocError> {
+    match call {
+        "size" => push_size(alloc, out, ask),
+        "body" => push_document(alloc, out, ask),
+        _ => push_text(out, head(alloc, call, ask, values)),
+    }
+}
+
+/// Adds what is sent for the ask that a text names, by its operation and its values.
+pub(crate) fn push_sent(
+    alloc: Global,
+    out: &mut String,
+    call: &str,
+    text: &str,
+) -> Result<(), AllocError> {
     let (name, values) = word_and_rest(text);
     let ask = ask_named(alloc, name, values);
-    let shown = sent_for(alloc, call, &ask, values);
+    let pushed = push_sent_for(alloc, out, call, &ask, values);
     mem::drop(ask);
-    shown
+    pushed
 }

@@ -1,6 +1,7 @@
 //! Canonical requests, hashes, keys and signatures.
 
-use crate::requests::fixtures::{MOMENT, amount, endpoint, keys, pairs, said, text, text_shown};
+use crate::lines::{push_text, push_value};
+use crate::requests::fixtures::{MOMENT, amount, endpoint, keys, pairs, said, text};
 use presigned_urls::{PresignFault, presign};
 use s3_model::{OutOfMemory, Pairs, Text};
 use s3_paths::S3Uri;
@@ -8,7 +9,7 @@ use s3_requests::{
     canonical_request, has_sorted_names, hmac_sha256, payload_hash, signature, signing_key,
     string_to_sign,
 };
-use std::alloc::Global;
+use std::alloc::{AllocError, Global};
 use std::mem;
 
 /// The canonical request of a GET; None where its names of headers are not sorted.
@@ -40,19 +41,27 @@ fn signature_of(alloc: Global, text: &str) -> Result<Text, OutOfMemory> {
     digits
 }
 
-/// The hash of a canonical request, and its signature.
-fn hash_and_signature(alloc: Global, text: &str) -> Result<String, OutOfMemory> {
+/// Adds the hash of a canonical request, and its signature.
+fn push_signature(alloc: Global, out: &mut String, text: &str) -> Result<(), AllocError> {
     let hash = payload_hash(text.as_bytes());
-    let digits = signature_of(alloc, text)?;
-    Ok(format!(in alloc; "{} {}", hash.as_str(), digits.as_str())?)
+    match signature_of(alloc, text) {
+        Ok(digits) => write!(out, "{} {}", hash.as_str(), digits.as_str()),
+        Err(fault) => push_value(out, fault),
+    }
 }
 
-/// The canonical request, or its hash and its signature.
-pub(crate) fn canonical(alloc: Global, call: &str, values: &str) -> Result<String, OutOfMemory> {
-    match canonical_of(alloc, values)? {
-        Some(text) if call == "canonical" => text_shown(alloc, text.as_str()),
-        Some(text) => hash_and_signature(alloc, text.as_str()),
-        None => Ok(String::from_str(alloc, "names that are not sorted")?),
+/// Adds the canonical request, or its hash and its signature.
+pub(crate) fn push_canonical(
+    alloc: Global,
+    out: &mut String,
+    call: &str,
+    values: &str,
+) -> Result<(), AllocError> {
+    match canonical_of(alloc, values) {
+        Ok(Some(text)) if call == "canonical" => push_value(out, text.as_str()),
+        Ok(Some(text)) => push_signature(alloc, out, text.as_str()),
+        Ok(None) => out.push_str("names that are not sorted"),
+        Err(fault) => push_value(out, fault),
     }
 }
 
@@ -61,27 +70,44 @@ fn bytes(alloc: Global, digits: &str) -> Vec<u8> {
     hex::decode(alloc, digits.as_bytes()).unwrap_or(Vec::new(alloc))
 }
 
-/// The HMAC-SHA-256 of a message under a key.
-pub(crate) fn keyed(alloc: Global, values: &str) -> Result<String, OutOfMemory> {
+fn push_digits(alloc: Global, out: &mut String, bytes: [u8; 32]) -> Result<(), AllocError> {
+    let digits = hex::encode(alloc, bytes)?;
+    out.push_str(digits.as_str())
+}
+
+/// Adds the HMAC-SHA-256 of a message under a key.
+pub(crate) fn push_keyed(alloc: Global, out: &mut String, values: &str) -> Result<(), AllocError> {
     let key = bytes(alloc, said(values, "key"));
     let message = bytes(alloc, said(values, "message"));
-    Ok(hex::encode(alloc, hmac_sha256(&key, &message))?)
+    push_digits(alloc, out, hmac_sha256(&key, &message))
 }
 
-/// The string to sign of an empty canonical request.
-pub(crate) fn to_sign(alloc: Global, values: &str) -> Result<String, OutOfMemory> {
+/// Adds the string to sign of an empty canonical request.
+pub(crate) fn push_string_to_sign(
+    alloc: Global,
+    out: &mut String,
+    values: &str,
+) -> Result<(), AllocError> {
     let moment = amount(values, "moment");
     if moment >= 253_402_300_800 {
-        return Ok(String::from_str(alloc, "no moment of a year of four digits")?);
+        return out.push_str("no moment of a year of four digits");
     }
-    let text = string_to_sign(alloc, moment, said(values, "region"), "")?;
-    text_shown(alloc, text.as_str())
+    push_text(
+        out,
+        string_to_sign(alloc, moment, said(values, "region"), ""),
+    )
 }
 
-pub(crate) fn key_of_a_day(alloc: Global, values: &str) -> Result<String, OutOfMemory> {
+pub(crate) fn push_key_of_a_day(
+    alloc: Global,
+    out: &mut String,
+    values: &str,
+) -> Result<(), AllocError> {
     let (secret, date) = (said(values, "secret"), said(values, "date"));
-    let key = signing_key(alloc, secret, date, said(values, "region"))?;
-    Ok(hex::encode(alloc, key)?)
+    match signing_key(alloc, secret, date, said(values, "region")) {
+        Ok(key) => push_digits(alloc, out, key),
+        Err(fault) => push_value(out, fault),
+    }
 }
 
 fn uri(alloc: Global, values: &str) -> S3Uri {
@@ -91,16 +117,8 @@ fn uri(alloc: Global, values: &str) -> S3Uri {
     }
 }
 
-fn url_shown(alloc: Global, url: Result<Text, PresignFault>) -> Result<String, OutOfMemory> {
-    let shown = match url {
-        Ok(url) => String::from_str(alloc, url.as_str()),
-        Err(fault) => format!(in alloc; "{fault:?}"),
-    };
-    Ok(shown?)
-}
-
 /// A presigned URL, or why there is none.
-pub(crate) fn url(alloc: Global, values: &str) -> Result<String, OutOfMemory> {
+fn url(alloc: Global, values: &str) -> Result<Text, PresignFault> {
     let uri = uri(alloc, values);
     let endpoint = endpoint(alloc);
     let keys = keys(alloc, values);
@@ -108,5 +126,13 @@ pub(crate) fn url(alloc: Global, values: &str) -> Result<String, OutOfMemory> {
     let url = presign(alloc, &uri, &endpoint, &keys, moment, seconds);
     mem::drop(keys);
     mem::drop(endpoint);
-    url_shown(alloc, url)
+    url
+}
+
+/// Adds a presigned URL, or why there is none.
+pub(crate) fn push_url(alloc: Global, out: &mut String, values: &str) -> Result<(), AllocError> {
+    match url(alloc, values) {
+        Ok(url) => out.push_str(url.as_str()),
+        Err(fault) => push_value(out, fault),
+    }
 }
