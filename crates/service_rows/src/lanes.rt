@@ -7,28 +7,29 @@
 
 mod cells;
 mod gates;
-mod objects;
 pub(crate) mod puts;
 mod uploads;
 
 use crate::lanes::cells::cell_shown;
-use crate::lanes::gates::{in_threads, in_turn};
+use crate::lanes::gates::both_shown;
 use crate::lanes::puts::few_shown;
 use s3_model::OutOfMemory;
-use std::alloc::Global;
+use std::alloc::{AllocError, Global};
 use std::rt::Clock;
 use std::sync::Wait;
 use std::thread::Threads;
 
 /// What a line comes to.
-pub(crate) fn row_of<R>(rt: &R, alloc: Global, line: &str) -> Result<String, OutOfMemory>
+pub(crate) fn row_of<R>(rt: &R, alloc: Global, line: &str) -> Result<String, AllocError>
 where
     R: Threads + Wait + Clock + Clone + Send + Sync + Drop,
 {
     match line {
-        "in threads" => in_threads(rt, alloc),
-        "in turn" => in_turn(rt, alloc),
+        "in threads" | "in turn" => both_shown(rt, alloc, line),
         "puts" => few_shown(rt, alloc),
-        _ => cell_shown(alloc),
+        _ => match cell_shown(alloc) {
+            Ok(shown) => Ok(shown),
+            Err(OutOfMemory) => Err(AllocError),
+        },
     }
 }

@@ -10,6 +10,7 @@
 mod lanes;
 mod services;
 mod steps;
+mod texts;
 mod timing;
 mod uploads;
 
@@ -50,14 +51,14 @@ fn row_of<R>(
     desk: &mut Desk<R>,
     part: Part,
     line: &str,
-) -> Result<String, OutOfMemory>
+) -> Result<String, AllocError>
 where
     R: Threads + Wait + Clock + Clone + Send + Sync + Drop,
 {
     match part {
         Part::Steps => steps::row_of(alloc, rt, desk, line),
         Part::Lanes => lanes::row_of(rt, alloc, line),
-        Part::Unknown => Ok(String::from_str(alloc, "no heading")?),
+        Part::Unknown => String::from_str(alloc, "no heading"),
     }
 }
 
@@ -76,9 +77,7 @@ where
         host.println(line)?;
         return Ok(part_named(line));
     }
-    let Ok(row) = row_of(rt, host.alloc(), desk, part, line) else {
-        return Err(AllocError.into());
-    };
+    let row = row_of(rt, host.alloc(), desk, part, line)?;
     host.println(row.as_str())?;
     Ok(part)
 }
@@ -109,13 +108,21 @@ where
     }
 }
 
+/// Does what the words ask for, and answers the status.
+fn status_of<R>(host: &HostRuntime, rt: &R, words: &[String]) -> io::Result<u8>
+where
+    R: Threads + Wait + Clock + Clone + Send + Sync + Drop,
+{
+    match read_wanted(words) {
+        Wanted::Rows => show_rows(host, rt),
+        Wanted::Timed(goal) => time_puts(host, host.alloc(), goal),
+        Wanted::Nothing => Ok(REFUSED),
+    }
+}
+
 fn main(rt: HostRuntime) -> io::Result<ExitCode> {
-    let alloc = rt.alloc();
-    let words = words_of(&rt, alloc)?;
-    let status = match read_wanted(words.as_slice()) {
-        Wanted::Rows => show_rows(&rt, &rt)?,
-        Wanted::Timed(goal) => time_puts(&rt, alloc, goal)?,
-        Wanted::Nothing => REFUSED,
-    };
-    Ok(ExitCode::from(status))
+    let words = words_of(&rt, rt.alloc())?;
+    let status = status_of(&rt, &rt, words.as_slice());
+    mem::drop(words);
+    Ok(ExitCode::from(status?))
 }

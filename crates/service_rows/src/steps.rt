@@ -43,7 +43,9 @@ fn show<R: Wait + Clone + Drop>(
 ) -> Result<String, OutOfMemory> {
     let spot = words.spot(alloc);
     let table = desk.table.lock(rt);
-    Ok(shown_object(alloc, &table, &spot)?)
+    let shown = shown_object(alloc, &table, &spot);
+    mem::drop(table);
+    Ok(shown?)
 }
 
 fn push_pause(alloc: Global, out: &mut String, seconds: u32) -> Result<(), AllocError> {
@@ -91,8 +93,9 @@ fn set_up<R: Wait + Clone + Drop>(
     words: &mut Words<'_>,
 ) -> Result<String, OutOfMemory> {
     let mut table = desk.table.lock(rt);
-    let came = arrange(alloc, &mut table, name, words)?;
-    Ok(String::from_str(alloc, came)?)
+    let came = arrange(alloc, &mut table, name, words);
+    mem::drop(table);
+    Ok(String::from_str(alloc, came?)?)
 }
 
 /// What an answer means, which is let go.
@@ -112,46 +115,18 @@ fn sent<W: Wire>(alloc: Global, wire: &mut W, request: Request) -> Result<String
     }
 }
 
-/// Begins with a service without buckets.
+/// Begins with a new wire, which goes to a new service without buckets or to the same one.
 fn begin<R: Wait + Clone + Drop>(
     alloc: Global,
     rt: &R,
     desk: &mut Desk<R>,
+    is_new: bool,
 ) -> Result<String, OutOfMemory> {
-    desk.renew(alloc)?;
-    rewire(alloc, rt, desk)
-}
-
-fn rewire<R: Wait + Clone + Drop>(
-    alloc: Global,
-    rt: &R,
-    desk: &mut Desk<R>,
-) -> Result<String, OutOfMemory> {
+    if is_new {
+        desk.renew(alloc)?;
+    }
     desk.rewire(alloc, rt)?;
     Ok(String::from_str(alloc, "ok")?)
-}
-
-/// The steps that are no requests.
-#[derive(Clone, Copy)]
-enum Step {
-    New,
-    Rewire,
-    Show,
-    Wire,
-    Upload,
-    /// What sets the service up.
-    Set,
-}
-
-fn step_named(name: &str) -> Step {
-    match name {
-        "new" => Step::New,
-        "rewire" => Step::Rewire,
-        "show" => Step::Show,
-        "wire" => Step::Wire,
-        "upload" => Step::Upload,
-        _ => Step::Set,
-    }
 }
 
 /// Does a step that is no request.
@@ -162,13 +137,13 @@ fn other<R: Wait + Clone + Drop>(
     name: &str,
     words: &mut Words<'_>,
 ) -> Result<String, OutOfMemory> {
-    match step_named(name) {
-        Step::New => begin(alloc, rt, desk),
-        Step::Rewire => rewire(alloc, rt, desk),
-        Step::Show => show(alloc, rt, desk, words),
-        Step::Wire => wire_shown(alloc, desk),
-        Step::Upload => carry_upload(alloc, &mut desk.wire, words),
-        Step::Set => set_up(alloc, rt, desk, name, words),
+    match name {
+        "new" => begin(alloc, rt, desk, true),
+        "rewire" => begin(alloc, rt, desk, false),
+        "show" => show(alloc, rt, desk, words),
+        "wire" => wire_shown(alloc, desk),
+        "upload" => carry_upload(alloc, &mut desk.wire, words),
+        _ => set_up(alloc, rt, desk, name, words),
     }
 }
 
@@ -193,7 +168,9 @@ pub(crate) fn row_of<R: Wait + Clone + Drop>(
     rt: &R,
     desk: &mut Desk<R>,
     line: &str,
-) -> Result<String, OutOfMemory> {
-    let result = result_of(alloc, rt, desk, line)?;
-    Ok(format!(in alloc; "{line} => {result}")?)
+) -> Result<String, AllocError> {
+    match result_of(alloc, rt, desk, line) {
+        Ok(result) => format!(in alloc; "{line} => {result}"),
+        Err(OutOfMemory) => Err(AllocError),
+    }
 }

@@ -8,10 +8,6 @@ use std::alloc::{AllocError, Global};
 use std::time::Instant;
 use std::{env, io, mem};
 
-fn no_memory(_: OutOfMemory) -> io::Error {
-    AllocError.into()
-}
-
 /// A lane to a service of the system.
 fn lane_of_system(
     rt: &HostRuntime,
@@ -22,7 +18,7 @@ fn lane_of_system(
     let wire = SocketWire::new(rt.clone()?);
     match lane_to(alloc, wire, host, port) {
         Ok(lane) => Ok(lane),
-        Err(failed) => Err(no_memory(failed)),
+        Err(OutOfMemory) => Err(AllocError.into()),
     }
 }
 
@@ -35,7 +31,7 @@ fn time_each(
     count: u32,
 ) -> io::Result<(u128, u32)> {
     let begun = Instant::now(rt)?;
-    let stored = put_each(alloc, lane, bucket, count).map_err(no_memory)?;
+    let stored = put_each(alloc, lane, bucket, count);
     Ok((begun.elapsed(rt)?.as_nanos(), stored))
 }
 

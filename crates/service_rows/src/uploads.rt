@@ -5,9 +5,10 @@ ghost use Rattle.std.specs.Arc.{arc_value};
 ghost use Rattle.small_uploads.specs.Uploading.{IsPutTask};
 
 use crate::services::{keys, memory_endpoint};
+use crate::texts::text;
 use lane_jobs::Carrier;
 use outside_memory::{FileTable, MemFile, MemFiles};
-use s3_model::{Journal, Kind, OutOfMemory, Outcome, Place, Task, Text};
+use s3_model::{Journal, Kind, OutOfMemory, Outcome, Place, Task};
 use s3_outside::Wire;
 use small_uploads::upload;
 use std::alloc::Global;
@@ -21,28 +22,28 @@ const ATTEMPTS: u32 = 3;
 const PATH: &str = "a.txt";
 
 fn carrier(alloc: Global) -> Result<Carrier, OutOfMemory> {
-    let endpoint = memory_endpoint(alloc)?;
-    let keys = keys(alloc)?;
-    Carrier::make(alloc, endpoint, keys, ATTEMPTS)
+    Carrier::make(alloc, memory_endpoint(alloc), keys(alloc), ATTEMPTS)
 }
 
 /// The task of an upload to an object.
 pub(crate) fn put_task(
     alloc: Global,
-    bucket: Text,
-    key: Text,
+    bucket: &str,
+    key: &str,
     size: u64,
 ) -> Result<Arc<Task, Global>, OutOfMemory>
     ensures { IfOk result (λ task. IsPutTask (arc_value task)) }
 {
-    let etag = Text::of(alloc, "")?;
     let task = Task {
         kind: Kind::Upload,
         moves: false,
         source: None,
-        dest: Place::Object { bucket, key },
+        dest: Place::Object {
+            bucket: text(alloc, bucket),
+            key: text(alloc, key),
+        },
         size,
-        etag,
+        etag: text(alloc, ""),
         micros: 0,
         content: None,
         fresh: false,
@@ -75,17 +76,25 @@ fn files(alloc: Global, bytes: &[u8]) -> Result<MemFiles, OutOfMemory> {
     Ok(MemFiles::make(alloc, table, Vec::new(alloc), Vec::new(alloc)))
 }
 
-/// What carries an upload: the files, and the carrier of its job.
+/// What carries an upload: the files, the carrier of its job, and the journal of what it notes.
 #[derive(Drop)]
-struct Means {
+pub(crate) struct Means {
     files: MemFiles,
     carrier: Carrier,
+    pub journal: Journal,
 }
 
-fn make_means(alloc: Global, bytes: &[u8]) -> Result<Means, OutOfMemory> {
+/// What carries the upload of a file with these bytes.
+pub(crate) fn make_means(alloc: Global, bytes: &[u8]) -> Result<Means, OutOfMemory>
+    ensures { IfOk result (λ means. means.journal.items ≡ []) }
+{
     let files = files(alloc, bytes)?;
     match carrier(alloc) {
-        Ok(carrier) => Ok(Means { files, carrier }),
+        Ok(carrier) => Ok(Means {
+            files,
+            carrier,
+            journal: Journal::make(alloc),
+        }),
         Err(OutOfMemory) => {
             mem::drop(files);
             Err(OutOfMemory)
@@ -93,48 +102,46 @@ fn make_means(alloc: Global, bytes: &[u8]) -> Result<Means, OutOfMemory> {
     }
 }
 
-/// Carries the upload of bytes by these means.
+/// Carries the upload of a task by these means.
 fn carry_by<W: Wire>(
     alloc: Global,
     wire: &mut W,
     means: &mut Means,
     task: Arc<Task, Global>,
-    bytes: &[u8],
-    journal: &mut Journal,
+    size: u64,
 ) -> Outcome
     requires put { IsPutTask (arc_value task) }
-    requires empty { journal.old.items ≡ [] }
-    requires room { 2 ≤ journal.old.spare }
+    requires empty { means.old.journal.items ≡ [] }
+    requires room { 2 ≤ means.old.journal.spare }
 {
-    let size = bytes.len() as u64;
-    let files = &mut means.files;
-    let carrier = &mut means.carrier;
-    upload(alloc, files, wire, carrier, task, PATH, size, journal)
+    let (files, carrier) = (&mut means.files, &mut means.carrier);
+    upload(
+        alloc,
+        files,
+        wire,
+        carrier,
+        task,
+        PATH,
+        size,
+        &mut means.journal,
+    )
 }
 
-/// Carries the upload of bytes, with what it notes.
-pub(crate) fn carried<W: Wire>(
+/// Carries the upload of bytes to an object by these means.
+pub(crate) fn carry<W: Wire>(
     alloc: Global,
     wire: &mut W,
-    task: Arc<Task, Global>,
+    means: &mut Means,
+    bucket: &str,
+    key: &str,
     bytes: &[u8],
-    journal: &mut Journal,
 ) -> Result<Outcome, OutOfMemory>
-    requires put { IsPutTask (arc_value task) }
-    requires empty { journal.old.items ≡ [] }
-    requires room { 2 ≤ journal.old.spare }
+    requires { means.old.journal.items ≡ [] }
 {
-    let mut means = make_means(alloc, bytes)?;
-    let outcome = carry_by(alloc, wire, &mut means, task, bytes, journal);
-    mem::drop(means);
-    Ok(outcome)
-}
-
-/// A journal with room for one job.
-pub(crate) fn journal(alloc: Global) -> Result<Journal, OutOfMemory>
-    ensures { IfOk result (λ journal. (journal.items ≡ []) × (2 ≤ journal.spare)) }
-{
-    let mut journal = Journal::make(alloc);
-    journal.reserve(2)?;
-    Ok(journal)
+    let size = bytes.len() as u64;
+    means.journal.reserve(2)?;
+    match put_task(alloc, bucket, key, size) {
+        Ok(task) => Ok(carry_by(alloc, wire, means, task, size)),
+        Err(OutOfMemory) => Err(OutOfMemory),
+    }
 }

@@ -3,23 +3,21 @@
 
 use crate::lanes::uploads::end_of_upload;
 use crate::services::{MOMENT, service_with_bucket, wire_to};
+use crate::texts::text;
 use s3_fakes::{Gate, GateWire, MemWire, SharedTable};
-use s3_model::{OutOfMemory, Text};
+use s3_model::OutOfMemory;
 use std::alloc::{AllocError, Global};
 use std::mem;
 use std::rt::Clock;
 use std::sync::{Arc, Wait};
 use std::thread::{Threads, join};
 
-/// What any request closes, and any request of another wire opens.
-fn gate(alloc: Global) -> Result<Gate, OutOfMemory> {
-    let first = Text::of(alloc, "")?;
-    let second = Text::of(alloc, "")?;
-    Ok(Gate { first, second })
-}
-
+/// A gate that any request closes, and any request of another wire opens.
 fn gates(alloc: Global) -> Result<Vec<Gate>, OutOfMemory> {
-    let gate = gate(alloc)?;
+    let gate = Gate {
+        first: text(alloc, ""),
+        second: text(alloc, ""),
+    };
     Ok(vec![in alloc; gate]?)
 }
 
@@ -43,10 +41,15 @@ fn gate_wire<R>(rt: &R, alloc: Global, table: &SharedTable) -> Result<GateWire<R
 where
     R: Wait + Clock + Clone + Drop,
 {
-    let gates = gates(alloc)?;
-    let table = Arc::try_clone(table)?;
     let runtime = rt.clone()?;
-    GateWire::make(alloc, runtime, table, MOMENT, gates)
+    let table = Arc::try_clone(table)?;
+    match gates(alloc) {
+        Ok(gates) => GateWire::make(alloc, runtime, table, MOMENT, gates),
+        Err(OutOfMemory) => {
+            mem::drop(table);
+            Err(OutOfMemory)
+        }
+    }
 }
 
 /// Two wires to this service, of which the first has the gate.
@@ -128,25 +131,18 @@ impl<R: Wait + Clock + Clone + Drop> Wires<R> {
         format!(in alloc; "talks {talks} and {beside} faults {faults} requests {requests}")
     }
 
-    /// What became of both uploads, and what the wires and the service show.
-    fn line_of(&self, rt: &R, alloc: Global, how: &str, ends: Ends) -> Result<String, AllocError> {
-        let counts = self.counts(rt, alloc)?;
-        line(alloc, how, ends, counts.as_str())
-    }
-
-    /// Both uploads at once, and what is shown then.
-    fn line_at_once(&mut self, rt: &R, alloc: Global) -> Result<String, AllocError>
+    /// Both uploads, what became of them, and what the wires and the service show then.
+    fn line(&mut self, rt: &R, alloc: Global, how: &str) -> Result<String, AllocError>
     where
         R: Threads + Send + Sync,
     {
-        let ends = self.upload_at_once(rt, alloc);
-        self.line_of(rt, alloc, "in threads", ends)
-    }
-
-    /// One upload after the other, and what is shown then.
-    fn line_in_turn(&mut self, rt: &R, alloc: Global) -> Result<String, AllocError> {
-        let ends = self.upload_in_turn(alloc);
-        self.line_of(rt, alloc, "in turn", ends)
+        let ends = if how == "in turn" {
+            self.upload_in_turn(alloc)
+        } else {
+            self.upload_at_once(rt, alloc)
+        };
+        let counts = self.counts(rt, alloc)?;
+        line(alloc, how, ends, counts.as_str())
     }
 }
 
@@ -155,32 +151,17 @@ fn line(alloc: Global, how: &str, ends: Ends, counts: &str) -> Result<String, Al
     format!(in alloc; "{how}: {one}, {two}, {counts}")
 }
 
-/// Both uploads at once.
-pub(crate) fn in_threads<R>(rt: &R, alloc: Global) -> Result<String, OutOfMemory>
+/// Both uploads, `in threads` or `in turn`.
+pub(crate) fn both_shown<R>(rt: &R, alloc: Global, how: &str) -> Result<String, AllocError>
 where
     R: Threads + Wait + Clock + Clone + Send + Sync + Drop,
 {
     match Wires::make(rt, alloc) {
         Ok(mut wires) => {
-            let line = wires.line_at_once(rt, alloc);
+            let line = wires.line(rt, alloc, how);
             mem::drop(wires);
-            Ok(line?)
+            line
         }
-        Err(OutOfMemory) => Err(OutOfMemory),
-    }
-}
-
-/// One upload after the other.
-pub(crate) fn in_turn<R>(rt: &R, alloc: Global) -> Result<String, OutOfMemory>
-where
-    R: Wait + Clock + Clone + Drop,
-{
-    match Wires::make(rt, alloc) {
-        Ok(mut wires) => {
-            let line = wires.line_in_turn(rt, alloc);
-            mem::drop(wires);
-            Ok(line?)
-        }
-        Err(OutOfMemory) => Err(OutOfMemory),
+        Err(OutOfMemory) => Err(AllocError),
     }
 }

@@ -1,35 +1,26 @@
 //! Puts of small objects over a lane.
 
+ghost use Rattle.std.specs.Prelude.{IfOk};
 ghost use Rattle.std.specs.Arc.{arc_value};
 ghost use Rattle.small_uploads.specs.Uploading.{IsPutTask};
 
-use crate::lanes::objects::{HELLO, SIZE, hello_task};
 use crate::services::{endpoint, keys, service_with_bucket, wire_to};
+use crate::uploads::put_task;
 use jobs::{Carried, Ending, Job, What};
 use lane_jobs::Lane;
 use s3_fakes::MemWire;
-use s3_model::{Bytes, Endpoint, JobId, Keys, Op, OutOfMemory, Part, Task};
+use s3_model::{Bytes, JobId, Op, OutOfMemory, Part, Task};
 use s3_outside::Wire;
 use s3_signing::HexHash;
 use std::alloc::{AllocError, Global};
 use std::mem;
 use std::sync::{Arc, Wait};
 
-/// A lane to this endpoint, over this wire.
-fn lane_with<W: Wire + Drop>(
-    alloc: Global,
-    wire: W,
-    endpoint: &Endpoint,
-    keys: &Keys,
-) -> Result<Lane<W>, OutOfMemory> {
-    match Lane::make(alloc, wire, endpoint, keys, 1) {
-        Ok(lane) => Ok(lane),
-        Err(wire) => {
-            mem::drop(wire);
-            Err(OutOfMemory)
-        }
-    }
-}
+/// The bytes of each object.
+pub(crate) const HELLO: &[u8; 5] = b"hello";
+
+/// How many these are.
+const SIZE: u64 = 5;
 
 /// A lane to a service, over this wire.
 pub(crate) fn lane_to<W: Wire + Drop>(
@@ -38,16 +29,26 @@ pub(crate) fn lane_to<W: Wire + Drop>(
     host: &str,
     port: u16,
 ) -> Result<Lane<W>, OutOfMemory> {
-    let endpoint = endpoint(alloc, host, port)?;
-    let keys = keys(alloc)?;
-    let lane = lane_with(alloc, wire, &endpoint, &keys);
+    let endpoint = endpoint(alloc, host, port);
+    let keys = keys(alloc);
+    let lane = Lane::make(alloc, wire, &endpoint, &keys, 1);
     mem::drop(keys);
     mem::drop(endpoint);
-    lane
+    match lane {
+        Ok(lane) => Ok(lane),
+        Err(wire) => {
+            mem::drop(wire);
+            Err(OutOfMemory)
+        }
+    }
 }
 
-fn key(alloc: Global, number: u32) -> Result<String, AllocError> {
-    format!(in alloc; "small/{number}")
+/// The task that puts the bytes to the object of a number.
+fn task_of(alloc: Global, bucket: &str, number: u32) -> Result<Arc<Task, Global>, OutOfMemory>
+    ensures { IfOk result (λ task. IsPutTask (arc_value task)) }
+{
+    let key = format!(in alloc; "small/{number}")?;
+    put_task(alloc, bucket, key.as_str(), SIZE)
 }
 
 /// The Put of a task.
@@ -83,9 +84,13 @@ fn hello(alloc: Global) -> Result<Bytes, OutOfMemory> {
 /// The Put of one object.
 fn put_job(alloc: Global, bucket: &str, number: u32) -> Result<Job, OutOfMemory> {
     let bytes = hello(alloc)?;
-    let key = key(alloc, number)?;
-    let task = hello_task(alloc, bucket, key.as_str())?;
-    Ok(job_of(task, SIZE, bytes))
+    match task_of(alloc, bucket, number) {
+        Ok(task) => Ok(job_of(task, SIZE, bytes)),
+        Err(OutOfMemory) => {
+            mem::drop(bytes);
+            Err(OutOfMemory)
+        }
+    }
 }
 
 fn is_stored(carried: &Carried) -> bool {
@@ -101,15 +106,10 @@ fn carry_put<W: Wire + Drop>(lane: &mut Lane<W>, job: Job) -> bool {
 }
 
 /// Puts one object; whether it was stored.
-fn put<W: Wire + Drop>(
-    alloc: Global,
-    lane: &mut Lane<W>,
-    bucket: &str,
-    number: u32,
-) -> Result<bool, OutOfMemory> {
+fn put<W: Wire + Drop>(alloc: Global, lane: &mut Lane<W>, bucket: &str, number: u32) -> bool {
     match put_job(alloc, bucket, number) {
-        Ok(job) => Ok(carry_put(lane, job)),
-        Err(OutOfMemory) => Err(OutOfMemory),
+        Ok(job) => carry_put(lane, job),
+        Err(OutOfMemory) => false,
     }
 }
 
@@ -119,12 +119,6 @@ fn job_back(carried: Carried) -> Job {
     mem::drop(tries);
     mem::drop(ending);
     job
-}
-
-/// Carries a job, and gives the job that comes back again.
-fn carry_again<W: Wire + Drop>(lane: &mut Lane<W>, job: Job) -> Carried {
-    let back = job_back(lane.carry(job));
-    lane.carry(back)
 }
 
 fn hash_shown(hash: &Option<HexHash>) -> &str {
@@ -151,7 +145,8 @@ fn carry_twice<W: Wire + Drop>(
     lane: &mut Lane<W>,
     job: Job,
 ) -> Result<String, AllocError> {
-    let carried = carry_again(lane, job);
+    let back = job_back(lane.carry(job));
+    let carried = lane.carry(back);
     let again = again_shown(alloc, &carried);
     mem::drop(carried);
     again
@@ -163,10 +158,10 @@ fn put_again<W: Wire + Drop>(
     lane: &mut Lane<W>,
     bucket: &str,
     number: u32,
-) -> Result<String, OutOfMemory> {
+) -> Result<String, AllocError> {
     match put_job(alloc, bucket, number) {
-        Ok(job) => Ok(carry_twice(alloc, lane, job)?),
-        Err(OutOfMemory) => Err(OutOfMemory),
+        Ok(job) => carry_twice(alloc, lane, job),
+        Err(OutOfMemory) => Err(AllocError),
     }
 }
 
@@ -176,14 +171,14 @@ pub(crate) fn put_each<W: Wire + Drop>(
     lane: &mut Lane<W>,
     bucket: &str,
     count: u32,
-) -> Result<u32, OutOfMemory> {
+) -> u32 {
     let mut stored: u32 = 0;
     for number in 0..count {
-        if put(alloc, lane, bucket, number)? {
+        if put(alloc, lane, bucket, number) {
             stored = stored.saturating_add(1);
         }
     }
-    Ok(stored)
+    stored
 }
 
 /// How many go to the service in memory.
@@ -195,30 +190,16 @@ fn lane_to_memory<R: Wait + Clone + Drop>(
     alloc: Global,
 ) -> Result<Lane<MemWire<R>>, OutOfMemory> {
     let table = service_with_bucket(alloc)?;
-    let wire = wire_to(alloc, rt, &table)?;
-    lane_to(alloc, wire, "localhost", 9000)
-}
-
-/// What came of a few Puts.
-#[derive(Drop)]
-struct Few {
-    stored: u32,
-    /// What came of a job that was given again.
-    again: String,
-}
-
-impl Few {
-    fn lines(&self, alloc: Global, opened: u32) -> Result<String, AllocError> {
-        let (stored, again) = (self.stored, self.again.as_str());
-        format!(in alloc; "{stored} stored, {opened} opened\n{again}")
+    let wire = wire_to(alloc, rt, &table);
+    mem::drop(table);
+    match wire {
+        Ok(wire) => lane_to(alloc, wire, "localhost", 9000),
+        Err(OutOfMemory) => Err(OutOfMemory),
     }
 }
 
-/// Puts objects over a lane, and then one whose job is given again.
-fn put_few<W: Wire + Drop>(alloc: Global, lane: &mut Lane<W>) -> Result<Few, OutOfMemory> {
-    let stored = put_each(alloc, lane, "b", FEW)?;
-    let again = put_again(alloc, lane, "b", FEW)?;
-    Ok(Few { stored, again })
+fn lines(alloc: Global, stored: u32, opened: u32, again: &str) -> Result<String, AllocError> {
+    format!(in alloc; "{stored} stored, {opened} opened\n{again}")
 }
 
 /// How many connections a lane has opened.
@@ -229,23 +210,25 @@ fn opened_over<R: Wait + Clone + Drop>(lane: Lane<MemWire<R>>) -> u32 {
     opened
 }
 
-/// Puts objects over a lane, and says what came of them.
+/// Puts objects over a lane, then one whose job is given again, and says what came of them.
 fn few_over<R: Wait + Clone + Drop>(
     alloc: Global,
     mut lane: Lane<MemWire<R>>,
-) -> Result<String, OutOfMemory> {
-    let few = put_few(alloc, &mut lane);
+) -> Result<String, AllocError> {
+    let stored = put_each(alloc, &mut lane, "b", FEW);
+    let again = put_again(alloc, &mut lane, "b", FEW);
     let opened = opened_over(lane);
-    Ok(few?.lines(alloc, opened)?)
+    let again = again?;
+    lines(alloc, stored, opened, again.as_str())
 }
 
 /// Puts objects into a service in memory, and says what came of them.
 pub(crate) fn few_shown<R: Wait + Clone + Drop>(
     rt: &R,
     alloc: Global,
-) -> Result<String, OutOfMemory> {
+) -> Result<String, AllocError> {
     match lane_to_memory(rt, alloc) {
         Ok(lane) => few_over(alloc, lane),
-        Err(OutOfMemory) => Err(OutOfMemory),
+        Err(OutOfMemory) => Err(AllocError),
     }
 }

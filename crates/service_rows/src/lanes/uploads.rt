@@ -1,20 +1,13 @@
 //! Uploads of one file over a wire.
 
-use crate::lanes::objects::{HELLO, hello_task};
-use crate::uploads::{carried, journal};
+ghost use Rattle.std.specs.Prelude.{◌≡◌, []};
+
+use crate::lanes::puts::HELLO;
+use crate::uploads::{Means, carry, make_means};
 use s3_model::{OutOfMemory, Outcome};
 use s3_outside::Wire;
 use std::alloc::Global;
 use std::mem;
-
-/// Uploads a file over a wire to the object of that key.
-fn upload<W: Wire>(alloc: Global, wire: &mut W, key: &str) -> Result<Outcome, OutOfMemory> {
-    let task = hello_task(alloc, "b", key)?;
-    let mut journal = journal(alloc)?;
-    let outcome = carried(alloc, wire, task, HELLO, &mut journal);
-    mem::drop(journal);
-    outcome
-}
 
 fn name_of(outcome: &Outcome) -> &'static str {
     match outcome {
@@ -32,10 +25,24 @@ fn end_of(outcome: Outcome) -> &'static str {
     name
 }
 
+/// Uploads a file by these means, and says what became of it.
+fn end_by<W: Wire>(alloc: Global, wire: &mut W, means: &mut Means, key: &str) -> &'static str
+    requires { means.old.journal.items ≡ [] }
+{
+    match carry(alloc, wire, means, "b", key, HELLO) {
+        Ok(outcome) => end_of(outcome),
+        Err(OutOfMemory) => "no memory",
+    }
+}
+
 /// Uploads a file to the object of that key, and says what became of it.
 pub(crate) fn end_of_upload<W: Wire>(alloc: Global, wire: &mut W, key: &str) -> &'static str {
-    match upload(alloc, wire, key) {
-        Ok(outcome) => end_of(outcome),
+    match make_means(alloc, HELLO) {
+        Ok(mut means) => {
+            let end = end_by(alloc, wire, &mut means, key);
+            mem::drop(means);
+            end
+        }
         Err(OutOfMemory) => "no memory",
     }
 }

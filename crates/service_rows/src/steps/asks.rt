@@ -1,6 +1,7 @@
 //! The requests of steps.
 
-use crate::steps::words::{Spot, Words, text_or_empty};
+use crate::steps::words::{Spot, Words};
+use crate::texts::text;
 use s3_model::{Ask, Op, Text};
 use std::alloc::Global;
 
@@ -67,7 +68,7 @@ fn token(alloc: Global, word: &str) -> Option<Text> {
     if word == "-" {
         None
     } else {
-        Some(text_or_empty(alloc, Text::of(alloc, word)))
+        Some(text(alloc, word))
     }
 }
 
@@ -206,7 +207,7 @@ pub(crate) struct Request {
 fn body(alloc: Global, op: Op, words: &mut Words<'_>) -> Text {
     match op {
         Op::Put | Op::Part => words.text(alloc),
-        _ => text_or_empty(alloc, Text::of(alloc, "")),
+        _ => text(alloc, ""),
     }
 }
 

@@ -22,12 +22,6 @@ pub(crate) struct Desk<R: Wait> {
     pub wire: MemWire<R>,
 }
 
-fn client(alloc: Global) -> Result<Client, OutOfMemory> {
-    let endpoint = memory_endpoint(alloc)?;
-    let keys = keys(alloc)?;
-    Client::make(alloc, endpoint, keys)
-}
-
 /// The most bytes that the answer to a request may have where they are kept.
 fn limit_of(ask: &Ask) -> Option<u64>
     ensures { IfSome result (λ most. IsGet ask.now × (most ≤ 65536)) }
@@ -97,7 +91,7 @@ pub(crate) fn send<W: Wire>(
     ask: &Ask,
     bytes: &[u8],
 ) -> Result<Answer, OutOfMemory> {
-    match client(alloc) {
+    match Client::make(alloc, memory_endpoint(alloc), keys(alloc)) {
         Ok(mut client) => {
             let answer = send_by(alloc, wire, &mut client, ask, bytes);
             mem::drop(client);

@@ -1,6 +1,7 @@
 //! The scripts of steps.
 
-use crate::steps::words::{Spot, Words, text_or_empty};
+use crate::steps::words::{Spot, Words, number_of};
+use crate::texts::text_or_empty;
 use s3_fakes::{Ending, ForeignWrite, Form, MemTable, Turn};
 use s3_model::{OutOfMemory, Text};
 use std::alloc::Global;
@@ -48,14 +49,9 @@ fn turn_of(alloc: Global, word: &str) -> Option<Turn> {
         return refusal(alloc, rest);
     }
     match word.split_once(':') {
-        Some((name, number)) => counted(name, number.parse::<u64>().unwrap_or(0)),
+        Some((name, number)) => counted(name, number_of(number).unwrap_or(0)),
         None => plain(word),
     }
-}
-
-/// The number of a request; None for each.
-fn number_of(word: &str) -> Option<u64> {
-    word.parse::<u64>().ok()
 }
 
 /// Adds a turn to the script of a service, where it is one.
@@ -65,6 +61,7 @@ pub(crate) fn add_turn(
     words: &mut Words<'_>,
 ) -> Result<(), OutOfMemory> {
     let turn = turn_of(alloc, words.next());
+    // A turn without a number is for each request.
     let number = number_of(words.next());
     match turn {
         Some(turn) => table.script(words.rest(), number, turn),

@@ -22,14 +22,20 @@ pub(crate) fn arrange(
     name: &str,
     words: &mut Words<'_>,
 ) -> Result<&'static str, OutOfMemory> {
-    match name {
-        "bucket" => add_bucket(alloc, table, words)?,
-        "page" => table.set_page(usize::try_from(words.number()).unwrap_or(1)),
-        "script" => add_turn(alloc, table, words)?,
-        "foreign" => add_write(alloc, table, words)?,
+    let came = match name {
+        "bucket" => add_bucket(alloc, table, words),
+        "page" => {
+            table.set_page(usize::try_from(words.number()).unwrap_or(1));
+            Ok(())
+        }
+        "script" => add_turn(alloc, table, words),
+        "foreign" => add_write(alloc, table, words),
         _ => return Ok("no step"),
+    };
+    match came {
+        Ok(()) => Ok("ok"),
+        Err(OutOfMemory) => Err(OutOfMemory),
     }
-    Ok("ok")
 }
 
 fn object_text(alloc: Global, etag: &str, bytes: &[u8]) -> Result<String, AllocError> {

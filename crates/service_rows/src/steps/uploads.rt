@@ -1,17 +1,14 @@
 //! Uploads of one piece, with their attempts.
 
-ghost use Rattle.std.specs.Prelude.{◌≡◌, ◌≤◌, []};
-ghost use Rattle.std.specs.Arc.{arc_value};
-ghost use Rattle.small_uploads.specs.Uploading.{IsPutTask};
+ghost use Rattle.std.specs.Prelude.{◌≡◌, []};
 
 use crate::steps::shown::{outcome_text, push_marks};
 use crate::steps::words::{Spot, Words};
-use crate::uploads::{carried, journal, put_task};
-use s3_model::{Event, Journal, OutOfMemory, Outcome, Task};
+use crate::uploads::{Means, carry, make_means};
+use s3_model::{Event, Journal, OutOfMemory, Outcome};
 use s3_outside::Wire;
 use std::alloc::{AllocError, Global};
 use std::mem;
-use std::sync::Arc;
 
 /// The marks of the attempts that a journal has.
 fn marks(alloc: Global, journal: &Journal) -> Result<String, AllocError> {
@@ -31,37 +28,42 @@ fn shown(alloc: Global, journal: &Journal, outcome: &Outcome) -> Result<String, 
     Ok(text)
 }
 
-/// The marks of the attempts of an upload, and its outcome.
-fn text_of<W: Wire>(
+/// Uploads bytes to an object by these means, and says the marks of the attempts and the outcome.
+fn text_by<W: Wire>(
     alloc: Global,
     wire: &mut W,
-    task: Arc<Task, Global>,
+    means: &mut Means,
+    spot: &Spot,
     bytes: &[u8],
-    journal: &mut Journal,
 ) -> Result<String, OutOfMemory>
-    requires put { IsPutTask (arc_value task) }
-    requires empty { journal.old.items ≡ [] }
-    requires room { 2 ≤ journal.old.spare }
+    requires { means.old.journal.items ≡ [] }
 {
-    let outcome = carried(alloc, wire, task, bytes, journal)?;
-    let text = shown(alloc, journal, &outcome);
-    mem::drop(outcome);
-    Ok(text?)
+    let (bucket, key) = (spot.bucket.as_str(), spot.key.as_str());
+    match carry(alloc, wire, means, bucket, key, bytes) {
+        Ok(outcome) => {
+            let text = shown(alloc, &means.journal, &outcome);
+            mem::drop(outcome);
+            Ok(text?)
+        }
+        Err(OutOfMemory) => Err(OutOfMemory),
+    }
 }
 
 /// Uploads bytes to an object, and says the marks of the attempts and the outcome.
 fn uploaded<W: Wire>(
     alloc: Global,
     wire: &mut W,
-    spot: Spot,
+    spot: &Spot,
     bytes: &[u8],
 ) -> Result<String, OutOfMemory> {
-    let Spot { bucket, key } = spot;
-    let task = put_task(alloc, bucket, key, bytes.len() as u64)?;
-    let mut journal = journal(alloc)?;
-    let text = text_of(alloc, wire, task, bytes, &mut journal);
-    mem::drop(journal);
-    text
+    match make_means(alloc, bytes) {
+        Ok(mut means) => {
+            let text = text_by(alloc, wire, &mut means, spot, bytes);
+            mem::drop(means);
+            text
+        }
+        Err(OutOfMemory) => Err(OutOfMemory),
+    }
 }
 
 /// Does an upload step.
@@ -72,5 +74,5 @@ pub(crate) fn carry_upload<W: Wire>(
 ) -> Result<String, OutOfMemory> {
     let text = words.text(alloc);
     let spot = words.spot(alloc);
-    uploaded(alloc, wire, spot, text.as_str().as_bytes())
+    uploaded(alloc, wire, &spot, text.as_str().as_bytes())
 }

@@ -1,5 +1,6 @@
 //! The words of a step.
 
+use crate::texts::{text, text_or_empty};
 use reply_values::url_decode;
 use s3_model::{OutOfMemory, Text, Texts};
 use std::alloc::{AllocError, Global};
@@ -65,7 +66,7 @@ impl<'a> Words<'a> {
 
     /// The next word as a number; 0 where it is none.
     pub(crate) fn number(&mut self) -> u64 {
-        self.next().parse::<u64>().unwrap_or(0)
+        number_of(self.next()).unwrap_or(0)
     }
 
     /// The next word as the two numbers of `a-b`.
@@ -79,22 +80,14 @@ impl<'a> Words<'a> {
     }
 }
 
-/// A text that was made; an empty one where there is no memory, so that its row is wrong.
-pub(crate) fn text_or_empty(alloc: Global, text: Result<Text, OutOfMemory>) -> Text {
-    match text {
-        Ok(text) => text,
-        Err(OutOfMemory) => Text::from(String::new(alloc)),
-    }
-}
-
 /// A word as a text.
 fn text_of(alloc: Global, word: &str) -> Text {
     if word == "-" {
-        return text_or_empty(alloc, Text::of(alloc, ""));
+        return text(alloc, "");
     }
     match url_decode(alloc, word) {
         Ok(text) => text,
-        Err(_) => text_or_empty(alloc, Text::of(alloc, word)),
+        Err(_) => text(alloc, word),
     }
 }
 
@@ -129,9 +122,12 @@ fn etags_of(alloc: Global, word: &str) -> Texts {
     etags
 }
 
+/// The number that a word is, if it is one.
+pub(crate) fn number_of(word: &str) -> Option<u64> {
+    word.parse::<u64>().ok()
+}
+
 fn range_of(word: &str) -> Option<(u64, u64)> {
     let (first, last) = word.split_once('-')?;
-    let first = first.parse::<u64>().ok()?;
-    let last = last.parse::<u64>().ok()?;
-    Some((first, last))
+    Some((number_of(first)?, number_of(last)?))
 }
