@@ -51,12 +51,35 @@ fn finish(mut run: Conductor, script: &mut Script<'_>, shown: &mut Shown) -> Res
     }
 }
 
-fn run_shown(alloc: Global, run: Conductor, mut script: Script<'_>) -> Result<String, OutOfMemory>
+/// The moves of a run, and how it ended.
+fn moves_shown(
+    alloc: Global,
+    run: Conductor,
+    script: &mut Script<'_>,
+) -> Result<String, OutOfMemory>
     requires { IsFree run.manager run.lanes.items }
 {
-    let mut shown = Shown::whole(alloc);
-    finish(run, &mut script, &mut shown)?;
-    Ok(shown.into_text())
+    let mut shown = Shown::make(alloc, false);
+    match finish(run, script, &mut shown) {
+        Ok(()) => Ok(shown.text),
+        Err(OutOfMemory) => Err(OutOfMemory),
+    }
+}
+
+fn run_shown(alloc: Global, run: Conductor, script: &str) -> Result<String, OutOfMemory>
+    requires { IsFree run.manager run.lanes.items }
+{
+    match Script::read(alloc, script) {
+        Ok(mut script) => {
+            let shown = moves_shown(alloc, run, &mut script);
+            mem::drop(script);
+            shown
+        }
+        Err(OutOfMemory) => {
+            mem::drop(run);
+            Err(OutOfMemory)
+        }
+    }
 }
 
 /// What is printed of a run that a row names, by its script.
@@ -64,7 +87,7 @@ fn row_shown(
     alloc: Global,
     tasks: &str,
     config: &str,
-    script: Script<'_>,
+    script: &str,
 ) -> Result<String, OutOfMemory> {
     match read_run(alloc, tasks, config) {
         Ok(Some(run)) => run_shown(alloc, run, script),
@@ -78,7 +101,7 @@ fn answer_of(alloc: Global, line: &str) -> Result<String, OutOfMemory> {
     let mut parts = line.split(" | ");
     let tasks = parts.next().unwrap_or("");
     let config = parts.next().unwrap_or("");
-    let script = Script::read(alloc, parts.next().unwrap_or(""))?;
+    let script = parts.next().unwrap_or("");
     row_shown(alloc, tasks, config, script)
 }
 
@@ -91,15 +114,18 @@ pub(crate) fn row_of(alloc: Global, line: &str) -> Result<String, AllocError> {
 }
 
 /// How many moves a run has. None where it does not come to its end.
-fn moves_of(alloc: Global, run: &mut Conductor) -> Result<Option<u64>, OutOfMemory>
+fn moves_of(
+    alloc: Global,
+    run: &mut Conductor,
+    script: &mut Script<'_>,
+) -> Result<Option<u64>, OutOfMemory>
     requires { IsFree run.old.manager run.old.lanes.items }
 {
-    let mut shown = Shown::count(alloc);
-    let mut script = Script::read(alloc, "")?;
-    if steps(run, &mut script, &mut shown)? {
-        Ok(Some(shown.moves()))
-    } else {
-        Ok(None)
+    let mut shown = Shown::make(alloc, true);
+    match steps(run, script, &mut shown) {
+        Ok(true) => Ok(Some(shown.moves)),
+        Ok(false) => Ok(None),
+        Err(OutOfMemory) => Err(OutOfMemory),
     }
 }
 
@@ -107,7 +133,14 @@ fn moves_of(alloc: Global, run: &mut Conductor) -> Result<Option<u64>, OutOfMemo
 pub(crate) fn count_moves(alloc: Global, mut run: Conductor) -> Result<Option<u64>, OutOfMemory>
     requires { IsFree run.manager run.lanes.items }
 {
-    let moves = moves_of(alloc, &mut run);
+    let moves = match Script::read(alloc, "") {
+        Ok(mut script) => {
+            let moves = moves_of(alloc, &mut run, &mut script);
+            mem::drop(script);
+            moves
+        }
+        Err(OutOfMemory) => Err(OutOfMemory),
+    };
     mem::drop(run);
     moves
 }

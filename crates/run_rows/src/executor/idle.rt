@@ -6,6 +6,7 @@ ghost use Rattle.bounded_executor.specs.Desk.{SameDesk};
 use crate::executor::carriers::take_all;
 use bounded_executor::{Boss, Desk, Worker, with_workers};
 use std::alloc::{AllocError, Global};
+use std::mem;
 use std::sync::Wait;
 use std::thread::{self, Threads};
 use std::time::{CpuClock, Duration};
@@ -86,6 +87,10 @@ pub(crate) fn waits_asleep<R: Threads + Wait + Clone + Send + Drop + 'static>(
         taken: Vec::new(alloc),
         used: None,
     };
-    with_workers(rt, alloc, &mut workers, 1, &mut boss)?;
-    watcher_shown(alloc, &boss)
+    let ran = with_workers(rt, alloc, &mut workers, 1, &mut boss);
+    mem::drop(workers);
+    match ran {
+        Ok(()) => watcher_shown(alloc, &boss),
+        Err(AllocError) => Err(AllocError),
+    }
 }

@@ -6,6 +6,7 @@ ghost use Rattle.bounded_executor.specs.Desk.{SameDesk};
 use crate::executor::carriers::{Doubler, doublers, take_all, take_one};
 use bounded_executor::{Boss, Desk, with_stack_size, with_workers};
 use std::alloc::{AllocError, Global};
+use std::mem;
 use std::sync::Wait;
 use std::thread::{Builder, Threads};
 
@@ -128,8 +129,13 @@ fn directed<R: Threads + Wait + Clone + Send + Drop + 'static, B: Boss<Doubler>>
     requires { B.may_direct boss.old given.now.lanes given.now.depth }
 {
     let mut workers = doublers(alloc, given.lanes)?;
-    direct(rt, alloc, &mut workers, given, boss)?;
-    Ok(workers)
+    match direct(rt, alloc, &mut workers, given, boss) {
+        Ok(()) => Ok(workers),
+        Err(AllocError) => {
+            mem::drop(workers);
+            Err(AllocError)
+        }
+    }
 }
 
 /// The outcomes of a lane.
@@ -176,8 +182,14 @@ pub(crate) fn in_turn<R: Threads + Wait + Clone + Send + Drop + 'static>(
     count: u32,
 ) -> Result<String, AllocError> {
     let mut boss = in_turn_boss(alloc, count);
-    let workers = directed(rt, alloc, given, &mut boss)?;
-    lanes_shown(alloc, &workers, &boss.taken)
+    match directed(rt, alloc, given, &mut boss) {
+        Ok(workers) => {
+            let shown = lanes_shown(alloc, &workers, &boss.taken);
+            mem::drop(workers);
+            shown
+        }
+        Err(AllocError) => Err(AllocError),
+    }
 }
 
 fn answers_shown(alloc: Global, boss: &ByNumber) -> Result<String, AllocError> {
@@ -197,8 +209,13 @@ pub(crate) fn by_number<R: Threads + Wait + Clone + Send + Drop + 'static>(
         answers: Vec::new(alloc),
         taken: Vec::new(alloc),
     };
-    directed(rt, alloc, given, &mut boss)?;
-    answers_shown(alloc, &boss)
+    match directed(rt, alloc, given, &mut boss) {
+        Ok(workers) => {
+            mem::drop(workers);
+            answers_shown(alloc, &boss)
+        }
+        Err(AllocError) => Err(AllocError),
+    }
 }
 
 /// Whether a worker has seen each of the jobs of its lane among 130, in order.
@@ -247,6 +264,12 @@ pub(crate) fn many<R: Threads + Wait + Clone + Send + Drop + 'static>(
 ) -> Result<String, AllocError> {
     let given = Given::make(false, 130, 4);
     let mut boss = in_turn_boss(alloc, 20_000);
-    let workers = directed(rt, alloc, &given, &mut boss)?;
-    many_shown(alloc, &workers, &boss.taken)
+    match directed(rt, alloc, &given, &mut boss) {
+        Ok(workers) => {
+            let shown = many_shown(alloc, &workers, &boss.taken);
+            mem::drop(workers);
+            shown
+        }
+        Err(AllocError) => Err(AllocError),
+    }
 }

@@ -6,6 +6,7 @@ ghost use Rattle.bounded_executor.specs.Desk.{SameDesk};
 use crate::executor::carriers::take_all;
 use bounded_executor::{Boss, Desk, Worker, with_workers};
 use std::alloc::{AllocError, Global};
+use std::mem;
 use std::sync::atomic::{AtomicU32, Ordering};
 use std::sync::{Arc, Wait};
 use std::thread::{self, Threads};
@@ -83,6 +84,10 @@ pub(crate) fn meet<R: Threads + Wait + Clone + Send + Drop + 'static>(
     let mut boss = OneEach {
         taken: Vec::new(alloc),
     };
-    with_workers(rt, alloc, &mut workers, 1, &mut boss)?;
-    outcomes_shown(alloc, &boss.taken)
+    let ran = with_workers(rt, alloc, &mut workers, 1, &mut boss);
+    mem::drop(workers);
+    match ran {
+        Ok(()) => outcomes_shown(alloc, &boss.taken),
+        Err(AllocError) => Err(AllocError),
+    }
 }

@@ -134,6 +134,7 @@ impl Conductor {
             }),
             Err(back) => {
                 mem::drop(back);
+                mem::drop(lanes);
                 Err(OutOfMemory)
             }
         }

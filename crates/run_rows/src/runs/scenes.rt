@@ -37,11 +37,12 @@ pub(crate) fn read_run(
     let Some(config) = read_config(config) else {
         return Ok(None);
     };
-    match read_tasks(alloc, tasks)? {
-        Some(tasks) => match run_of(alloc, tasks, &config) {
+    match read_tasks(alloc, tasks) {
+        Ok(Some(tasks)) => match run_of(alloc, tasks, &config) {
             Ok(run) => Ok(Some(run)),
             Err(OutOfMemory) => Err(OutOfMemory),
         },
-        None => Ok(None),
+        Ok(None) => Ok(None),
+        Err(OutOfMemory) => Err(OutOfMemory),
     }
 }

@@ -1,6 +1,6 @@
 //! Moves as text, and what is printed of a run.
 
-use crate::outcomes::outcome_shown;
+use crate::outcomes::{outcome_shown, with_value};
 use manager_moves::Move;
 use s3_model::{Op, OutOfMemory, Outcome};
 use std::alloc::{AllocError, Global};
@@ -23,14 +23,10 @@ fn given_shown(
     format!(in alloc; "{task} {op:?} {number} to {lane}")
 }
 
-fn task_shown(alloc: Global, word: &str, task: u32) -> Result<String, AllocError> {
-    format!(in alloc; "{word} {task}")
-}
-
 /// A move in one word or a few.
 fn move_shown(alloc: Global, next: Move) -> Result<String, AllocError> {
     match next {
-        Move::Make(task) => task_shown(alloc, "make", task),
+        Move::Make(task) => with_value(alloc, "make", &task),
         Move::Give {
             task,
             op,
@@ -44,7 +40,7 @@ fn move_shown(alloc: Global, next: Move) -> Result<String, AllocError> {
         Move::DropTemp { task, .. } => call_shown(alloc, task, "DropTemp"),
         Move::Remove { task, .. } => call_shown(alloc, task, "Remove"),
         Move::Stamp { task, .. } => call_shown(alloc, task, "Stamp"),
-        Move::Line(task) => task_shown(alloc, "line", task),
+        Move::Line(task) => with_value(alloc, "line", &task),
         Move::Wait => String::from_str(alloc, "wait"),
         Move::End => String::from_str(alloc, "end"),
     }
@@ -54,33 +50,20 @@ fn move_shown(alloc: Global, next: Move) -> Result<String, AllocError> {
 #[derive(Drop)]
 pub(crate) struct Shown {
     alloc: Global,
-    text: String,
     is_counted: bool,
-    moves: u64,
+    pub(crate) text: String,
+    /// How many moves there were.
+    pub(crate) moves: u64,
 }
 
 impl Shown {
-    pub(crate) fn whole(alloc: Global) -> Shown {
+    pub(crate) fn make(alloc: Global, is_counted: bool) -> Shown {
         Shown {
             alloc,
+            is_counted,
             text: String::new(alloc),
-            is_counted: false,
             moves: 0,
         }
-    }
-
-    pub(crate) fn count(alloc: Global) -> Shown {
-        Shown {
-            alloc,
-            text: String::new(alloc),
-            is_counted: true,
-            moves: 0,
-        }
-    }
-
-    /// How many moves there were.
-    pub(crate) fn moves(&self) -> u64 {
-        self.moves
     }
 
     fn push(&mut self, text: &str) -> Result<(), OutOfMemory> {
@@ -116,10 +99,5 @@ impl Shown {
 
     pub(crate) fn stuck(&mut self) -> Result<(), OutOfMemory> {
         self.push(" | stuck")
-    }
-
-    pub(crate) fn into_text(self) -> String {
-        let Shown { text, .. } = self;
-        text
     }
 }

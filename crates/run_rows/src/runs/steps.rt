@@ -65,10 +65,10 @@ fn wait(run: &mut Conductor, script: &mut Script<'_>) -> Result<Step, OutOfMemor
         return Ok(Step::Stuck);
     };
     let came = script.job(task, op, number)?;
-    if run.wait(lane, came.as_str())? {
-        Ok(Step::GoesOn)
-    } else {
-        Ok(Step::Stuck)
+    match run.wait(lane, came.as_str()) {
+        Ok(true) => Ok(Step::GoesOn),
+        Ok(false) => Ok(Step::Stuck),
+        Err(OutOfMemory) => Err(OutOfMemory),
     }
 }
 
@@ -132,7 +132,7 @@ fn advance(
     requires { IsFree run.old.manager run.old.lanes.items }
     ensures { IfOk result (λ step. Stands step run.new.manager run.new.lanes.items) }
 {
-    cancel(run, script, shown.moves())?;
+    cancel(run, script, shown.moves)?;
     let next = run.next();
     shown.next(next)?;
     answer(run, script, shown, next)

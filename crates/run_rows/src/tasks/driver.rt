@@ -8,7 +8,7 @@ ghost use Rattle.task_core.specs.Machine.{IsNumbered, keeps_tags};
 
 use crate::tasks::jobs_back::job_back;
 use crate::tasks::shown::state_shown;
-use jobs::{Carried, Job};
+use jobs::Carried;
 use row_words::ended_as;
 use s3_model::{Kind, Op, OutOfMemory, Reason, Texts, UploadId};
 use std::alloc::{AllocError, Global};
@@ -35,15 +35,6 @@ impl Model for Driver {
     ghost invariant = { λ d. d.has_tags ≡ is_some d.state.tags };
 }
 
-/// The attempts that a job had made.
-fn attempts_of(job: Job) -> u32
-    ensures { result ≡ job.had }
-{
-    let had = job.had;
-    mem::drop(job);
-    had
-}
-
 /// The attempts of the job that is kept for an act, which is taken.
 fn attempts_kept(state: &mut TaskState, act: Act) -> Option<u32>
     ensures stages { state.new.stages ≡ state.old.stages }
@@ -53,7 +44,11 @@ fn attempts_kept(state: &mut TaskState, act: Act) -> Option<u32>
         return None;
     };
     match state.kept(op, number) {
-        Some(job) => Some(attempts_of(job)),
+        Some(job) => {
+            let had = job.had;
+            mem::drop(job);
+            Some(had)
+        }
         None => None,
     }
 }
@@ -70,10 +65,6 @@ fn is_out(stage: Stage) -> bool
     matches!(stage, Stage::Out | Stage::Again)
 }
 
-fn is_first(stage: Stage) -> bool {
-    matches!(stage, Stage::Out)
-}
-
 /// The job that comes back as a line says, with a cell or without, or None where it cannot.
 fn carried_so(
     alloc: Global,
@@ -85,9 +76,10 @@ fn carried_so(
     ensures id { IfOk result (λ c. IfSome c (λ carried. sent carried ≡ act.Send op number)) }
     ensures had { IfOk result (λ c. IfSome c (λ carried. carried.job.had ≡ 0)) }
 {
-    match ended_as(alloc, op, number, came)? {
-        Some(ended) => job_back(alloc, op, number, has_cell, ended),
-        None => Ok(None),
+    match ended_as(alloc, op, number, came) {
+        Ok(Some(ended)) => job_back(alloc, op, number, has_cell, ended),
+        Ok(None) => Ok(None),
+        Err(OutOfMemory) => Err(OutOfMemory),
     }
 }
 
@@ -97,9 +89,11 @@ impl Driver {
         requires attempts { work.attempts ≤ 10 }
         requires numbers { IsNumbered work }
     {
-        let state = TaskState::make(alloc, work)?;
         let has_tags = has_parts(&work);
-        Ok(Driver { state, has_tags })
+        match TaskState::make(alloc, work) {
+            Ok(state) => Ok(Driver { state, has_tags }),
+            Err(OutOfMemory) => Err(OutOfMemory),
+        }
     }
 
     /// What is shown of the task.
@@ -155,14 +149,15 @@ impl Driver {
         if !is_out(stage) {
             return Ok(false);
         }
-        let has_cell = is_first(stage) && !matches!(op, Op::Abort);
-        match carried_so(alloc, op, number, has_cell, came)? {
-            Some(carried) => {
+        let has_cell = matches!(stage, Stage::Out) && !matches!(op, Op::Abort);
+        match carried_so(alloc, op, number, has_cell, came) {
+            Ok(Some(carried)) => {
                 let part = self.state.came(carried);
                 mem::drop(part);
                 Ok(true)
             }
-            None => Ok(false),
+            Ok(None) => Ok(false),
+            Err(OutOfMemory) => Err(OutOfMemory),
         }
     }
 

@@ -27,7 +27,11 @@ fn texts_shown(alloc: Global, texts: &Texts) -> Result<String, AllocError> {
 
 fn tags_shown(alloc: Global, driver: &mut Driver) -> Result<String, AllocError> {
     match driver.tags() {
-        Some(tags) => texts_shown(alloc, &tags),
+        Some(tags) => {
+            let shown = texts_shown(alloc, &tags);
+            mem::drop(tags);
+            shown
+        }
         None => String::from_str(alloc, "no tags"),
     }
 }
@@ -123,9 +127,12 @@ fn history_shown(alloc: Global, driver: &mut Driver, line: &str) -> Result<Strin
 /// The task that a line begins with, where it names one.
 fn driver_named(alloc: Global, line: &str) -> Result<Option<Driver>, OutOfMemory> {
     let (work, _) = line.split_once(" | ").unwrap_or((line, ""));
-    match work_named(alloc, work)? {
-        Some(work) => Ok(Some(Driver::make(alloc, work)?)),
-        None => Ok(None),
+    let Some(work) = work_named(alloc, work) else {
+        return Ok(None);
+    };
+    match Driver::make(alloc, work) {
+        Ok(driver) => Ok(Some(driver)),
+        Err(OutOfMemory) => Err(OutOfMemory),
     }
 }
 

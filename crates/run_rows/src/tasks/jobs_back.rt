@@ -9,11 +9,10 @@ ghost use Rattle.task_acts.specs.Histories.{sent};
 ghost use Rattle.row_words.specs.Endings.{IsEndedBy, can_end};
 ghost use Rattle.run_rows.specs.Rows.{IsAnObject, IsTaskFor, body_of, is_step, kind_for};
 
+use crate::lines::text_of;
 use jobs::{CancelCell, Carried, Ending, Job, What};
 use row_words::{Ended, can_end};
-use s3_model::{
-    Bytes, JobId, Kind, Op, OutOfMemory, Part, Place, Reply, Task, Text, Texts, UploadId,
-};
+use s3_model::{Bytes, JobId, Kind, Op, OutOfMemory, Part, Place, Reply, Task, Texts, UploadId};
 use std::alloc::Global;
 use std::mem;
 use std::sync::Arc;
@@ -30,26 +29,25 @@ fn kind_for(op: Op) -> Kind
     }
 }
 
-fn object(alloc: Global, key: &str) -> Result<Place, OutOfMemory>
-    ensures { IfOk result IsAnObject }
+fn object(alloc: Global, key: &str) -> Place
+    ensures { IsAnObject result }
 {
-    let bucket = Text::of(alloc, "b")?;
-    let key = Text::of(alloc, key)?;
-    Ok(Place::Object { bucket, key })
+    Place::Object {
+        bucket: text_of(alloc, "b"),
+        key: text_of(alloc, key),
+    }
 }
 
-fn task_of(op: Op, source: Place, dest: Place, etag: Text) -> Task
-    requires source { IsAnObject source }
-    requires dest { IsAnObject dest }
+fn task_of(alloc: Global, op: Op) -> Task
     ensures { IsTaskFor op result }
 {
     Task {
         kind: kind_for(op),
         moves: false,
-        source: Some(source),
-        dest,
+        source: Some(object(alloc, "k")),
+        dest: object(alloc, "l"),
         size: 4,
-        etag,
+        etag: text_of(alloc, "e"),
         micros: 0,
         content: None,
         fresh: false,
@@ -60,10 +58,7 @@ fn task_of(op: Op, source: Place, dest: Place, etag: Text) -> Task
 fn task_for(alloc: Global, op: Op) -> Result<Arc<Task, Global>, OutOfMemory>
     ensures { IfOk result (λ task. IsTaskFor op (arc_value task)) }
 {
-    let source = object(alloc, "k")?;
-    let dest = object(alloc, "l")?;
-    let etag = Text::of(alloc, "e")?;
-    match Arc::new(alloc, task_of(op, source, dest, etag)) {
+    match Arc::new(alloc, task_of(alloc, op)) {
         Ok(task) => Ok(task),
         Err(failed) => {
             mem::drop(failed);

@@ -1,11 +1,13 @@
 //! The work that a line names.
 
-ghost use Rattle.std.specs.Prelude.{◌≡◌, ◌≤◌, ◌<◌, ◌+◌, ◌^◌, IfOk, IfSome, false};
+ghost use Rattle.std.specs.Prelude.{◌≡◌, ◌≤◌, ◌<◌, ◌+◌, ◌^◌, IfSome, false};
 ghost use Rattle.task_core.specs.Machine.{IsNumbered};
 
+use crate::lines::text_of;
 use row_words::{Wish, wish_of};
-use s3_model::{Config, Limits, OutOfMemory, Place, Task, Text};
+use s3_model::{Config, Limits, Place, Task};
 use std::alloc::Global;
+use std::mem;
 use task_acts::Work;
 use task_works::work_of;
 
@@ -25,33 +27,33 @@ const LIMITS: Limits = Limits {
     max_object: 256,
 };
 
-fn task_of(alloc: Global, wish: &Wish) -> Result<Task, OutOfMemory>
-    ensures { IfOk result (λ task. (task.size ≡ wish.now.size) × (task.fresh ≡ false)) }
+fn task_of(alloc: Global, wish: &Wish) -> Task
+    ensures { (result.size ≡ wish.now.size) × (result.fresh ≡ false) }
 {
-    Ok(Task {
+    Task {
         kind: wish.kind,
         moves: wish.moves,
         source: None,
         dest: Place::File {
-            path: Text::of(alloc, "f")?,
+            path: text_of(alloc, "f"),
         },
         size: wish.size,
-        etag: Text::of(alloc, "e")?,
+        etag: text_of(alloc, "e"),
         micros: 0,
         content: None,
         fresh: false,
-    })
+    }
 }
 
 /// The work of a line, or None where it names none.
-pub(crate) fn work_named(alloc: Global, text: &str) -> Result<Option<Work>, OutOfMemory>
-    ensures few { IfOk result (λ work. IfSome work (λ w. w.count + 1 < 2 ^ 32)) }
-    ensures attempts { IfOk result (λ work. IfSome work (λ w. w.attempts ≤ 10)) }
-    ensures numbers { IfOk result (λ work. IfSome work IsNumbered) }
+pub(crate) fn work_named(alloc: Global, text: &str) -> Option<Work>
+    ensures few { IfSome result (λ work. work.count + 1 < 2 ^ 32) }
+    ensures attempts { IfSome result (λ work. work.attempts ≤ 10) }
+    ensures numbers { IfSome result IsNumbered }
 {
-    let Some(wish) = wish_of(text) else {
-        return Ok(None);
-    };
-    let task = task_of(alloc, &wish)?;
-    Ok(Some(work_of(&task, &CONFIG, &LIMITS)))
+    let wish = wish_of(text)?;
+    let task = task_of(alloc, &wish);
+    let work = work_of(&task, &CONFIG, &LIMITS);
+    mem::drop(task);
+    Some(work)
 }
