@@ -119,7 +119,8 @@ fn add_talk(
         got: Vec::new(alloc),
         ending,
     };
-    talks.push(talk).map_err(|_| OutOfMemory)
+    talks.push(talk)?;
+    Ok(())
 }
 
 fn add_sent(talks: &mut [TalkRecord], bytes: &[u8]) -> Result<(), OutOfMemory>
@@ -223,9 +224,13 @@ impl TalkLog {
         if !self.is_whole {
             return Ok(());
         }
-        let added = self.notes.push(note).map_err(|_| OutOfMemory);
-        self.is_whole = added.is_ok();
-        added
+        match self.notes.push(note) {
+            Ok(()) => Ok(()),
+            Err(_) => {
+                self.is_whole = false;
+                Err(OutOfMemory)
+            }
+        }
     }
 
     /// Bytes were sent in the last talk. Without memory for them the log stays.
