@@ -1,14 +1,44 @@
 -- Command lines, each with what it asks for or its first fault.
-use Rattle.std.proofs.Common.{◌≡◌, ℕ, true, false, List, [], ◌∷◌, None, Some, codes, refl}
+use Rattle.std.proofs.Common.{◌≡◌, ℕ, true, false, not, List, [], ◌∷◌, None, Some, codes, refl}
+use Rattle.std.specs.List.{list_all}
 use Rattle.s3_model.specs.declared.faults.EndpointFault.TheVariants.{Tls}
 use Rattle.s3_model.specs.declared.faults.WordFault.TheVariants.{NoCommand, UnknownCommand, UnknownOption, NoValue, BadValue, PathCount, Pair, Twice, Endpoint, NoEndpoint}
 use Rattle.s3_model.specs.declared.places.Place.TheVariants.{Object, File}
 use Rattle.s3_model.specs.declared.tasks.Times.TheVariants.{SizeOnly}
+use Rattle.s3_words.specs.declared.commands.Verb.TheVariants.{Rm}
+use Rattle.s3_words.specs.declared.options.OptionName.{OptionName}
 use Rattle.s3_words.specs.declared.options.OptionName.TheVariants as option
+use Rattle.s3_words.specs.declared.options.OptionName.TheVariants.{EndpointUrl, Region, Profile, Recursive, Exclude, Include, Dryrun, Quiet, OnlyShowErrors, SizeOnly, ExactTimestamps, Delete, ContentType, NoGuessMimeType, NoProgress, ExpiresIn}
 use Rattle.s3_words.specs.Commands.{arguments_of, expires_of, mode_of, times_of}
 use Rattle.s3_words.specs.Faults.{word_fault}
 use Rattle.s3_words.specs.Places.{places_in}
 use Rattle.s3_words.specs.Given.{filters_in, is_given, value_of}
+use Rattle.s3_words.specs.Options.{common_options, option_named, row_of, special_options, takes_option}
+
+-- every option is found by its name
+found : (option : OptionName) → option_named (row_of option).name ≡ Some option
+found EndpointUrl = refl
+found Region = refl
+found Profile = refl
+found Recursive = refl
+found Exclude = refl
+found Include = refl
+found Dryrun = refl
+found Quiet = refl
+found OnlyShowErrors = refl
+found SizeOnly = refl
+found ExactTimestamps = refl
+found Delete = refl
+found ContentType = refl
+found NoGuessMimeType = refl
+found NoProgress = refl
+found ExpiresIn = refl
+
+common_with_rm : list_all (takes_option Rm) common_options ≡ true
+common_with_rm = refl
+
+none_special_to_rm : list_all (λ option. not (takes_option Rm option)) special_options ≡ true
+none_special_to_rm = refl
 
 -- the words of a command line that names the service, the rest of it first
 abbrev with_endpoint : List (List ℕ) → List (List ℕ)

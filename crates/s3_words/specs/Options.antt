@@ -1,6 +1,6 @@
 -- The options of the `s3` commands (AWS CLI Command Reference, `s3`): the name of each, the value that it takes, and
 -- the commands that take it.
-use Rattle.std.specs.Prelude.{ℕ, Bool, true, false, List, [], ◌∷◌, Option, codes, find}
+use Rattle.std.specs.Prelude.{ℕ, Bool, true, false, List, [], ◌∷◌, ◌++◌, Option, codes, find}
 use Rattle.std.specs.Str.{bytes_eq}
 use denote.Enum.Bare.{sameb}
 use Rattle.s3_words.specs.contracts.options.OptionName.{the_type}
@@ -85,15 +85,7 @@ row_of ExpiresIn = row (codes "--expires-in") Seconds is_presign
 
 -- the first of these that has the name
 abbrev pub named_in : List OptionName → List ℕ → Option OptionName
-named_in options name = find (λ option. bytes_eq name (row_of option).name) options
-
-abbrev pub options : List OptionName
-options =
-    EndpointUrl ∷ Region ∷ Profile ∷ Recursive ∷ Exclude ∷ Include ∷ Dryrun ∷ Quiet ∷ OnlyShowErrors ∷ SizeOnly
-    ∷ ExactTimestamps ∷ Delete ∷ ContentType ∷ NoGuessMimeType ∷ NoProgress ∷ ExpiresIn ∷ []
-
-abbrev pub option_named : List ℕ → Option OptionName
-option_named name = named_in options name
+named_in among name = find (λ option. bytes_eq name (row_of option).name) among
 
 -- those that `rm` takes
 abbrev pub common_options : List OptionName
@@ -104,6 +96,12 @@ common_options =
 abbrev pub special_options : List OptionName
 special_options =
     SizeOnly ∷ ExactTimestamps ∷ Delete ∷ ContentType ∷ NoGuessMimeType ∷ NoProgress ∷ ExpiresIn ∷ []
+
+abbrev pub options : List OptionName
+options = common_options ++ special_options
+
+abbrev pub option_named : List ℕ → Option OptionName
+option_named name = named_in options name
 
 -- the two are one option
 abbrev pub same_option : OptionName → OptionName → Bool

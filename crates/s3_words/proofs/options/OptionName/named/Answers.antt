@@ -5,7 +5,7 @@ use Rattle.std.proofs.lemmas.List.Folds.{find-append}
 use Rattle.s3_words.specs.Options.{common_options, named_in, option_named, row_of, special_options}
 use Rattle.s3_words.proofs.options.OptionName.named.Goals as goal
 
--- an option is one of the common ones or of the others
+-- what is found among all is what is found among the common ones, and else among the others
 either : (name : List ℕ) → option_named name ≡ option_or (named_in common_options name) (named_in special_options name)
 either name = find-append (λ option. bytes_eq name (row_of option).name) common_options special_options
 
