@@ -1,4 +1,5 @@
-use Rattle.std.proofs.Common.{◌∙◌, ℕ, List, [], Option, Some, None, rules}
+use Rattle.std.proofs.lemmas.Grind.{common_steps}
+use Rattle.std.proofs.Common.{◌∙◌, ℕ, List, [], Option, Some, None, rules, arith}
 use Rattle.std.specs.Prelude.{IfSome}
 use Rattle.std.specs.List.{AllByRecursion}
 use Rattle.local_files.specs.Names.{IsName}
@@ -53,3 +54,6 @@ returns-clause-refused g c = unsaid_of_both _ _ _
 
 pub returns-clause-later : goal.returns-clause-later
 returns-clause-later g c = c.loop-name.invariant.later
+
+pub returns-clause-found : goal.returns-clause-found
+returns-clause-found g c = grind (arith, common_steps)

@@ -1,3 +1,4 @@
+use Rattle.std.proofs.lemmas.Grind.{common_steps}
 use Rattle.std.proofs.Common.{◌≡◌, ◌∙◌, ◌++◌, ◌∷◌, ◌<◌, [], Option, Some, None, sym, subst, ap, arith, is_some, length}
 use Rattle.held_parts.specs.Held.{IsSamePool}
 use Rattle.kept_jobs.specs.Slots.{job_at}
@@ -144,3 +145,6 @@ returns-clause-steady c =
     c.take_along-given.ensures.pool)
     (pushed c.args.task m c.args.lane (job_of c.args.task c.args.op c.args.number) c.gave.new.self
     c.take_along-given.new.self c.push.new.self c.put_state.new.self moved c.push.ensures c.put_state.ensures)
+
+pub put_state-requires-clause-there : goal.put_state-requires-clause-there
+put_state-requires-clause-there c = grind (arith, common_steps)
