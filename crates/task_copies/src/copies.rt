@@ -60,8 +60,8 @@ fn copy_texts(task: &Task) -> Result<(Text, Option<Text>), OutOfMemory>
 pub fn copy_task(task: &Task) -> Result<Task, OutOfMemory>
     ensures { IfOk result (λ copy. copy ≡ task.now) }
 {
-    let (source, dest) = copy_places(task)?;
     let (etag, content) = copy_texts(task)?;
+    let (source, dest) = copy_places(task)?;
     Ok(Task {
         kind: task.kind,
         moves: task.moves,
@@ -79,8 +79,5 @@ pub fn copy_task(task: &Task) -> Result<Task, OutOfMemory>
 pub fn share(alloc: Global, task: &Task) -> Result<Arc<Task, Global>, OutOfMemory>
     ensures { IfOk result (λ shared. arc_value shared ≡ task.now) }
 {
-    match Arc::new(alloc, copy_task(task)?) {
-        Ok(shared) => Ok(shared),
-        Err(_) => Err(OutOfMemory),
-    }
+    Ok(Arc::new(alloc, copy_task(task)?)?)
 }
