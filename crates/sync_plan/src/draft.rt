@@ -20,24 +20,8 @@ use crate::names::relative;
 use crate::places::{skip_of, source_at};
 use crate::tasks::{Route, is_due, is_kept, removal, transfer};
 use crate::turns::{Turn, next_turn};
-use s3_model::{Entry, KeySkip, OutOfMemory, Plan, Task, Tasks, Warning, Warnings};
+use s3_model::{Entry, KeySkip, OutOfMemory, Plan, Tasks, Warning, Warnings};
 use std::alloc::Global;
-
-fn push_task(tasks: &mut Tasks, task: Task) -> Result<(), OutOfMemory>
-    ensures { OnOk result (tasks.new.items ≡ tasks.old.items ++ task ∷ []) }
-{
-    tasks.reserve(1)?;
-    tasks.push(task);
-    Ok(())
-}
-
-fn push_warning(warnings: &mut Warnings, warning: Warning) -> Result<(), OutOfMemory>
-    ensures { OnOk result (warnings.new.items ≡ warnings.old.items ++ warning ∷ []) }
-{
-    warnings.reserve(1)?;
-    warnings.push(warning);
-    Ok(())
-}
 
 fn skip(
     alloc: Global,
@@ -49,8 +33,10 @@ fn skip(
     ensures { OnOk result (warnings.new.items ≡ warnings.old.items
         ++ Warning.Skipped (source_at route.now.errand.now.from route.now.many path.now) why ∷ []) }
 {
+    warnings.reserve(1)?;
     let place = source_at(alloc, &route.errand.from, route.many, path)?;
-    push_warning(warnings, Warning::Skipped { place, why })
+    warnings.push(Warning::Skipped { place, why });
+    Ok(())
 }
 
 fn add_transfer(
@@ -76,8 +62,10 @@ fn add_transfer(
     if !is_due(route.errand, entry, other) {
         return Ok(());
     }
+    plan.tasks.reserve(1)?;
     let task = transfer(alloc, route, path, entry)?;
-    push_task(&mut plan.tasks, task)
+    plan.tasks.push(task);
+    Ok(())
 }
 
 fn add_removal(
@@ -93,9 +81,10 @@ fn add_removal(
     if !route.errand.remove_extra || !is_kept(route.errand, path) {
         return Ok(());
     }
-    let dest = source_at(alloc, route.to, true, path)?;
-    let task = removal(dest, entry)?;
-    push_task(tasks, task)
+    tasks.reserve(1)?;
+    let task = removal(alloc, route.to, true, path, entry)?;
+    tasks.push(task);
+    Ok(())
 }
 
 /// Adds what one path comes to.
@@ -159,9 +148,10 @@ fn add_removed(
     if !is_kept(errand, path) {
         return Ok(());
     }
-    let dest = source_at(alloc, &errand.from, errand.many, path)?;
-    let task = removal(dest, entry)?;
-    push_task(tasks, task)
+    tasks.reserve(1)?;
+    let task = removal(alloc, &errand.from, errand.many, path, entry)?;
+    tasks.push(task);
+    Ok(())
 }
 
 /// The removals of all entries that the filters keep.

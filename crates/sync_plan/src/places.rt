@@ -37,27 +37,27 @@ fn local_path(alloc: Global, root: &str, path: &str) -> Result<Text, OutOfMemory
 fn below(alloc: Global, place: &Place, path: &str) -> Result<Place, OutOfMemory>
     ensures { IfOk result (λ made. made ≡ place_at place.now path.now) }
 {
-    Ok(match place {
-        Place::Object { bucket, key } => Place::Object {
+    match place {
+        Place::Object { bucket, key } => Ok(Place::Object {
             bucket: bucket.copy()?,
             key: Text::joined(alloc, &[key.as_str(), path])?,
-        },
-        Place::File { path: root } => Place::File {
+        }),
+        Place::File { path: root } => Ok(Place::File {
             path: local_path(alloc, root.as_str(), path)?,
-        },
-    })
+        }),
+    }
 }
 
 fn copy(place: &Place) -> Result<Place, OutOfMemory>
     ensures { IfOk result (λ made. made ≡ place.now) }
 {
-    Ok(match place {
-        Place::Object { bucket, key } => Place::Object {
+    match place {
+        Place::Object { bucket, key } => Ok(Place::Object {
             bucket: bucket.copy()?,
             key: key.copy()?,
-        },
-        Place::File { path } => Place::File { path: path.copy()? },
-    })
+        }),
+        Place::File { path } => Ok(Place::File { path: path.copy()? }),
+    }
 }
 
 fn place_for(alloc: Global, place: &Place, join: bool, path: &str) -> Result<Place, OutOfMemory>

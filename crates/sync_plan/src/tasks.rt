@@ -81,10 +81,10 @@ pub(crate) fn transfer(
         (source_at route.now.errand.now.from route.now.many path.now)
         (dest_at route.now.to.now route.now.many path.now) entry.now) }
 {
-    let source = source_at(alloc, &route.errand.from, route.many, path)?;
-    let dest = dest_at(alloc, route.to, route.many, path)?;
-    let content = content_for(alloc, route.errand, &source)?;
     let etag = entry.etag.copy()?;
+    let source = source_at(alloc, &route.errand.from, route.many, path)?;
+    let content = content_for(alloc, route.errand, &source)?;
+    let dest = dest_at(alloc, route.to, route.many, path)?;
     Ok(Task {
         kind: route.errand.kind,
         moves: route.errand.moves,
@@ -107,17 +107,25 @@ fn removal_kind(place: &Place) -> Kind
     }
 }
 
-/// The removal of what stands at a place.
-pub(crate) fn removal(dest: Place, entry: &Entry) -> Result<Task, OutOfMemory>
-    ensures { IfOk result (λ task. task ≡ removal_task dest entry.now) }
+/// The removal of what stands at a name.
+pub(crate) fn removal(
+    alloc: Global,
+    from: &Place,
+    many: bool,
+    path: &str,
+    entry: &Entry,
+) -> Result<Task, OutOfMemory>
+    ensures { IfOk result (λ task. task ≡ removal_task (source_at from.now many path.now) entry.now) }
 {
+    let etag = entry.etag.copy()?;
+    let dest = source_at(alloc, from, many, path)?;
     Ok(Task {
         kind: removal_kind(&dest),
         moves: false,
         source: None,
         dest,
         size: entry.size,
-        etag: entry.etag.copy()?,
+        etag,
         micros: entry.micros,
         content: None,
         fresh: false,

@@ -1,5 +1,4 @@
-use Rattle.std.proofs.Common.{◌≡◌, ◌∙◌, ◌∷◌, ◌++◌, ℕ, List, [], OnOk, true, false, sym, ap, subst, arith}
-use Rattle.s3_model.specs.declared.places.Place.{Place}
+use Rattle.std.proofs.Common.{◌≡◌, ◌∙◌, ◌∷◌, ◌++◌, ℕ, List, [], true, false, sym, ap, arith}
 use Rattle.s3_model.specs.declared.tasks.Task.{Task}
 use Rattle.sync_plan.specs.Errands.{source_at}
 use Rattle.sync_plan.specs.Plans.{is_kept_by, planned_removals, removal_task}
@@ -21,5 +20,6 @@ returns c =
     = one_kept errand c.args.entry.now (ap (is_kept_by errand) (sym c.relative-path.ensures) ∙ sym c.is_kept.ensures ∙ kept)
     ∙ ap (λ (task : Task). task ∷ [])
     (ap (λ (path : List ℕ). removal_task (source_at errand.from errand.many path) c.args.entry.now) (sym c.relative-path.ensures)
-    ∙ ap (λ (dest : Place). removal_task dest c.args.entry.now) (sym c.in_ok-dest.ensures) ∙ sym c.in_ok-task.ensures) in
-    subst (λ (more : List Task). OnOk c.push_task.result (c.push_task.new.tasks.items ≡ c.args.tasks.now.items ++ more)) (sym one) c.push_task.ensures
+    ∙ sym c.in_ok-task.ensures) in
+    c.push.ensures.items ∙ ap (λ (before : List Task). before ++ c.in_ok-task.task ∷ []) c.in_ok-reserve.ensures.items
+    ∙ ap (λ (more : List Task). c.args.tasks.now.items ++ more) (sym one)
