@@ -150,11 +150,12 @@ fn put(task: &Task) -> Result<Ask, OutOfMemory>
     ensures { IfOk result (λ asked. (to : Target task.now)
         × (asked ≡ ask.Put to.bucket to.key task.now.content task.now.fresh)) }
 {
+    let content = copy_of(&task.content)?;
     let to = dest(task)?;
     Ok(Ask::Put {
         bucket: to.bucket,
         key: to.key,
-        content: copy_of(&task.content)?,
+        content,
         fresh: task.fresh,
     })
 }
@@ -165,8 +166,8 @@ fn get(task: &Task, number: u32, range: (u64, u64)) -> Result<Ask, OutOfMemory>
     ensures { IfOk result (λ asked. (from : Origin task.now)
         × (asked ≡ ask.Get from.bucket from.key task.now.etag (asked_range number range))) }
 {
-    let from = source(task)?;
     let etag = task.etag.copy()?;
+    let from = source(task)?;
     Ok(Ask::Get {
         bucket: from.bucket,
         key: from.key,
@@ -181,13 +182,14 @@ fn copy(task: &Task) -> Result<Ask, OutOfMemory>
     ensures { IfOk result (λ asked. (to : Target task.now) × (from : Origin task.now)
         × (asked ≡ ask.Copy to.bucket to.key from.bucket from.key task.now.etag)) }
 {
+    let etag = task.etag.copy()?;
     let route = route_of(task)?;
     Ok(Ask::Copy {
         bucket: route.to.bucket,
         key: route.to.key,
         from_bucket: route.from.bucket,
         from_key: route.from.key,
-        etag: task.etag.copy()?,
+        etag,
     })
 }
 
@@ -220,11 +222,12 @@ fn create(task: &Task) -> Result<Ask, OutOfMemory>
     ensures { IfOk result (λ asked. (to : Target task.now)
         × (asked ≡ ask.Create to.bucket to.key (stated_content task.now.kind task.now.content))) }
 {
+    let content = content_of(task)?;
     let to = dest(task)?;
     Ok(Ask::Create {
         bucket: to.bucket,
         key: to.key,
-        content: content_of(task)?,
+        content,
     })
 }
 
@@ -263,15 +266,17 @@ fn part_copy(
         × (upload.now ≡ Some id) × (asked ≡ ask.PartCopy to.bucket to.key id number from.bucket from.key task.now.etag
         (ends_of range))) }
 {
+    let upload = upload_of(alloc, upload)?;
+    let etag = task.etag.copy()?;
     let route = route_of(task)?;
     Ok(Ask::PartCopy {
         bucket: route.to.bucket,
         key: route.to.key,
-        upload: upload_of(alloc, upload)?,
+        upload,
         number,
         from_bucket: route.from.bucket,
         from_key: route.from.key,
-        etag: task.etag.copy()?,
+        etag,
         range: ends(range),
     })
 }
@@ -290,12 +295,13 @@ fn complete(
         (record { items = given.items; spare = spare }) task.now.fresh)) }
 {
     let Some(etags) = etags else { unreachable!() };
+    let etags = copy_all(alloc, etags)?;
     let made = upload_to(alloc, task, upload)?;
     Ok(Ask::Complete {
         bucket: made.to.bucket,
         key: made.to.key,
         upload: made.id,
-        etags: copy_all(alloc, etags)?,
+        etags,
         fresh: task.fresh,
     })
 }
