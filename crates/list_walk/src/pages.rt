@@ -226,11 +226,11 @@ impl Pages {
         ensures ok { OnOk result (self.new ≡ with_page self.old page.now) }
         ensures err { OnErr result (self.new ≡ self.old) }
     {
+        self.entries.reserve(page.entries.len())?;
+        self.prefixes.reserve(page.prefixes.len())?;
+        let token = copy_token(&page.token)?;
         let entries = copy_all(self.alloc, page.entries.as_slice())?;
         let prefixes = copy_all(self.alloc, page.prefixes.as_slice())?;
-        let token = copy_token(&page.token)?;
-        self.entries.reserve(entries.len())?;
-        self.prefixes.reserve(prefixes.len())?;
         self.empty = self.empty_with(page);
         append(&mut self.entries, entries);
         append(&mut self.prefixes, prefixes);

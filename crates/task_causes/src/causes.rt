@@ -16,8 +16,9 @@ ghost use Rattle.task_causes.specs.Pieces.{HasNumber};
 use crate::endings::is_code;
 use crate::replies::is_asked_for;
 use jobs::Ending;
-use s3_model::{Cause, FileCall, Op, Text, Why};
+use s3_model::{Cause, FileCall, Op, Reply, Text, Why};
 use s3_outside::FileFault;
+use std::mem;
 use task_acts::{Act, FileCame, Work};
 
 fn reads_source(op: Op) -> bool
@@ -52,14 +53,27 @@ fn lost_cause(op: Op, why: Why) -> Cause
     }
 }
 
+/// The cause that a reply shows where it is not what was asked for.
+fn gained_cause(work: &Work, op: Op, number: u32, reply: Reply) -> Option<Cause>
+    requires { HasNumber work.now number }
+    ensures { result ≡ ended_cause work.now op number (Ending.Gained reply) }
+{
+    let is_fine = is_asked_for(work, number, &reply);
+    mem::drop(reply);
+    if is_fine {
+        None
+    } else {
+        Some(Cause::BadReply { op })
+    }
+}
+
 /// The cause that the ending of a job shows, None where it gained what was asked for.
 pub fn ended_cause(work: &Work, op: Op, number: u32, ending: Ending) -> Option<Cause>
     requires { HasNumber work.now number }
     ensures { result ≡ ended_cause work.now op number ending }
 {
     match ending {
-        Ending::Gained(reply) if is_asked_for(work, number, &reply) => None,
-        Ending::Gained(_) => Some(Cause::BadReply { op }),
+        Ending::Gained(reply) => gained_cause(work, op, number, reply),
         Ending::Refused {
             status,
             code,
