@@ -1,8 +1,9 @@
 //! What a request asks.
 
 use crate::escapes::unescape;
+use crate::faults::RequestFault;
 use crate::head::RequestHead;
-use crate::target::Target;
+use crate::target::{Names, Target};
 use reply_values::{ReferenceFault, unescape as unescape_xml};
 use s3_model::{Ask, OutOfMemory, Text, Texts};
 use std::alloc::Global;
@@ -28,20 +29,15 @@ fn header_text(
     }
 }
 
+/// The value of a header that the request has to have.
+fn wanted_text(alloc: Global, head: &RequestHead<'_>, name: &str) -> Result<Text, RequestFault> {
+    let value = head.header(name).ok_or(RequestFault::Unknown)?;
+    Ok(Text::of(alloc, value)?)
+}
+
 /// Whether nothing is to be replaced.
 fn is_fresh(head: &RequestHead<'_>) -> bool {
     head.header("if-none-match") == Some(ANY_ETAG)
-}
-
-/// The bucket and the key of a source that is written `bucket/key`.
-fn source_of(alloc: Global, value: &str) -> Result<Option<(Text, Text)>, OutOfMemory> {
-    let Some((bucket, key)) = value.split_once('/') else {
-        return Ok(None);
-    };
-    let Some(key) = unescape(alloc, key)? else {
-        return Ok(None);
-    };
-    Ok(Some((Text::of(alloc, bucket)?, key)))
 }
 
 /// What stands between two texts.
@@ -51,46 +47,42 @@ fn between<'a>(text: &'a str, from: &str, to: &str) -> Option<&'a str> {
     Some(inner)
 }
 
-/// The entity tag of one part of a document, where it has that number.
-fn part_etag(alloc: Global, part: &str, number: usize) -> Result<Option<Text>, OutOfMemory> {
-    let stated = between(part, "<PartNumber>", "</PartNumber>");
-    if stated.and_then(|value| value.parse::<usize>().ok()) != Some(number) {
-        return Ok(None);
+/// The entity tag of one part of a document, as it is written there, where the part has that number.
+fn raw_etag(part: &str, number: usize) -> Option<&str> {
+    let stated = between(part, "<PartNumber>", "</PartNumber>")?;
+    if stated.parse::<usize>().ok()? != number {
+        return None;
     }
-    let Some(raw) = between(part, "<ETag>", "</ETag>") else {
-        return Ok(None);
-    };
+    between(part, "<ETag>", "</ETag>")
+}
+
+fn part_etag(alloc: Global, part: &str, number: usize) -> Result<Text, RequestFault> {
+    let raw = raw_etag(part, number).ok_or(RequestFault::Unknown)?;
     match unescape_xml(alloc, raw) {
-        Ok(etag) => Ok(Some(etag)),
-        Err(ReferenceFault::Memory) => Err(OutOfMemory),
-        Err(_) => Ok(None),
+        Ok(etag) => Ok(etag),
+        Err(ReferenceFault::Memory) => Err(RequestFault::Memory),
+        Err(_) => Err(RequestFault::Unknown),
     }
 }
 
 /// The entity tags of a document that completes an upload, whose parts are numbered from 1.
-fn etags_of(alloc: Global, document: &str) -> Result<Option<Texts>, OutOfMemory> {
+fn etags_of(alloc: Global, document: &str) -> Result<Texts, RequestFault> {
     let mut etags = Texts::make(alloc);
     let mut number: usize = 0;
     for part in document.split("<Part>") {
         if number > 0 {
-            let Some(etag) = part_etag(alloc, part, number)? else {
-                return Ok(None);
-            };
+            let etag = part_etag(alloc, part, number)?;
             etags.reserve(1)?;
             etags.push(etag);
         }
         number = number.saturating_add(1);
     }
-    Ok(Some(etags))
+    Ok(etags)
 }
 
-fn put_ask(alloc: Global, head: &RequestHead<'_>, target: Target<'_>) -> Result<Ask, OutOfMemory> {
+fn put_ask(alloc: Global, head: &RequestHead<'_>, target: Target<'_>) -> Result<Ask, RequestFault> {
     let content = header_text(alloc, head, "content-type")?;
-    let Target {
-        bucket,
-        key,
-        query: _,
-    } = target;
+    let Names { bucket, key } = target.names(alloc)?;
     Ok(Ask::Put {
         bucket,
         key,
@@ -99,47 +91,27 @@ fn put_ask(alloc: Global, head: &RequestHead<'_>, target: Target<'_>) -> Result<
     })
 }
 
-/// What is copied, where it still has an entity tag.
+/// What is copied.
 #[derive(Drop)]
 struct Source {
-    bucket: Text,
-    key: Text,
+    names: Names,
     etag: Text,
 }
 
-/// The source with these names, a bucket and a key, and the entity tag of its header.
-fn tagged_source(
-    alloc: Global,
-    head: &RequestHead<'_>,
-    names: (Text, Text),
-) -> Result<Option<Source>, OutOfMemory> {
-    match header_text(alloc, head, "x-amz-copy-source-if-match")? {
-        Some(etag) => Ok(Some(Source {
-            bucket: names.0,
-            key: names.1,
-            etag,
-        })),
-        None => Ok(None),
-    }
+/// The source that is written `bucket/key`, where it still has the entity tag of its header.
+fn source_of(alloc: Global, head: &RequestHead<'_>, value: &str) -> Result<Source, RequestFault> {
+    let (bucket, key) = value.split_once('/').ok_or(RequestFault::Unknown)?;
+    let etag = wanted_text(alloc, head, "x-amz-copy-source-if-match")?;
+    let names = Names::read(alloc, bucket, key)?;
+    Ok(Source { names, etag })
 }
 
-fn copy_source(
-    alloc: Global,
-    head: &RequestHead<'_>,
-    source: &str,
-) -> Result<Option<Source>, OutOfMemory> {
-    match source_of(alloc, source)? {
-        Some(names) => tagged_source(alloc, head, names),
-        None => Ok(None),
-    }
-}
-
-fn copy_to(target: Target<'_>, source: Source) -> Ask {
+fn copy_to(target: Names, source: Source) -> Ask {
     Ask::Copy {
         bucket: target.bucket,
         key: target.key,
-        from_bucket: source.bucket,
-        from_key: source.key,
+        from_bucket: source.names.bucket,
+        from_key: source.names.key,
         etag: source.etag,
     }
 }
@@ -149,69 +121,52 @@ fn copy_ask(
     head: &RequestHead<'_>,
     target: Target<'_>,
     source: &str,
-) -> Result<Option<Ask>, OutOfMemory> {
-    match copy_source(alloc, head, source)? {
-        Some(source) => Ok(Some(copy_to(target, source))),
-        None => Ok(None),
-    }
+) -> Result<Ask, RequestFault> {
+    let names = target.names(alloc)?;
+    Ok(copy_to(names, source_of(alloc, head, source)?))
 }
 
-/// The number and the upload of a part.
-fn part_of(alloc: Global, target: &Target<'_>) -> Result<Option<(u32, Text)>, OutOfMemory> {
+/// The number of a part.
+fn number_of(alloc: Global, target: Target<'_>) -> Result<u32, RequestFault> {
     let number = target.value(alloc, "partNumber")?;
-    let upload = target.value(alloc, "uploadId")?;
-    let (Some(number), Some(upload)) = (number, upload) else {
-        return Ok(None);
-    };
-    match number.as_str().parse::<u32>() {
-        Ok(number) => Ok(Some((number, upload))),
-        Err(_) => Ok(None),
-    }
+    number
+        .as_str()
+        .parse::<u32>()
+        .map_err(|_| RequestFault::Unknown)
 }
 
-fn part_ask(alloc: Global, target: Target<'_>) -> Result<Option<Ask>, OutOfMemory> {
-    let Some((number, upload)) = part_of(alloc, &target)? else {
-        return Ok(None);
-    };
-    let Target {
-        bucket,
-        key,
-        query: _,
-    } = target;
-    Ok(Some(Ask::Part {
+fn part_ask(alloc: Global, target: Target<'_>) -> Result<Ask, RequestFault> {
+    let number = number_of(alloc, target)?;
+    let upload = target.value(alloc, "uploadId")?;
+    let Names { bucket, key } = target.names(alloc)?;
+    Ok(Ask::Part {
         bucket,
         key,
         upload,
         number,
-    }))
+    })
 }
 
-/// The source of a part, and the range of it that is copied.
-fn ranged_source(
-    alloc: Global,
-    head: &RequestHead<'_>,
-    source: &str,
-) -> Result<Option<(Source, (u64, u64))>, OutOfMemory> {
-    let Some(names) = source_of(alloc, source)? else {
-        return Ok(None);
-    };
-    let Some(range) = head.header("x-amz-copy-source-range").and_then(range_of) else {
-        return Ok(None);
-    };
-    match tagged_source(alloc, head, names)? {
-        Some(source) => Ok(Some((source, range))),
-        None => Ok(None),
-    }
+/// The range of a source that is copied.
+fn source_range(head: &RequestHead<'_>) -> Result<(u64, u64), RequestFault> {
+    let range = head.header("x-amz-copy-source-range").and_then(range_of);
+    range.ok_or(RequestFault::Unknown)
 }
 
-fn part_copy_to(target: Target<'_>, part: (u32, Text), source: Source, range: (u64, u64)) -> Ask {
+fn part_copy_to(
+    target: Names,
+    number: u32,
+    upload: Text,
+    source: Source,
+    range: (u64, u64),
+) -> Ask {
     Ask::PartCopy {
         bucket: target.bucket,
         key: target.key,
-        upload: part.1,
-        number: part.0,
-        from_bucket: source.bucket,
-        from_key: source.key,
+        upload,
+        number,
+        from_bucket: source.names.bucket,
+        from_key: source.names.key,
         etag: source.etag,
         range,
     }
@@ -222,126 +177,97 @@ fn part_copy_ask(
     head: &RequestHead<'_>,
     target: Target<'_>,
     source: &str,
-) -> Result<Option<Ask>, OutOfMemory> {
-    let Some(part) = part_of(alloc, &target)? else {
-        return Ok(None);
-    };
-    match ranged_source(alloc, head, source)? {
-        Some((source, range)) => Ok(Some(part_copy_to(target, part, source, range))),
-        None => Ok(None),
-    }
+) -> Result<Ask, RequestFault> {
+    let number = number_of(alloc, target)?;
+    let range = source_range(head)?;
+    let upload = target.value(alloc, "uploadId")?;
+    let names = target.names(alloc)?;
+    let source = source_of(alloc, head, source)?;
+    Ok(part_copy_to(names, number, upload, source, range))
 }
 
 fn stored_ask(
     alloc: Global,
     head: &RequestHead<'_>,
     target: Target<'_>,
-) -> Result<Option<Ask>, OutOfMemory> {
+) -> Result<Ask, RequestFault> {
     let source = head.header("x-amz-copy-source");
     match (target.has("partNumber"), source) {
-        (false, None) => Ok(Some(put_ask(alloc, head, target)?)),
+        (false, None) => put_ask(alloc, head, target),
         (false, Some(source)) => copy_ask(alloc, head, target, source),
         (true, None) => part_ask(alloc, target),
         (true, Some(source)) => part_copy_ask(alloc, head, target, source),
     }
 }
 
-fn get_ask(
-    alloc: Global,
-    head: &RequestHead<'_>,
-    target: Target<'_>,
-) -> Result<Option<Ask>, OutOfMemory> {
-    let Some(etag) = header_text(alloc, head, "if-match")? else {
-        return Ok(None);
-    };
-    let Target {
-        bucket,
-        key,
-        query: _,
-    } = target;
-    Ok(Some(Ask::Get {
+fn get_ask(alloc: Global, head: &RequestHead<'_>, target: Target<'_>) -> Result<Ask, RequestFault> {
+    let etag = wanted_text(alloc, head, "if-match")?;
+    let Names { bucket, key } = target.names(alloc)?;
+    Ok(Ask::Get {
         bucket,
         key,
         etag,
         range: head.header("range").and_then(range_of),
-    }))
+    })
 }
 
-/// The text, or the empty one.
-fn or_empty(alloc: Global, text: Option<Text>) -> Result<Text, OutOfMemory> {
-    match text {
-        Some(text) => Ok(text),
-        None => Text::of(alloc, ""),
+/// The prefix of a listing, which is empty where none is asked for.
+fn prefix_of(alloc: Global, target: Target<'_>) -> Result<Text, RequestFault> {
+    match target.option(alloc, "prefix")? {
+        Some(prefix) => Ok(prefix),
+        None => Ok(Text::of(alloc, "")?),
     }
 }
 
-fn list_of(target: Target<'_>, prefix: Text, token: Option<Text>) -> Ask {
-    let delimited = target.has("delimiter");
-    Ask::List {
-        bucket: target.bucket,
+fn list_ask(alloc: Global, target: Target<'_>) -> Result<Ask, RequestFault> {
+    let bucket = unescape(alloc, target.bucket)?;
+    let prefix = prefix_of(alloc, target)?;
+    Ok(Ask::List {
+        bucket,
         prefix,
-        delimited,
-        token,
-    }
-}
-
-/// The prefix and the token of a listing.
-fn prefix_and_token(
-    alloc: Global,
-    target: &Target<'_>,
-) -> Result<(Text, Option<Text>), OutOfMemory> {
-    let prefix = target.value(alloc, "prefix")?;
-    let token = target.value(alloc, "continuation-token")?;
-    Ok((or_empty(alloc, prefix)?, token))
-}
-
-fn list_ask(alloc: Global, target: Target<'_>) -> Result<Option<Ask>, OutOfMemory> {
-    let (prefix, token) = prefix_and_token(alloc, &target)?;
-    Ok(Some(list_of(target, prefix, token)))
+        delimited: target.has("delimiter"),
+        token: target.option(alloc, "continuation-token")?,
+    })
 }
 
 fn read_ask(
     alloc: Global,
     head: &RequestHead<'_>,
     target: Target<'_>,
-) -> Result<Option<Ask>, OutOfMemory> {
-    if target.bucket.as_str().is_empty() {
-        return Ok(Some(Ask::Buckets));
+) -> Result<Ask, RequestFault> {
+    if target.bucket.is_empty() {
+        return Ok(Ask::Buckets);
     }
-    if target.key.as_str().is_empty() {
+    if target.key.is_empty() {
         return list_ask(alloc, target);
     }
     get_ask(alloc, head, target)
+}
+
+fn head_ask(alloc: Global, target: Target<'_>) -> Result<Ask, RequestFault> {
+    let Names { bucket, key } = target.names(alloc)?;
+    Ok(Ask::Head { bucket, key })
 }
 
 fn create_ask(
     alloc: Global,
     head: &RequestHead<'_>,
     target: Target<'_>,
-) -> Result<Ask, OutOfMemory> {
+) -> Result<Ask, RequestFault> {
     let content = header_text(alloc, head, "content-type")?;
+    let Names { bucket, key } = target.names(alloc)?;
     Ok(Ask::Create {
-        bucket: target.bucket,
-        key: target.key,
+        bucket,
+        key,
         content,
     })
 }
 
-/// The entity tags of a body that completes an upload; None where it is no such document.
-fn etags_in(alloc: Global, body: &[u8]) -> Result<Option<Texts>, OutOfMemory> {
+/// The entity tags of a body that completes an upload.
+fn etags_in(alloc: Global, body: &[u8]) -> Result<Texts, RequestFault> {
     match std::str::from_utf8(body) {
         Ok(document) => etags_of(alloc, document),
-        Err(_) => Ok(None),
-    }
-}
-
-fn completion_of(target: Target<'_>, upload: Text, etags: Texts, fresh: bool) -> Ask {
-    Ask::Complete {
-        bucket: target.bucket,
-        key: target.key,
-        upload,
-        etags,
-        fresh,
+        Err(_) => Err(RequestFault::Unknown),
     }
 }
 
@@ -350,14 +276,17 @@ fn complete_ask(
     head: &RequestHead<'_>,
     target: Target<'_>,
     body: &[u8],
-) -> Result<Option<Ask>, OutOfMemory> {
-    let Some(upload) = target.value(alloc, "uploadId")? else {
-        return Ok(None);
-    };
-    match etags_in(alloc, body)? {
-        Some(etags) => Ok(Some(completion_of(target, upload, etags, is_fresh(head)))),
-        None => Ok(None),
-    }
+) -> Result<Ask, RequestFault> {
+    let upload = target.value(alloc, "uploadId")?;
+    let etags = etags_in(alloc, body)?;
+    let Names { bucket, key } = target.names(alloc)?;
+    Ok(Ask::Complete {
+        bucket,
+        key,
+        upload,
+        etags,
+        fresh: is_fresh(head),
+    })
 }
 
 fn posted_ask(
@@ -365,29 +294,41 @@ fn posted_ask(
     head: &RequestHead<'_>,
     target: Target<'_>,
     body: &[u8],
-) -> Result<Option<Ask>, OutOfMemory> {
+) -> Result<Ask, RequestFault> {
     if target.has("uploads") {
-        Ok(Some(create_ask(alloc, head, target)?))
+        create_ask(alloc, head, target)
     } else {
         complete_ask(alloc, head, target, body)
     }
 }
 
-fn deleted_ask(alloc: Global, target: Target<'_>) -> Result<Option<Ask>, OutOfMemory> {
-    let upload = target.value(alloc, "uploadId")?;
-    let Target {
-        bucket,
-        key,
-        query: _,
-    } = target;
-    Ok(Some(match upload {
+fn deleted_ask(alloc: Global, target: Target<'_>) -> Result<Ask, RequestFault> {
+    let upload = target.option(alloc, "uploadId")?;
+    let Names { bucket, key } = target.names(alloc)?;
+    Ok(match upload {
         Some(upload) => Ask::Abort {
             bucket,
             key,
             upload,
         },
         None => Ask::Delete { bucket, key },
-    }))
+    })
+}
+
+fn request_ask(
+    alloc: Global,
+    head: &RequestHead<'_>,
+    target: Target<'_>,
+    body: &[u8],
+) -> Result<Ask, RequestFault> {
+    match head.method {
+        "GET" => read_ask(alloc, head, target),
+        "HEAD" => head_ask(alloc, target),
+        "PUT" => stored_ask(alloc, head, target),
+        "POST" => posted_ask(alloc, head, target, body),
+        "DELETE" => deleted_ask(alloc, target),
+        _ => Err(RequestFault::Unknown),
+    }
 }
 
 /// What a request asks; None where it is not one of those that the service knows.
@@ -396,22 +337,12 @@ pub fn ask_of(
     head: &RequestHead<'_>,
     body: &[u8],
 ) -> Result<Option<Ask>, OutOfMemory> {
-    let Some(target) = Target::read(alloc, head.target)? else {
+    let Some(target) = Target::read(head.target) else {
         return Ok(None);
     };
-    match head.method {
-        "GET" => read_ask(alloc, head, target),
-        "HEAD" => {
-            let Target {
-                bucket,
-                key,
-                query: _,
-            } = target;
-            Ok(Some(Ask::Head { bucket, key }))
-        }
-        "PUT" => stored_ask(alloc, head, target),
-        "POST" => posted_ask(alloc, head, target, body),
-        "DELETE" => deleted_ask(alloc, target),
-        _ => Ok(None),
+    match request_ask(alloc, head, target, body) {
+        Ok(ask) => Ok(Some(ask)),
+        Err(RequestFault::Unknown) => Ok(None),
+        Err(RequestFault::Memory) => Err(OutOfMemory),
     }
 }

@@ -2,7 +2,8 @@
 
 ghost use Rattle.std.specs.Prelude.{◌<◌, IfSome};
 
-use s3_model::{OutOfMemory, Text};
+use crate::faults::RequestFault;
+use s3_model::Text;
 use std::alloc::{AllocError, Global};
 
 /// The value of a hexadecimal digit.
@@ -30,23 +31,21 @@ fn first_byte(text: &[u8]) -> Option<(u8, &[u8])> {
     }
 }
 
-/// The text that is written so, with `%` and two hexadecimal digits for a byte; None where it is not written so.
-pub(crate) fn unescape(alloc: Global, text: &str) -> Result<Option<Text>, OutOfMemory> {
+/// The text that is written so, with `%` and two hexadecimal digits for a byte.
+pub(crate) fn unescape(alloc: Global, text: &str) -> Result<Text, RequestFault> {
     let mut bytes = Vec::new(alloc);
     let mut rest = text.as_bytes();
     for _ in 0..text.len() {
         if rest.is_empty() {
             break;
         }
-        let Some((byte, behind)) = first_byte(rest) else {
-            return Ok(None);
-        };
+        let (byte, behind) = first_byte(rest).ok_or(RequestFault::Unknown)?;
         bytes.push(byte)?;
         rest = behind;
     }
     match String::from_utf8(bytes) {
-        Ok(plain) => Ok(Some(Text::from(plain))),
-        Err(_) => Ok(None),
+        Ok(plain) => Ok(Text::from(plain)),
+        Err(_) => Err(RequestFault::Unknown),
     }
 }
 

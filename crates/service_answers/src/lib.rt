@@ -5,6 +5,7 @@ mod answer;
 mod asks;
 mod documents;
 mod escapes;
+mod faults;
 mod gained;
 mod head;
 mod listing_answers;
