@@ -69,13 +69,6 @@ fn push_chunks(
     out.extend_from_slice(b"0\r\n\r\n")
 }
 
-fn push_line(lines: &mut String, name: &str, value: &str) -> Result<(), AllocError> {
-    lines.push_str(name)?;
-    lines.push_str(": ")?;
-    lines.push_str(value)?;
-    lines.push_str("\r\n")
-}
-
 impl Answer {
     /// An answer without lines of its own, whose body is a document.
     pub fn document(alloc: Global, status: u16, document: String) -> Answer
@@ -111,7 +104,7 @@ impl Answer {
         ensures body { self.new.body ≡ self.old.body }
         ensures length { self.new.length ≡ self.old.length }
     {
-        push_line(&mut self.lines, name, value)
+        write!(self.lines, "{name}: {value}\r\n")
     }
 
     /// The answer to a HEAD: the same without its body, whose length it states.
@@ -146,20 +139,19 @@ impl Answer {
         format!(in alloc; "HTTP/1.1 {status} {words}\r\n{lines}")
     }
 
-    fn push_length(&self, alloc: Global, head: &mut String) -> Result<(), AllocError> {
+    fn push_length(&self, head: &mut String) -> Result<(), AllocError> {
         if self.is_bare() {
             return Ok(());
         }
         let length = self.length.unwrap_or(self.body.len() as u64);
-        head.push_str(format!(in alloc; "content-length: {length}\r\n")?.as_str())
+        write!(head, "content-length: {length}\r\n")
     }
 
     /// The head with a stated length; `more` are further header lines.
     fn sized_head(&self, alloc: Global, more: &str) -> Result<String, AllocError> {
         let mut head = self.start(alloc)?;
-        self.push_length(alloc, &mut head)?;
-        head.push_str(more)?;
-        head.push_str("\r\n")?;
+        self.push_length(&mut head)?;
+        write!(head, "{more}\r\n")?;
         Ok(head)
     }
 

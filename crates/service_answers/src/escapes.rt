@@ -2,9 +2,10 @@
 
 ghost use Rattle.std.specs.Prelude.{◌<◌, IfSome};
 
+use crate::document::Document;
 use crate::faults::RequestFault;
 use s3_model::Text;
-use std::alloc::{AllocError, Global};
+use std::alloc::Global;
 
 /// The value of a hexadecimal digit.
 fn digit(byte: u8) -> Option<u8>
@@ -55,29 +56,27 @@ fn is_plain(byte: u8) -> bool {
 }
 
 /// Adds a name as a listing has it under `encoding-type=url`: a space as `+`, and other bytes escaped.
-pub(crate) fn push_url(alloc: Global, out: &mut String, name: &str) -> Result<(), AllocError> {
+pub(crate) fn push_url(document: &mut Document, name: &str) {
     for byte in name.bytes() {
         if is_plain(byte) {
-            out.push(char::from(byte))?;
+            document.push_letter(char::from(byte));
         } else if byte == b' ' {
-            out.push('+')?;
+            document.push_letter('+');
         } else {
-            out.push_str(format!(in alloc; "%{byte:02X}")?.as_str())?;
+            document.push_escape(byte);
         }
     }
-    Ok(())
 }
 
 /// Adds a text as XML has it.
-pub(crate) fn push_xml(out: &mut String, text: &str) -> Result<(), AllocError> {
+pub(crate) fn push_xml(document: &mut Document, text: &str) {
     for letter in text.chars() {
         match letter {
-            '&' => out.push_str("&amp;")?,
-            '<' => out.push_str("&lt;")?,
-            '>' => out.push_str("&gt;")?,
-            '"' => out.push_str("&quot;")?,
-            _ => out.push(letter)?,
+            '&' => document.push("&amp;"),
+            '<' => document.push("&lt;"),
+            '>' => document.push("&gt;"),
+            '"' => document.push("&quot;"),
+            _ => document.push_letter(letter),
         }
     }
-    Ok(())
 }

@@ -3,6 +3,7 @@
 
 mod answer;
 mod asks;
+mod document;
 mod documents;
 mod escapes;
 mod faults;

@@ -1,100 +1,80 @@
 //! Answers with listings.
 
-use crate::documents::{begin, end, push_element};
+use crate::document::Document;
+use crate::documents::{begin, close, end, open, push_element, push_time};
 use crate::escapes::push_url;
-use crate::times::document_time;
 use s3_model::{Entry, Listed, OutOfMemory, Text};
-use std::alloc::{AllocError, Global};
+use std::alloc::Global;
 
 /// Adds an element that holds a name as it is written under `encoding-type=url`.
-fn push_name(alloc: Global, out: &mut String, element: &str, name: &str) -> Result<(), AllocError> {
-    let mut written = String::new(alloc);
-    push_url(alloc, &mut written, name)?;
-    push_element(out, element, written.as_str())
+fn push_name(document: &mut Document, element: &str, name: &str) {
+    open(document, element);
+    push_url(document, name);
+    close(document, element);
 }
 
-fn push_number(
-    alloc: Global,
-    out: &mut String,
-    element: &str,
-    number: u64,
-) -> Result<(), AllocError> {
-    push_element(out, element, format!(in alloc; "{number}")?.as_str())
+fn push_size(document: &mut Document, size: u64) {
+    open(document, "Size");
+    document.push_number(size);
+    close(document, "Size");
 }
 
-fn push_entry(alloc: Global, out: &mut String, entry: &Entry) -> Result<(), AllocError> {
-    out.push_str("<Contents>")?;
-    push_name(alloc, out, "Key", entry.key.as_str())?;
-    push_element(
-        out,
-        "LastModified",
-        document_time(alloc, entry.micros)?.as_str(),
-    )?;
-    push_element(out, "ETag", entry.etag.as_str())?;
-    push_number(alloc, out, "Size", entry.size)?;
-    out.push_str("</Contents>")
+fn push_entry(document: &mut Document, entry: &Entry) {
+    document.push("<Contents>");
+    push_name(document, "Key", entry.key.as_str());
+    push_time(document, "LastModified", entry.micros);
+    push_element(document, "ETag", entry.etag.as_str());
+    push_size(document, entry.size);
+    document.push("</Contents>");
 }
 
-fn push_prefix(alloc: Global, out: &mut String, prefix: &Text) -> Result<(), AllocError> {
-    out.push_str("<CommonPrefixes>")?;
-    push_name(alloc, out, "Prefix", prefix.as_str())?;
-    out.push_str("</CommonPrefixes>")
+fn push_prefix(document: &mut Document, prefix: &Text) {
+    document.push("<CommonPrefixes>");
+    push_name(document, "Prefix", prefix.as_str());
+    document.push("</CommonPrefixes>");
 }
 
 /// What stands before the names of a page.
-fn push_front(out: &mut String, bucket: &str, page: &Listed) -> Result<(), AllocError> {
-    push_element(out, "Name", bucket)?;
-    push_element(out, "EncodingType", "url")?;
-    push_element(out, "IsTruncated", if page.more { "true" } else { "false" })?;
-    match &page.token {
-        Some(token) => push_element(out, "NextContinuationToken", token.as_str()),
-        None => Ok(()),
+fn push_front(document: &mut Document, bucket: &str, page: &Listed) {
+    push_element(document, "Name", bucket);
+    push_element(document, "EncodingType", "url");
+    push_element(document, "IsTruncated", if page.more { "true" } else { "false" });
+    if let Some(token) = &page.token {
+        push_element(document, "NextContinuationToken", token.as_str());
+    }
+}
+
+fn push_names(document: &mut Document, page: &Listed) {
+    for entry in page.entries.as_slice() {
+        push_entry(document, entry);
+    }
+    for prefix in page.prefixes.as_slice() {
+        push_prefix(document, prefix);
     }
 }
 
 /// A page of a listing, with names as `encoding-type=url` has them.
 pub(crate) fn page(alloc: Global, bucket: &str, page: &Listed) -> Result<String, OutOfMemory> {
-    let mut out = begin(alloc, "ListBucketResult")?;
-    push_front(&mut out, bucket, page)?;
-    push_names(alloc, &mut out, page)?;
-    end(&mut out, "ListBucketResult")?;
-    Ok(out)
+    let mut document = begin(alloc, "ListBucketResult");
+    push_front(&mut document, bucket, page);
+    push_names(&mut document, page);
+    end(document, "ListBucketResult")
 }
 
-fn push_names(alloc: Global, out: &mut String, page: &Listed) -> Result<(), AllocError> {
-    for entry in page.entries.as_slice() {
-        push_entry(alloc, out, entry)?;
-    }
-    push_prefixes(alloc, out, page.prefixes.as_slice())
-}
-
-fn push_prefixes(alloc: Global, out: &mut String, prefixes: &[Text]) -> Result<(), AllocError> {
-    for prefix in prefixes {
-        push_prefix(alloc, out, prefix)?;
-    }
-    Ok(())
-}
-
-fn push_bucket(alloc: Global, out: &mut String, entry: &Entry) -> Result<(), AllocError> {
-    let time = document_time(alloc, entry.micros)?;
-    out.push_str("<Bucket>")?;
-    push_element(out, "Name", entry.key.as_str())?;
-    push_element(out, "CreationDate", time.as_str())?;
-    out.push_str("</Bucket>")
-}
-
-fn push_buckets(alloc: Global, out: &mut String, entries: &[Entry]) -> Result<(), AllocError> {
-    out.push_str("<Buckets>")?;
-    for entry in entries {
-        push_bucket(alloc, out, entry)?;
-    }
-    out.push_str("</Buckets>")
+fn push_bucket(document: &mut Document, entry: &Entry) {
+    document.push("<Bucket>");
+    push_element(document, "Name", entry.key.as_str());
+    push_time(document, "CreationDate", entry.micros);
+    document.push("</Bucket>");
 }
 
 /// The list of all buckets, with the times at which they were made.
 pub(crate) fn buckets(alloc: Global, entries: &[Entry]) -> Result<String, OutOfMemory> {
-    let mut out = begin(alloc, "ListAllMyBucketsResult")?;
-    push_buckets(alloc, &mut out, entries)?;
-    end(&mut out, "ListAllMyBucketsResult")?;
-    Ok(out)
+    let mut document = begin(alloc, "ListAllMyBucketsResult");
+    document.push("<Buckets>");
+    for entry in entries {
+        push_bucket(&mut document, entry);
+    }
+    document.push("</Buckets>");
+    end(document, "ListAllMyBucketsResult")
 }

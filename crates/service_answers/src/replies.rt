@@ -7,10 +7,10 @@ use crate::answer::Answer;
 use crate::documents::{about_object, code_of, copied, error, status_of};
 use crate::gained::{FoundObject, Gained, GotObject};
 use crate::listing_answers::{buckets, page};
-use crate::times::{document_time, header_time};
+use crate::times::header_time;
 use object_table::{ObjectTable, Refusal};
 use s3_model::{Ask, OutOfMemory, Text};
-use std::alloc::Global;
+use std::alloc::{AllocError, Global};
 
 // An answer without a body that states an entity tag.
 fn tagged(alloc: Global, status: u16, etag: &str) -> Result<Answer, OutOfMemory>
@@ -46,20 +46,17 @@ fn found(alloc: Global, object: &FoundObject) -> Result<Answer, OutOfMemory>
 }
 
 // The header line of a range and the size of the object, where there is one.
-fn add_range_line(
-    alloc: Global,
-    answer: &mut Answer,
-    range: Option<(u64, u64, u64)>,
-) -> Result<(), OutOfMemory>
+fn add_range_line(answer: &mut Answer, range: Option<(u64, u64, u64)>) -> Result<(), AllocError>
     ensures status { answer.new.status ≡ answer.old.status }
     ensures body { answer.new.body ≡ answer.old.body }
     ensures length { answer.new.length ≡ answer.old.length }
 {
-    if let Some((first, last, size)) = range {
-        let value = format!(in alloc; "bytes {first}-{last}/{size}")?;
-        answer.add_line("content-range", value.as_str())?;
+    match range {
+        Some((first, last, size)) => {
+            write!(answer.lines, "content-range: bytes {first}-{last}/{size}\r\n")
+        }
+        None => Ok(()),
     }
-    Ok(())
 }
 
 // The status of the answer to a Get: that of a range, where there is one.
@@ -77,7 +74,7 @@ fn got(alloc: Global, object: &GotObject) -> Result<Answer, OutOfMemory>
 {
     let status = status_got(object.range);
     let mut answer = described(alloc, status, object.etag.as_str(), object.micros)?;
-    add_range_line(alloc, &mut answer, object.range)?;
+    add_range_line(&mut answer, object.range)?;
     answer.body = object.bytes.as_slice().to_vec(alloc)?;
     Ok(answer)
 }
@@ -102,17 +99,6 @@ fn etag_at<'a>(table: &'a ObjectTable, bucket: &str, key: &str) -> &'a str {
     }
 }
 
-// The document of a copy that was made now.
-fn copy_document(
-    alloc: Global,
-    root: &str,
-    micros: u64,
-    etag: &str,
-) -> Result<String, OutOfMemory> {
-    let time = document_time(alloc, micros)?;
-    Ok(copied(alloc, root, time.as_str(), etag)?)
-}
-
 // The document of an answer that has one.
 fn document_of(
     alloc: Global,
@@ -125,16 +111,16 @@ fn document_of(
     match gained {
         Gained::Copied => {
             let etag = etag_at(table, bucket, key);
-            copy_document(alloc, "CopyObjectResult", micros, etag)
+            copied(alloc, "CopyObjectResult", micros, etag)
         }
-        Gained::PartCopied(etag) => copy_document(alloc, "CopyPartResult", micros, etag.as_str()),
+        Gained::PartCopied(etag) => copied(alloc, "CopyPartResult", micros, etag.as_str()),
         Gained::Created(id) => {
             let root = "InitiateMultipartUploadResult";
-            Ok(about_object(alloc, root, bucket, key, "UploadId", id.as_str())?)
+            about_object(alloc, root, bucket, key, "UploadId", id.as_str())
         }
         Gained::Completed => {
             let (root, etag) = ("CompleteMultipartUploadResult", etag_at(table, bucket, key));
-            Ok(about_object(alloc, root, bucket, key, "ETag", etag)?)
+            about_object(alloc, root, bucket, key, "ETag", etag)
         }
         Gained::Listed(listed) => page(alloc, bucket, listed),
         Gained::Buckets(entries) => buckets(alloc, entries.as_slice()),

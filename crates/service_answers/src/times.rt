@@ -23,17 +23,27 @@ fn seconds_of(micros: u64) -> u64
     (micros / MICROS_PER_SECOND).min(LAST_MOMENT)
 }
 
-/// A time as documents have it, as `2026-01-02T03:04:05.000Z`.
-pub(crate) fn document_time(alloc: Global, micros: u64) -> Result<String, AllocError> {
-    let seconds = seconds_of(micros);
-    let date = Date::from_days_since_min(EPOCH + (seconds / SECONDS_PER_DAY) as u32);
-    let (year, month, day) = (date.year, date.month, date.day);
-    let second = seconds % SECONDS_PER_DAY;
+/// Adds the day of a time.
+fn push_day(out: &mut String, micros: u64) -> Result<(), AllocError> {
+    let days = (seconds_of(micros) / SECONDS_PER_DAY) as u32;
+    let date = Date::from_days_since_min(EPOCH + days);
+    write!(out, "{:04}-{:02}-{:02}", date.year, date.month, date.day)
+}
+
+/// Adds what the clock says at a time.
+fn push_clock(out: &mut String, micros: u64) -> Result<(), AllocError> {
+    let second = seconds_of(micros) % SECONDS_PER_DAY;
     let (hours, minutes, rest) = (second / 3600, second / 60 % 60, second % 60);
     let thousandths = micros / 1000 % 1000;
-    format!(in alloc;
-        "{year:04}-{month:02}-{day:02}T{hours:02}:{minutes:02}:{rest:02}.{thousandths:03}Z"
-    )
+    write!(out, "{hours:02}:{minutes:02}:{rest:02}.{thousandths:03}")
+}
+
+/// Adds a time as documents have it, as `2026-01-02T03:04:05.000Z`.
+pub(crate) fn push_time(out: &mut String, micros: u64) -> Result<(), AllocError> {
+    push_day(out, micros)?;
+    out.push('T')?;
+    push_clock(out, micros)?;
+    out.push('Z')
 }
 
 /// A time as header lines have it, in whole seconds, as `Fri, 02 Jan 2026 03:04:05 GMT`.
