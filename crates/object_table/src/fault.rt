@@ -4,7 +4,7 @@ use s3_model::OutOfMemory;
 use std::alloc::AllocError;
 
 /// Why a request is refused.
-#[derive(Clone, Copy, Debug, PartialEq, Eq)]
+#[derive(Clone, Copy)]
 pub enum Refusal {
     NoSuchBucket,
     NoSuchKey,
@@ -17,7 +17,7 @@ pub enum Refusal {
 }
 
 /// Why a request changed nothing: it was refused, or memory ran out.
-#[derive(Clone, Copy, Debug, PartialEq, Eq)]
+#[derive(Clone, Copy)]
 pub enum TableFault {
     Refused(Refusal),
     Memory,

@@ -17,7 +17,7 @@ use s3_model::{Entries, Entry, Listed, OutOfMemory, Text, Texts};
 use std::alloc::Global;
 
 /// What a listing is of: the names under a prefix, by components where it is delimited.
-#[derive(Clone, Copy, Debug)]
+#[derive(Clone, Copy)]
 pub struct Query<'a> {
     pub prefix: &'a str,
     pub delimited: bool,

@@ -68,7 +68,7 @@ impl Model for ObjectTable {
 }
 
 /// What is copied: the object there, under an entity tag.
-#[derive(Clone, Copy, Debug)]
+#[derive(Clone, Copy)]
 pub struct Source<'a> {
     pub bucket: &'a str,
     pub key: &'a str,
