@@ -18,6 +18,18 @@ use s3_model::{Ask, Entries, Entry, Listed, OutOfMemory, Text};
 use service_answers::Gained;
 use std::alloc::Global;
 
+// A bucket of that name, made at that time.
+fn bucket_entry(alloc: Global, name: &Text, micros: u64) -> Result<Entry, OutOfMemory>
+    ensures { IfOk result (λ entry. entry.key ≡ name.now) }
+{
+    Ok(Entry {
+        key: name.copy()?,
+        size: 0,
+        etag: Text::of(alloc, "")?,
+        micros,
+    })
+}
+
 // All buckets, each made at one time.
 fn buckets(alloc: Global, table: &ObjectTable, micros: u64) -> Result<Entries, OutOfMemory>
     ensures { IfOk result (λ entries. map (λ (entry : Entry). entry.key) entries.items ≡ keys table.now.objects) }
@@ -25,14 +37,8 @@ fn buckets(alloc: Global, table: &ObjectTable, micros: u64) -> Result<Entries, O
     let names = table.buckets(alloc)?;
     let mut entries = Entries::make(alloc);
     for name in names.as_slice() {
-        let entry = Entry {
-            key: name.copy()?,
-            size: 0,
-            etag: Text::of(alloc, "")?,
-            micros,
-        };
         entries.reserve(1)?;
-        entries.push(entry);
+        entries.push(bucket_entry(alloc, name, micros)?);
     }
     Ok(entries)
 }

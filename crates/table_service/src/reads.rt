@@ -60,12 +60,11 @@ fn piece(alloc: Global, object: &MemObject, range: (u64, u64)) -> Result<GotObje
     ensures bytes { IfOk result (λ got. got.bytes.items ≡ bytes_within range object.now.bytes) }
     ensures willing { LiesWithin range object.now.bytes → IsNotRefused result }
 {
-    let etag = Text::of(alloc, object.etag())?;
     let Some(bytes) = object.within(range) else {
         return Err(TableFault::Refused(Refusal::InvalidRange));
     };
     Ok(GotObject {
-        etag,
+        etag: Text::of(alloc, object.etag())?,
         micros: object.micros(),
         range: Some((range.0, range.1, object.bytes().len() as u64)),
         bytes: bytes.to_vec(alloc)?,
@@ -89,14 +88,8 @@ fn get(
 {
     let object = table.find(bucket, key, etag)?;
     match range {
-        Some(range) => {
-            let got = piece(alloc, object, range)?;
-            Ok(got)
-        }
-        None => {
-            let got = whole(alloc, object)?;
-            Ok(got)
-        }
+        Some(range) => piece(alloc, object, range),
+        None => Ok(whole(alloc, object)?),
     }
 }
 

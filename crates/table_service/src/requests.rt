@@ -20,7 +20,7 @@ use std::alloc::Global;
 
 /// How a service serves: its limits, the most names of a page, and the time of what is written, in microseconds since
 /// 1970.
-#[derive(Clone, Copy, Debug)]
+#[derive(Clone, Copy)]
 pub struct Manner {
     pub limits: Limits,
     pub page: usize,
