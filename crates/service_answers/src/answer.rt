@@ -7,7 +7,7 @@ use s3_model::OutOfMemory;
 use std::alloc::{AllocError, Global};
 
 /// In which form an answer comes.
-#[derive(Clone, Copy, Debug, PartialEq, Eq)]
+#[derive(Clone, Copy)]
 pub enum Form {
     /// With its length, and the connection stays open.
     Sized,

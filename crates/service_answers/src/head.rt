@@ -1,7 +1,7 @@
 //! The head of a request.
 
 /// The head of a request: its method, its target, and its header lines.
-#[derive(Clone, Copy, Debug)]
+#[derive(Clone, Copy)]
 pub struct RequestHead<'a> {
     pub method: &'a str,
     pub target: &'a str,
