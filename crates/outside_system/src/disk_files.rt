@@ -1,13 +1,14 @@
 //! The files of the system.
 
-ghost use Rattle.std.specs.Prelude.{◌≡◌, ◌≢◌, ◌≤◌, None, IfOk, IfErr, IfSome, length};
-ghost use Rattle.std.specs.Io.{ReadsAtMost};
+ghost use Rattle.std.specs.Prelude.{◌≡◌, ◌≢◌, ◌≤◌, None, IfOk, IfErr, length};
 ghost use Rattle.s3_outside.specs.FileCalls.{HasRisen, IsTempPath, NamesFront};
 
-use crate::disk_paths::{make_folders, names_on_disk, obstacle_on_disk, shape_on_disk};
+use crate::disk_paths::{make_way, names_on_disk, obstacle_on_disk, shape_on_disk};
 use crate::disk_sources::{DiskSource, Look};
-use crate::disk_temps::DiskTemps;
-use s3_outside::{Failed, FileFault, Files, Names, Shape, Temp, blocked, count_fault, temp_path};
+use crate::disk_temps::{DiskTemps, MakeFault};
+use s3_outside::{
+    Failed, FileFault, Files, Names, Shape, Temp, blocked, count_fault, fault, temp_path,
+};
 use std::alloc::Global;
 use std::collections::BTreeMap;
 use std::fs::{self, FileTimes, OpenFile};
@@ -48,67 +49,80 @@ impl<R: rt::Files + AllocGlobal + Clone + Drop> DiskFiles<R> {
     }
 
     // What stands at a path, which is kept for its reads.
-    fn look(&mut self, path: &str) -> io::Result<Shape>
+    fn look(&mut self, path: &str) -> Result<Shape, Failed>
         ensures faults { self.new.faults ≡ self.old.faults }
     {
-        let shape = shape_on_disk(&self.runtime, path)?;
+        let Ok(shape) = shape_on_disk(&self.runtime, path) else {
+            return Err(Failed);
+        };
         if let Shape::File { size, micros } = shape {
-            let owned = String::from_str(self.runtime.alloc(), path)?;
+            let Ok(owned) = String::from_str(self.runtime.alloc(), path) else {
+                return Err(Failed);
+            };
             if self.looks.insert(owned, Look { size, micros }).is_err() {
-                return Err(io::Error::from(ErrorKind::OutOfMemory));
+                return Err(Failed);
             }
         }
         Ok(shape)
     }
 
-    fn read(&mut self, path: &str, at: u64, into: &mut [u8]) -> io::Result<usize>
-        ensures bound { ReadsAtMost result into.new }
+    fn read(&mut self, path: &str, at: u64, into: &mut [u8]) -> Result<usize, Failed>
+        ensures bound { IfOk result (λ count. count ≤ length into.new) }
         ensures length { length into.new ≡ length into.old }
         ensures faults { self.new.faults ≡ self.old.faults }
     {
-        let mut source = match self.source.take() {
-            Some(open) if open.is_of(path) => open,
-            _ => DiskSource::open(&self.runtime, path, self.looks.get(path).copied())?,
-        };
-        let (count, is_last) = source.read(at, into)?;
-        if !is_last {
-            self.source = Some(source);
+        let mut source = self.take_source(path)?;
+        match source.read(at, into) {
+            Ok(count) if !source.is_last(at, count) => {
+                self.source = Some(source);
+                Ok(count)
+            }
+            answer => answer,
         }
-        Ok(count)
+    }
+
+    // The file there: the one that is open, or else it is opened.
+    fn take_source(&mut self, path: &str) -> Result<DiskSource<R::File>, Failed>
+        ensures faults { self.new.faults ≡ self.old.faults }
+    {
+        if let Some(open) = self.source.take()
+            && open.is_of(path)
+        {
+            return Ok(open);
+        }
+        DiskSource::open(&self.runtime, path, self.looks.get(path).copied())
     }
 
     // An empty file beside the destination, at a path where nothing was.
-    fn make(&mut self, alloc: Global, dest: &str) -> io::Result<Temp>
+    fn make(&mut self, alloc: Global, dest: &str) -> Result<Temp, MakeFault>
         ensures path { IfOk result (λ temp. IsTempPath dest.now temp.path) }
         ensures apart { IfOk result (λ temp. temp.path ≢ dest.now) }
         ensures faults { self.new.faults ≡ self.old.faults }
     {
-        if shape_on_disk(&self.runtime, dest)? == Shape::Other {
-            return Err(io::Error::from(ErrorKind::AlreadyExists));
-        }
-        make_folders(&self.runtime, dest)?;
+        make_way(&self.runtime, dest)?;
         for _ in 0..u32::MAX {
-            if let Some(temp) = self.draw(alloc, dest)? {
-                return Ok(temp);
+            match self.draw(alloc, dest) {
+                Err(MakeFault::Taken) => {}
+                made => return made,
             }
         }
-        Err(io::Error::from(ErrorKind::AlreadyExists))
+        Err(MakeFault::Taken)
     }
 
-    // The same at the path with the next number. None where something was there.
-    fn draw(&mut self, alloc: Global, dest: &str) -> io::Result<Option<Temp>>
-        ensures path { IfOk result (λ made. IfSome made (λ temp. IsTempPath dest.now temp.path)) }
-        ensures apart { IfOk result (λ made. IfSome made (λ temp. temp.path ≢ dest.now)) }
+    // The same at the path with the next number.
+    fn draw(&mut self, alloc: Global, dest: &str) -> Result<Temp, MakeFault>
+        ensures path { IfOk result (λ temp. IsTempPath dest.now temp.path) }
+        ensures apart { IfOk result (λ temp. temp.path ≢ dest.now) }
         ensures faults { self.new.faults ≡ self.old.faults }
     {
-        let Ok(path) = temp_path(alloc, dest, self.drawn) else {
-            return Err(io::Error::from(ErrorKind::OutOfMemory));
-        };
+        let path = temp_path(alloc, dest, self.drawn)?;
         self.drawn = self.drawn.wrapping_add(1);
-        if path.as_str() != dest && self.temps.create(&self.runtime, path.as_str())? {
-            Ok(Some(Temp { path }))
-        } else {
-            Ok(None)
+        if path.as_str() == dest {
+            return Err(MakeFault::Taken);
+        }
+        match self.temps.create(&self.runtime, path.as_str()) {
+            Ok(()) => Ok(Temp { path }),
+            Err(fault) => Err(fault),
         }
     }
 
@@ -126,20 +140,26 @@ impl<R: rt::Files + AllocGlobal + Clone + Drop> DiskFiles<R> {
     {
         self.temps.close(temp);
         self.forget(dest);
-        match shape_on_disk(&self.runtime, dest)? {
-            Shape::Absent | Shape::File { .. } => fs::rename(&self.runtime, temp, dest),
-            Shape::Folder | Shape::Other => Err(io::Error::from(ErrorKind::AlreadyExists)),
+        match shape_on_disk(&self.runtime, dest) {
+            Ok(Shape::Absent | Shape::File { .. }) => fs::rename(&self.runtime, temp, dest),
+            _ => Err(io::Error::from(ErrorKind::AlreadyExists)),
         }
     }
 
-    fn set_time(&self, path: &str, micros: u64) -> io::Result<()> {
-        let Shape::File { .. } = shape_on_disk(&self.runtime, path)? else {
-            return Err(io::Error::from(ErrorKind::InvalidInput));
+    fn set_time(&self, path: &str, micros: u64) -> Result<(), Failed> {
+        let Ok(Shape::File { .. }) = shape_on_disk(&self.runtime, path) else {
+            return Err(Failed);
         };
         let Some(time) = UNIX_EPOCH.checked_add(Duration::from_micros(micros)) else {
-            return Err(io::Error::from(ErrorKind::InvalidInput));
+            return Err(Failed);
         };
-        fs::open(&self.runtime, path)?.set_times(FileTimes::new().set_modified(time))
+        let Ok(file) = fs::open(&self.runtime, path) else {
+            return Err(Failed);
+        };
+        match file.set_times(FileTimes::new().set_modified(time)) {
+            Ok(()) => Ok(()),
+            Err(_) => Err(Failed),
+        }
     }
 
     // Why a call did not succeed: what is in the way of its destination, or a fault.
@@ -151,10 +171,7 @@ impl<R: rt::Files + AllocGlobal + Clone + Drop> DiskFiles<R> {
     {
         match obstacle_on_disk(&self.runtime, dest) {
             Some(length) => blocked(length, &mut self.faults),
-            None => {
-                count_fault(&mut self.faults);
-                FileFault::Failed
-            }
+            None => fault(&mut self.faults),
         }
     }
 }
@@ -183,10 +200,7 @@ impl<R: rt::Files + AllocGlobal + Clone + Drop> Files for DiskFiles<R> {
         match names_on_disk(&self.runtime, alloc, folder) {
             Ok(names) => Ok(names),
             Err(e) if e.kind() == ErrorKind::OutOfMemory => Err(FileFault::Memory),
-            Err(_) => {
-                count_fault(&mut self.faults);
-                Err(FileFault::Failed)
-            }
+            Err(_) => Err(fault(&mut self.faults)),
         }
     }
 
@@ -196,7 +210,7 @@ impl<R: rt::Files + AllocGlobal + Clone + Drop> Files for DiskFiles<R> {
         }
         match self.make(alloc, dest) {
             Ok(temp) => Ok(temp),
-            Err(e) if e.kind() == ErrorKind::OutOfMemory => Err(FileFault::Memory),
+            Err(MakeFault::Memory) => Err(FileFault::Memory),
             Err(_) => Err(self.refusal(dest)),
         }
     }

@@ -5,7 +5,7 @@ ghost use Rattle.std.specs.Prelude.{◌≡◌, ◌≤◌, IfSome, IsCharBoundary
 use s3_model::{Text, Texts};
 use s3_outside::{Names, Shape};
 use std::alloc::Global;
-use std::fs::{self, Metadata};
+use std::fs::{self, DirEntry, Metadata};
 use std::io::{self, ErrorKind};
 use std::rt;
 use std::time::UNIX_EPOCH;
@@ -42,30 +42,52 @@ pub(crate) fn names_on_disk<R: rt::Files + AllocGlobal + Clone + Drop>(
     alloc: Global,
     folder: &str,
 ) -> io::Result<Names> {
-    let mut names = Texts::make(alloc);
-    let mut unnamed: u64 = 0;
-    for entry in fs::read_dir(runtime, folder)? {
-        match entry {
-            Ok(entry) => add_name(alloc, &mut names, entry.file_name())?,
-            Err(e) if e.kind() == ErrorKind::InvalidFilename => {
-                unnamed = unnamed.saturating_add(1);
-            }
-            Err(e) => return Err(e),
-        }
+    let entries = fs::read_dir(runtime, folder)?;
+    let mut found = Names {
+        names: Texts::make(alloc),
+        unnamed: 0,
+    };
+    for entry in entries {
+        add_entry(alloc, &mut found, entry)?;
     }
-    Ok(Names { names, unnamed })
+    Ok(found)
+}
+
+fn add_entry<R: rt::Files + Drop>(
+    alloc: Global,
+    found: &mut Names,
+    entry: io::Result<DirEntry<R>>,
+) -> io::Result<()> {
+    match entry {
+        Ok(entry) => add_name(alloc, &mut found.names, entry.file_name()),
+        Err(e) if e.kind() == ErrorKind::InvalidFilename => {
+            found.unnamed = found.unnamed.saturating_add(1);
+            Ok(())
+        }
+        Err(e) => Err(e),
+    }
 }
 
 fn add_name(alloc: Global, names: &mut Texts, name: &str) -> io::Result<()> {
-    let (Ok(name), Ok(())) = (Text::of(alloc, name), names.reserve(1)) else {
+    if names.reserve(1).is_err() {
+        return Err(io::Error::from(ErrorKind::OutOfMemory));
+    }
+    let Ok(name) = Text::of(alloc, name) else {
         return Err(io::Error::from(ErrorKind::OutOfMemory));
     };
     names.push(name);
     Ok(())
 }
 
-/// Makes the folders of a path that are missing.
-pub(crate) fn make_folders(runtime: &impl rt::Files, path: &str) -> io::Result<()> {
+/// Makes the folders of a destination that are missing. One that is neither file nor folder is a fault.
+pub(crate) fn make_way(runtime: &impl rt::Files, dest: &str) -> io::Result<()> {
+    if shape_on_disk(runtime, dest)? == Shape::Other {
+        return Err(io::Error::from(ErrorKind::AlreadyExists));
+    }
+    make_folders(runtime, dest)
+}
+
+fn make_folders(runtime: &impl rt::Files, path: &str) -> io::Result<()> {
     match path.rsplit_once('/') {
         Some((folder, _)) => fs::create_dir_all(runtime, folder),
         None => Ok(()),

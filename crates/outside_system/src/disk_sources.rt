@@ -1,10 +1,10 @@
 //! A file of the system that is read.
 
 ghost use Rattle.std.specs.Prelude.{◌≡◌, ◌≤◌, IfOk, length};
-ghost use Rattle.std.specs.Io.{ReadsAtMost};
 
 use crate::disk_paths::micros_of;
 use s3_model::Text;
+use s3_outside::Failed;
 use std::fs::{self, Metadata, OpenFile};
 use std::io::{self, ErrorKind, Read, Seek, SeekFrom};
 use std::rt;
@@ -32,77 +32,88 @@ impl<F: OpenFile + Read + Seek + Drop> DiskSource<F> {
         runtime: &R,
         path: &str,
         seen: Option<Look>,
-    ) -> io::Result<DiskSource<F>> {
+    ) -> Result<DiskSource<F>, Failed> {
+        let look = look_of(fs::metadata(runtime, path), seen)?;
         let Ok(owned) = Text::of(runtime.alloc(), path) else {
-            return Err(io::Error::from(ErrorKind::OutOfMemory));
+            return Err(Failed);
         };
-        let look = look_of(&fs::metadata(runtime, path)?)?;
-        if let Some(seen) = seen
-            && seen != look
-        {
-            return Err(changed());
-        }
-        let file = fs::open(runtime, path)?;
-        let source = DiskSource {
+        let file = open_same(runtime, path, look)?;
+        Ok(DiskSource {
             path: owned,
             file,
             look,
-        };
-        source.check()?;
-        Ok(source)
+        })
     }
 
     pub(crate) fn is_of(&self, path: &str) -> bool {
         self.path.as_str() == path
     }
 
-    // A file that has changed since it was opened is a fault.
-    fn check(&self) -> io::Result<()> {
-        if look_of(&self.file.metadata()?)? != self.look {
-            return Err(changed());
-        }
-        Ok(())
-    }
-
-    /// Reads a piece. How many bytes came, and whether it was the last piece.
-    pub(crate) fn read(&mut self, at: u64, into: &mut [u8]) -> io::Result<(usize, bool)>
-        ensures bound { IfOk result (λ read. read.0 ≤ length into.new) }
+    /// Reads a piece. A file that has changed since it was opened is a fault behind its last piece.
+    pub(crate) fn read(&mut self, at: u64, into: &mut [u8]) -> Result<usize, Failed>
+        ensures bound { IfOk result (λ count. count ≤ length into.new) }
         ensures length { length into.new ≡ length into.old }
     {
-        self.file.seek(SeekFrom::Start(at))?;
-        let count = read_again(&mut self.file, into)?;
-        let is_last = count == 0 || at.saturating_add(count as u64) >= self.look.size;
-        if is_last {
-            self.check()?;
+        if self.file.seek(SeekFrom::Start(at)).is_err() {
+            return Err(Failed);
         }
-        Ok((count, is_last))
+        let count = read_again(&mut self.file, into)?;
+        if self.is_last(at, count) {
+            look_of(self.file.metadata(), Some(self.look))?;
+        }
+        Ok(count)
+    }
+
+    /// Whether so many bytes from that place are the last piece.
+    pub(crate) fn is_last(&self, at: u64, count: usize) -> bool {
+        count == 0 || at.saturating_add(count as u64) >= self.look.size
     }
 }
 
-fn read_again<F: Read>(file: &mut F, into: &mut [u8]) -> io::Result<usize>
-    ensures bound { ReadsAtMost result into.new }
+// Opens a file that looks so.
+fn open_same<R: rt::Files>(runtime: &R, path: &str, look: Look) -> Result<R::File, Failed> {
+    let Ok(file) = fs::open(runtime, path) else {
+        return Err(Failed);
+    };
+    match look_of(file.metadata(), Some(look)) {
+        Ok(_) => Ok(file),
+        Err(_) => Err(Failed),
+    }
+}
+
+fn read_again<F: Read>(file: &mut F, into: &mut [u8]) -> Result<usize, Failed>
+    ensures bound { IfOk result (λ count. count ≤ length into.new) }
     ensures length { length into.new ≡ length into.old }
 {
     for _ in 0..TRIES {
         match file.read(into) {
+            Ok(count) => return Ok(count),
             Err(e) if e.kind() == ErrorKind::Interrupted => {}
-            answer => return answer,
+            Err(_) => return Err(Failed),
         }
     }
-    Err(io::Error::from(ErrorKind::Interrupted))
+    Err(Failed)
 }
 
-// What is no regular file is a fault.
-fn look_of(found: &Metadata) -> io::Result<Look> {
-    if !found.is_file() {
-        return Err(io::Error::from(ErrorKind::InvalidInput));
+// How a regular file looks, where that is what was seen of it.
+fn look_of(found: io::Result<Metadata>, seen: Option<Look>) -> Result<Look, Failed> {
+    match found {
+        Ok(found) if found.is_file() => same_look(&found, seen),
+        _ => Err(Failed),
     }
-    Ok(Look {
-        size: found.len(),
-        micros: micros_of(found)?,
-    })
 }
 
-fn changed() -> io::Error {
-    io::Error::from(ErrorKind::InvalidData)
+fn same_look(found: &Metadata, seen: Option<Look>) -> Result<Look, Failed> {
+    let Ok(micros) = micros_of(found) else {
+        return Err(Failed);
+    };
+    let look = Look {
+        size: found.len(),
+        micros,
+    };
+    if seen.unwrap_or(look) == look {
+        Ok(look)
+    } else {
+        Err(Failed)
+    }
 }

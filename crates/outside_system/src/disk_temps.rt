@@ -2,6 +2,9 @@
 
 ghost use Rattle.std.specs.Prelude.{◌<◌, IfSome, vec_len};
 
+use s3_model::OutOfMemory;
+use s3_outside::Failed;
+use std::alloc::Global;
 use std::collections::BTreeMap;
 use std::fs::{self, Metadata, OpenFile, OpenOptions};
 use std::io::{self, ErrorKind, Seek, SeekFrom, Write};
@@ -12,10 +15,38 @@ use std::{mem, rt};
 const MOST_OPEN: usize = 64;
 
 /// Which file it is, whatever its name.
-#[derive(Clone, Copy, PartialEq, Eq)]
+#[derive(Clone, Copy)]
 struct Node {
     device: u64,
     inode: u64,
+}
+
+/// Why no temporary file was made.
+#[derive(Clone, Copy)]
+pub(crate) enum MakeFault {
+    /// Something is there.
+    Taken,
+    Memory,
+    Failed,
+}
+
+impl From<OutOfMemory> for MakeFault {
+    fn from(_: OutOfMemory) -> MakeFault {
+        MakeFault::Memory
+    }
+}
+
+impl From<io::Error> for MakeFault {
+    fn from(error: io::Error) -> MakeFault {
+        let kind = error.kind();
+        if kind == ErrorKind::AlreadyExists {
+            MakeFault::Taken
+        } else if kind == ErrorKind::OutOfMemory {
+            MakeFault::Memory
+        } else {
+            MakeFault::Failed
+        }
+    }
 }
 
 #[derive(Drop)]
@@ -40,45 +71,48 @@ impl<F: OpenFile + Write + Seek + Drop> DiskTemps<F> {
         }
     }
 
-    /// Makes an empty file. Whether nothing was there; what is there is never opened.
+    /// Makes an empty file. What is there is never opened.
     pub(crate) fn create<R: rt::Files<File = F> + AllocGlobal>(
         &mut self,
         runtime: &R,
         path: &str,
-    ) -> io::Result<bool> {
+    ) -> Result<(), MakeFault> {
         let mut options = OpenOptions::new();
         options.write(true).create_new(true);
-        let file = match options.open(runtime, path) {
-            Ok(file) => file,
-            Err(e) if e.kind() == ErrorKind::AlreadyExists => return Ok(false),
-            Err(e) => return Err(e),
-        };
-        match self.keep(runtime, path, file) {
-            Ok(()) => Ok(true),
-            Err(e) => {
-                let _ = fs::remove_file(runtime, path);
-                Err(e)
-            }
+        let file = options.open(runtime, path)?;
+        let kept = self.keep(runtime.alloc(), path, file);
+        if kept.is_err() {
+            let _ = fs::remove_file(runtime, path);
         }
+        kept
     }
 
-    fn keep<R: AllocGlobal>(&mut self, runtime: &R, path: &str, file: F) -> io::Result<()> {
-        let node = node_of(&file.metadata()?)?;
-        let owned = String::from_str(runtime.alloc(), path)?;
+    fn keep(&mut self, alloc: Global, path: &str, file: F) -> Result<(), MakeFault> {
+        let node = node_of(&file)?;
+        let Ok(owned) = String::from_str(alloc, path) else {
+            return Err(MakeFault::Memory);
+        };
         if self.made.insert(owned, node).is_err() {
-            return Err(io::Error::from(ErrorKind::OutOfMemory));
+            return Err(MakeFault::Memory);
         }
-        self.keep_open(runtime, path, file)
+        match self.keep_open(alloc, path, file) {
+            Ok(()) => Ok(()),
+            Err(OutOfMemory) => Err(MakeFault::Memory),
+        }
     }
 
     // Closes the file that was opened first, where too many are open.
-    fn keep_open<R: AllocGlobal>(&mut self, runtime: &R, path: &str, file: F) -> io::Result<()> {
-        let path = String::from_str(runtime.alloc(), path)?;
+    fn keep_open(&mut self, alloc: Global, path: &str, file: F) -> Result<(), OutOfMemory> {
+        let Ok(path) = String::from_str(alloc, path) else {
+            return Err(OutOfMemory);
+        };
         if self.open.len() >= MOST_OPEN {
             self.open.remove(0);
         }
-        self.open.push(OpenTemp { path, file })?;
-        Ok(())
+        match self.open.push(OpenTemp { path, file }) {
+            Ok(()) => Ok(()),
+            Err(_) => Err(OutOfMemory),
+        }
     }
 
     /// Writes only into a file that was made here.
@@ -88,13 +122,13 @@ impl<F: OpenFile + Write + Seek + Drop> DiskTemps<F> {
         path: &str,
         at: u64,
         bytes: &[u8],
-    ) -> io::Result<()> {
+    ) -> Result<(), Failed> {
         if self.place_of(path).is_none() {
             self.open_again(runtime, path)?;
         }
         match self.place_of(path) {
             Some(place) => write_all_at(&mut self.open[place].file, at, bytes),
-            None => Err(io::Error::from(ErrorKind::NotFound)),
+            None => Err(Failed),
         }
     }
 
@@ -102,7 +136,12 @@ impl<F: OpenFile + Write + Seek + Drop> DiskTemps<F> {
     fn place_of(&self, path: &str) -> Option<usize>
         ensures { IfSome result (λ place. place < vec_len self.now.open) }
     {
-        self.open.iter().position(|open| open.path.as_str() == path)
+        for (place, open) in self.open.iter().enumerate() {
+            if open.path.as_str() == path {
+                return Some(place);
+            }
+        }
+        None
     }
 
     // Another file of that name is no longer opened, and is never written.
@@ -110,20 +149,15 @@ impl<F: OpenFile + Write + Seek + Drop> DiskTemps<F> {
         &mut self,
         runtime: &R,
         path: &str,
-    ) -> io::Result<()> {
+    ) -> Result<(), Failed> {
         let Some(node) = self.made.get(path).copied() else {
-            return Err(io::Error::from(ErrorKind::NotFound));
+            return Err(Failed);
         };
-        if node_of(&fs::symlink_metadata(runtime, path)?)? != node {
-            return Err(io::Error::from(ErrorKind::InvalidData));
+        let file = open_same(runtime, path, node)?;
+        match self.keep_open(runtime.alloc(), path, file) {
+            Ok(()) => Ok(()),
+            Err(OutOfMemory) => Err(Failed),
         }
-        let mut options = OpenOptions::new();
-        options.write(true);
-        let file = options.open(runtime, path)?;
-        if node_of(&file.metadata()?)? != node {
-            return Err(io::Error::from(ErrorKind::InvalidData));
-        }
-        self.keep_open(runtime, path, file)
     }
 
     /// Closes a file, which is written no more.
@@ -135,18 +169,42 @@ impl<F: OpenFile + Write + Seek + Drop> DiskTemps<F> {
     }
 }
 
-fn write_all_at<F: Write + Seek>(file: &mut F, at: u64, bytes: &[u8]) -> io::Result<()> {
-    file.seek(SeekFrom::Start(at))?;
-    file.write_all(bytes)
+// Opens a file for writing, where it still is that one.
+fn open_same<R: rt::Files>(runtime: &R, path: &str, node: Node) -> Result<R::File, Failed> {
+    if !is_node(fs::symlink_metadata(runtime, path), node) {
+        return Err(Failed);
+    }
+    let mut options = OpenOptions::new();
+    options.write(true);
+    match options.open(runtime, path) {
+        Ok(file) if is_node(file.metadata(), node) => Ok(file),
+        _ => Err(Failed),
+    }
+}
+
+fn write_all_at<F: Write + Seek>(file: &mut F, at: u64, bytes: &[u8]) -> Result<(), Failed> {
+    if file.seek(SeekFrom::Start(at)).is_err() || file.write_all(bytes).is_err() {
+        return Err(Failed);
+    }
+    Ok(())
 }
 
 // What is no regular file is a fault.
-fn node_of(found: &Metadata) -> io::Result<Node> {
-    if !found.is_file() {
-        return Err(io::Error::from(ErrorKind::InvalidInput));
+fn node_of<F: OpenFile>(file: &F) -> Result<Node, MakeFault> {
+    match file.metadata() {
+        Ok(found) if found.is_file() => Ok(Node {
+            device: found.dev(),
+            inode: found.ino(),
+        }),
+        Err(e) if e.kind() == ErrorKind::OutOfMemory => Err(MakeFault::Memory),
+        _ => Err(MakeFault::Failed),
     }
-    Ok(Node {
-        device: found.dev(),
-        inode: found.ino(),
-    })
+}
+
+// Whether a regular file was found that is that one.
+fn is_node(found: io::Result<Metadata>, node: Node) -> bool {
+    match found {
+        Ok(found) => { found.is_file() && found.dev() == node.device && found.ino() == node.inode }
+        Err(_) => false,
+    }
 }

@@ -44,11 +44,11 @@ impl<R: rt::Env + rt::Files + AllocGlobal> Env for RealEnv<R> {
 
     /// What is not found, or lies below a file, is absent; a folder is a fault.
     fn file(&mut self, alloc: Global, path: &str) -> Result<Option<Vec<u8>>, EnvFault> {
-        match read_front(&self.runtime, alloc, path) {
-            Ok(bytes) if bytes.len() <= MOST_FILE_BYTES => Ok(Some(bytes)),
+        match read_file(&self.runtime, alloc, path) {
+            Ok(bytes) => Ok(Some(bytes)),
             Err(e) if is_absent(e.kind()) => Ok(None),
             Err(e) if e.kind() == ErrorKind::OutOfMemory => Err(EnvFault::Memory),
-            _ => {
+            Err(_) => {
                 count_fault(&mut self.faults);
                 Err(EnvFault::Failed)
             }
@@ -60,11 +60,16 @@ impl<R: rt::Env + rt::Files + AllocGlobal> Env for RealEnv<R> {
     }
 }
 
-// The bytes of a file, up to one more than may be read.
-fn read_front(runtime: &impl rt::Files, alloc: Global, path: &str) -> io::Result<Vec<u8>> {
+// The bytes of a file. At most one more is read than there may be.
+fn read_file(runtime: &impl rt::Files, alloc: Global, path: &str) -> io::Result<Vec<u8>>
+    ensures { IfOk result (λ bytes. length bytes.items ≤ 1048576) }
+{
     let file = File::open(runtime, path)?;
     let mut bytes = Vec::new(alloc);
     file.take(MOST_FILE_BYTES as u64 + 1)
         .read_to_end(&mut bytes)?;
+    if bytes.len() > MOST_FILE_BYTES {
+        return Err(io::Error::from(ErrorKind::FileTooLarge));
+    }
     Ok(bytes)
 }

@@ -1,5 +1,5 @@
 use Rattle.std.proofs.Common.{rules}
 use Rattle.outside_system.proofs.real_env.RealEnvEnv.file.Goals as goal
 
-pub returns-in_default-clause-cause : goal.returns-in_default-clause-cause
-returns-in_default-clause-cause g c = search rules
+pub returns-in-Err-3-clause-cause : goal.returns-in-Err-3-clause-cause
+returns-in-Err-3-clause-cause g c = search rules
