@@ -1,10 +1,11 @@
 -- The slots of the code, and what they are to the definitions.
-use Rattle.std.specs.Prelude.{◌≡◌, map, ◌&&◌, ℕ, List, Option, Some, None, option_map, if◌then◌else◌}
+use Rattle.std.specs.Prelude.{◌≡◌, map, ◌&&◌, ℕ, List, [], ◌∷◌, Option, Some, None, codes, option_map, if◌then◌else◌}
 use Rattle.std.specs.Borrow.{Bor}
 use Rattle.std.specs.Option.{option_or}
 use Rattle.std.specs.Str.{bytes_eq}
 use Rattle.aws_profile.specs.declared.kinds.Assignment.{Assignment}
 use Rattle.aws_profile.specs.declared.slots.Place.{Place}
+use Rattle.aws_profile.specs.declared.slots.Place.TheVariants as place
 use Rattle.aws_profile.specs.declared.slots.Found.{Found}
 use Rattle.aws_profile.specs.declared.slots.Slot.{Slot}
 use Rattle.aws_profile.specs.Sections.{Reading, States, Value, same_place, is_stated, value_of, value_in}
@@ -30,6 +31,30 @@ found_shown found = record { line = found.line; text = found.text.now }
 
 abbrev pub slot_shown : Slot → Filled
 slot_shown slot = record { place = slot.place; name = slot.name.now; found = option_map found_shown slot.found }
+
+-- a slot in which no value is yet
+abbrev pub empty_slot : Place → List ℕ → Filled
+empty_slot place name = record { place = place; name = name; found = None }
+
+-- the slots of a config section
+abbrev pub config_slots : List Filled
+config_slots =
+    empty_slot place.Section (codes "region")
+    ∷ empty_slot place.Section (codes "max_attempts")
+    ∷ empty_slot place.S3 (codes "max_concurrent_requests")
+    ∷ empty_slot place.S3 (codes "max_queue_size")
+    ∷ empty_slot place.S3 (codes "multipart_threshold")
+    ∷ empty_slot place.S3 (codes "multipart_chunksize")
+    ∷ empty_slot place.S3 (codes "part_buffers")
+    ∷ []
+
+-- the slots of a credentials section
+abbrev pub key_slots : List Filled
+key_slots =
+    empty_slot place.Section (codes "aws_access_key_id")
+    ∷ empty_slot place.Section (codes "aws_secret_access_key")
+    ∷ empty_slot place.Section (codes "aws_session_token")
+    ∷ []
 
 -- the slot after one line
 abbrev pub taken : List ℕ → Reading → Filled → Filled

@@ -1,16 +1,7 @@
-use Rattle.std.proofs.Common.{List, [], ◌∷◌, refl}
-use Rattle.aws_profile.specs.declared.slots.Slot.{Slot}
 use Rattle.aws_profile.specs.Sections.{readings}
-use Rattle.aws_profile.proofs.ValueLemmas.{value_at, same_keys}
+use Rattle.aws_profile.proofs.ValueLemmas.{keys_read}
 use Rattle.aws_profile.proofs.values.read_keys.Goals as goal
 
 pub returns-clause-values : goal.returns-clause-values
 returns-clause-values c =
-    let fills = c.in_ok-has_section.ensures.slots in
-    let found = readings c.args.file.now in
-    let section = c.args.profile.now in
-    let before : List Slot = c.new.result ∷ c.new-2.result ∷ c.new-3.result ∷ [] in
-    let after = c.read_file.new.slots in
-    same_keys _ _ (value_at section found before after 0 _ c.new.result _ _ fills refl c.new.ensures)
-    (value_at section found before after 1 _ c.new-2.result _ _ fills refl c.new-2.ensures)
-    (value_at section found before after 2 _ c.new-3.result _ _ fills refl c.new-3.ensures)
+    keys_read c.args.profile.now (readings c.args.file.now) c.in_ok-has_section.has_section _ _ _ c.key_slots-slots.ensures c.in_ok-has_section.ensures.slots
