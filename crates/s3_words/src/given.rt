@@ -1,6 +1,6 @@
 //! What the words give: flags, values and filters.
 
-ghost use Rattle.std.specs.Prelude.{◌≡◌, IfOk, IfErr, OnOk, option_map};
+ghost use Rattle.std.specs.Prelude.{◌≡◌, IfOk, OnOk, option_map};
 ghost use Rattle.std.specs.Option.{option_copied};
 ghost use Rattle.s3_words.specs.Commands.{AreFilters, expires_of, mode_of, times_of};
 ghost use Rattle.s3_words.specs.Given.{filter_by, filter_in, filters_in, is_given, is_option, value_in, value_of};
@@ -11,7 +11,7 @@ use crate::options::OptionName;
 use crate::roles::Role;
 use crate::values::seconds;
 use path_filters::{Filters, Pattern};
-use s3_model::{Mode, OutOfMemory, Text, Times, WordFault};
+use s3_model::{Mode, OutOfMemory, Text, Times};
 use std::alloc::Global;
 
 /// In seconds.
@@ -67,16 +67,12 @@ pub(crate) fn copy_of(
     alloc: Global,
     roles: &[Role<'_>],
     option: OptionName,
-) -> Result<Option<Text>, WordFault>
-    ensures copy { IfOk result (λ copy. copy ≡ value_of option (all_shown roles.now)) }
-    ensures fault { IfErr result (λ fault. fault ≡ WordFault.Memory) }
+) -> Result<Option<Text>, OutOfMemory>
+    ensures { IfOk result (λ copy. copy ≡ value_of option (all_shown roles.now)) }
 {
-    let Some(text) = value_of(roles, option) else {
-        return Ok(None);
-    };
-    match Text::of(alloc, text) {
-        Ok(copy) => Ok(Some(copy)),
-        Err(OutOfMemory) => Err(WordFault::Memory),
+    match value_of(roles, option) {
+        Some(text) => Ok(Some(Text::of(alloc, text)?)),
+        None => Ok(None),
     }
 }
 
@@ -145,20 +141,16 @@ fn filter_in<'a>(role: Role<'a>) -> Option<Given<'a>>
 }
 
 /// Adds a filter at the end.
-fn push_filter(alloc: Global, filters: &mut Filters, given: Given<'_>) -> Result<(), WordFault>
-    ensures ok { OnOk result (IsOneMore (given_shown given.entry) filters.old filters.new) }
-    ensures fault { IfErr result (λ fault. fault ≡ WordFault.Memory) }
+fn push_filter(alloc: Global, filters: &mut Filters, given: Given<'_>) -> Result<(), OutOfMemory>
+    ensures { OnOk result (IsOneMore (given_shown given.entry) filters.old filters.new) }
 {
-    let pattern = Pattern::read(alloc, given.pattern).map_err(|_| WordFault::Memory)?;
-    filters
-        .push(given.keep, pattern)
-        .map_err(|_| WordFault::Memory)
+    let pattern = Pattern::read(alloc, given.pattern)?;
+    filters.push(given.keep, pattern)
 }
 
 /// Adds the filter that a word gives, where it gives one.
-fn push_given(alloc: Global, filters: &mut Filters, role: Role<'_>) -> Result<(), WordFault>
-    ensures ok { OnOk result (FiltersAfter (filter_in (shown role.entry)) filters.old filters.new) }
-    ensures fault { IfErr result (λ fault. fault ≡ WordFault.Memory) }
+fn push_given(alloc: Global, filters: &mut Filters, role: Role<'_>) -> Result<(), OutOfMemory>
+    ensures { OnOk result (FiltersAfter (filter_in (shown role.entry)) filters.old filters.new) }
 {
     match filter_in(role) {
         Some(given) => push_filter(alloc, filters, given),
@@ -167,9 +159,8 @@ fn push_given(alloc: Global, filters: &mut Filters, role: Role<'_>) -> Result<()
 }
 
 /// The filters in the order in which they are given.
-pub(crate) fn filters_of(alloc: Global, roles: &[Role<'_>]) -> Result<Filters, WordFault>
-    ensures filters { IfOk result (λ filters. AreFilters (filters_in (all_shown roles.now)) filters) }
-    ensures fault { IfErr result (λ fault. fault ≡ WordFault.Memory) }
+pub(crate) fn filters_of(alloc: Global, roles: &[Role<'_>]) -> Result<Filters, OutOfMemory>
+    ensures { IfOk result (AreFilters (filters_in (all_shown roles.now))) }
 {
     let mut filters = Filters::make(alloc);
     for role in roles {

@@ -12,8 +12,9 @@ use crate::options::OptionName;
 use crate::places::read_place;
 use crate::roles::{Expected, Role};
 use crate::values::read_value;
-use s3_model::{Endpoint, Place, WordFault};
+use s3_model::{Endpoint, OutOfMemory, Place, WordFault};
 use std::alloc::Global;
+use std::mem;
 
 /// What was read of the words behind the command.
 #[derive(Drop)]
@@ -63,9 +64,8 @@ impl<'a> Reader<'a> {
         ensures fault { IfErr result
             (λ fault. fault ≢ WordFault.Memory → text_fault at (Value option text.now) ≡ Some fault) }
     {
-        let endpoint = read_value(alloc, option.kind(), at, text)?;
-        if endpoint.is_some() {
-            self.endpoint = endpoint;
+        if let Some(endpoint) = read_value(alloc, option.kind(), at, text)? {
+            mem::drop(self.endpoint.replace(endpoint));
         }
         Ok(())
     }
@@ -87,16 +87,15 @@ impl<'a> Reader<'a> {
     }
 
     /// Adds what a word is behind the others.
-    fn push(&mut self, role: Role<'a>) -> Result<(), WordFault>
+    fn push(&mut self, role: Role<'a>) -> Result<(), OutOfMemory>
         ensures verb { self.new.verb ≡ self.old.verb }
         ensures expected { self.new.expected ≡ next self.old.expected (shown role.entry) }
         ensures words { OnOk result (read self.new ≡ read self.old ++ shown role.entry ∷ []) }
         ensures places { self.new.places.items ≡ self.old.places.items }
         ensures endpoint { self.new.endpoint ≡ self.old.endpoint }
-        ensures fault { IfErr result (λ fault. fault ≡ WordFault.Memory) }
     {
         self.expected = self.expected.next(role);
-        self.roles.push(role).map_err(|_| WordFault::Memory)
+        Ok(self.roles.push(role)?)
     }
 
     /// The index of the next word in the command line.
@@ -121,7 +120,10 @@ impl<'a> Reader<'a> {
             return Err(fault);
         }
         self.keep(alloc, at, role)?;
-        self.push(role)
+        match self.push(role) {
+            Ok(()) => Ok(()),
+            Err(OutOfMemory) => Err(WordFault::Memory),
+        }
     }
 
     /// Reads all words behind the command, up to the first that has a fault.

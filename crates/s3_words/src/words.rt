@@ -19,7 +19,7 @@ use crate::places::first_and_second;
 use crate::reader::Reader;
 use crate::roles::Role;
 use path_filters::Filters;
-use s3_model::{Endpoint, Mode, Place, Text, Times, WordFault};
+use s3_model::{Endpoint, Mode, OutOfMemory, Place, Text, Times, WordFault};
 use std::alloc::Global;
 use std::mem;
 
@@ -72,10 +72,9 @@ struct Flags {
 fn region_and_profile(
     alloc: Global,
     roles: &[Role<'_>],
-) -> Result<(Option<Text>, Option<Text>), WordFault>
+) -> Result<(Option<Text>, Option<Text>), OutOfMemory>
     ensures region { IfOk result (λ both. both.0 ≡ value_of Region (all_shown roles.now)) }
     ensures profile { IfOk result (λ both. both.1 ≡ value_of Profile (all_shown roles.now)) }
-    ensures fault { IfErr result (λ fault. fault ≡ WordFault.Memory) }
 {
     let region = copy_of(alloc, roles, OptionName::Region)?;
     let profile = copy_of(alloc, roles, OptionName::Profile)?;
@@ -86,22 +85,20 @@ fn region_and_profile(
 fn content_and_filters(
     alloc: Global,
     roles: &[Role<'_>],
-) -> Result<(Option<Text>, Filters), WordFault>
+) -> Result<(Option<Text>, Filters), OutOfMemory>
     ensures content { IfOk result (λ both. both.0 ≡ value_of ContentType (all_shown roles.now)) }
     ensures filters { IfOk result (λ both. AreFilters (filters_in (all_shown roles.now)) both.1) }
-    ensures fault { IfErr result (λ fault. fault ≡ WordFault.Memory) }
 {
     let content = copy_of(alloc, roles, OptionName::ContentType)?;
     let filters = filters_of(alloc, roles)?;
     Ok((content, filters))
 }
 
-fn copies_of(alloc: Global, roles: &[Role<'_>]) -> Result<Copies, WordFault>
+fn copies_of(alloc: Global, roles: &[Role<'_>]) -> Result<Copies, OutOfMemory>
     ensures region { IfOk result (λ copies. copies.region ≡ value_of Region (all_shown roles.now)) }
     ensures profile { IfOk result (λ copies. copies.profile ≡ value_of Profile (all_shown roles.now)) }
     ensures content { IfOk result (λ copies. copies.content ≡ value_of ContentType (all_shown roles.now)) }
     ensures filters { IfOk result (λ copies. AreFilters (filters_in (all_shown roles.now)) copies.filters) }
-    ensures fault { IfErr result (λ fault. fault ≡ WordFault.Memory) }
 {
     let (region, profile) = region_and_profile(alloc, roles)?;
     match content_and_filters(alloc, roles) {
@@ -111,10 +108,10 @@ fn copies_of(alloc: Global, roles: &[Role<'_>]) -> Result<Copies, WordFault>
             content,
             filters,
         }),
-        Err(fault) => {
+        Err(OutOfMemory) => {
             mem::drop(region);
             mem::drop(profile);
-            Err(fault)
+            Err(OutOfMemory)
         }
     }
 }
@@ -194,10 +191,10 @@ fn command_of(alloc: Global, reader: Reader<'_>, endpoint: Endpoint) -> Result<C
     let flags = flags_of(&reader.roles);
     match copies_of(alloc, &reader.roles) {
         Ok(copies) => Ok(command_with(reader, endpoint, copies, flags)),
-        Err(fault) => {
+        Err(OutOfMemory) => {
             mem::drop(endpoint);
             mem::drop(reader);
-            Err(fault)
+            Err(WordFault::Memory)
         }
     }
 }

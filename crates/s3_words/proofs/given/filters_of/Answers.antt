@@ -9,4 +9,4 @@ loop-role-preserved c =
     let words = c.args.roles.now in
     let at = c.loop-role.role-index in
     rw (shown_more words at Separator c.loop-role-test.true)
-    (AreFilters-after (all_shown (take at words)) (shown (get_or words at Separator)) c.loop-role.filters c.push_given.new.filters c.loop-role.invariant c.in_ok-push_given.ensures.ok)
+    (AreFilters-after (all_shown (take at words)) (shown (get_or words at Separator)) c.loop-role.filters c.push_given.new.filters c.loop-role.invariant c.in_ok-push_given.ensures)
