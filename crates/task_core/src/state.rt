@@ -15,8 +15,8 @@ ghost use Rattle.task_acts.specs.Failures.{first_failure, is_stopped};
 ghost use Rattle.task_acts.specs.Stages.{carried_stage, file_stage, given_stage, is_out, stage};
 ghost use Rattle.task_acts.specs.Kept.{etags_of, kept_job, part_back, upload_of};
 ghost use Rattle.task_acts.specs.Rule.{first_ready, first_ready_in, is_idle};
-ghost use Rattle.task_core.specs.Machine.{HasTags, IsNumbered, IsSettled, Stands, keeps_tags, ready_by, tags_in};
-ghost use Rattle.task_ends.specs.Causes.{is_stopped_by};
+ghost use Rattle.task_core.specs.Machine.{HasTags, IsNumbered, IsSettled, IsSound, SeenTask, Stands, keeps_tags, ready_by, tags_in};
+ghost use Rattle.task_ends.specs.Causes.{is_stopped_by, no_causes};
 ghost use Rattle.task_core.specs.Steps.{IsCame, IsCancelled, IsGiven, IsMarked, IsReturned, IsTaken, tagged};
 ghost use Rattle.task_stages.specs.Stages.{HasAct, stage_by};
 
@@ -157,6 +157,30 @@ fn named(upload: Option<UploadId>, id: JobId, before: Option<UploadId>) -> Optio
 }
 
 impl TaskState {
+    /// A task of these places, of which nothing happened.
+    fn of(stages: TaskStages, kept: KeptJobs, tags: Option<PartTags>) -> TaskState
+        requires { IsSound stages kept tags }
+        ensures { let begun : SeenTask = record {
+          stages = stages;
+          causes = no_causes;
+          outcome = None;
+          kept = kept;
+          tags = tags;
+          upload = None;
+        } in IsSettled begun result }
+    {
+        let mut task = TaskState {
+            stages,
+            causes: Causes::none(),
+            outcome: None,
+            kept,
+            tags,
+            upload: None,
+        };
+        task.settle();
+        task
+    }
+
     /// Settles the outcome once no act is ready and none is out.
     fn settle(&mut self)
         ensures { IsSettled self.old self.new }
@@ -166,7 +190,8 @@ impl TaskState {
         }
         let whole = is_whole(&self.stages);
         let decided = is_decided(&self.stages);
-        self.outcome = self.causes.end(whole, decided);
+        let ended = self.causes.end(whole, decided);
+        mem::drop(mem::replace(&mut self.outcome, ended));
     }
 
     fn mark_given(&mut self, act: Act)
@@ -238,19 +263,10 @@ impl TaskState {
         ensures stands { IfOk result (Stands work []) }
         ensures tags { IfOk result (λ task. is_some task.tags ≡ keeps_tags work) }
     {
-        let stages = TaskStages::make(alloc, work)?;
-        let kept = KeptJobs::make(alloc, work)?;
         let tags = empty_tags(alloc, &work)?;
-        let mut state = TaskState {
-            stages,
-            causes: Causes::none(),
-            outcome: None,
-            kept,
-            tags,
-            upload: None,
-        };
-        state.settle();
-        Ok(state)
+        let kept = KeptJobs::make(alloc, work)?;
+        let stages = TaskStages::make(alloc, work)?;
+        Ok(TaskState::of(stages, kept, tags))
     }
 
     /// The work of the task.
@@ -348,8 +364,14 @@ impl TaskState {
         requires { IsSome self.outcome }
         ensures { self.outcome ≡ Some result }
     {
-        let TaskState { outcome, kept, .. } = self;
+        let TaskState {
+            causes,
+            outcome,
+            kept,
+            ..
+        } = self;
         mem::drop(kept);
+        mem::drop(causes);
         let Some(outcome) = outcome else {
             unreachable!()
         };

@@ -1,21 +1,22 @@
 use Rattle.std.proofs.Common.{◌∙◌, None, ap, is_some, refl}
 use Rattle.task_core.proofs.Acts.{start_sound}
 use Rattle.task_core.proofs.Standing.{starts}
+use Rattle.task_ends.specs.Causes.{no_causes}
 use Rattle.task_core.proofs.state.TaskState.make.Goals as goal
 
-pub invariant_of-state : goal.invariant_of-state
-invariant_of-state c = start_sound c.args.work c.in_ok-stages.stages c.in_ok-kept.kept c.in_ok-tags.tags c.in_ok-stages.ensures.work c.in_ok-stages.ensures.pieces c.in_ok-kept.ensures.work
+pub of-requires : goal.of-requires
+of-requires c = start_sound c.args.work c.in_ok-stages.stages c.in_ok-kept.kept c.in_ok-tags.tags c.in_ok-stages.ensures.work c.in_ok-stages.ensures.pieces c.in_ok-kept.ensures.work
     c.in_ok-tags.ensures.tags c.requires.numbers c.requires.attempts
 
 pub returns-clause-stands : goal.returns-clause-stands
 returns-clause-stands c = starts c.args.work (record {
   stages = c.in_ok-stages.stages;
-  causes = c.none.result;
+  causes = no_causes;
   outcome = None;
   kept = c.in_ok-kept.kept;
   tags = c.in_ok-tags.tags;
   upload = None;
-}) c.settle.new.self c.in_ok-stages.ensures.work (λ a. c.in_ok-stages.ensures.waiting a) c.none.ensures refl (λ o n. c.in_ok-kept.ensures.none o n) refl c.in_ok-tags.ensures.tags c.settle.ensures
+}) c.of.result c.in_ok-stages.ensures.work (λ a. c.in_ok-stages.ensures.waiting a) refl refl (λ o n. c.in_ok-kept.ensures.none o n) refl c.in_ok-tags.ensures.tags c.of.ensures
 
 pub returns-clause-tags : goal.returns-clause-tags
-returns-clause-tags c = ap is_some c.settle.ensures.tags ∙ c.in_ok-tags.ensures.some
+returns-clause-tags c = ap is_some c.of.ensures.tags ∙ c.in_ok-tags.ensures.some

@@ -20,7 +20,8 @@ returns c =
     let t = c.self.inside in
     let s = c.self.inside.stages in
     let stopped = is_stopped_by t.causes in
-    let e = c.end.ensures in
+    let e = c.end-ended.ensures in
+    let now = c.replace.ensures.after in
     let none = none_of t.outcome (sym c.is_some.ensures ∙ c.if-is_some.false) in
     let idle = sym c.goes_on.ensures ∙ c.if-goes_on.false in
     over (IsSettled) _ _ _ c.self.view_is (record {
@@ -29,9 +30,9 @@ returns c =
       reason = e.reason;
       memory = e.memory;
       uncertain = e.uncertain;
-      first = e.first;
-      last = e.last;
-      outcome = e.result
+      first = λ no. e.first (sym now ∙ no);
+      last = λ no. e.last (sym now ∙ no);
+      outcome = now ∙ e.result
           ∙ ap (λ (b : Bool). how_ended_by b c.is_decided-decided.result t.causes) (c.is_whole-whole.ensures stopped)
           ∙ ap (λ (b : Bool). how_ended_by (is_decided s.work (stage_by s) stopped && (not s.work.moves || has_done (stage_by s (removal s.work.of_kind)))) b t.causes) (c.is_decided-decided.ensures stopped)
           ∙ sym (ap (λ (b : Bool). if b then None else how_ended_by (is_decided s.work (stage_by s) stopped && (not s.work.moves || has_done (stage_by s (removal s.work.of_kind)))) (is_decided s.work (stage_by s) stopped) t.causes) idle)
