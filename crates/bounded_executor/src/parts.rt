@@ -25,9 +25,9 @@ impl<J: Drop, D: Drop> Rings<J, D> {
     fn new(alloc: Global, depth: u32) -> Result<Self, AllocError>
         ensures { IfOk result (λ rings. AreReady depth rings.outbox rings.jobs rings.to rings.outcomes) }
     {
+        let waiting = VecDeque::with_capacity(alloc, depth as usize)?;
         let (ring, jobs) = RingBuffer::new(alloc, depth as usize)?;
         let (to, outcomes) = RingBuffer::new(alloc, depth as usize)?;
-        let waiting = VecDeque::with_capacity(alloc, depth as usize)?;
         Ok(Rings {
             outbox: Outbox { ring, waiting },
             jobs,
@@ -90,15 +90,17 @@ impl<R: Clone, J: Drop, D: Drop> Parts<R, J, D> {
     ) -> Result<Self, AllocError>
         ensures { IfOk result (λ parts. parts ≡ depth) }
     {
-        let rings = Rings::new(alloc, depth)?;
-        let bells = Bells::new(alloc, ready)?;
         let rt = rt.clone()?;
-        Ok(Parts {
-            depth,
-            rings,
-            bells,
-            rt,
-        })
+        let bells = Bells::new(alloc, ready)?;
+        match Rings::new(alloc, depth) {
+            Ok(rings) => Ok(Parts {
+                depth,
+                rings,
+                bells,
+                rt,
+            }),
+            Err(fault) => Err(fault),
+        }
     }
 }
 
@@ -114,7 +116,10 @@ pub(crate) fn all_parts<R: Clone + Drop, J: Drop, D: Drop>(
 {
     let mut parts = Vec::with_capacity(alloc, count)?;
     for _made in 0..count {
-        parts.push_reserved(Parts::new(rt, alloc, depth, ready)?);
+        match Parts::new(rt, alloc, depth, ready) {
+            Ok(part) => parts.push_reserved(part),
+            Err(fault) => return Err(fault),
+        }
     }
     Ok(parts)
 }

@@ -80,10 +80,14 @@ where
     ensures ok { OnOk result (HasRun W.carries B.directs workers.old.items boss.old workers.new.items boss.new) }
     ensures err { OnErr result ((workers.new.items ≡ workers.old.items) × (boss.new ≡ boss.old)) }
 {
-    let means = Means::new(rt, alloc, workers.len(), depth)?;
-    let begun = mem::replace(workers, Vec::new(alloc));
-    *workers = direct_lanes(rt, begun, means, depth, boss, stack_size);
-    Ok(())
+    match Means::new(rt, alloc, workers.len(), depth) {
+        Ok(means) => {
+            let begun = mem::replace(workers, Vec::new(alloc));
+            *workers = direct_lanes(rt, begun, means, depth, boss, stack_size);
+            Ok(())
+        }
+        Err(fault) => Err(fault),
+    }
 }
 
 // All that a run needs beside its workers, so that they move only once no memory is wanted any more.
@@ -101,25 +105,18 @@ impl<R: Clone + Drop, W: Worker> Means<R, W> {
         ensures back { IfOk result (λ means. (means.back.items ≡ []) × (count ≤ vec_capacity means.back)) }
     {
         let ready = Arc::new(alloc, ReadyLanes::new(alloc, count)?)?;
-        let parts = all_parts(rt, alloc, count, depth, &ready)?;
-        let (lanes, back) = empty_lists(alloc, count)?;
-        Ok(Means {
-            ready,
-            parts,
-            lanes,
-            back,
-        })
+        let lanes = Vec::with_capacity(alloc, count)?;
+        let back = Vec::with_capacity(alloc, count)?;
+        match all_parts(rt, alloc, count, depth, &ready) {
+            Ok(parts) => Ok(Means {
+                ready,
+                parts,
+                lanes,
+                back,
+            }),
+            Err(fault) => Err(fault),
+        }
     }
-}
-
-// A list for the lanes, and one for the workers that come back.
-fn empty_lists<W: Worker>(alloc: Global, count: usize) -> Result<(Vec<Lane<W>>, Vec<W>), AllocError>
-    ensures lanes { IfOk result (λ lists. (lists.0.items ≡ []) × (count ≤ vec_capacity lists.0)) }
-    ensures back { IfOk result (λ lists. (lists.1.items ≡ []) × (count ≤ vec_capacity lists.1)) }
-{
-    let lanes = Vec::with_capacity(alloc, count)?;
-    let back = Vec::with_capacity(alloc, count)?;
-    Ok((lanes, back))
 }
 
 // Opens the lanes, lets the boss direct their workers, and brings these back.

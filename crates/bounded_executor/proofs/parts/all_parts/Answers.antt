@@ -7,7 +7,7 @@ push_reserved-requires g c = omega (arith, c.loop-made.invariant.1, c.loop-made.
 
 pub loop-made-preserved : goal.loop-made-preserved
 loop-made-preserved g c = (
-  one_more c.args.depth c.loop-made._made _ _ _ c.loop-made.invariant.0 c.in_ok-new.ensures c.push_reserved.ensures.items,
+  one_more c.args.depth c.loop-made._made _ _ _ c.loop-made.invariant.0 c.in-Ok.ensures c.push_reserved.ensures.items,
   c.push_reserved.ensures.len ∙ ap (λ (n : ℕ). n + 1) c.loop-made.invariant.1,
   omega (arith, c.push_reserved.ensures.capacity, c.loop-made.invariant.2),
 )

@@ -7,13 +7,13 @@ pub direct_lanes-requires-clause-boss : goal.direct_lanes-requires-clause-boss
 direct_lanes-requires-clause-boss g c κs within = rw c.replace-begun.ensures.value c.requires.boss
 
 pub direct_lanes-requires-clause-parts : goal.direct_lanes-requires-clause-parts
-direct_lanes-requires-clause-parts g c κs within = rw (c.replace-begun.ensures.value, ← c.len.ensures) c.in_ok-means.ensures.parts
+direct_lanes-requires-clause-parts g c κs within = rw (c.replace-begun.ensures.value, ← c.len.ensures) c.in-Ok.ensures.parts
 
 pub direct_lanes-requires-clause-lanes : goal.direct_lanes-requires-clause-lanes
-direct_lanes-requires-clause-lanes g c κs within = rw (c.replace-begun.ensures.value, ← c.len.ensures) c.in_ok-means.ensures.lanes
+direct_lanes-requires-clause-lanes g c κs within = rw (c.replace-begun.ensures.value, ← c.len.ensures) c.in-Ok.ensures.lanes
 
 pub direct_lanes-requires-clause-back : goal.direct_lanes-requires-clause-back
-direct_lanes-requires-clause-back g c κs within = rw (c.replace-begun.ensures.value, ← c.len.ensures) c.in_ok-means.ensures.back
+direct_lanes-requires-clause-back g c κs within = rw (c.replace-begun.ensures.value, ← c.len.ensures) c.in-Ok.ensures.back
 
-pub returns-clause-ok : goal.returns-clause-ok
-returns-clause-ok g c = rw c.replace-begun.ensures.value at c.direct_lanes.ensures
+pub returns-in-Ok-clause-ok : goal.returns-in-Ok-clause-ok
+returns-in-Ok-clause-ok g c = rw c.replace-begun.ensures.value at c.direct_lanes.ensures
