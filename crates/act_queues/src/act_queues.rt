@@ -1,6 +1,6 @@
 //! The acts that are ready, by what they need.
 
-ghost use Rattle.std.specs.Prelude.{◌≡◌, ◌<◌, ◌^◌, None, IfOk, length, replicate, set};
+ghost use Rattle.std.specs.Prelude.{◌≡◌, ◌<◌, ◌^◌, false, None, IfOk, length, replicate, set};
 ghost use Rattle.std.specs.List.{position};
 ghost use Rattle.std.specs.Option.{option_or};
 ghost use Rattle.act_queues.specs.Sorts.{is_call, is_get, is_job, is_read, lesser, may_call, may_give};
@@ -72,6 +72,16 @@ fn is_get(sort: Option<ActSort>) -> bool
     matches!(sort, Some(ActSort::Get))
 }
 
+/// Two sets of so many numbers, which are empty.
+fn two_sets(alloc: Global, count: u32) -> Result<(NumberSet, NumberSet), AllocError>
+    ensures first { IfOk result (λ sets. sets.0 ≡ replicate count false) }
+    ensures second { IfOk result (λ sets. sets.1 ≡ replicate count false) }
+{
+    let first = NumberSet::make(alloc, count)?;
+    let second = NumberSet::make(alloc, count)?;
+    Ok((first, second))
+}
+
 /// The lesser of two numbers, as far as they are there.
 fn least(a: Option<u32>, b: Option<u32>) -> Option<u32>
     ensures { result ≡ lesser a b }
@@ -88,12 +98,15 @@ impl ActQueues {
     pub fn make(alloc: Global, count: u32) -> Result<ActQueues, AllocError>
         ensures { IfOk result (λ made. made ≡ replicate count None) }
     {
+        let sorts = vec![in alloc; None; count as usize]?;
+        let (calls, reads) = two_sets(alloc, count)?;
+        let (jobs, gets) = two_sets(alloc, count)?;
         Ok(ActQueues {
-            sorts: vec![in alloc; None; count as usize]?,
-            calls: NumberSet::make(alloc, count)?,
-            reads: NumberSet::make(alloc, count)?,
-            jobs: NumberSet::make(alloc, count)?,
-            gets: NumberSet::make(alloc, count)?,
+            sorts,
+            calls,
+            reads,
+            jobs,
+            gets,
         })
     }
 

@@ -9,9 +9,9 @@ none f n xs e = all_of f n None ∙ sym (ap (λ (ys : List (Option ActSort)). ma
 
 pub invariant_of-result : goal.invariant_of-result
 invariant_of-result c =
-    let e : c.in_ok-vec.field-0.items ≡ replicate c.args.count None = c.in_ok-vec.ensures.items_if_clones_equal (λ y h. search rules) in (
-      c.in_ok-make.ensures ∙ none is_call c.args.count _ e,
-      c.in_ok-make-2.ensures ∙ none is_read c.args.count _ e,
-      c.in_ok-make-3.ensures ∙ none is_job c.args.count _ e,
-      c.in_ok-make-4.ensures ∙ none is_get c.args.count _ e,
+    let e : c.in_ok-sorts.sorts.items ≡ replicate c.args.count None = c.in_ok-sorts.ensures.items_if_clones_equal (λ y h. search rules) in (
+      c.in_ok-calls.ensures.first ∙ none is_call c.args.count _ e,
+      c.in_ok-calls.ensures.second ∙ none is_read c.args.count _ e,
+      c.in_ok-jobs.ensures.first ∙ none is_job c.args.count _ e,
+      c.in_ok-jobs.ensures.second ∙ none is_get c.args.count _ e,
     )
