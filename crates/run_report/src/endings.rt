@@ -73,14 +73,6 @@ pub fn end_with_line(alloc: Global, line: Line) -> Executed
     }
 }
 
-fn one_warning(alloc: Global, warning: Warning) -> Result<Warnings, OutOfMemory>
-    ensures { IfOk result (λ warnings. warnings.items ≡ warning ∷ []) }
-{
-    let mut warnings = list_of(alloc, 1)?;
-    warnings.push(warning);
-    Ok(warnings)
-}
-
 fn warning_line(alloc: Global, warning: &Warning, mode: Mode) -> Result<Option<Line>, OutOfMemory>
     requires { IsShown warning.now }
     ensures { HasTexts [] (warning_lines mode (warning.now ∷ [])) result }
@@ -97,9 +89,10 @@ pub fn end_not_a_file(alloc: Global, path: Text, mode: Mode) -> Result<Executed,
     ensures line { IfOk result (λ done. HasTexts [] (warning_lines mode (Warning.NotAFile path ∷ [])) done.line) }
     ensures run { IfOk result (λ done. HasNoTask None [] (Warning.NotAFile path ∷ []) done.run) }
 {
+    let mut warnings = list_of(alloc, 1)?;
     let warning = Warning::NotAFile(path);
     let line = warning_line(alloc, &warning, mode);
-    let warnings = one_warning(alloc, warning)?;
+    warnings.push(warning);
     let skips = Warnings::make(alloc);
     Ok(Executed {
         run: idle_run(alloc, None, skips, warnings),
@@ -131,11 +124,15 @@ pub fn end_skipped(
     ensures run { IfOk result (λ done. HasNoTask None (Warning.Skipped place why ∷ []) (Warning.Skipped place why ∷ [])
         done.run) }
 {
-    let again = copy_of(&place)?;
+    let mut skips = list_of(alloc, 1)?;
+    let mut warnings = list_of(alloc, 1)?;
+    skips.push(Warning::Skipped {
+        place: copy_of(&place)?,
+        why,
+    });
     let warning = Warning::Skipped { place, why };
     let line = warning_line(alloc, &warning, mode);
-    let warnings = one_warning(alloc, warning)?;
-    let skips = one_warning(alloc, Warning::Skipped { place: again, why })?;
+    warnings.push(warning);
     Ok(Executed {
         run: idle_run(alloc, None, skips, warnings),
         line,
