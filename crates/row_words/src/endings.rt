@@ -55,28 +55,36 @@ fn earlier(words: &str) -> Option<Tries>
     Some(tries)
 }
 
+fn number(word: &str) -> Option<u64> {
+    word.parse().ok()
+}
+
+fn got_range(status: u16, range: &str, size: &str) -> Option<Reply>
+    ensures { IfSome result (IsReplyTo op.Get) }
+{
+    let (first, last) = range.split_once('-')?;
+    let (first, last) = (number(first)?, number(last)?);
+    Some(Reply::Got {
+        status,
+        range: Some((first, last, number(size)?)),
+        length: last.checked_sub(first)?.checked_add(1)?,
+    })
+}
+
 /// The reply to a Get: a range of an object of that size, or the whole of an object.
 fn got(words: &str) -> Option<Reply>
     ensures { IfSome result (IsReplyTo op.Get) }
 {
-    let mut parts = words.split('/');
-    let status = parts.next()?.parse().ok()?;
-    let place = parts.next()?;
-    let Some(size) = parts.next() else {
-        return Some(Reply::Got {
+    let (status, place) = words.split_once('/')?;
+    let status = status.parse().ok()?;
+    match place.split_once('/') {
+        Some((range, size)) => got_range(status, range, size),
+        None => Some(Reply::Got {
             status,
             range: None,
-            length: place.parse().ok()?,
-        });
-    };
-    let (first, last) = place.split_once('-')?;
-    let first: u64 = first.parse().ok()?;
-    let last: u64 = last.parse().ok()?;
-    Some(Reply::Got {
-        status,
-        range: Some((first, last, size.parse().ok()?)),
-        length: last.checked_sub(first)?.checked_add(1)?,
-    })
+            length: number(place)?,
+        }),
+    }
 }
 
 fn stored(alloc: Global, number: u32) -> Result<Reply, OutOfMemory>

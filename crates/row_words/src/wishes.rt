@@ -26,14 +26,10 @@ fn kind_of(word: &str) -> Option<Kind> {
     }
 }
 
-/// A kind and a size of at most 256 bytes, with `move` in front where the source goes.
-pub fn wish_of(text: &str) -> Option<Wish>
+/// A kind and a size of at most 256 bytes.
+fn wish_by(text: &str, moves: bool) -> Option<Wish>
     ensures { IfSome result (λ wish. wish.size ≤ 256) }
 {
-    let (moves, text) = match text.strip_prefix("move ") {
-        Some(rest) => (true, rest),
-        None => (false, text),
-    };
     let (kind, size) = text.split_once(' ')?;
     let kind = kind_of(kind)?;
     let size: u64 = size.parse().ok()?;
@@ -41,4 +37,14 @@ pub fn wish_of(text: &str) -> Option<Wish>
         return None;
     }
     Some(Wish { kind, moves, size })
+}
+
+/// A kind and a size of at most 256 bytes, with `move` in front where the source goes.
+pub fn wish_of(text: &str) -> Option<Wish>
+    ensures { IfSome result (λ wish. wish.size ≤ 256) }
+{
+    match text.strip_prefix("move ") {
+        Some(rest) => wish_by(rest, true),
+        None => wish_by(text, false),
+    }
 }
