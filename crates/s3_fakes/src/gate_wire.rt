@@ -1,6 +1,6 @@
 //! A wire that holds an answer back until another wire sent a request.
 
-ghost use Rattle.std.specs.Prelude.{◌≡◌, ◌<◌, ◌≤◌, [], Some, IfOk, IfSome, map, false};
+ghost use Rattle.std.specs.Prelude.{◌≡◌, ◌<◌, ◌≤◌, [], Some, IfOk, IfSome, length, map, false};
 
 use crate::mem_table::SharedTable;
 use crate::mem_wire::MemWire;
@@ -24,51 +24,34 @@ pub struct Gate {
     pub second: Text,
 }
 
-#[derive(Drop)]
-struct Hold {
-    gate: Gate,
-    is_used: bool,
-}
-
 /// A wire to a service in memory with gates. It looks at a gate 10,000 times, a millisecond apart, and then counts a
 /// fault.
 #[derive(Drop)]
 pub struct GateWire<R: Wait + Clock> {
     wire: MemWire<R>,
-    holds: Vec<Hold>,
-    closed: Option<usize>,
+    /// Those that no request closed yet.
+    gates: Vec<Gate>,
+    closed: Option<Gate>,
 }
 
 /// The place of the first gate that the request closes.
-fn gate_for(holds: &[Hold], request: &[u8]) -> Option<usize> {
-    holds.iter().position(|hold| !hold.is_used
-        && request.starts_with(hold.gate.first.as_str().as_bytes()))
-}
-
-// Has the second request of a gate watched, and adds the gate.
-fn add_gate<R: Wait>(
-    wire: &MemWire<R>,
-    holds: &mut Vec<Hold>,
-    gate: Gate,
-) -> Result<(), OutOfMemory> {
-    wire.watch(gate.second.as_str())?;
-    holds.push(Hold {
-        gate,
-        is_used: false,
-    })?;
-    Ok(())
-}
-
-fn holds_of<R: Wait>(
-    alloc: Global,
-    wire: &MemWire<R>,
-    gates: Vec<Gate>,
-) -> Result<Vec<Hold>, OutOfMemory> {
-    let mut holds = Vec::new(alloc);
-    for gate in gates {
-        add_gate(wire, &mut holds, gate)?;
+fn gate_for(gates: &[Gate], request: &[u8]) -> Option<usize>
+    ensures { IfSome result (λ place. place < length gates.now) }
+{
+    for (place, gate) in gates.iter().enumerate() {
+        if request.starts_with(gate.first.as_str().as_bytes()) {
+            return Some(place);
+        }
     }
-    Ok(holds)
+    None
+}
+
+// Has the second request of each gate watched.
+fn watch_all<R: Wait>(wire: &MemWire<R>, gates: &[Gate]) -> Result<(), OutOfMemory> {
+    for gate in gates {
+        wire.watch(gate.second.as_str())?;
+    }
+    Ok(())
 }
 
 impl<R: Wait + Clock + Drop> GateWire<R> {
@@ -89,13 +72,14 @@ impl<R: Wait + Clock + Drop> GateWire<R> {
         ensures faults { IfOk result (λ wire. ⟦<GateWire<R> as Wire>⟧.faults wire ≡ 0) }
     {
         let wire = MemWire::make(alloc, runtime, table, moment);
-        match holds_of(alloc, &wire, gates) {
-            Ok(holds) => Ok(GateWire {
+        match watch_all(&wire, &gates) {
+            Ok(()) => Ok(GateWire {
                 wire,
-                holds,
+                gates,
                 closed: None,
             }),
             Err(fault) => {
+                mem::drop(gates);
                 mem::drop(wire);
                 Err(fault)
             }
@@ -130,22 +114,18 @@ impl<R: Wait + Clock + Drop> GateWire<R> {
         let Some(request) = self.wire.request() else {
             return;
         };
-        let Some(place) = gate_for(&self.holds, request) else {
-            return;
-        };
-        if let Some(hold) = self.holds.get_mut(place) {
-            hold.is_used = true;
-            self.closed = Some(place);
+        if let Some(place) = gate_for(&self.gates, request) {
+            self.closed = Some(self.gates.remove(place));
         }
     }
 
     // Waits until the gate that is closed opens; false where it does not.
     fn wait(&self) -> bool {
-        let Some(hold) = self.closed.and_then(|place| self.holds.get(place)) else {
+        let Some(gate) = &self.closed else {
             return true;
         };
         for _ in 0..TURNS {
-            if self.wire.came_beside(hold.gate.second.as_str()) {
+            if self.wire.came_beside(gate.second.as_str()) {
                 return true;
             }
             let _ = thread::sleep(self.wire.runtime(), Duration::from_millis(1));

@@ -82,10 +82,12 @@ fn is_head(request: &[u8]) -> bool {
 
 /// The first line of a request.
 fn line_of(request: &[u8]) -> &[u8] {
-    match request.iter().position(|byte| *byte == b'\r') {
-        Some(end) => request.get(..end).unwrap_or(&[]),
-        None => request,
+    for (end, byte) in request.iter().enumerate() {
+        if *byte == b'\r' {
+            return &request[..end];
+        }
     }
+    request
 }
 
 /// The answer of a script.
@@ -106,8 +108,7 @@ fn unserved(alloc: Global, fault: TableFault) -> Result<Answer, OutOfMemory>
 
 /// The head and the body of a whole request; None where it is none.
 fn parts_of(request: &[u8]) -> Option<(RequestHead<'_>, &[u8])> {
-    let length = head_length(request)?;
-    let (head, body) = (request.get(..length)?, request.get(length..)?);
+    let (head, body) = request.split_at_checked(head_length(request)?)?;
     let head = RequestHead::read(std::str::from_utf8(head).ok()?)?;
     Some((head, body))
 }
@@ -409,7 +410,8 @@ impl MemTable {
         ensures same { self.new ≡ self.old }
         ensures plain { self.old.is_scripted ≡ false → IfOk result (λ fate. IsToBeServed fate) }
     {
-        let fate = self.script.meet(line, wire)?;
+        let mut fate = Fate::plain();
+        self.script.meet(line, wire, &mut fate)?;
         if self.is_scripted {
             Ok(fate)
         } else {

@@ -128,29 +128,16 @@ impl<R: Wait> MemWire<R> {
         failed
     }
 
-    // What is left of the present answer.
-    fn rest(&self) -> &[u8] {
-        match &self.answer {
-            Some(coming) => coming.bytes.get(self.place..).unwrap_or(&[]),
-            None => &[],
-        }
-    }
-
-    // How many bytes come at once.
-    fn most(&self) -> usize {
-        match &self.answer {
-            Some(coming) => coming.most,
-            None => usize::MAX,
-        }
-    }
-
-    // Copies what comes at once to the front of a place, and answers how many bytes these are.
+    // Copies what comes at once of the present answer to the front of a place, and answers how many bytes these are.
     fn copy_rest(&self, into: &mut [u8]) -> usize
         ensures bound { result ≤ length into.new }
         ensures length { length into.new ≡ length into.old }
     {
-        let rest = self.rest();
-        let count = into.len().min(self.most()).min(rest.len());
+        let Some(coming) = &self.answer else {
+            return 0;
+        };
+        let rest = coming.bytes.get(self.place..).unwrap_or(&[]);
+        let count = into.len().min(coming.most).min(rest.len());
         into[..count].copy_from_slice(&rest[..count]);
         count
     }

@@ -189,14 +189,17 @@ impl Script {
         }
     }
 
-    /// What becomes of a request with this first line, from that wire.
-    pub(crate) fn meet(&mut self, line: &[u8], wire: u32) -> Result<Fate, OutOfMemory> {
-        let mut fate = Fate::plain();
+    /// Takes the turns for a request with this first line, from that wire.
+    pub(crate) fn meet(
+        &mut self,
+        line: &[u8],
+        wire: u32,
+        fate: &mut Fate,
+    ) -> Result<(), OutOfMemory> {
         for end in 0..line.len() {
-            self.meet_front(&line[..end], wire, &mut fate)?;
+            self.meet_front(&line[..end], wire, fate)?;
         }
-        self.meet_front(line, wire, &mut fate)?;
-        Ok(fate)
+        self.meet_front(line, wire, fate)
     }
 
     fn meet_front(&mut self, front: &[u8], wire: u32, fate: &mut Fate) -> Result<(), OutOfMemory> {
