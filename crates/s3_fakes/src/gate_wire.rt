@@ -115,7 +115,8 @@ impl<R: Wait + Clock + Drop> GateWire<R> {
             return;
         };
         if let Some(place) = gate_for(&self.gates, request) {
-            self.closed = Some(self.gates.remove(place));
+            let gate = self.gates.remove(place);
+            mem::drop(self.closed.replace(gate));
         }
     }
 
@@ -144,7 +145,7 @@ impl<R: Wait + Clock + Drop> Wire for GateWire<R> {
     ghost faults = { λ w. ⟦<MemWire<R> as Wire>⟧.faults w.wire };
 
     fn begin(&mut self, host: &str, port: u16) -> Result<(), Failed> {
-        self.closed = None;
+        mem::drop(self.closed.take());
         self.wire.begin(host, port)
     }
 
@@ -159,7 +160,7 @@ impl<R: Wait + Clock + Drop> Wire for GateWire<R> {
 
     fn take(&mut self, into: &mut [u8]) -> Result<usize, Failed> {
         let is_open = self.wait();
-        self.closed = None;
+        mem::drop(self.closed.take());
         if !is_open {
             return Err(self.wire.fail());
         }

@@ -316,8 +316,8 @@ impl MemTable {
         let Some(requests) = self.late.remove(&number) else {
             return Ok(());
         };
-        for request in requests {
-            self.serve_bytes(request.as_slice())?;
+        for request in requests.as_slice() {
+            self.serve_bytes(request)?;
         }
         Ok(())
     }
@@ -430,7 +430,9 @@ impl MemTable {
         let number = self.requests;
         self.step_in(number)?;
         let fate = self.fate_of(line_of(request), wire)?;
-        self.answer_as(&fate, request)
+        let coming = self.answer_as(&fate, request);
+        mem::drop(fate);
+        coming
     }
 
     // The bytes that come for a request, as its answer ends.

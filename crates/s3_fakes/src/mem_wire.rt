@@ -8,6 +8,7 @@ use s3_model::OutOfMemory;
 use s3_outside::{Failed, Wire, count_fault};
 use service_answers::whole_length;
 use std::alloc::Global;
+use std::mem;
 use std::sync::Wait;
 
 /// A wire to a service in memory, which other wires may share. A request is served once its last byte was sent, and
@@ -178,7 +179,8 @@ impl<R: Wait> MemWire<R> {
     {
         self.request.extend_from_slice(bytes)?;
         if self.answer.is_none() && self.is_whole() {
-            self.answer = Some(self.serve()?);
+            let coming = self.serve()?;
+            mem::drop(self.answer.replace(coming));
         }
         Ok(())
     }

@@ -11,7 +11,7 @@ use std::collections::BTreeMap;
 use std::mem;
 
 /// How an answer ends.
-#[derive(Clone, Copy, Debug, PartialEq, Eq)]
+#[derive(Clone, Copy)]
 pub enum Ending {
     Heard,
     /// The request is not served, and nothing comes.

@@ -14,15 +14,15 @@ returns-in_err-fate-clause-follows c =
 
 pub returns-clause-follows : goal.returns-clause-follows
 returns-clause-follows c =
-    follows_both c.args.self.now c.fate_of.new.self c.answer_as.new.self
+    follows_both c.args.self.now c.fate_of.new.self c.answer_as-coming.new.self
     (follows_to c.args.self.now c.step_in.new.self c.fate_of.new.self c.fate_of.ensures.same
     (follows_from (record { limits = c.self.inside.manner.limits; state = c.self.inside.objects; is_scripted = c.self.inside.is_scripted }) c.args.self.now c.step_in.new.self c.self.view_is c.step_in.ensures.follows))
-    c.answer_as.ensures.follows
+    c.answer_as-coming.ensures.follows
 
 pub returns-clause-answered : goal.returns-clause-answered
 returns-clause-answered c = λ plain.
     let before : Holdings = (record { limits = c.self.inside.manner.limits; state = c.self.inside.objects; is_scripted = c.self.inside.is_scripted }) in
     let unscripted : before.is_scripted ≡ false = ap (λ (h : Holdings). h.is_scripted) c.self.view_is ∙ plain in
     let still : c.step_in.new.self ≡ before = c.step_in.ensures.plain unscripted in
-    on_ok_from c.answer_as.result c.args.self.now c.fate_of.new.self c.answer_as.new.self (c.fate_of.ensures.same ∙ still ∙ c.self.view_is)
-    (c.answer_as.ensures.answered (c.in_ok-fate.ensures.plain (ap (λ (h : Holdings). h.is_scripted) still ∙ unscripted)))
+    on_ok_from c.answer_as-coming.result c.args.self.now c.fate_of.new.self c.answer_as-coming.new.self (c.fate_of.ensures.same ∙ still ∙ c.self.view_is)
+    (c.answer_as-coming.ensures.answered (c.in_ok-fate.ensures.plain (ap (λ (h : Holdings). h.is_scripted) still ∙ unscripted)))
