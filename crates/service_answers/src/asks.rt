@@ -1,12 +1,13 @@
 //! What a request asks.
 
-use crate::escapes::unescape;
 use crate::faults::RequestFault;
 use crate::head::RequestHead;
-use crate::target::{Names, Target};
+use crate::reader::RequestReader;
+use crate::target::Target;
 use reply_values::{ReferenceFault, unescape as unescape_xml};
 use s3_model::{Ask, OutOfMemory, Text, Texts};
 use std::alloc::Global;
+use std::mem;
 
 /// What stands for any entity tag (RFC 9110, section 13.1.2).
 const ANY_ETAG: &str = "*";
@@ -15,24 +16,6 @@ const ANY_ETAG: &str = "*";
 fn range_of(value: &str) -> Option<(u64, u64)> {
     let (first, last) = value.strip_prefix("bytes=")?.split_once('-')?;
     Some((first.parse::<u64>().ok()?, last.parse::<u64>().ok()?))
-}
-
-/// The value of a header as a text.
-fn header_text(
-    alloc: Global,
-    head: &RequestHead<'_>,
-    name: &str,
-) -> Result<Option<Text>, OutOfMemory> {
-    match head.header(name) {
-        Some(value) => Ok(Some(Text::of(alloc, value)?)),
-        None => Ok(None),
-    }
-}
-
-/// The value of a header that the request has to have.
-fn wanted_text(alloc: Global, head: &RequestHead<'_>, name: &str) -> Result<Text, RequestFault> {
-    let value = head.header(name).ok_or(RequestFault::Unknown)?;
-    Ok(Text::of(alloc, value)?)
 }
 
 /// Whether nothing is to be replaced.
@@ -68,199 +51,155 @@ fn part_etag(alloc: Global, part: &str, number: usize) -> Result<Text, RequestFa
 /// The entity tags of a document that completes an upload, whose parts are numbered from 1.
 fn etags_of(alloc: Global, document: &str) -> Result<Texts, RequestFault> {
     let mut etags = Texts::make(alloc);
-    let mut number: usize = 0;
-    for part in document.split("<Part>") {
+    for (number, part) in document.split("<Part>").enumerate() {
         if number > 0 {
-            let etag = part_etag(alloc, part, number)?;
             etags.reserve(1)?;
-            etags.push(etag);
+            etags.push(part_etag(alloc, part, number)?);
         }
-        number = number.saturating_add(1);
     }
     Ok(etags)
 }
 
-fn put_ask(alloc: Global, head: &RequestHead<'_>, target: Target<'_>) -> Result<Ask, RequestFault> {
-    let content = header_text(alloc, head, "content-type")?;
-    let Names { bucket, key } = target.names(alloc)?;
-    Ok(Ask::Put {
-        bucket,
-        key,
-        content,
-        fresh: is_fresh(head),
-    })
-}
-
-/// What is copied.
-#[derive(Drop)]
-struct Source {
-    names: Names,
-    etag: Text,
-}
-
-/// The source that is written `bucket/key`, where it still has the entity tag of its header.
-fn source_of(alloc: Global, head: &RequestHead<'_>, value: &str) -> Result<Source, RequestFault> {
-    let (bucket, key) = value.split_once('/').ok_or(RequestFault::Unknown)?;
-    let etag = wanted_text(alloc, head, "x-amz-copy-source-if-match")?;
-    let names = Names::read(alloc, bucket, key)?;
-    Ok(Source { names, etag })
-}
-
-fn copy_to(target: Names, source: Source) -> Ask {
-    Ask::Copy {
-        bucket: target.bucket,
-        key: target.key,
-        from_bucket: source.names.bucket,
-        from_key: source.names.key,
-        etag: source.etag,
+fn put_ask(reader: &mut RequestReader<'_>) -> Ask {
+    Ask::Put {
+        bucket: reader.bucket(),
+        key: reader.key(),
+        content: reader.header("content-type"),
+        fresh: is_fresh(reader.head),
     }
 }
 
-fn copy_ask(
-    alloc: Global,
-    head: &RequestHead<'_>,
-    target: Target<'_>,
-    source: &str,
-) -> Result<Ask, RequestFault> {
-    let names = target.names(alloc)?;
-    Ok(copy_to(names, source_of(alloc, head, source)?))
+/// The bucket and the key of a source that is written `bucket/key`.
+fn source_names<'a>(reader: &mut RequestReader<'_>, source: &'a str) -> (&'a str, &'a str) {
+    match source.split_once('/') {
+        Some(names) => names,
+        None => {
+            reader.fail(RequestFault::Unknown);
+            (source, "")
+        }
+    }
+}
+
+/// The entity tag that a source still has to have.
+fn source_etag(reader: &mut RequestReader<'_>) -> Text {
+    reader.wanted_header("x-amz-copy-source-if-match")
+}
+
+fn copy_ask(reader: &mut RequestReader<'_>, source: &str) -> Ask {
+    let (from_bucket, from_key) = source_names(reader, source);
+    Ask::Copy {
+        bucket: reader.bucket(),
+        key: reader.key(),
+        from_bucket: reader.copy(from_bucket),
+        from_key: reader.plain(from_key),
+        etag: source_etag(reader),
+    }
 }
 
 /// The number of a part.
-fn number_of(alloc: Global, target: Target<'_>) -> Result<u32, RequestFault> {
-    let number = target.value(alloc, "partNumber")?;
-    number
-        .as_str()
-        .parse::<u32>()
-        .map_err(|_| RequestFault::Unknown)
+fn part_number(reader: &mut RequestReader<'_>) -> u32 {
+    match reader.value("partNumber").as_str().parse::<u32>() {
+        Ok(number) => number,
+        Err(_) => {
+            reader.fail(RequestFault::Unknown);
+            0
+        }
+    }
 }
 
-fn part_ask(alloc: Global, target: Target<'_>) -> Result<Ask, RequestFault> {
-    let number = number_of(alloc, target)?;
-    let upload = target.value(alloc, "uploadId")?;
-    let Names { bucket, key } = target.names(alloc)?;
-    Ok(Ask::Part {
-        bucket,
-        key,
-        upload,
-        number,
-    })
+fn part_ask(reader: &mut RequestReader<'_>) -> Ask {
+    Ask::Part {
+        bucket: reader.bucket(),
+        key: reader.key(),
+        upload: reader.value("uploadId"),
+        number: part_number(reader),
+    }
 }
 
 /// The range of a source that is copied.
-fn source_range(head: &RequestHead<'_>) -> Result<(u64, u64), RequestFault> {
-    let range = head.header("x-amz-copy-source-range").and_then(range_of);
-    range.ok_or(RequestFault::Unknown)
+fn source_range(reader: &mut RequestReader<'_>) -> (u64, u64) {
+    match reader.head.header("x-amz-copy-source-range").and_then(range_of) {
+        Some(range) => range,
+        None => {
+            reader.fail(RequestFault::Unknown);
+            (0, 0)
+        }
+    }
 }
 
-fn part_copy_to(
-    target: Names,
-    number: u32,
-    upload: Text,
-    source: Source,
-    range: (u64, u64),
-) -> Ask {
+fn part_copy_ask(reader: &mut RequestReader<'_>, source: &str) -> Ask {
+    let (from_bucket, from_key) = source_names(reader, source);
     Ask::PartCopy {
-        bucket: target.bucket,
-        key: target.key,
-        upload,
-        number,
-        from_bucket: source.names.bucket,
-        from_key: source.names.key,
-        etag: source.etag,
-        range,
+        bucket: reader.bucket(),
+        key: reader.key(),
+        upload: reader.value("uploadId"),
+        number: part_number(reader),
+        from_bucket: reader.copy(from_bucket),
+        from_key: reader.plain(from_key),
+        etag: source_etag(reader),
+        range: source_range(reader),
     }
 }
 
-fn part_copy_ask(
-    alloc: Global,
-    head: &RequestHead<'_>,
-    target: Target<'_>,
-    source: &str,
-) -> Result<Ask, RequestFault> {
-    let number = number_of(alloc, target)?;
-    let range = source_range(head)?;
-    let upload = target.value(alloc, "uploadId")?;
-    let names = target.names(alloc)?;
-    let source = source_of(alloc, head, source)?;
-    Ok(part_copy_to(names, number, upload, source, range))
-}
-
-fn stored_ask(
-    alloc: Global,
-    head: &RequestHead<'_>,
-    target: Target<'_>,
-) -> Result<Ask, RequestFault> {
-    let source = head.header("x-amz-copy-source");
-    match (target.has("partNumber"), source) {
-        (false, None) => put_ask(alloc, head, target),
-        (false, Some(source)) => copy_ask(alloc, head, target, source),
-        (true, None) => part_ask(alloc, target),
-        (true, Some(source)) => part_copy_ask(alloc, head, target, source),
+fn stored_ask(reader: &mut RequestReader<'_>) -> Ask {
+    let source = reader.head.header("x-amz-copy-source");
+    match (reader.target.has("partNumber"), source) {
+        (false, None) => put_ask(reader),
+        (false, Some(source)) => copy_ask(reader, source),
+        (true, None) => part_ask(reader),
+        (true, Some(source)) => part_copy_ask(reader, source),
     }
 }
 
-fn get_ask(alloc: Global, head: &RequestHead<'_>, target: Target<'_>) -> Result<Ask, RequestFault> {
-    let etag = wanted_text(alloc, head, "if-match")?;
-    let Names { bucket, key } = target.names(alloc)?;
-    Ok(Ask::Get {
-        bucket,
-        key,
-        etag,
-        range: head.header("range").and_then(range_of),
-    })
+fn get_ask(reader: &mut RequestReader<'_>) -> Ask {
+    Ask::Get {
+        bucket: reader.bucket(),
+        key: reader.key(),
+        etag: reader.wanted_header("if-match"),
+        range: reader.head.header("range").and_then(range_of),
+    }
 }
 
 /// The prefix of a listing, which is empty where none is asked for.
-fn prefix_of(alloc: Global, target: Target<'_>) -> Result<Text, RequestFault> {
-    match target.option(alloc, "prefix")? {
-        Some(prefix) => Ok(prefix),
-        None => Ok(Text::of(alloc, "")?),
+fn prefix_of(reader: &mut RequestReader<'_>) -> Text {
+    match reader.option("prefix") {
+        Some(prefix) => prefix,
+        None => reader.copy(""),
     }
 }
 
-fn list_ask(alloc: Global, target: Target<'_>) -> Result<Ask, RequestFault> {
-    let bucket = unescape(alloc, target.bucket)?;
-    let prefix = prefix_of(alloc, target)?;
-    Ok(Ask::List {
-        bucket,
-        prefix,
-        delimited: target.has("delimiter"),
-        token: target.option(alloc, "continuation-token")?,
-    })
-}
-
-fn read_ask(
-    alloc: Global,
-    head: &RequestHead<'_>,
-    target: Target<'_>,
-) -> Result<Ask, RequestFault> {
-    if target.bucket.is_empty() {
-        return Ok(Ask::Buckets);
+fn list_ask(reader: &mut RequestReader<'_>) -> Ask {
+    Ask::List {
+        bucket: reader.bucket(),
+        prefix: prefix_of(reader),
+        delimited: reader.target.has("delimiter"),
+        token: reader.option("continuation-token"),
     }
-    if target.key.is_empty() {
-        return list_ask(alloc, target);
+}
+
+fn read_ask(reader: &mut RequestReader<'_>) -> Ask {
+    if reader.target.bucket.is_empty() {
+        return Ask::Buckets;
     }
-    get_ask(alloc, head, target)
+    if reader.target.key.is_empty() {
+        return list_ask(reader);
+    }
+    get_ask(reader)
 }
 
-fn head_ask(alloc: Global, target: Target<'_>) -> Result<Ask, RequestFault> {
-    let Names { bucket, key } = target.names(alloc)?;
-    Ok(Ask::Head { bucket, key })
+fn head_ask(reader: &mut RequestReader<'_>) -> Ask {
+    Ask::Head {
+        bucket: reader.bucket(),
+        key: reader.key(),
+    }
 }
 
-fn create_ask(
-    alloc: Global,
-    head: &RequestHead<'_>,
-    target: Target<'_>,
-) -> Result<Ask, RequestFault> {
-    let content = header_text(alloc, head, "content-type")?;
-    let Names { bucket, key } = target.names(alloc)?;
-    Ok(Ask::Create {
-        bucket,
-        key,
-        content,
-    })
+fn create_ask(reader: &mut RequestReader<'_>) -> Ask {
+    Ask::Create {
+        bucket: reader.bucket(),
+        key: reader.key(),
+        content: reader.header("content-type"),
+    }
 }
 
 /// The entity tags of a body that completes an upload.
@@ -271,63 +210,57 @@ fn etags_in(alloc: Global, body: &[u8]) -> Result<Texts, RequestFault> {
     }
 }
 
-fn complete_ask(
-    alloc: Global,
-    head: &RequestHead<'_>,
-    target: Target<'_>,
-    body: &[u8],
-) -> Result<Ask, RequestFault> {
-    let upload = target.value(alloc, "uploadId")?;
-    let etags = etags_in(alloc, body)?;
-    let Names { bucket, key } = target.names(alloc)?;
-    Ok(Ask::Complete {
-        bucket,
-        key,
-        upload,
-        etags,
-        fresh: is_fresh(head),
-    })
-}
-
-fn posted_ask(
-    alloc: Global,
-    head: &RequestHead<'_>,
-    target: Target<'_>,
-    body: &[u8],
-) -> Result<Ask, RequestFault> {
-    if target.has("uploads") {
-        create_ask(alloc, head, target)
-    } else {
-        complete_ask(alloc, head, target, body)
+fn etags_or_none(reader: &mut RequestReader<'_>, body: &[u8]) -> Texts {
+    match etags_in(reader.alloc, body) {
+        Ok(etags) => etags,
+        Err(fault) => {
+            reader.fail(fault);
+            Texts::make(reader.alloc)
+        }
     }
 }
 
-fn deleted_ask(alloc: Global, target: Target<'_>) -> Result<Ask, RequestFault> {
-    let upload = target.option(alloc, "uploadId")?;
-    let Names { bucket, key } = target.names(alloc)?;
-    Ok(match upload {
-        Some(upload) => Ask::Abort {
-            bucket,
-            key,
-            upload,
-        },
-        None => Ask::Delete { bucket, key },
-    })
+fn complete_ask(reader: &mut RequestReader<'_>, body: &[u8]) -> Ask {
+    Ask::Complete {
+        bucket: reader.bucket(),
+        key: reader.key(),
+        upload: reader.value("uploadId"),
+        etags: etags_or_none(reader, body),
+        fresh: is_fresh(reader.head),
+    }
 }
 
-fn request_ask(
-    alloc: Global,
-    head: &RequestHead<'_>,
-    target: Target<'_>,
-    body: &[u8],
-) -> Result<Ask, RequestFault> {
-    match head.method {
-        "GET" => read_ask(alloc, head, target),
-        "HEAD" => head_ask(alloc, target),
-        "PUT" => stored_ask(alloc, head, target),
-        "POST" => posted_ask(alloc, head, target, body),
-        "DELETE" => deleted_ask(alloc, target),
-        _ => Err(RequestFault::Unknown),
+fn posted_ask(reader: &mut RequestReader<'_>, body: &[u8]) -> Ask {
+    if reader.target.has("uploads") {
+        create_ask(reader)
+    } else {
+        complete_ask(reader, body)
+    }
+}
+
+fn deleted_ask(reader: &mut RequestReader<'_>) -> Ask {
+    match reader.option("uploadId") {
+        Some(upload) => Ask::Abort {
+            bucket: reader.bucket(),
+            key: reader.key(),
+            upload,
+        },
+        None => Ask::Delete {
+            bucket: reader.bucket(),
+            key: reader.key(),
+        },
+    }
+}
+
+/// What is asked with the method of the request; None where the service does not know it.
+fn ask_by_method(reader: &mut RequestReader<'_>, body: &[u8]) -> Option<Ask> {
+    match reader.head.method {
+        "GET" => Some(read_ask(reader)),
+        "HEAD" => Some(head_ask(reader)),
+        "PUT" => Some(stored_ask(reader)),
+        "POST" => Some(posted_ask(reader, body)),
+        "DELETE" => Some(deleted_ask(reader)),
+        _ => None,
     }
 }
 
@@ -340,9 +273,22 @@ pub fn ask_of(
     let Some(target) = Target::read(head.target) else {
         return Ok(None);
     };
-    match request_ask(alloc, head, target, body) {
-        Ok(ask) => Ok(Some(ask)),
-        Err(RequestFault::Unknown) => Ok(None),
-        Err(RequestFault::Memory) => Err(OutOfMemory),
+    let mut reader = RequestReader {
+        alloc,
+        head,
+        target,
+        fault: None,
+    };
+    let ask = ask_by_method(&mut reader, body);
+    match reader.fault {
+        None => Ok(ask),
+        Some(RequestFault::Unknown) => {
+            mem::drop(ask);
+            Ok(None)
+        }
+        Some(RequestFault::Memory) => {
+            mem::drop(ask);
+            Err(OutOfMemory)
+        }
     }
 }
