@@ -3,6 +3,7 @@
 ghost use Rattle.std.specs.Prelude.{◌≡◌, [], Some, None, length, string_bytes};
 ghost use Rattle.std.specs.Option.{unwrap_or};
 
+use crate::output::Output;
 use s3_model::OutOfMemory;
 use std::alloc::{AllocError, Global};
 
@@ -49,24 +50,19 @@ fn phrase(status: u16) -> &'static str {
     }
 }
 
-fn push_chunk(alloc: Global, out: &mut Vec<u8>, chunk: &[u8]) -> Result<(), AllocError> {
+fn push_chunk(alloc: Global, out: &mut Output, chunk: &[u8]) {
     let count = chunk.len();
-    out.extend_from_slice(format!(in alloc; "{count:x}\r\n")?.as_bytes())?;
-    out.extend_from_slice(chunk)?;
-    out.extend_from_slice(b"\r\n")
+    out.push_made(format!(in alloc; "{count:x}\r\n"));
+    out.push(chunk);
+    out.push(b"\r\n");
 }
 
 /// Adds a body in chunks of at least one byte and at most `most`, and the last chunk.
-fn push_chunks(
-    alloc: Global,
-    out: &mut Vec<u8>,
-    body: &[u8],
-    most: usize,
-) -> Result<(), AllocError> {
+fn push_chunks(alloc: Global, out: &mut Output, body: &[u8], most: usize) {
     for chunk in body.chunks(most.max(1)) {
-        push_chunk(alloc, out, chunk)?;
+        push_chunk(alloc, out, chunk);
     }
-    out.extend_from_slice(b"0\r\n\r\n")
+    out.push(b"0\r\n\r\n");
 }
 
 impl Answer {
@@ -133,58 +129,49 @@ impl Answer {
         matches!(self.status, 204 | 304)
     }
 
-    /// The status line and the header lines, but for the length.
-    fn start(&self, alloc: Global) -> Result<String, AllocError> {
+    /// Adds the status line and the header lines, but for the length.
+    fn push_start(&self, alloc: Global, out: &mut Output) {
         let (status, words, lines) = (self.status, phrase(self.status), self.lines.as_str());
-        format!(in alloc; "HTTP/1.1 {status} {words}\r\n{lines}")
+        out.push_made(format!(in alloc; "HTTP/1.1 {status} {words}\r\n{lines}"));
     }
 
-    fn push_length(&self, head: &mut String) -> Result<(), AllocError> {
-        if self.is_bare() {
-            return Ok(());
+    fn push_length(&self, alloc: Global, out: &mut Output) {
+        if !self.is_bare() {
+            let length = self.length.unwrap_or(self.body.len() as u64);
+            out.push_made(format!(in alloc; "content-length: {length}\r\n"));
         }
-        let length = self.length.unwrap_or(self.body.len() as u64);
-        write!(head, "content-length: {length}\r\n")
     }
 
-    /// The head with a stated length; `more` are further header lines.
-    fn sized_head(&self, alloc: Global, more: &str) -> Result<String, AllocError> {
-        let mut head = self.start(alloc)?;
-        self.push_length(&mut head)?;
-        write!(head, "{more}\r\n")?;
-        Ok(head)
+    /// Adds all of it with a stated length; `more` are further header lines.
+    fn push_sized(&self, alloc: Global, out: &mut Output, more: &str) {
+        self.push_start(alloc, out);
+        self.push_length(alloc, out);
+        out.push(more.as_bytes());
+        out.push(b"\r\n");
+        out.push(&self.body);
     }
 
-    /// The bytes with a stated length; `more` are further header lines.
-    fn sized(&self, alloc: Global, more: &str) -> Result<Vec<u8>, AllocError> {
-        let mut bytes = self.sized_head(alloc, more)?.into_bytes();
-        bytes.extend_from_slice(&self.body)?;
-        Ok(bytes)
-    }
-
-    fn chunked(&self, alloc: Global, most: usize) -> Result<Vec<u8>, AllocError> {
+    fn push_chunked(&self, alloc: Global, out: &mut Output, most: usize) {
         if self.is_bare() || self.length.is_some() {
-            return self.sized(alloc, "");
+            return self.push_sized(alloc, out, "");
         }
-        let mut head = self.start(alloc)?;
-        head.push_str("transfer-encoding: chunked\r\n\r\n")?;
-        let mut bytes = head.into_bytes();
-        push_chunks(alloc, &mut bytes, &self.body, most)?;
-        Ok(bytes)
+        self.push_start(alloc, out);
+        out.push(b"transfer-encoding: chunked\r\n\r\n");
+        push_chunks(alloc, out, &self.body, most);
     }
 
     /// The bytes of the answer in a form.
     pub fn to_bytes(&self, alloc: Global, form: Form) -> Result<Vec<u8>, OutOfMemory> {
-        let bytes = match form {
-            Form::Sized | Form::Split(_) => self.sized(alloc, "")?,
-            Form::Closing => self.sized(alloc, "connection: close\r\n")?,
-            Form::Chunked(most) => self.chunked(alloc, most)?,
+        let mut out = Output::make(alloc);
+        match form {
+            Form::Sized | Form::Split(_) => self.push_sized(alloc, &mut out, ""),
+            Form::Closing => self.push_sized(alloc, &mut out, "connection: close\r\n"),
+            Form::Chunked(most) => self.push_chunked(alloc, &mut out, most),
             Form::Followed => {
-                let mut bytes = self.sized(alloc, "")?;
-                bytes.push(b'x')?;
-                bytes
+                self.push_sized(alloc, &mut out, "");
+                out.push(b"x");
             }
-        };
-        Ok(bytes)
+        }
+        out.into_bytes()
     }
 }

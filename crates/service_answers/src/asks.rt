@@ -118,7 +118,11 @@ fn part_ask(reader: &mut RequestReader<'_>) -> Ask {
 
 /// The range of a source that is copied.
 fn source_range(reader: &mut RequestReader<'_>) -> (u64, u64) {
-    match reader.head.header("x-amz-copy-source-range").and_then(range_of) {
+    match reader
+        .head
+        .header("x-amz-copy-source-range")
+        .and_then(range_of)
+    {
         Some(range) => range,
         None => {
             reader.fail(RequestFault::Unknown);

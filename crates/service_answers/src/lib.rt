@@ -10,6 +10,7 @@ mod faults;
 mod gained;
 mod head;
 mod listing_answers;
+mod output;
 mod reader;
 mod replies;
 mod target;

@@ -38,7 +38,11 @@ fn push_prefix(document: &mut Document, prefix: &Text) {
 fn push_front(document: &mut Document, bucket: &str, page: &Listed) {
     push_element(document, "Name", bucket);
     push_element(document, "EncodingType", "url");
-    push_element(document, "IsTruncated", if page.more { "true" } else { "false" });
+    push_element(
+        document,
+        "IsTruncated",
+        if page.more { "true" } else { "false" },
+    );
     if let Some(token) = &page.token {
         push_element(document, "NextContinuationToken", token.as_str());
     }

@@ -53,7 +53,10 @@ fn add_range_line(answer: &mut Answer, range: Option<(u64, u64, u64)>) -> Result
 {
     match range {
         Some((first, last, size)) => {
-            write!(answer.lines, "content-range: bytes {first}-{last}/{size}\r\n")
+            write!(
+                answer.lines,
+                "content-range: bytes {first}-{last}/{size}\r\n"
+            )
         }
         None => Ok(()),
     }
