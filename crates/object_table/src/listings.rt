@@ -208,8 +208,7 @@ impl ObjectTable {
         ensures ended { self.new.ended ≡ self.old.ended }
         ensures same { OnErr result (self.new ≡ self.old) }
     {
-        let number = self.number()?;
-        let token = Text::from(format!(in alloc; "token-{number}")?);
+        let token = self.new_name(alloc, "token")?;
         if self.tokens.has(token.as_str()) {
             return Err(OutOfMemory);
         }

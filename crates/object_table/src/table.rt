@@ -166,6 +166,14 @@ impl ObjectTable {
         Ok(number)
     }
 
+    // A name of that kind with the next number, as `upload-7`.
+    pub(crate) fn new_name(&mut self, alloc: Global, kind: &str) -> Result<Text, OutOfMemory>
+        ensures { self.new ≡ self.old }
+    {
+        let number = self.number()?;
+        Ok(Text::from(format!(in alloc; "{kind}-{number}")?))
+    }
+
     // An entity tag that nothing else has.
     pub(crate) fn new_etag(&mut self, alloc: Global) -> Result<Text, OutOfMemory>
         ensures { self.new ≡ self.old }

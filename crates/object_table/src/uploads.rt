@@ -140,8 +140,7 @@ impl ObjectTable {
         ensures open { IfOk result (λ id. IsNone (get self.old.uploads id)) }
         ensures ended { IfOk result (λ id. IsNone (get self.old.ended id)) }
     {
-        let number = self.number()?;
-        let id = Text::from(format!(in alloc; "upload-{number}")?);
+        let id = self.new_name(alloc, "upload")?;
         if self.uploads.has(id.as_str()) || self.ended.has(id.as_str()) {
             return Err(OutOfMemory);
         }
