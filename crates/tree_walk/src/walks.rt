@@ -1,11 +1,19 @@
 //! The walk over a tree of files.
 
-ghost use Rattle.std.specs.Prelude.{◌≡◌, ◌⊎◌, ◌≤◌, ◌∷◌, [], Contains, Err, IfErr, IfOk, IfSome, OnOk, Result};
+ghost use Rattle.std.specs.Prelude.{◌≡◌, ◌⊎◌, ◌≤◌, ◌∷◌, [], Contains, Err, IfErr, IfOk, IfSome, OnErr, OnOk, Result};
 ghost use Rattle.std.specs.List.{AllByRecursion};
 ghost use Rattle.local_files.specs.Names.{AreNames, IsName};
 ghost use Rattle.s3_outside.specs.FileCalls.{unnamed_in};
 ghost use Rattle.s3_model.specs.Counts.{Rose};
-ghost use Rattle.tree_walk.specs.Trees.{IsOrderly, IsRefused, IsWalked, LooksOnce, OnlyLooks, bare as bare_of};
+ghost use Rattle.tree_walk.specs.Trees.{
+  IsOrderly,
+  IsRefused,
+  IsWalked,
+  LooksOnce,
+  OnlyLooks,
+  bare as bare_of,
+  place_of as place_at,
+};
 ghost use Rattle.tree_walk.specs.Finding.{IsComplete, IsOnTheWay, IsPartway, IsSound, Visits};
 ghost use Rattle.s3_outside.specs.Files.{asked_kind, shape_at};
 ghost use Rattle.s3_outside.specs.Seen.{IsSeenAfter};
@@ -65,10 +73,11 @@ fn find_all<F: Files>(alloc: Global, files: &mut F, root: &str) -> Result<Found,
     ensures failed { result ≡ Err WalkFault.Files → Rose (F.faults files.old) (F.faults files.new) }
     ensures later { F.faults files.old ≤ F.faults files.new }
 {
-    if shape_of(files, bare(root))? != Shape::Folder {
-        return Ok(Found::make(alloc));
+    match shape_of(files, bare(root)) {
+        Ok(Shape::Folder) => find_below(alloc, files, root),
+        Ok(_) => Ok(Found::make(alloc)),
+        Err(Failed) => Err(WalkFault::Files),
     }
-    find_below(alloc, files, root)
 }
 
 // All that stands below a root that is a folder.
@@ -91,34 +100,40 @@ fn find_below<F: Files>(alloc: Global, files: &mut F, root: &str) -> Result<Foun
 }
 
 #[tactic(auto, using(crate::proofs::WalkLemmas::keeps_kind))]
-fn shape_of<F: Files>(files: &mut F, path: &str) -> Result<Shape, WalkFault>
+fn shape_of<F: Files>(files: &mut F, path: &str) -> Result<Shape, Failed>
     ensures shape { IfSome (F.seen files.new) (λ now. IfOk result (λ shape. shape ≡ shape_at now.store path.now)) }
     ensures kept { OnlyLooks (F.seen files.old) (F.seen files.new) (F.faults files.old) (F.faults files.new) }
     ensures asked { (answer : Result Shape Failed) × IsSeenAfter (asked_kind path.now answer)
         (F.seen files.old) (F.seen files.new) (F.faults files.old) (F.faults files.new) }
-    ensures failed { IfErr result (λ fault.
-        (fault ≡ WalkFault.Files) × Rose (F.faults files.old) (F.faults files.new)) }
+    ensures failed { OnErr result (Rose (F.faults files.old) (F.faults files.new)) }
     ensures later { F.faults files.old ≤ F.faults files.new }
 {
-    match files.kind(path) {
-        Ok(shape) => Ok(shape),
-        Err(Failed) => Err(WalkFault::Files),
-    }
+    files.kind(path)
 }
 
+// The names in a folder of the tree.
 #[tactic(auto, using(crate::proofs::WalkLemmas::keeps_names))]
-fn names_of<F: Files>(alloc: Global, files: &mut F, folder: &str) -> Result<Names, WalkFault>
-    ensures folder { IfSome (F.seen files.new) (λ now. OnOk result (shape_at now.store folder.now ≡ Shape.Folder)) }
+fn names_of<F: Files>(
+    alloc: Global,
+    files: &mut F,
+    root: &str,
+    folder: &str,
+) -> Result<Names, WalkFault>
+    ensures folder { IfSome (F.seen files.new) (λ now.
+        OnOk result (shape_at now.store (place_at root.now folder.now) ≡ Shape.Folder)) }
     ensures names { IfSome (F.seen files.new) (λ now. IfOk result (λ found.
-        AreNames now.store folder.now found.names.items)) }
+        AreNames now.store (place_at root.now folder.now) found.names.items)) }
     ensures unnamed { IfSome (F.seen files.new) (λ now. IfOk result (λ found.
-        found.unnamed ≡ unnamed_in now.store folder.now)) }
+        found.unnamed ≡ unnamed_in now.store (place_at root.now folder.now))) }
     ensures kept { OnlyLooks (F.seen files.old) (F.seen files.new) (F.faults files.old) (F.faults files.new) }
     ensures faults { IfErr result (λ fault. (fault ≡ WalkFault.Files) ⊎ (fault ≡ WalkFault.Memory)) }
     ensures failed { result ≡ Err WalkFault.Files → Rose (F.faults files.old) (F.faults files.new) }
     ensures later { F.faults files.old ≤ F.faults files.new }
 {
-    match files.names(alloc, folder) {
+    let Ok(place) = place_of(alloc, root, folder) else {
+        return Err(WalkFault::Memory);
+    };
+    match files.names(alloc, place.as_str()) {
         Ok(names) => Ok(names),
         Err(FileFault::Memory) => Err(WalkFault::Memory),
         Err(_) => Err(WalkFault::Files),
@@ -171,10 +186,7 @@ fn visit<F: Files>(
     ensures failed { result ≡ Err WalkFault.Files → Rose (F.faults files.old) (F.faults files.new) }
     ensures later { F.faults files.old ≤ F.faults files.new }
 {
-    let Ok(place) = place_of(alloc, root, folder) else {
-        return Err(WalkFault::Memory);
-    };
-    let names = names_of(alloc, files, place.as_str())?;
+    let names = names_of(alloc, files, root, folder)?;
     look_at_all(alloc, files, root, folder, names.names.as_slice(), found)?;
     found.count(alloc, folder, names.unnamed)
 }
@@ -228,6 +240,8 @@ fn look_at<F: Files>(
     let Ok(full) = path_at(alloc, root, path.as_str()) else {
         return Err(WalkFault::Memory);
     };
-    let shape = shape_of(files, full.as_str())?;
-    found.add(alloc, path.as_str(), shape)
+    match shape_of(files, full.as_str()) {
+        Ok(shape) => found.add(alloc, path.as_str(), shape),
+        Err(Failed) => Err(WalkFault::Files),
+    }
 }
