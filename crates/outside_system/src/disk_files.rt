@@ -115,7 +115,9 @@ impl<R: rt::Files + AllocGlobal + Clone + Drop> DiskFiles<R> {
         ensures apart { IfOk result (λ temp. temp.path ≢ dest.now) }
         ensures faults { self.new.faults ≡ self.old.faults }
     {
-        let path = temp_path(alloc, dest, self.drawn)?;
+        let Ok(path) = temp_path(alloc, dest, self.drawn) else {
+            return Err(MakeFault::Memory);
+        };
         self.drawn = self.drawn.wrapping_add(1);
         if path.as_str() == dest {
             return Err(MakeFault::Taken);

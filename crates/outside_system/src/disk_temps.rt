@@ -30,12 +30,6 @@ pub(crate) enum MakeFault {
     Failed,
 }
 
-impl From<OutOfMemory> for MakeFault {
-    fn from(_: OutOfMemory) -> MakeFault {
-        MakeFault::Memory
-    }
-}
-
 impl From<io::Error> for MakeFault {
     fn from(error: io::Error) -> MakeFault {
         let kind = error.kind();
