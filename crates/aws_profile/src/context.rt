@@ -95,7 +95,10 @@ fn take_indented<'a>(
     ensures slots { (name : List ℕ) → context.entry.inside ≡ is_inside name (above context.entry).section
         → result ≡ true → Takes name (reading_of line (above context.entry) (Indented text.now)) slots.old slots.new }
 {
-    let (Some(_), Some(parent)) = (context.section, context.parent) else {
+    if context.section.is_none() {
+        return false;
+    }
+    let Some(parent) = context.parent else {
         return false;
     };
     if parent != b"s3".as_slice() {
@@ -129,7 +132,9 @@ pub(crate) fn take_line<'a>(
         Kind::Skipped => Some(context),
         Kind::Section(name) => Some(context.in_section(name, sought)),
         Kind::Setting(setting) => {
-            context.section?;
+            if context.section.is_none() {
+                return None;
+            }
             take_setting(context, Place::Section, setting, line, slots);
             Some(context.with_parent(setting.name))
         }
