@@ -20,6 +20,7 @@ ghost use Rattle.task_acts.specs.Kept.{etags_of, upload_of};
 use crate::move_core::MoveCore;
 use manager_moves::Move;
 use s3_model::{Outcome, Part, Texts, UploadId};
+use std::mem;
 
 fn shown(outcome: &Option<Outcome>) -> Option<&Outcome>
     ensures { option_copied result ≡ outcome.now }
@@ -124,7 +125,8 @@ impl MoveCore {
         ensures outcomes { result.items ≡ self.outcomes }
         ensures count { length result.items ≡ length self.slots }
     {
-        let MoveCore { outcomes, .. } = self;
+        let MoveCore { acts, outcomes, .. } = self;
+        mem::drop(acts);
         outcomes
     }
 }

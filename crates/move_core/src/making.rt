@@ -36,9 +36,8 @@ impl MoveCore {
         ensures lost { self.new ≡ with_lost self.old }
         ensures sound { IsSound self.old.acts self.old.slots self.old.outcomes self.old.made }
     {
-        let at = self.made as usize;
-        self.slots[at] = TaskSlot::empty();
-        self.outcomes[at] = Some(Outcome::Failed(Cause::Memory));
+        self.put_slot(self.made, TaskSlot::empty());
+        self.put_outcome(self.made, Some(Outcome::Failed(Cause::Memory)));
         self.made += 1;
     }
 

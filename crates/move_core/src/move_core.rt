@@ -107,19 +107,6 @@ fn make_places(alloc: Global, count: u32) -> Result<Places, OutOfMemory>
     Ok(Places { slots, outcomes })
 }
 
-/// The places of the tasks, and the parts, which nobody holds.
-fn make_held(alloc: Global, count: u32, means: Means) -> Result<(Places, HeldParts), OutOfMemory>
-    ensures slots { IfOk result (λ held. held.0.slots.items ≡ replicate count None) }
-    ensures outcomes { IfOk result (λ held. held.0.outcomes.items ≡ replicate count None) }
-    ensures lent { IfOk result (λ held. held.1.slots ≡ replicate means.parts None) }
-    ensures parts { IfOk result (λ held. held.1.pool.count ≡ means.parts) }
-    ensures room { IfOk result (λ held. held.1.pool.room ≡ means.room) }
-{
-    let places = make_places(alloc, count)?;
-    let parts = HeldParts::make(alloc, means.parts, means.room)?;
-    Ok((places, parts))
-}
-
 /// What the tasks of a run are ready for, the places for their states and outcomes, and the parts.
 #[derive(Drop)]
 struct Tasks {
@@ -136,13 +123,16 @@ fn make_tasks(alloc: Global, count: u32, means: Means) -> Result<Tasks, OutOfMem
     ensures parts { IfOk result (λ tasks. tasks.parts.pool.count ≡ means.parts) }
     ensures room { IfOk result (λ tasks. tasks.parts.pool.room ≡ means.room) }
 {
-    let acts = ActQueues::make(alloc, count)?;
-    let (places, parts) = make_held(alloc, count, means)?;
-    Ok(Tasks {
-        acts,
-        places,
-        parts,
-    })
+    let places = make_places(alloc, count)?;
+    let parts = HeldParts::make(alloc, means.parts, means.room)?;
+    match ActQueues::make(alloc, count) {
+        Ok(acts) => Ok(Tasks {
+            acts,
+            places,
+            parts,
+        }),
+        Err(_) => Err(OutOfMemory),
+    }
 }
 
 /// What is kept of a run of which nothing happened.
@@ -191,8 +181,10 @@ impl MoveCore {
         ensures room { IfOk result (λ core. core.parts.pool.room ≡ means.room) }
     {
         let lanes = LaneQueues::make(alloc, means.lanes, means.depth)?;
-        let tasks = make_tasks(alloc, count, means)?;
-        Ok(begin(means.queue, lanes, tasks))
+        match make_tasks(alloc, count, means) {
+            Ok(tasks) => Ok(begin(means.queue, lanes, tasks)),
+            Err(OutOfMemory) => Err(OutOfMemory),
+        }
     }
 
     /// Whether a task has ended.

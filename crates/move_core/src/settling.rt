@@ -14,6 +14,7 @@ ghost use Rattle.task_acts.specs.Histories.{History};
 use crate::move_core::MoveCore;
 use act_queues::ActSort;
 use s3_model::Outcome;
+use std::mem;
 use task_core::TaskState;
 use task_slots::{Settled, TaskSlot, free_parts, settle, sort_of};
 
@@ -65,18 +66,18 @@ impl MoveCore {
         self.acts.put(task, ready);
     }
 
-    fn put_slot(&mut self, task: u32, slot: TaskSlot)
+    pub(crate) fn put_slot(&mut self, task: u32, slot: TaskSlot)
         requires { task < length self.old.slots }
         ensures { self.new ≡ with_slot task slot self.old }
     {
-        self.slots[task as usize] = slot;
+        mem::drop(mem::replace(&mut self.slots[task as usize], slot));
     }
 
-    fn put_outcome(&mut self, task: u32, ended: Option<Outcome>)
+    pub(crate) fn put_outcome(&mut self, task: u32, ended: Option<Outcome>)
         requires { task < length self.old.slots }
         ensures { self.new ≡ with_outcome task ended self.old }
     {
-        self.outcomes[task as usize] = ended;
+        mem::drop(mem::replace(&mut self.outcomes[task as usize], ended));
     }
 
     /// One unfinished task less, if it has ended.
