@@ -205,21 +205,19 @@ impl Carrier {
         ensures later { W.faults wire.old ≤ W.faults wire.new }
     {
         let most = self.most(had);
-        match Payload::of(self.alloc, ask, &[], &mut None) {
-            Ok(payload) => make_attempts(
-                self.alloc,
-                wire,
-                &mut self.client,
-                ask,
-                &payload,
-                Some(limit),
-                &mut part.bytes,
-                cell,
-                had,
-                most,
-            ),
-            Err(_) => out_of_memory(),
-        }
+        let payload = Payload::empty();
+        make_attempts(
+            self.alloc,
+            wire,
+            &mut self.client,
+            ask,
+            &payload,
+            Some(limit),
+            &mut part.bytes,
+            cell,
+            had,
+            most,
+        )
     }
 
     /// Makes the attempts of a job's request.
