@@ -69,7 +69,11 @@ fn carrier_of(
     ensures { IfOk result (λ carrier.
         carrier ≡ record { endpoint = endpoint.now; keys = keys.now; attempts = attempts }) }
 {
-    Carrier::make(alloc, copy_endpoint(endpoint)?, copy_keys(keys)?, attempts)
+    let endpoint = copy_endpoint(endpoint)?;
+    match copy_keys(keys) {
+        Ok(keys) => Carrier::make(alloc, endpoint, keys, attempts),
+        Err(OutOfMemory) => Err(OutOfMemory),
+    }
 }
 
 impl<W: Wire + Drop> Lane<W> {
