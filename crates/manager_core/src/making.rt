@@ -81,7 +81,7 @@ fn put(places: &mut Vec<StepSlot>, task: u32, steps: StepSlot)
     requires { task < length places.old.items }
     ensures { places.new.items ≡ set places.old.items task steps }
 {
-    places[task as usize] = steps;
+    mem::drop(mem::replace(&mut places[task as usize], steps));
 }
 
 /// Whether a task has ended.
@@ -100,7 +100,7 @@ impl Manager {
         } }
     {
         if has_ended(&self.moves, task) {
-            self.steps[task as usize] = StepSlot::empty();
+            put(&mut self.steps, task, StepSlot::empty());
         }
     }
 

@@ -58,13 +58,12 @@ struct Rooms {
     outcomes: Outcomes,
 }
 
-#[tactic(auto, using(std::proofs::lemmas::List::replicate_more))]
 fn no_steps(alloc: Global, count: u32) -> Result<Vec<StepSlot>, OutOfMemory>
     ensures { IfOk result (λ steps. steps.items ≡ replicate count None) }
 {
     let mut steps = Vec::with_capacity(alloc, count as usize)?;
     for _ in 0..count {
-        steps.push(StepSlot::empty())?;
+        steps.push_reserved(StepSlot::empty());
     }
     Ok(steps)
 }
@@ -89,11 +88,16 @@ fn make_rooms(alloc: Global, count: u32, means: Means) -> Result<Rooms, OutOfMem
     ensures items { IfOk result (λ rooms. rooms.outcomes.items ≡ []) }
     ensures outcomes { IfOk result (λ rooms. count ≤ rooms.outcomes.spare) }
 {
-    Ok(Rooms {
-        steps: no_steps(alloc, count)?,
-        outcomes: no_outcomes(alloc, count)?,
-        moves: MoveCore::make(alloc, count, means)?,
-    })
+    let steps = no_steps(alloc, count)?;
+    let outcomes = no_outcomes(alloc, count)?;
+    match MoveCore::make(alloc, count, means) {
+        Ok(moves) => Ok(Rooms {
+            moves,
+            steps,
+            outcomes,
+        }),
+        Err(OutOfMemory) => Err(OutOfMemory),
+    }
 }
 
 /// Makes room in the journal for all that may come, and makes what else the run needs.
