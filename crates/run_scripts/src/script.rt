@@ -17,6 +17,17 @@ fn call_words(alloc: Global, task: u32, name: &str) -> Result<String, AllocError
     format!(in alloc; "{task} {name} ")
 }
 
+fn cancel_words(alloc: Global, moves: u64) -> Result<String, AllocError> {
+    format!(in alloc; "cancel {moves} ")
+}
+
+fn copy_of(alloc: Global, words: &str) -> Result<String, OutOfMemory> {
+    match String::from_str(alloc, words) {
+        Ok(copy) => Ok(copy),
+        Err(_) => Err(OutOfMemory),
+    }
+}
+
 /// The words with which a saying on an act begins.
 fn act_words(alloc: Global, task: u32, act: Act) -> Result<String, AllocError> {
     match act {
@@ -60,26 +71,37 @@ impl<'a> Script<'a> {
         saying.strip_prefix(words)
     }
 
+    /// What is said behind these words, if anything is.
+    fn said(&mut self, words: Result<String, AllocError>) -> Result<Option<&'a str>, OutOfMemory> {
+        match words {
+            Ok(words) => Ok(self.take(words.as_str())),
+            Err(_) => Err(OutOfMemory),
+        }
+    }
+
     /// What comes of that call: it is fine, unless the script says otherwise. None where that is not understood.
     pub fn call(&mut self, task: u32, act: Act) -> Result<Option<FileCame>, OutOfMemory> {
         if self.sayings.is_empty() {
             return Ok(Some(FileCame::Fine));
         }
-        let words = act_words(self.alloc, task, act)?;
-        match self.take(words.as_str()) {
-            Some(came) => Ok(file_came(came)),
-            None => Ok(Some(FileCame::Fine)),
+        let words = act_words(self.alloc, task, act);
+        match self.said(words) {
+            Ok(Some(came)) => Ok(file_came(came)),
+            Ok(None) => Ok(Some(FileCame::Fine)),
+            Err(OutOfMemory) => Err(OutOfMemory),
         }
     }
 
     /// The words of what comes of that job: what it asks for, unless the script says otherwise.
     pub fn job(&mut self, task: u32, op: Op, number: u32) -> Result<String, OutOfMemory> {
         if self.sayings.is_empty() {
-            return Ok(String::from_str(self.alloc, "ok")?);
+            return copy_of(self.alloc, "ok");
         }
-        let words = job_words(self.alloc, task, op, number)?;
-        let came = self.take(words.as_str()).unwrap_or("ok");
-        Ok(String::from_str(self.alloc, came)?)
+        let words = job_words(self.alloc, task, op, number);
+        match self.said(words) {
+            Ok(came) => copy_of(self.alloc, came.unwrap_or("ok")),
+            Err(OutOfMemory) => Err(OutOfMemory),
+        }
     }
 
     /// The reason of a cancel after so many moves.
@@ -87,10 +109,11 @@ impl<'a> Script<'a> {
         if self.sayings.is_empty() {
             return Ok(None);
         }
-        let words = format!(in self.alloc; "cancel {moves} ")?;
-        match self.take(words.as_str()) {
-            Some(reason) => Ok(reason_of(reason)),
-            None => Ok(None),
+        let words = cancel_words(self.alloc, moves);
+        match self.said(words) {
+            Ok(Some(reason)) => Ok(reason_of(reason)),
+            Ok(None) => Ok(None),
+            Err(OutOfMemory) => Err(OutOfMemory),
         }
     }
 

@@ -1,6 +1,6 @@
 //! The tasks of a row.
 
-ghost use Rattle.std.specs.Prelude.{◌≡◌, ◌+◌, ◌++◌, ◌≤◌, None, false, IfOk, IfSome, OnOk, length};
+ghost use Rattle.std.specs.Prelude.{◌≡◌, ◌+◌, ◌++◌, ◌<◌, ◌≤◌, None, false, IfOk, IfSome, OnOk, length};
 ghost use Rattle.std.specs.Fmt.{decimal};
 ghost use Rattle.sync_plan.specs.Fit.{IsFit};
 ghost use Rattle.run_scripts.specs.Tasks.{AreTasks, EachReplaces, GoesFrom, GoesTo, IsFile, IsObject, IsTaskOf, can_move};
@@ -132,15 +132,14 @@ fn task_of(alloc: Global, wish: Wish, number: u32) -> Result<Task, OutOfMemory>
 }
 
 /// Puts a task behind the others.
-fn push(tasks: &mut Tasks, task: Task) -> Result<(), OutOfMemory>
+fn push(tasks: &mut Tasks, task: Task)
+    requires room { 0 < tasks.old.spare }
     requires tasks { AreTasks 256 tasks.old.items }
     requires task { IsTaskOf 256 (length tasks.old.items) task }
-    ensures tasks { OnOk result (AreTasks 256 tasks.new.items) }
-    ensures count { OnOk result (length tasks.new.items ≡ length tasks.old.items + 1) }
+    ensures tasks { AreTasks 256 tasks.new.items }
+    ensures count { length tasks.new.items ≡ length tasks.old.items + 1 }
 {
-    tasks.reserve(1)?;
     tasks.push(task);
-    Ok(())
 }
 
 /// Puts the next task behind the others, if there is room for it.
@@ -154,8 +153,14 @@ fn push_next(alloc: Global, tasks: &mut Tasks, wish: Wish) -> Result<(), OutOfMe
     if tasks.len() >= MOST_TASKS {
         return Ok(());
     }
-    let task = task_of(alloc, wish, tasks.len() as u32)?;
-    push(tasks, task)
+    tasks.reserve(1)?;
+    match task_of(alloc, wish, tasks.len() as u32) {
+        Ok(task) => {
+            push(tasks, task);
+            Ok(())
+        }
+        Err(OutOfMemory) => Err(OutOfMemory),
+    }
 }
 
 /// Puts as many tasks behind the others as are wished for and have room.
@@ -206,8 +211,10 @@ pub fn read_tasks(alloc: Global, text: &str) -> Result<Option<Tasks>, OutOfMemor
 {
     let mut tasks = Tasks::make(alloc);
     for word in text.split(", ") {
-        if !push_named(alloc, &mut tasks, word)? {
-            return Ok(None);
+        match push_named(alloc, &mut tasks, word) {
+            Ok(true) => {}
+            Ok(false) => return Ok(None),
+            Err(OutOfMemory) => return Err(OutOfMemory),
         }
     }
     Ok(Some(tasks))
