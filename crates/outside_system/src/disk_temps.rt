@@ -101,7 +101,7 @@ impl<F: OpenFile + Write + Seek + Drop> DiskTemps<F> {
             return Err(OutOfMemory);
         };
         if self.open.len() >= MOST_OPEN {
-            self.open.remove(0);
+            mem::drop(self.open.remove(0));
         }
         match self.open.push(OpenTemp { path, file }) {
             Ok(()) => Ok(()),

@@ -174,30 +174,32 @@ fn begins_refusal(bytes: &[u8]) -> bool {
 }
 
 /// Writes a first part of the bytes. An interrupted call is made again.
-fn write_some<S: Write>(stream: &mut S, bytes: &[u8]) -> io::Result<usize>
+fn write_some<S: Write>(stream: &mut S, bytes: &[u8]) -> Result<usize, Failed>
     ensures { IfOk result (λ count. count ≤ length bytes.now) }
 {
     for _ in 0..TRIES {
         match stream.write(bytes) {
+            Ok(count) => return Ok(count),
             Err(error) if error.kind() == ErrorKind::Interrupted => {}
-            written => return written,
+            Err(_) => return Err(Failed),
         }
     }
-    Err(io::Error::from(ErrorKind::Interrupted))
+    Err(Failed)
 }
 
 /// Reads some bytes. An interrupted call is made again.
-fn read_some<S: Read>(stream: &mut S, into: &mut [u8]) -> io::Result<usize>
+fn read_some<S: Read>(stream: &mut S, into: &mut [u8]) -> Result<usize, Failed>
     ensures bound { IfOk result (λ count. count ≤ length into.new) }
     ensures length { length into.new ≡ length into.old }
 {
     for _ in 0..TRIES {
         match stream.read(into) {
+            Ok(count) => return Ok(count),
             Err(error) if error.kind() == ErrorKind::Interrupted => {}
-            read => return read,
+            Err(_) => return Err(Failed),
         }
     }
-    Err(io::Error::from(ErrorKind::Interrupted))
+    Err(Failed)
 }
 
 impl<R: Net + Clock> Wire for SocketWire<R> {
