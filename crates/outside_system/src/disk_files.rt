@@ -1,14 +1,12 @@
 //! The files of the system.
 
-ghost use Rattle.std.specs.Prelude.{◌≡◌, ◌≢◌, ◌≤◌, None, IfOk, IfErr, length};
-ghost use Rattle.s3_outside.specs.FileCalls.{HasRisen, IsTempPath, NamesFront};
+ghost use Rattle.std.specs.Prelude.{◌≡◌, ◌≢◌, ◌≤◌, None, IfOk, length};
+ghost use Rattle.s3_outside.specs.FileCalls.{HasRisen, NamesFront};
 
-use crate::disk_paths::{make_way, names_on_disk, obstacle_on_disk, shape_on_disk};
+use crate::disk_paths::{names_on_disk, obstacle_on_disk, shape_on_disk};
 use crate::disk_sources::{DiskSource, Look};
 use crate::disk_temps::{DiskTemps, MakeFault};
-use s3_outside::{
-    Failed, FileFault, Files, Names, Shape, Temp, blocked, count_fault, fault, temp_path,
-};
+use s3_outside::{Failed, FileFault, Files, Names, Shape, Temp, blocked, count_fault, fault};
 use std::alloc::Global;
 use std::collections::BTreeMap;
 use std::fs::{self, FileTimes, OpenFile};
@@ -28,7 +26,6 @@ pub struct DiskFiles<R: rt::Files> {
     looks: BTreeMap<String, Look>,
     source: Option<DiskSource<R::File>>,
     temps: DiskTemps<R::File>,
-    drawn: u32,
     faults: u64,
 }
 
@@ -43,7 +40,6 @@ impl<R: rt::Files + AllocGlobal + Clone + Drop> DiskFiles<R> {
             looks,
             source: None,
             temps,
-            drawn: 0,
             faults: 0,
         }
     }
@@ -91,41 +87,6 @@ impl<R: rt::Files + AllocGlobal + Clone + Drop> DiskFiles<R> {
             return Ok(open);
         }
         DiskSource::open(&self.runtime, path, self.looks.get(path).copied())
-    }
-
-    // An empty file beside the destination, at a path where nothing was.
-    fn make(&mut self, alloc: Global, dest: &str) -> Result<Temp, MakeFault>
-        ensures path { IfOk result (λ temp. IsTempPath dest.now temp.path) }
-        ensures apart { IfOk result (λ temp. temp.path ≢ dest.now) }
-        ensures faults { self.new.faults ≡ self.old.faults }
-    {
-        make_way(&self.runtime, dest)?;
-        for _ in 0..u32::MAX {
-            match self.draw(alloc, dest) {
-                Err(MakeFault::Taken) => {}
-                made => return made,
-            }
-        }
-        Err(MakeFault::Taken)
-    }
-
-    // The same at the path with the next number.
-    fn draw(&mut self, alloc: Global, dest: &str) -> Result<Temp, MakeFault>
-        ensures path { IfOk result (λ temp. IsTempPath dest.now temp.path) }
-        ensures apart { IfOk result (λ temp. temp.path ≢ dest.now) }
-        ensures faults { self.new.faults ≡ self.old.faults }
-    {
-        let Ok(path) = temp_path(alloc, dest, self.drawn) else {
-            return Err(MakeFault::Memory);
-        };
-        self.drawn = self.drawn.wrapping_add(1);
-        if path.as_str() == dest {
-            return Err(MakeFault::Taken);
-        }
-        match self.temps.create(&self.runtime, path.as_str()) {
-            Ok(()) => Ok(Temp { path }),
-            Err(fault) => Err(fault),
-        }
     }
 
     // What was seen of a path no longer holds.
@@ -210,7 +171,7 @@ impl<R: rt::Files + AllocGlobal + Clone + Drop> Files for DiskFiles<R> {
         if let Some(length) = obstacle_on_disk(&self.runtime, dest) {
             return Err(blocked(length, &mut self.faults));
         }
-        match self.make(alloc, dest) {
+        match self.temps.make(&self.runtime, alloc, dest) {
             Ok(temp) => Ok(temp),
             Err(MakeFault::Memory) => Err(FileFault::Memory),
             Err(_) => Err(self.refusal(dest)),

@@ -1,9 +1,11 @@
 //! Temporary files of the system.
 
-ghost use Rattle.std.specs.Prelude.{◌<◌, IfSome, vec_len};
+ghost use Rattle.std.specs.Prelude.{◌<◌, ◌≢◌, IfOk, IfSome, vec_len};
+ghost use Rattle.s3_outside.specs.FileCalls.{IsTempPath};
 
+use crate::disk_paths::make_way;
 use s3_model::OutOfMemory;
-use s3_outside::Failed;
+use s3_outside::{Failed, Temp, temp_path};
 use std::alloc::Global;
 use std::collections::BTreeMap;
 use std::fs::{self, Metadata, OpenFile, OpenOptions};
@@ -55,6 +57,7 @@ struct OpenTemp<F> {
 pub(crate) struct DiskTemps<F> {
     made: BTreeMap<String, Node>,
     open: Vec<OpenTemp<F>>,
+    drawn: u32,
 }
 
 impl<F: OpenFile + Write + Seek + Drop> DiskTemps<F> {
@@ -62,11 +65,55 @@ impl<F: OpenFile + Write + Seek + Drop> DiskTemps<F> {
         DiskTemps {
             made: BTreeMap::new(runtime.alloc()),
             open: Vec::new(runtime.alloc()),
+            drawn: 0,
         }
     }
 
-    /// Makes an empty file. What is there is never opened.
-    pub(crate) fn create<R: rt::Files<File = F> + AllocGlobal>(
+    /// An empty file beside the destination, at a path where nothing was.
+    pub(crate) fn make<R: rt::Files<File = F> + AllocGlobal>(
+        &mut self,
+        runtime: &R,
+        alloc: Global,
+        dest: &str,
+    ) -> Result<Temp, MakeFault>
+        ensures path { IfOk result (λ temp. IsTempPath dest.now temp.path) }
+        ensures apart { IfOk result (λ temp. temp.path ≢ dest.now) }
+    {
+        make_way(runtime, dest)?;
+        for _ in 0..u32::MAX {
+            match self.draw(runtime, alloc, dest) {
+                Err(MakeFault::Taken) => {}
+                made => return made,
+            }
+        }
+        Err(MakeFault::Taken)
+    }
+
+    // The same at the path with the next number.
+    fn draw<R: rt::Files<File = F> + AllocGlobal>(
+        &mut self,
+        runtime: &R,
+        alloc: Global,
+        dest: &str,
+    ) -> Result<Temp, MakeFault>
+        ensures path { IfOk result (λ temp. IsTempPath dest.now temp.path) }
+        ensures apart { IfOk result (λ temp. temp.path ≢ dest.now) }
+    {
+        let Ok(path) = temp_path(alloc, dest, self.drawn) else {
+            return Err(MakeFault::Memory);
+        };
+        self.drawn = self.drawn.wrapping_add(1);
+        if path.as_str() == dest {
+            return Err(MakeFault::Taken);
+        }
+        match self.create(runtime, path.as_str()) {
+            Ok(()) => Ok(Temp { path }),
+            Err(fault) => Err(fault),
+        }
+    }
+
+    // What is there is never opened.
+    fn create<R: rt::Files<File = F> + AllocGlobal>(
         &mut self,
         runtime: &R,
         path: &str,
