@@ -1,14 +1,13 @@
 //! The files of the system.
 
-ghost use Rattle.std.specs.Prelude.{◌≡◌, ◌≢◌, ◌≤◌, None, IfOk, length};
+ghost use Rattle.std.specs.Prelude.{◌≡◌, ◌≢◌, ◌≤◌, None};
 ghost use Rattle.s3_outside.specs.FileCalls.{HasRisen, NamesFront};
 
 use crate::disk_paths::{names_on_disk, obstacle_on_disk, shape_on_disk};
-use crate::disk_sources::{DiskSource, Look};
+use crate::disk_sources::DiskReads;
 use crate::disk_temps::{DiskTemps, MakeFault};
 use s3_outside::{Failed, FileFault, Files, Names, Shape, Temp, blocked, count_fault, fault};
 use std::alloc::Global;
-use std::collections::BTreeMap;
 use std::fs::{self, FileTimes, OpenFile};
 use std::io::{self, ErrorKind};
 use std::rt;
@@ -23,8 +22,7 @@ use std::time::{Duration, UNIX_EPOCH};
 #[derive(Drop)]
 pub struct DiskFiles<R: rt::Files> {
     runtime: R,
-    looks: BTreeMap<String, Look>,
-    source: Option<DiskSource<R::File>>,
+    reads: DiskReads<R::File>,
     temps: DiskTemps<R::File>,
     faults: u64,
 }
@@ -33,68 +31,14 @@ impl<R: rt::Files + AllocGlobal + Clone + Drop> DiskFiles<R> {
     pub fn new(runtime: R) -> DiskFiles<R>
         ensures { ⟦<DiskFiles<R> as Files>⟧.faults result ≡ 0 }
     {
-        let looks = BTreeMap::new(runtime.alloc());
+        let reads = DiskReads::new(&runtime);
         let temps = DiskTemps::new(&runtime);
         DiskFiles {
             runtime,
-            looks,
-            source: None,
+            reads,
             temps,
             faults: 0,
         }
-    }
-
-    // What stands at a path, which is kept for its reads.
-    fn look(&mut self, path: &str) -> Result<Shape, Failed>
-        ensures faults { self.new.faults ≡ self.old.faults }
-    {
-        let Ok(shape) = shape_on_disk(&self.runtime, path) else {
-            return Err(Failed);
-        };
-        if let Shape::File { size, micros } = shape {
-            let Ok(owned) = String::from_str(self.runtime.alloc(), path) else {
-                return Err(Failed);
-            };
-            if self.looks.insert(owned, Look { size, micros }).is_err() {
-                return Err(Failed);
-            }
-        }
-        Ok(shape)
-    }
-
-    fn read(&mut self, path: &str, at: u64, into: &mut [u8]) -> Result<usize, Failed>
-        ensures bound { IfOk result (λ count. count ≤ length into.new) }
-        ensures length { length into.new ≡ length into.old }
-        ensures faults { self.new.faults ≡ self.old.faults }
-    {
-        let mut source = self.take_source(path)?;
-        match source.read(at, into) {
-            Ok(count) if !source.is_last(at, count) => {
-                self.source = Some(source);
-                Ok(count)
-            }
-            answer => answer,
-        }
-    }
-
-    // The file there: the one that is open, or else it is opened.
-    fn take_source(&mut self, path: &str) -> Result<DiskSource<R::File>, Failed>
-        ensures faults { self.new.faults ≡ self.old.faults }
-    {
-        if let Some(open) = self.source.take()
-            && open.is_of(path)
-        {
-            return Ok(open);
-        }
-        DiskSource::open(&self.runtime, path, self.looks.get(path).copied())
-    }
-
-    // What was seen of a path no longer holds.
-    fn forget(&mut self, path: &str)
-        ensures faults { self.new.faults ≡ self.old.faults }
-    {
-        self.looks.remove(path);
-        self.source = None;
     }
 
     // What is neither a file nor absent is never replaced.
@@ -102,7 +46,7 @@ impl<R: rt::Files + AllocGlobal + Clone + Drop> DiskFiles<R> {
         ensures faults { self.new.faults ≡ self.old.faults }
     {
         self.temps.close(temp);
-        self.forget(dest);
+        self.reads.forget(dest);
         match shape_on_disk(&self.runtime, dest) {
             Ok(Shape::Absent | Shape::File { .. }) => fs::rename(&self.runtime, temp, dest),
             _ => Err(io::Error::from(ErrorKind::AlreadyExists)),
@@ -146,14 +90,14 @@ impl<R: rt::Files + AllocGlobal + Clone + Drop> Files for DiskFiles<R> {
 
     /// What is not found, or lies below a file, is absent; a link is what it leads to.
     fn kind(&mut self, path: &str) -> Result<Shape, Failed> {
-        match self.look(path) {
+        match self.reads.look(&self.runtime, path) {
             Ok(shape) => Ok(shape),
             Err(_) => Err(count_fault(&mut self.faults)),
         }
     }
 
     fn read_at(&mut self, path: &str, at: u64, into: &mut [u8]) -> Result<usize, Failed> {
-        match self.read(path, at, into) {
+        match self.reads.read(&self.runtime, path, at, into) {
             Ok(count) => Ok(count),
             Err(_) => Err(count_fault(&mut self.faults)),
         }
@@ -207,7 +151,7 @@ impl<R: rt::Files + AllocGlobal + Clone + Drop> Files for DiskFiles<R> {
     }
 
     fn remove(&mut self, path: &str) -> Result<(), Failed> {
-        self.forget(path);
+        self.reads.forget(path);
         match fs::remove_file(&self.runtime, path) {
             Ok(()) => Ok(()),
             Err(_) => Err(count_fault(&mut self.faults)),
@@ -215,7 +159,7 @@ impl<R: rt::Files + AllocGlobal + Clone + Drop> Files for DiskFiles<R> {
     }
 
     fn stamp(&mut self, path: &str, micros: u64) -> Result<(), Failed> {
-        self.forget(path);
+        self.reads.forget(path);
         match self.set_time(path, micros) {
             Ok(()) => Ok(()),
             Err(_) => Err(count_fault(&mut self.faults)),

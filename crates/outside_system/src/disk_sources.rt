@@ -1,10 +1,11 @@
-//! A file of the system that is read.
+//! Files of the system that are read.
 
 ghost use Rattle.std.specs.Prelude.{◌≡◌, ◌≤◌, IfOk, length};
 
-use crate::disk_paths::micros_of;
+use crate::disk_paths::{micros_of, shape_on_disk};
 use s3_model::Text;
-use s3_outside::Failed;
+use s3_outside::{Failed, Shape};
+use std::collections::BTreeMap;
 use std::fs::{self, Metadata, OpenFile};
 use std::io::{self, ErrorKind, Read, Seek, SeekFrom};
 use std::rt;
@@ -14,21 +15,98 @@ const TRIES: u32 = 1_000_000;
 
 /// The size of a file, in bytes, and its time, in microseconds since 1970.
 #[derive(Clone, Copy, PartialEq, Eq)]
-pub(crate) struct Look {
-    pub(crate) size: u64,
-    pub(crate) micros: u64,
+struct Look {
+    size: u64,
+    micros: u64,
+}
+
+/// What was seen of files, and the file that was read last, which stays open until its last piece.
+#[derive(Drop)]
+pub(crate) struct DiskReads<F> {
+    looks: BTreeMap<String, Look>,
+    source: Option<DiskSource<F>>,
+}
+
+impl<F: OpenFile + Read + Seek + Drop> DiskReads<F> {
+    pub(crate) fn new<R: AllocGlobal>(runtime: &R) -> DiskReads<F> {
+        DiskReads {
+            looks: BTreeMap::new(runtime.alloc()),
+            source: None,
+        }
+    }
+
+    /// What stands at a path, which is kept for its reads.
+    pub(crate) fn look<R: rt::Files<File = F> + AllocGlobal>(
+        &mut self,
+        runtime: &R,
+        path: &str,
+    ) -> Result<Shape, Failed> {
+        let Ok(shape) = shape_on_disk(runtime, path) else {
+            return Err(Failed);
+        };
+        if let Shape::File { size, micros } = shape {
+            let Ok(owned) = String::from_str(runtime.alloc(), path) else {
+                return Err(Failed);
+            };
+            if self.looks.insert(owned, Look { size, micros }).is_err() {
+                return Err(Failed);
+            }
+        }
+        Ok(shape)
+    }
+
+    /// Reads from a file. One of which something was seen is read only where it still is that.
+    pub(crate) fn read<R: rt::Files<File = F> + AllocGlobal>(
+        &mut self,
+        runtime: &R,
+        path: &str,
+        at: u64,
+        into: &mut [u8],
+    ) -> Result<usize, Failed>
+        ensures bound { IfOk result (λ count. count ≤ length into.new) }
+        ensures length { length into.new ≡ length into.old }
+    {
+        let mut source = self.take_source(runtime, path)?;
+        match source.read(at, into) {
+            Ok(count) if !source.is_last(at, count) => {
+                self.source = Some(source);
+                Ok(count)
+            }
+            answer => answer,
+        }
+    }
+
+    // The file there: the one that is open, or else it is opened.
+    fn take_source<R: rt::Files<File = F> + AllocGlobal>(
+        &mut self,
+        runtime: &R,
+        path: &str,
+    ) -> Result<DiskSource<F>, Failed> {
+        if let Some(open) = self.source.take()
+            && open.is_of(path)
+        {
+            return Ok(open);
+        }
+        DiskSource::open(runtime, path, self.looks.get(path).copied())
+    }
+
+    /// What was seen of a path no longer holds.
+    pub(crate) fn forget(&mut self, path: &str) {
+        self.looks.remove(path);
+        self.source = None;
+    }
 }
 
 #[derive(Drop)]
-pub(crate) struct DiskSource<F> {
+struct DiskSource<F> {
     path: Text,
     file: F,
     look: Look,
 }
 
 impl<F: OpenFile + Read + Seek + Drop> DiskSource<F> {
-    /// Opens a regular file, where it still is what was seen of it.
-    pub(crate) fn open<R: rt::Files<File = F> + AllocGlobal>(
+    // Opens a regular file, where it still is what was seen of it.
+    fn open<R: rt::Files<File = F> + AllocGlobal>(
         runtime: &R,
         path: &str,
         seen: Option<Look>,
@@ -45,12 +123,12 @@ impl<F: OpenFile + Read + Seek + Drop> DiskSource<F> {
         })
     }
 
-    pub(crate) fn is_of(&self, path: &str) -> bool {
+    fn is_of(&self, path: &str) -> bool {
         self.path.as_str() == path
     }
 
-    /// Reads a piece. A file that has changed since it was opened is a fault behind its last piece.
-    pub(crate) fn read(&mut self, at: u64, into: &mut [u8]) -> Result<usize, Failed>
+    // Reads a piece. A file that has changed since it was opened is a fault behind its last piece.
+    fn read(&mut self, at: u64, into: &mut [u8]) -> Result<usize, Failed>
         ensures bound { IfOk result (λ count. count ≤ length into.new) }
         ensures length { length into.new ≡ length into.old }
     {
@@ -64,8 +142,8 @@ impl<F: OpenFile + Read + Seek + Drop> DiskSource<F> {
         Ok(count)
     }
 
-    /// Whether so many bytes from that place are the last piece.
-    pub(crate) fn is_last(&self, at: u64, count: usize) -> bool {
+    // Whether so many bytes from that place are the last piece.
+    fn is_last(&self, at: u64, count: usize) -> bool {
         count == 0 || at.saturating_add(count as u64) >= self.look.size
     }
 }
