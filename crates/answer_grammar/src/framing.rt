@@ -1,7 +1,7 @@
 //! How an answer's body is framed.
 
 /// How the end of an answer's body is found (RFC 9112, section 6.3).
-#[derive(Clone, Copy, Debug, PartialEq, Eq)]
+#[derive(Clone, Copy)]
 pub enum Framing {
     NoBody,
     Length(u64),

@@ -35,7 +35,7 @@ pub struct Choice<'a> {
 }
 
 /// Why there are no settings, lent from where it was found; lines are counted from 1.
-#[derive(Clone, Copy, Debug)]
+#[derive(Clone, Copy)]
 pub enum Refusal<'a> {
     NoKeys,
     NoRegion,

@@ -42,7 +42,7 @@ use std::alloc::Global;
 use std::marker::Model;
 
 /// Why files in memory were not changed.
-#[derive(Clone, Copy, Debug, PartialEq, Eq)]
+#[derive(Clone, Copy)]
 pub enum TableFault {
     Absent,
     Memory,

@@ -8,7 +8,7 @@ use s3_model::Op;
 use task_acts::Act;
 
 /// What is to be answered before a run goes on.
-#[derive(Clone, Copy, Debug, PartialEq, Eq)]
+#[derive(Clone, Copy)]
 pub enum Due {
     /// Nothing.
     Free,

@@ -4,7 +4,7 @@ use s3_model::Op;
 
 /// The next thing that is done in a run of many tasks. Tasks and lanes are numbered from 0, pieces as the acts of their
 /// task are.
-#[derive(Clone, Copy, Debug, PartialEq, Eq)]
+#[derive(Clone, Copy)]
 pub enum Move {
     /// The state of that task is made.
     Make(u32),

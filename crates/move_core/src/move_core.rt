@@ -79,7 +79,7 @@ fn no_outcomes(alloc: Global, count: u32) -> Result<Vec<Option<Outcome>>, OutOfM
 }
 
 /// What the tasks of a run share.
-#[derive(Clone, Copy, Debug, PartialEq, Eq)]
+#[derive(Clone, Copy)]
 pub struct Means {
     pub lanes: u32,
     /// How many jobs a lane takes.

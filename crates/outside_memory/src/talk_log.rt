@@ -20,7 +20,7 @@ use std::alloc::Global;
 use std::marker::Model;
 
 /// How a talk has ended so far.
-#[derive(Clone, Copy, Debug, PartialEq, Eq)]
+#[derive(Clone, Copy, Debug)]
 pub enum TalkEnding {
     /// A call of the wire failed in it.
     Failed,

@@ -7,7 +7,7 @@ use crate::stages::{has_done, is_out, may_be_given};
 use task_acts::Stage;
 
 /// How far the acts of one piece are: the reading of its bytes, its request, and the writing of what came.
-#[derive(Clone, Copy, Debug, PartialEq, Eq)]
+#[derive(Clone, Copy)]
 pub struct PieceStages {
     pub read: Stage,
     pub send: Stage,

@@ -13,7 +13,7 @@ use s3_signing::{Header, SignedParts, canonical_text, key_at, push_object_path, 
 use std::alloc::{AllocError, Global};
 
 /// Why an object has no presigned URL. `Expires` has the seconds that were asked for.
-#[derive(Clone, Copy, Debug, PartialEq, Eq)]
+#[derive(Clone, Copy, Debug)]
 pub enum PresignFault {
     Expires(u64),
     Moment,

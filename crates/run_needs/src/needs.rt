@@ -10,7 +10,7 @@ use task_acts::Work;
 use task_works::work_of;
 
 /// What the tasks of a run need of it.
-#[derive(Clone, Copy, Debug, PartialEq, Eq)]
+#[derive(Clone, Copy)]
 pub struct Needs {
     /// How many entries their jobs have in a journal at most.
     pub entries: usize,

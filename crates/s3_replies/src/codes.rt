@@ -6,7 +6,7 @@ ghost use Rattle.s3_replies.specs.ErrorCodes.{code_names, error_code};
 use s3_model::Cases;
 
 /// The codes of errors that decide what an answer means (Amazon S3 API Reference, "Error responses").
-#[derive(Debug, Clone, Copy, PartialEq, Eq)]
+#[derive(Clone, Copy)]
 pub enum ErrorCode {
     InternalError,
     PreconditionFailed,

@@ -14,7 +14,7 @@ ghost use Rattle.s3_words.specs.Options.{
 
 use crate::commands::Verb;
 
-#[derive(Clone, Copy, PartialEq, Eq)]
+#[derive(Clone, Copy)]
 pub enum OptionName {
     EndpointUrl,
     Region,

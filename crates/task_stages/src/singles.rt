@@ -7,7 +7,7 @@ use piece_stages::is_out;
 use task_acts::Stage;
 
 /// How far the acts are that a task has once.
-#[derive(Clone, Copy, Debug, PartialEq, Eq)]
+#[derive(Clone, Copy)]
 pub struct Singles {
     pub create: Stage,
     pub complete: Stage,

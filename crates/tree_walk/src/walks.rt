@@ -37,7 +37,7 @@ pub struct Walked {
 
 /// Why a tree was not walked: a call on files failed, a folder is more than 128 names below the root, there are more
 /// than 1,000,000 files, or memory ran out.
-#[derive(Clone, Copy, Debug, PartialEq, Eq)]
+#[derive(Clone, Copy, Debug)]
 pub enum WalkFault {
     Files,
     TooDeep,

@@ -18,7 +18,7 @@ use s3_model::{Place, Text};
 use s3_words::{Command, Verb};
 
 /// The local file of an upload, and the bucket and the key that its words name, as they are written.
-#[derive(Clone, Copy, Debug)]
+#[derive(Clone, Copy)]
 pub struct Places<'a> {
     pub path: &'a str,
     pub bucket: &'a str,
