@@ -102,10 +102,10 @@ pub(crate) fn take_places(command: &mut Command) -> PlaceTexts
     ensures key { result.key ≡ key_of command.old }
     ensures rest { command.new ≡ record command.old { from = None; to = None } }
 {
-    let (Some(Place::File { path }), Some(Place::Object { bucket, key })) = (
-        command.from.take(),
-        command.to.take(),
-    ) else {
+    let Some(Place::File { path }) = command.from.take() else {
+        unreachable!()
+    };
+    let Some(Place::Object { bucket, key }) = command.to.take() else {
         unreachable!()
     };
     PlaceTexts { path, bucket, key }
