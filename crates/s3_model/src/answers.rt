@@ -55,7 +55,7 @@ pub struct Answered {
 }
 
 /// Why nobody can know what a request did.
-#[derive(Clone, Copy, Debug, PartialEq, Eq)]
+#[derive(Clone, Copy, Debug)]
 pub enum Why {
     WireFailed,
     EndedEarly,

@@ -4,7 +4,7 @@ ghost use Rattle.std.specs.Prelude.{◌^◌, ◌<◌, ◌≡◌, length, map};
 ghost use Rattle.s3_model.specs.FirstRow.{IsFirstRow};
 
 /// A table of names, each the row of its place.
-#[derive(Clone, Copy, Debug)]
+#[derive(Clone, Copy)]
 pub struct Cases<const N: usize> {
     pub names: &'static [&'static str],
     ghost rows: { length names.now ≡ N },

@@ -3,7 +3,7 @@
 use crate::text::Text;
 
 /// Why a text is no S3 URI.
-#[derive(Clone, Copy, Debug, PartialEq, Eq)]
+#[derive(Clone, Copy, Debug)]
 pub enum UriFault {
     /// It has no `s3://` in front.
     NotS3,
@@ -17,7 +17,7 @@ pub enum UriFault {
 }
 
 /// Why a name is left out.
-#[derive(Clone, Copy, Debug, PartialEq, Eq)]
+#[derive(Clone, Copy, Debug)]
 pub enum KeySkip {
     EmptyName,
     Dots,
@@ -27,7 +27,7 @@ pub enum KeySkip {
 }
 
 /// Why a text is no endpoint.
-#[derive(Clone, Copy, Debug, PartialEq, Eq)]
+#[derive(Clone, Copy, Debug)]
 pub enum EndpointFault {
     Tls,
     NotHttp,
@@ -38,7 +38,7 @@ pub enum EndpointFault {
 }
 
 /// Why the words of a command line are refused; numbers are places of words, counted from 0.
-#[derive(Clone, Copy, Debug, PartialEq, Eq)]
+#[derive(Clone, Copy, Debug)]
 pub enum WordFault {
     NoCommand,
     UnknownCommand(usize),
@@ -54,7 +54,7 @@ pub enum WordFault {
 }
 
 /// Why the settings are refused; lines are counted from 1.
-#[derive(Debug, Drop)]
+#[derive(Drop)]
 pub enum ProfileFault {
     NoKeys,
     NoRegion,
@@ -65,7 +65,7 @@ pub enum ProfileFault {
 }
 
 /// Why there is no plan.
-#[derive(Debug, Drop)]
+#[derive(Drop)]
 pub enum PlanFault {
     /// A key is both read and written.
     Overlap(Text),
@@ -79,7 +79,7 @@ pub enum PlanFault {
 }
 
 /// Why a tree of files was not read.
-#[derive(Clone, Copy, Debug, PartialEq, Eq)]
+#[derive(Clone, Copy, Debug)]
 pub enum WalkFault {
     Files,
     TooDeep,
@@ -88,7 +88,7 @@ pub enum WalkFault {
 }
 
 /// Why a page of a listing is refused.
-#[derive(Debug, Drop)]
+#[derive(Drop)]
 pub enum BadListing {
     Order { before: Text, after: Text },
     NoToken,

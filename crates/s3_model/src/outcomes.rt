@@ -6,7 +6,7 @@ use crate::text::Text;
 use crate::tries::Tries;
 
 /// Why a run or a task was cancelled.
-#[derive(Clone, Copy, Debug, PartialEq, Eq)]
+#[derive(Clone, Copy, Debug)]
 pub enum Reason {
     TaskFailed,
     OutputFailed,
@@ -14,7 +14,7 @@ pub enum Reason {
     OutOfMemory,
 }
 
-#[derive(Clone, Copy, Debug, PartialEq, Eq)]
+#[derive(Clone, Copy, Debug)]
 pub enum FileCall {
     Read,
     Create,

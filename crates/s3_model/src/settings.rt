@@ -3,7 +3,7 @@
 use crate::text::Text;
 
 /// What a service allows of uploads in parts, in bytes; `max_parts` is a count.
-#[derive(Clone, Copy, Debug, PartialEq, Eq)]
+#[derive(Clone, Copy)]
 pub struct Limits {
     pub min_part: u64,
     pub max_part: u64,
@@ -12,7 +12,7 @@ pub struct Limits {
 }
 
 /// How transfers are made. `threshold` and `chunk` are in bytes, the others are counts.
-#[derive(Clone, Copy, Debug, PartialEq, Eq)]
+#[derive(Clone, Copy)]
 pub struct Config {
     pub threshold: u64,
     pub chunk: u64,

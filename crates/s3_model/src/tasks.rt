@@ -30,7 +30,7 @@ pub struct Task {
 }
 
 /// How two times of one name are compared.
-#[derive(Clone, Copy, Debug, PartialEq, Eq)]
+#[derive(Clone, Copy)]
 pub enum Times {
     Usual,
     SizeOnly,
@@ -38,7 +38,7 @@ pub enum Times {
 }
 
 /// Which lines are printed.
-#[derive(Clone, Copy, Debug, PartialEq, Eq)]
+#[derive(Clone, Copy)]
 pub struct Mode {
     pub dryrun: bool,
     pub quiet: bool,
