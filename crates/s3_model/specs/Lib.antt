@@ -1,3 +1,4 @@
+pub mod CivilTimes
 pub mod Classes
 pub mod ContentTypes
 pub mod Counts
@@ -7,6 +8,7 @@ pub mod FirstRow
 pub mod Lists
 pub mod Maps
 pub mod Parts
+pub mod Places
 pub mod Replies
 pub mod Talks
 pub mod TempNames

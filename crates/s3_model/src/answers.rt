@@ -1,5 +1,10 @@
 //! What came for a request, and why nothing came.
 
+ghost use Rattle.std.specs.Prelude.{◌≡◌};
+ghost use Rattle.std.specs.Str.{bytes_eq};
+ghost use Rattle.s3_model.specs.Classes.{tried_again_codes};
+ghost use Rattle.s3_model.specs.Files.{is_listed};
+
 use crate::bytes::Bytes;
 use crate::list::{Entries, Texts};
 use crate::text::Text;
@@ -83,4 +88,22 @@ pub enum Class {
     Success(Reply),
     Refusal { code: Text, message: Text },
     Uncertain(Why),
+}
+
+/// Whether a code has that name, compared whole.
+fn is_code(code: &str, name: &str) -> bool
+    ensures { result ≡ bytes_eq name.now code.now }
+{
+    name == code
+}
+
+/// Whether a refusal with that code passes by itself, so that the request is tried again: `SlowDown`,
+/// `ServiceUnavailable` and `RequestTimeout`.
+#[tactic(auto, using(crate::proofs::CodeLemmas::one_of_three))]
+pub fn is_passing(code: &str) -> bool
+    ensures { result ≡ is_listed tried_again_codes code.now }
+{
+    is_code(code, "SlowDown")
+        || is_code(code, "ServiceUnavailable")
+        || is_code(code, "RequestTimeout")
 }

@@ -1,5 +1,6 @@
 //! Why an input is refused.
 
+use crate::list::OutOfMemory;
 use crate::text::Text;
 
 /// Why a text is no S3 URI.
@@ -85,6 +86,17 @@ pub enum WalkFault {
     TooDeep,
     TooMany,
     Memory,
+}
+
+impl From<OutOfMemory> for WalkFault {
+    ghost use Rattle.std.specs.Prelude.{◌≡◌};
+    ghost use Rattle.s3_model.specs.declared.faults.WalkFault.TheVariants as fault;
+
+    ghost from_gives = { λ _ given. given ≡ fault.Memory };
+
+    fn from(_: OutOfMemory) -> WalkFault {
+        WalkFault::Memory
+    }
 }
 
 /// Why a page of a listing is refused.

@@ -1,6 +1,6 @@
 //! Lists that say where memory ran out.
 
-ghost use Rattle.std.specs.Prelude.{◌≡◌, ◌+◌, ◌<◌, ◌≤◌, ◌↔◌, [], ◌∷◌, ◌++◌, length, IsTrue, OnErr, OnOk, MatchOption, slice_get, Some};
+ghost use Rattle.std.specs.Prelude.{◌≡◌, ◌+◌, ◌<◌, ◌≤◌, ◌↔◌, [], ◌∷◌, ◌++◌, length, IsTrue, OnErr, OnOk, IfOk, MatchOption, None, replicate, slice_get, Some};
 
 use crate::outcomes::{Event, Outcome};
 use crate::places::Entry;
@@ -120,4 +120,15 @@ impl<T: Drop> List<T> {
         };
         self.spare -= 1;
     }
+}
+
+/// So many places with nothing in them.
+pub fn nones<T: Drop>(alloc: Global, count: usize) -> Result<Vec<Option<T>>, OutOfMemory>
+    ensures { IfOk result (λ places. places.items ≡ replicate count None) }
+{
+    let mut places = Vec::with_capacity(alloc, count)?;
+    for _ in 0..count {
+        places.push(None)?;
+    }
+    Ok(places)
 }

@@ -1,5 +1,8 @@
 //! Settings, limits and keys.
 
+ghost use Rattle.std.specs.Prelude.{◌≡◌, IfOk};
+
+use crate::list::OutOfMemory;
 use crate::text::Text;
 
 /// What a service allows of uploads in parts, in bytes; `max_parts` is a count.
@@ -29,6 +32,20 @@ pub struct Keys {
     pub secret: Text,
     pub token: Option<Text>,
     pub region: Text,
+}
+
+impl Keys {
+    /// The same keys in texts of their own.
+    pub fn copy(&self) -> Result<Keys, OutOfMemory>
+        ensures { IfOk result (λ copy. copy ≡ self.now) }
+    {
+        Ok(Keys {
+            id: self.id.copy()?,
+            secret: self.secret.copy()?,
+            token: Text::copy_option(&self.token)?,
+            region: self.region.copy()?,
+        })
+    }
 }
 
 /// What a run takes from its settings.

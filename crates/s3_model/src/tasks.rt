@@ -1,9 +1,14 @@
 //! The tasks and warnings of a plan.
 
+ghost use Rattle.std.specs.Prelude.{◌≡◌, IfOk};
+ghost use Rattle.std.specs.Arc.{arc_value};
+
 use crate::faults::KeySkip;
-use crate::list::{Tasks, Warnings};
+use crate::list::{OutOfMemory, Tasks, Warnings};
 use crate::places::Place;
 use crate::text::Text;
+use std::alloc::Global;
+use std::sync::Arc;
 
 #[derive(Clone, Copy, Debug, PartialEq, Eq)]
 pub enum Kind {
@@ -27,6 +32,53 @@ pub struct Task {
     pub content: Option<Text>,
     /// It replaces nothing: a destination that is there stays.
     pub fresh: bool,
+}
+
+impl Task {
+    fn copy_places(&self) -> Result<(Option<Place>, Place), OutOfMemory>
+        ensures source { IfOk result (λ places. places.0 ≡ self.now.source) }
+        ensures dest { IfOk result (λ places. places.1 ≡ self.now.dest) }
+    {
+        let source = Place::copy_option(&self.source)?;
+        let dest = self.dest.copy()?;
+        Ok((source, dest))
+    }
+
+    /// The entity tag and the content type.
+    fn copy_texts(&self) -> Result<(Text, Option<Text>), OutOfMemory>
+        ensures etag { IfOk result (λ texts. texts.0 ≡ self.now.etag) }
+        ensures content { IfOk result (λ texts. texts.1 ≡ self.now.content) }
+    {
+        let etag = self.etag.copy()?;
+        let content = Text::copy_option(&self.content)?;
+        Ok((etag, content))
+    }
+
+    /// The same task in texts of its own.
+    pub fn copy(&self) -> Result<Task, OutOfMemory>
+        ensures { IfOk result (λ copy. copy ≡ self.now) }
+    {
+        let (etag, content) = self.copy_texts()?;
+        let (source, dest) = self.copy_places()?;
+        Ok(Task {
+            kind: self.kind,
+            moves: self.moves,
+            source,
+            dest,
+            size: self.size,
+            etag,
+            micros: self.micros,
+            content,
+            fresh: self.fresh,
+        })
+    }
+
+    /// A copy of a task that its jobs share.
+    pub fn share(&self, alloc: Global) -> Result<Arc<Task, Global>, OutOfMemory>
+        ensures { IfOk result (λ shared. arc_value shared ≡ self.now) }
+    {
+        Ok(Arc::new(alloc, self.copy()?)?)
+    }
 }
 
 /// How two times of one name are compared.

@@ -1,7 +1,8 @@
 //! Owned texts.
 
-ghost use Rattle.std.specs.Prelude.{◌≡◌, IfOk};
-ghost use Rattle.std.specs.List.{flat_map};
+ghost use Rattle.std.specs.Prelude.{◌≡◌, IfOk, codes, nat_eq};
+ghost use Rattle.std.specs.List.{ends_with, flat_map};
+ghost use Rattle.s3_model.specs.Files.{ends_in_slash};
 
 use crate::list::OutOfMemory;
 use std::alloc::Global;
@@ -63,6 +64,24 @@ impl Text {
         let inner = self.inner.clone()?;
         Ok(Text { inner })
     }
+
+    /// A copy of a text that may be absent.
+    pub fn copy_option(text: &Option<Text>) -> Result<Option<Text>, OutOfMemory>
+        ensures { IfOk result (λ copy. copy ≡ text.now) }
+    {
+        match text {
+            Some(text) => Ok(Some(text.copy()?)),
+            None => Ok(None),
+        }
+    }
+}
+
+/// Whether a text ends in `/`.
+pub fn ends_in_slash(text: &str) -> bool
+    ensures value { result ≡ ends_with nat_eq text.now (codes "/") }
+    ensures last { result ≡ ends_in_slash text.now }
+{
+    text.ends_with("/")
 }
 
 /// A text that was put together takes over the string, without memory.

@@ -1,6 +1,6 @@
 //! Which attempts of a request follow each other.
 
-ghost use Rattle.std.specs.Prelude.{◌≡◌, ◌<◌, [], ◌∷◌, ◌++◌, length};
+ghost use Rattle.std.specs.Prelude.{◌≡◌, ◌<◌, ◌≤◌, [], ◌∷◌, ◌++◌, length};
 
 use std::marker::Model;
 
@@ -49,8 +49,10 @@ impl Tries {
         self.count += 1;
     }
 
+    /// The marks in order, ten at most.
     pub fn as_slice(&self) -> &[Mark]
-        ensures { result.now ≡ self.now }
+        ensures value { result.now ≡ self.now }
+        ensures few { length result.now ≤ 10 }
     {
         &self.marks[..self.count]
     }

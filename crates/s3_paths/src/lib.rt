@@ -6,6 +6,6 @@ mod names;
 mod uris;
 
 pub use endpoints::endpoint;
-pub use names::{key_of, local_of, name_skip};
+pub use names::{joined, key_of, local_of, name_skip};
 pub use s3_model::{Endpoint, EndpointFault, KeySkip, UriFault};
 pub use uris::S3Uri;

@@ -1,12 +1,13 @@
 //! Keys and local paths, made of relative paths.
 
-ghost use Rattle.std.specs.Prelude.{◌≡◌, ◌≢◌, ◌↔◌, ◌++◌, IsTrue, length, OnOk, IfOk, IfErr, Some, None, codes, nat_eq};
-ghost use Rattle.std.specs.List.{list_any, list_all, ends_with};
+ghost use Rattle.std.specs.Prelude.{◌≡◌, ◌≢◌, ◌↔◌, ◌++◌, IsTrue, length, OnOk, IfOk, IfErr, Some, None};
+ghost use Rattle.std.specs.List.{list_any, list_all};
+ghost use Rattle.s3_model.specs.Files.{folder_path};
 ghost use Rattle.s3_model.specs.TempNames.{is_lower_hex, is_temp_ending, is_temp_name, IsTempName};
 ghost use Rattle.s3_paths.specs.Names.{components, is_empty_name, is_dot_name, name_skip, key_skip, local_path};
 
 use crate::uris::LONGEST_KEY;
-use s3_model::{KeySkip, Text};
+use s3_model::{KeySkip, OutOfMemory, Text, ends_in_slash};
 use std::alloc::Global;
 
 const TEMP_ENDING: usize = 16;
@@ -78,13 +79,16 @@ pub fn name_skip(path: &str) -> Option<KeySkip>
     }
 }
 
-fn ends_in_slash(text: &str) -> bool
-    ensures { result ≡ ends_with nat_eq text.now (codes "/") }
+/// The path of what a relative path names below a local folder: one `/` stands between them.
+pub fn joined(alloc: Global, root: &str, below: &str) -> Result<Text, OutOfMemory>
+    ensures path { IfOk result (λ path. path ≡ local_path root.now below.now) }
+    ensures folder { IfOk result (λ path. path ≡ folder_path root.now ++ below.now) }
 {
-    text.ends_with("/")
+    let between = if ends_in_slash(root) { "" } else { "/" };
+    Text::joined(alloc, &[root, between, below])
 }
 
-/// The path of a file below a local folder: one `/` stands between them.
+/// The path of a file below a local folder ([`joined`]).
 ///
 /// Names that a local file must not get are refused ([`name_skip`]).
 pub fn local_of(alloc: Global, root: &str, rel: &str) -> Result<Text, KeySkip>
@@ -95,8 +99,7 @@ pub fn local_of(alloc: Global, root: &str, rel: &str) -> Result<Text, KeySkip>
     if let Some(skip) = name_skip(rel) {
         return Err(skip);
     }
-    let between = if ends_in_slash(root) { "" } else { "/" };
-    Text::joined(alloc, &[root, between, rel]).map_err(|_| KeySkip::Memory)
+    joined(alloc, root, rel).map_err(|_| KeySkip::Memory)
 }
 
 /// The key of an object: the prefix and then the relative path, of 1 to 1,024 bytes.
