@@ -2,5 +2,8 @@ pub mod CivilTimes
 pub mod CodeLemmas
 pub mod ContentTypes
 pub mod Lending
+pub mod Numbers
+pub mod Replies
 pub mod Rows
 pub mod SlashLemmas
+pub mod Variants

@@ -4,7 +4,7 @@ use Rattle.std.specs.Option.{option_map, option_and_then}
 use Rattle.std.specs.Map.{lookup}
 use Rattle.std.specs.List.{list_all}
 use Rattle.std.specs.Str.{bytes_eq}
-use Rattle.std.proofs.lemmas.Option.{slice_get-map, slice_get-get_or}
+use Rattle.std.proofs.lemmas.Option.{same_Some, slice_get-get_or, slice_get-map}
 use Rattle.std.proofs.lemmas.Slice.Eq.{bytes_eq-Decides}
 use Rattle.std.proofs.lemmas.Bool.{cond_both, and_parts}
 use Rattle.std.proofs.lemmas.Bool.Decides.{not_from_Decides}
@@ -13,9 +13,6 @@ use Rattle.s3_model.specs.FirstRow.{IsFirstRow}
 -- the name of a row inside the table
 pub row_name : (names : List (Bor (List ℕ))) (i : ℕ) (d : Bor (List ℕ)) → i < length names → slice_get (map (λ row. row.now) names) i ≡ Some (get_or names i d).now
 row_name names i d h = slice_get-map (λ row. row.now) names i ∙ ap (option_map (λ row. row.now)) (slice_get-get_or names i d h)
-
-pub some_injective : {A : Type 0} (x y : A) → Some x ≡ Some y → x ≡ y
-some_injective x y e = cc
 
 -- the value of a row
 abbrev value_at : List (List ℕ × List ℕ) → Option ℕ → Option (List ℕ)
@@ -31,7 +28,7 @@ found_later : (e : List ℕ × List ℕ) (es : List (List ℕ × List ℕ)) (nam
     → ((r : Option ℕ) → IsFirstRow (map (λ each. each.0) es) name r → found ≡ value_at es r)
     → IsFirstRow (map (λ each. each.0) (e ∷ es)) name row → found ≡ value_at (e ∷ es) row
 found_later e es name found None differs rest h = rest None (λ k. h (suc k))
-found_later e es name found (Some zero) differs rest h = absurd (differs (sym (some_injective _ _ h.0)))
+found_later e es name found (Some zero) differs rest h = absurd (differs (sym (same_Some _ _ h.0)))
 found_later e es name found (Some (suc k)) differs rest h = rest (Some k) (h.0, λ j lt. h.1 (suc j) (omega arith))
 
 -- looking a name up is finding its first row

@@ -1,14 +1,22 @@
 -- What follows where two constructors are said to be one.
-use Rattle.std.proofs.Common.{◌≡◌, true, false, Option, Some, None}
+use Rattle.std.proofs.Common.{◌≡◌, true, false, Some, None, Result, Err, ℕ, arith}
+pub use Rattle.std.proofs.lemmas.Bool.{false≢true as false_true, true≢false as true_is_false}
+pub use Rattle.std.proofs.lemmas.Option.{none-some as none_is_some, same_Some as some_is}
 
-pub none_is_some : {X : Type 0} (x : X) → ◌≡◌ {A = Option X} None (Some x) → ⊥
-none_is_some x e = cc
+pub clash : {P : Type 0} → false ≡ true → P
+clash e = cc
 
-pub some_is : {X : Type 0} (a b : X) → Some a ≡ Some b → a ≡ b
-some_is a b e = cc
+pub some_is_none : {X : Type 0} (x : X) → Some x ≡ None → ⊥
+some_is_none x e = cc
 
-pub false_true : false ≡ true → ⊥
-false_true e = cc
+pub no_some : {X P : Type 0} {x : X} → Some x ≡ None → P
+no_some e = cc
 
-pub true_is_false : true ≡ false → ⊥
-true_is_false e = cc
+pub err_is : {T E : Type 0} {a b : E} → ◌≡◌ {A = Result T E} (Err a) (Err b) → a ≡ b
+err_is e = cc
+
+pub one_is_two : ◌≡◌ {A = ℕ} 1 2 → ⊥
+one_is_two e = omega arith
+
+pub two_is_one : ◌≡◌ {A = ℕ} 2 1 → ⊥
+two_is_one e = omega arith

@@ -1,6 +1,8 @@
 -- Maps at one key: what is there after a change.
 use Rattle.shared_lemmas.proofs.Clashes.{none_is_some, some_is}
-use Rattle.std.proofs.Common.{[], ◌∷◌, length, arith, ◌≡◌, ◌∙◌, ◌⊎◌, ℕ, Bool, true, false, cond, List, Option, Some, None, refl, sym, ap, inl, inr}
+use Rattle.std.proofs.Common.{[], ◌≡◌, ◌∙◌, ◌⊎◌, ℕ, Bool, true, false, cond, List, Option, Some, None, refl, sym, ap, inl, inr}
+use Rattle.std.proofs.lemmas.Bool.{cases_Bool}
+use Rattle.std.proofs.lemmas.List.{nil_from_length}
 use Rattle.std.specs.Prelude.{IsNone}
 use Rattle.std.specs.Ordering.{eq_by_cmp, is_eq, nat_cmp}
 use Rattle.std.specs.declared.cmp.Ordering.{Ordering}
@@ -9,11 +11,7 @@ use Rattle.std.specs.Cmp.{IsTotalOrder, eq_by_cmp_equiv}
 use Rattle.std.specs.Cmp.Lexicographic.{slice_cmp, nat_list_cmp_total}
 use Rattle.std.specs.FinMap.{entries, len-entries, len-empty, FinMap, get, insert, remove, empty, get-insert, get-remove, get-empty, IsAntisymmetric, slice_cmp-IsAntisymmetric, nat_cmp-IsAntisymmetric}
 
-either_way : (b : Bool) → (b ≡ true) ⊎ (b ≡ false)
-either_way true = inl refl
-either_way false = inr refl
-
-equal_from_test : (o : Ordering) → is_eq o ≡ true → o ≡ Equal
+pub equal_from_test : (o : Ordering) → is_eq o ≡ true → o ≡ Equal
 equal_from_test Less e = cc
 equal_from_test Equal e = refl
 equal_from_test Greater e = cc
@@ -33,17 +31,13 @@ is_nothing (Some w) e = absurd (none_is_some w (sym e))
 pub found_in_empty : {K V : Type 0} (R : K → K → Ordering) (q : K) (w : V) → get (empty {X = V} {R = R}) q ≡ Some w → ⊥
 found_in_empty R q w e = none_is_some w (sym (get-empty R q) ∙ e)
 
-none_held : {A : Type 0} (xs : List A) → length xs ≡ 0 → xs ≡ []
-none_held [] e = refl
-none_held (x ∷ xs) e = absurd (omega arith)
-
 pub entries-empty : {K V : Type 0} (R : K → K → Ordering) → entries (empty {X = V} {R = R}) ≡ []
-entries-empty {K} {V} R = none_held _ (sym (len-entries (empty {X = V} {R = R})) ∙ len-empty R V)
+entries-empty {K} {V} R = nil_from_length _ (sym (len-entries (empty {X = V} {R = R})) ∙ len-empty R V)
 
 module _ {K : Type 0} {R : K → K → Ordering} (total : IsTotalOrder R) (exact : IsAntisymmetric R) where
   -- two keys are one or differ
   pub key_decided : (x y : K) → (x ≡ y) ⊎ (x ≡ y → ⊥)
-  key_decided x y = elim (either_way (eq_by_cmp R x y)) [
+  key_decided x y = elim (cases_Bool (eq_by_cmp R x y)) [
     | inl e ↦ inl (exact x y (equal_from_test _ e))
     | inr e ↦ inr (λ same. let alike : eq_by_cmp R x y ≡ true = sym (ap (eq_by_cmp R x) same) ∙ (eq_by_cmp_equiv total).refl x in differ (eq_by_cmp R x y) alike e)
   ]
@@ -52,7 +46,7 @@ module _ {K : Type 0} {R : K → K → Ordering} (total : IsTotalOrder R) (exact
       differ b t f = cc
 
   pub other_key : (x y : K) → (x ≡ y → ⊥) → eq_by_cmp R x y ≡ false
-  other_key x y apart = elim (either_way (eq_by_cmp R x y)) [ inl e ↦ absurd (apart (exact x y (equal_from_test _ e))) | inr e ↦ e ]
+  other_key x y apart = elim (cases_Bool (eq_by_cmp R x y)) [ inl e ↦ absurd (apart (exact x y (equal_from_test _ e))) | inr e ↦ e ]
 
   pub get-insert_same : {V : Type 0} (m : FinMap R V) (k : K) (v : V) → get (insert m k v) k ≡ Some v
   get-insert_same m k v = get-insert total m k v k ∙ ap (λ b. cond b (Some v) (get m k)) ((eq_by_cmp_equiv total).refl k)
@@ -89,3 +83,6 @@ text_exact = slice_cmp-IsAntisymmetric nat_cmp-IsAntisymmetric
 
 pub text_decided : (x y : List ℕ) → (x ≡ y) ⊎ (x ≡ y → ⊥)
 text_decided x y = key_decided nat_list_cmp_total text_exact x y
+
+pub text_same : (x y : List ℕ) → eq_by_cmp (slice_cmp nat_cmp) x y ≡ true → x ≡ y
+text_same x y e = text_exact x y (equal_from_test _ e)

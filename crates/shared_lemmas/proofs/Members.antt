@@ -1,10 +1,12 @@
 -- What a list contains, by recursion on the list.
 use Rattle.shared_lemmas.proofs.Clashes.{none_is_some, some_is}
 use Rattle.shared_lemmas.proofs.Lists.{cons_is, head_is, tail_is}
-use Rattle.std.proofs.Common.{◌≡◌, ◌∙◌, ◌⊎◌, ◌<◌, ℕ, zero, suc, Bool, true, false, cond, List, [], ◌∷◌, ◌++◌, Option, Some, None, refl, sym, ap, inl, inr, Contains, length, get_or, map, reverse, subst, filter, filter_map, slice_get, arith}
+use Rattle.shared_lemmas.proofs.Tests.{less_or_same}
+use Rattle.std.proofs.Common.{◌≤◌, ◌+◌, take, AllPairs, find, ◌≡◌, ◌∙◌, ◌⊎◌, ◌<◌, ℕ, zero, suc, Bool, true, false, cond, List, [], ◌∷◌, ◌++◌, Option, Some, None, refl, sym, ap, inl, inr, Contains, length, get_or, map, reverse, subst, filter, filter_map, slice_get, arith}
 use Rattle.std.specs.Prelude.{flat_map}
 use Rattle.std.proofs.lemmas.List.{reverse-append}
-use Rattle.std.specs.List.{cons_option}
+use Rattle.std.specs.List.{cons_option, range_with_len}
+use Rattle.std.proofs.lemmas.Option.{get_or_from_slice_get, slice_get-get_or, slice_get_within}
 use Rattle.std.proofs.lemmas.List.Elements.{Contains-append_cases, Contains-append_right}
 
 abbrev pub Has : {X : Type 0} → List X → X → Type 0
@@ -205,3 +207,48 @@ pub in_reverse : {X : Type 0} (xs : List X) (x : X) → Has xs x → Has (revers
 in_reverse [] x h = h
 in_reverse (y ∷ ys) x (inl e) = subst (λ zs. Has zs x) (sym (reverse-append (y ∷ []) ys)) (has-append_right (reverse ys) (y ∷ []) x (inl e))
 in_reverse (y ∷ ys) x (inr h) = subst (λ zs. Has zs x) (sym (reverse-append (y ∷ []) ys)) (has-append_left (reverse ys) (y ∷ []) x (in_reverse ys x h))
+
+pub index_of : {X : Type 0} (xs : List X) (x : X) → Contains xs x → (k : ℕ) × (slice_get xs k ≡ Some x)
+index_of xs x h = (h.0, slice_get-get_or xs h.0 x h.1 ∙ ap Some h.2)
+
+pub at_index : {X : Type 0} (xs : List X) (k : ℕ) → k < length xs → (x : X) × (slice_get xs k ≡ Some x)
+at_index [] k less = absurd (omega arith)
+at_index (x ∷ xs) zero less = (x, refl)
+at_index (x ∷ xs) (suc k) less = at_index xs k (omega arith)
+
+pub within_take : {X : Type 0} (n : ℕ) (xs : List X) (k : ℕ) (x : X) → slice_get (take n xs) k ≡ Some x → k < n
+within_take zero xs k x e = absurd (none_is_some x e)
+within_take (suc n) [] k x e = absurd (none_is_some x e)
+within_take (suc n) (y ∷ ys) zero x e = omega arith
+within_take (suc n) (y ∷ ys) (suc k) x e = let rest = within_take n ys k x e in omega arith
+
+pub pair_of : {X : Type 0} (R : X → X → Type 0) (xs : List X) → AllPairs R xs → (i j : ℕ) (a b : X) → i < j → slice_get xs i ≡ Some a → slice_get xs j ≡ Some b → R a b
+pair_of R xs all i j a b before at_i at_j =
+    subst (λ x. R a x) (get_or_from_slice_get xs j b a at_j) (subst (λ x. R x (get_or xs j a)) (get_or_from_slice_get xs i a a at_i) (all i j a before (slice_get_within xs j b at_j)))
+
+-- ---- none, by a test, and numbers
+
+pub in_none : {X : Type 0} (x : X) → Contains [] x → ⊥
+in_none x h = has [] x h
+
+first_passes : {X : Type 0} (test : X → Bool) (x y : X) (b : Bool) (rest : Option X) → test x ≡ b → (rest ≡ Some y → test y ≡ true)
+    → cond b (Some x) rest ≡ Some y → test y ≡ true
+first_passes test x y true rest is later e = subst (λ each. test each ≡ true) (some_is x y e) is
+first_passes test x y false rest is later e = later e
+
+pub found_passes : {X : Type 0} (test : X → Bool) (xs : List X) (x : X) → find test xs ≡ Some x → test x ≡ true
+found_passes test [] x e = absurd (none_is_some x e)
+found_passes test (y ∷ ys) x e = first_passes test y x (test y) (find test ys) refl (found_passes test ys x) e
+
+pub in_range : (start count k : ℕ) → Has (range_with_len start count) k → (start ≤ k) × (k < start + count)
+in_range start zero k known = absurd known
+in_range start (suc count) k (inl same) = (omega arith, omega arith)
+in_range start (suc count) k (inr known) =
+    let rest = in_range (start + 1) count k known in (omega (arith, rest.0), omega (arith, rest.1))
+
+pub from_range : (start count k : ℕ) → start ≤ k → k < start + count → Has (range_with_len start count) k
+from_range start zero k low high = absurd (omega arith)
+from_range start (suc count) k low high = elim (less_or_same start k low) [
+  | inl less ↦ inr (from_range (start + 1) count k (omega arith) (omega arith))
+  | inr same ↦ inl same
+]

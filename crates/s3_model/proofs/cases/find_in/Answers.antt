@@ -1,9 +1,9 @@
 use Rattle.std.proofs.Common.{◌≡◌, ◌<◌, ◌∙◌, ℕ, Some, List, Bor, ap, sym, map, length, slice_get, arith, below_more, true}
-use Rattle.std.proofs.lemmas.Option.{slice_get_within}
+use Rattle.std.proofs.lemmas.Option.{same_Some, slice_get_within}
 use Rattle.std.proofs.lemmas.List.{length-map}
 use Rattle.std.proofs.lemmas.Slice.Eq.{slice_eq-Decides}
 use Rattle.std.proofs.lemmas.Bool.Decides.{Decides-eqb}
-use Rattle.s3_model.proofs.Rows.{row_name, some_injective}
+use Rattle.s3_model.proofs.Rows.{row_name}
 use Rattle.s3_model.proofs.cases.find_in.Goals as goal
 
 pub returns-then-eq : goal.returns-then-eq
@@ -16,7 +16,7 @@ pub loop-each-preserved : goal.loop-each-preserved
 loop-each-preserved c = record {
   row = omega arith;
   before = below_more _ _ c.loop-each.invariant.before (λ e.
-      let same : c.eq.result ≡ true = (slice_eq-Decides Decides-eqb _ _ _ c.eq.ensures).1 (some_injective _ _ (sym (row_name c.args.names.now c.loop-each.each-index _ c.loop-each-test.true) ∙ e)) in
+      let same : c.eq.result ≡ true = (slice_eq-Decides Decides-eqb _ _ _ c.eq.ensures).1 (same_Some _ _ (sym (row_name c.args.names.now c.loop-each.each-index _ c.loop-each-test.true) ∙ e)) in
       let other = c.if-eq.false in cc);
 }
 
