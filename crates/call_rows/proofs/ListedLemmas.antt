@@ -1,5 +1,6 @@
 use Rattle.std.proofs.Common.{◌≡◌, ◌≤◌, ℕ, Bool, true, false, List, Option, Some, None, subst, length}
-use Rattle.list_walk.specs.Pages.{AllBeginWith, IsAscending, keys_of}
+use Rattle.list_walk.specs.Pages.{AllBeginWith}
+use Rattle.s3_model.specs.Entries.{IsAscending, keys_of}
 use Rattle.call_rows.specs.Sides.{IsListedAt, IsListedBy}
 use Rattle.s3_model.specs.declared.places.Entry.{Entry}
 use Rattle.s3_model.specs.declared.places.Place.{Place}

@@ -12,7 +12,8 @@ use Rattle.std.proofs.lemmas.List.Elements.{All-head, All-tail}
 use Rattle.s3_model.specs.declared.answers.Listed.{Listed}
 use Rattle.s3_model.specs.declared.faults.BadListing.TheVariants.{EmptyPages, NoToken, TooMany}
 use Rattle.list_walk.specs.Laws.{GathersInOrder, TakenAreSound, TakenWhereSound, WalkGathers}
-use Rattle.list_walk.specs.Pages.{AllBeginWith, Gathered, IsAscending, IsSound, Walk, gathered_with, keys_of, last_of, names_fault, new_walk, nothing, order_fault, prefix_fault, refusal_of, total_of, whole_fault, with_page}
+use Rattle.list_walk.specs.Pages.{AllBeginWith, Gathered, IsSound, Walk, gathered_with, last_of, names_fault, new_walk, nothing, order_fault, prefix_fault, refusal_of, total_of, whole_fault, with_page}
+use Rattle.s3_model.specs.Entries.{IsAscending, keys_of}
 use Rattle.list_walk.proofs.OrderLemmas.{last_behind, or_none}
 use Rattle.list_walk.proofs.PageLemmas.{all_false, keys-append, nothing_is_sound, sound_with_page}
 

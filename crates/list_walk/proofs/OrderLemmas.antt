@@ -9,7 +9,8 @@ use Rattle.std.specs.Ordering.{is_lt, nat_cmp}
 use Rattle.std.specs.declared.cmp.Ordering.{Ordering}
 use Rattle.std.specs.declared.cmp.Ordering.TheVariants.{Less, Equal, Greater}
 use Rattle.std.proofs.lemmas.List.Elements.{All-cons}
-use Rattle.list_walk.specs.Pages.{AllBeginWith, IsAscending, last_of, names_fault}
+use Rattle.list_walk.specs.Pages.{AllBeginWith, last_of, names_fault}
+use Rattle.s3_model.specs.Entries.{IsAscending}
 
 pub or_none : {T : Type 0} (o p : Option T) → option_or o p ≡ None → (o ≡ None) × (p ≡ None)
 or_none None p e = (refl, e)

@@ -8,7 +8,8 @@ use Rattle.std.proofs.lemmas.List.Elements.{All-append}
 use Rattle.s3_model.specs.declared.answers.Listed.{Listed}
 use Rattle.s3_model.specs.declared.faults.BadListing.TheVariants.{EmptyPages, NoToken, TooMany}
 use Rattle.s3_model.specs.declared.places.Entry.{Entry}
-use Rattle.list_walk.specs.Pages.{AllBeginWith, Gathered, IsAscending, IsSound, gathered_with, keys_of, nothing, refusal_of, total_of, whole_fault}
+use Rattle.list_walk.specs.Pages.{AllBeginWith, Gathered, IsSound, gathered_with, nothing, refusal_of, total_of, whole_fault}
+use Rattle.s3_model.specs.Entries.{IsAscending, keys_of}
 use Rattle.list_walk.proofs.OrderLemmas.{names_ascend, names_begin, or_none}
 
 pub keys-append : (a b : List Entry) → keys_of (a ++ b) ≡ keys_of a ++ keys_of b

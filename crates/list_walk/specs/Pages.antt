@@ -1,25 +1,18 @@
 -- What the pages of a listing give together, and why a page is refused (Amazon S3 API, ListObjectsV2).
 use Rattle.std.specs.Prelude.{◌≡◌, ◌+◌, ◌-◌, ◌<◌, ◌≤◌, ◌==◌, ◌&&◌, ◌||◌, ◌++◌, ℕ, Bool, true, false, not, List, [], ◌∷◌}
-use Rattle.std.specs.Prelude.{Option, Some, None, All, IsTrue, IsSome, fold, length, map, nat_eq, nat_lt, nat_le}
+use Rattle.std.specs.Prelude.{Option, Some, None, All, IsTrue, IsSome, fold, length, nat_eq, nat_lt, nat_le}
 use Rattle.std.specs.Prelude.{slice_get, if◌then◌else◌}
 use Rattle.std.specs.Cmp.Lexicographic.{slice_cmp}
 use Rattle.std.specs.List.{starts_with}
-use Rattle.std.specs.List.Sorted.{IsStrictlySortedBy}
 use Rattle.std.specs.Option.{option_or, is_none}
 use Rattle.std.specs.Ordering.{nat_cmp, is_lt}
+use Rattle.s3_model.specs.Entries.{IsAscending, keys_of}
 use Rattle.s3_model.specs.declared.answers.Listed.{Listed}
 use Rattle.s3_model.specs.declared.faults.BadListing.{BadListing}
 use Rattle.s3_model.specs.declared.faults.BadListing.TheVariants.{Order, Outside, NoToken, EmptyPages, TooMany}
 use Rattle.s3_model.specs.declared.places.Entry.{Entry}
 use Rattle.s3_model.specs.declared.requests.Ask.{Ask}
 use Rattle.s3_model.specs.declared.requests.Ask.TheVariants as ask
-
-abbrev pub keys_of : List Entry → List (List ℕ)
-keys_of entries = map (λ (entry : Entry). entry.key) entries
-
--- byte order, each name once
-abbrev pub IsAscending : List (List ℕ) → Type 0
-IsAscending names = IsStrictlySortedBy (slice_cmp nat_cmp) names
 
 abbrev pub AllBeginWith : List ℕ → List (List ℕ) → Type 0
 AllBeginWith prefix names = All (λ name. IsTrue (starts_with nat_eq name prefix)) names

@@ -1,7 +1,8 @@
 //! The walk over the pages of a listing.
 
 ghost use Rattle.std.specs.Prelude.{◌≡◌, ◌≢◌, ◌==◌, None, Some, OnOk, OnErr, IfOk, IfErr, min};
-ghost use Rattle.list_walk.specs.Pages.{AllBeginWith, IsAscending, count_of, ended, gathered_with, keys_fault, keys_of};
+ghost use Rattle.list_walk.specs.Pages.{AllBeginWith, count_of, ended, gathered_with, keys_fault};
+ghost use Rattle.s3_model.specs.Entries.{IsAscending, keys_of};
 ghost use Rattle.list_walk.specs.Pages.{new_walk, next_ask, prefixes_fault, refusal_of, total_of, whole_fault};
 ghost use Rattle.list_walk.specs.Pages.{with_page};
 

@@ -3,6 +3,7 @@ pub mod Classes
 pub mod ContentTypes
 pub mod Counts
 pub mod Documents
+pub mod Entries
 pub mod Files
 pub mod FirstRow
 pub mod Lists

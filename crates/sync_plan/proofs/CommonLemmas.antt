@@ -9,7 +9,7 @@ use Rattle.std.specs.declared.cmp.Ordering.TheVariants.{Less, Equal, Greater}
 use Rattle.std.proofs.lemmas.Cmp.{nat_list_cmp_total, tied_itself}
 use Rattle.s3_model.specs.declared.tasks.Task.{Task}
 use Rattle.shared_lemmas.proofs.Members.{Has, contains_of, has}
-use Rattle.list_walk.specs.Pages.{IsAscending}
+use Rattle.s3_model.specs.Entries.{IsAscending}
 use Rattle.merged_names.proofs.Orders.{equal_is, less}
 use Rattle.sync_plan.specs.Fit.{IsCommon, IsLeastCommon, key_order, object_key, read_keys, written_keys}
 

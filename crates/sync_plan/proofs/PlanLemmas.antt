@@ -21,7 +21,7 @@ use Rattle.s3_model.specs.declared.tasks.Kind.TheVariants as kind
 use Rattle.s3_model.specs.declared.tasks.Task.{Task}
 use Rattle.shared_lemmas.proofs.Clashes.{none_is_some, some_is}
 use Rattle.shared_lemmas.proofs.Members.{Has, contains_of, has, has-filter_map, has_at, has_filtered}
-use Rattle.list_walk.specs.Pages.{IsAscending}
+use Rattle.s3_model.specs.Entries.{IsAscending}
 use Rattle.merged_names.specs.Merging.{AllAbove, Ascend}
 use Rattle.merged_names.proofs.Orders.{behind_prefix, equal_is, equal_itself}
 use Rattle.sync_plan.specs.declared.errand.Errand.{Errand}

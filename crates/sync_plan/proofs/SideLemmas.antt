@@ -9,7 +9,8 @@ use Rattle.std.proofs.lemmas.List.Elements.{All-head, All-tail}
 use Rattle.s3_model.specs.declared.places.Entry.{Entry}
 use Rattle.s3_model.specs.declared.places.Place.{Place}
 use Rattle.s3_model.specs.declared.places.Place.TheVariants as place
-use Rattle.list_walk.specs.Pages.{AllBeginWith, IsAscending, keys_of}
+use Rattle.list_walk.specs.Pages.{AllBeginWith}
+use Rattle.s3_model.specs.Entries.{IsAscending, keys_of}
 use Rattle.merged_names.specs.Merging.{AllAbove, Ascend}
 use Rattle.merged_names.proofs.Orders.{behind_prefix as ordered_behind}
 use Rattle.sync_plan.specs.Errands.{AreEntries, behind, is_marker, named, names_of, relative}

@@ -6,7 +6,7 @@ use Rattle.s3_model.specs.declared.places.Entry.{Entry}
 use Rattle.s3_model.specs.declared.places.Place.{Place}
 use Rattle.s3_model.specs.declared.places.Place.TheVariants as place
 use Rattle.s3_model.specs.declared.tasks.Task.{Task}
-use Rattle.list_walk.specs.Pages.{IsAscending}
+use Rattle.s3_model.specs.Entries.{IsAscending}
 use Rattle.sync_plan.specs.declared.errand.Errand.{Errand}
 use Rattle.sync_plan.specs.Errands.{AreBelow, AreEntries, AreEntriesAt, TransfersBetween, is_one_bucket}
 use Rattle.sync_plan.specs.Fit.{IsCommon, IsFit, IsJudged, IsRefused, read_keys, size_fault, written_keys}

@@ -11,7 +11,8 @@ use Rattle.s3_model.specs.declared.places.Place.TheVariants as place
 use Rattle.s3_model.specs.declared.tasks.Kind.{Kind}
 use Rattle.s3_model.specs.declared.tasks.Kind.TheVariants as kind
 use Rattle.s3_paths.specs.Names.{key_skip, local_path, name_skip}
-use Rattle.list_walk.specs.Pages.{AllBeginWith, IsAscending, keys_of}
+use Rattle.list_walk.specs.Pages.{AllBeginWith}
+use Rattle.s3_model.specs.Entries.{IsAscending, keys_of}
 
 -- ---- places and names
 

@@ -17,7 +17,7 @@ ghost use Rattle.std.specs.Prelude.{
   length,
   option_copied,
 };
-ghost use Rattle.list_walk.specs.Pages.{IsAscending};
+ghost use Rattle.s3_model.specs.Entries.{IsAscending};
 ghost use Rattle.sync_plan.specs.Fit.{
   IsCommon,
   IsLeastCommon,

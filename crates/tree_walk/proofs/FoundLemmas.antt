@@ -159,8 +159,8 @@ module _ (store : FileStore) (root path : List ℕ) (what : Shape) (is : what �
   abbrev IsGood : List ℕ → Type 0
   IsGood q = ((q ≡ []) ⊎ (shape_at store (path_at root q) ≡ shape.Folder)) × (ends_in_slash q ≡ false) × (depth q ≤ 128)
 
-  adds_sound : (old new : Found) → Adds path what old new → length (keys new.files) ≤ 1000000 → IsSound store root old → IsSound store root new
-  adds_sound old new a few sound = record {
+  adds_sound : (old new : Found) → Adds path what old new → IsSound store root old → IsSound store root new
+  adds_sound old new a sound = record {
     files = sound_files old new a sound.files;
     others = λ q h. others what is a q h;
     folders = λ q h. folders what is a q h;
@@ -168,7 +168,6 @@ module _ (store : FileStore) (root path : List ℕ) (what : Shape) (is : what �
         let was = sound.counts q (same_some new.unnamed old.unnamed q (sym (adds_counts path what old new a)) h) in
         let more = adds_folders path what old new a in
         (in_folders old.folders.items new.folders.items more.0 q more.1 was.0, same_get old.unnamed new.unnamed q _ (adds_counts path what old new a) was.1);
-    few = few;
   }
     where
       others : (w : Shape) → w ≡ shape_at store (path_at root path) → Adds path w old new → (q : List ℕ) → IsSome (get new.others q) → (q ≢ []) × (shape_at store (path_at root q) ≡ shape.Other)
@@ -211,13 +210,13 @@ over_memory path what old new (Err why) h = subst (IsOver path what old new) (sy
 -- ---- one name more
 
 pub looked : (store : FileStore) (root folder name path full : List ℕ) (what : Shape) (old new : Found) → path ≡ child folder name → full ≡ path_at root path → what ≡ shape_at store full
-    → Adds path what old new → (length (keys old.files) ≤ 1000000 → length (keys new.files) ≤ 1000000) → IsName name → IsSound store root old → IsPartway store root folder (name ∷ []) old new
-looked store root folder name path full what old new of_name at is adds few named sound =
+    → Adds path what old new → IsName name → IsSound store root old → IsPartway store root folder (name ∷ []) old new
+looked store root folder name path full what old new of_name at is adds named sound =
     let some : path ≢ [] = λ none. child_some folder name named (sym of_name ∙ none) in
     let bare : ends_in_slash path ≡ false = ap ends_in_slash of_name ∙ child_ends folder name named in
     let here : what ≡ shape_at store (path_at root path) = is ∙ ap (shape_at store) at in
     record {
-      sound = adds_sound store root path what here some bare old new adds (few sound.few) sound;
+      sound = adds_sound store root path what here some bare old new adds sound;
       grows = adds_grows store root path what here some bare old new adds;
       found = λ q h. subst (λ (p : List ℕ). Recorded store root new p) (of_name ∙ ap (child folder) (only q h)) (subst (λ (w : Shape). IsFound new path w) here (adds_found path what old new adds));
     }

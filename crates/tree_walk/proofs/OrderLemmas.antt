@@ -17,9 +17,10 @@ use Rattle.std.specs.declared.cmp.Ordering.TheVariants.{Less, Equal, Greater}
 use Rattle.std.proofs.Math.Seq.{drop-append_seam}
 use Rattle.std.proofs.lemmas.Bool.{and_parts, and_from, eqb-true}
 use Rattle.std.proofs.lemmas.Cmp.{tied_itself}
+use Rattle.s3_model.specs.Entries.{IsAscending}
 use Rattle.s3_model.specs.Files.{FileStore, folder_path, is_below, tree}
 use Rattle.s3_model.specs.Maps.{MapOf}
-use Rattle.tree_walk.specs.Trees.{Ascend, path_at}
+use Rattle.tree_walk.specs.Trees.{path_at}
 
 abbrev AllAbove : List ℕ → List (List ℕ) → Type 0
 AllAbove first names = AllByRecursion (λ (name : List ℕ). slice_cmp nat_cmp first name ≡ Less) names
@@ -28,12 +29,12 @@ abbrev Rise : List (List ℕ) → Type 0
 Rise [] = Unit {0}
 Rise (name ∷ names) = AllAbove name names × Rise names
 
-rise : (names : List (List ℕ)) → Ascend names → Rise names
+rise : (names : List (List ℕ)) → IsAscending names → Rise names
 unfolding IsStrictlySortedBy
 rise [] h = tt
 rise (name ∷ names) h = (h.0, rise names h.1)
 
-ascend : (names : List (List ℕ)) → Rise names → Ascend names
+ascend : (names : List (List ℕ)) → Rise names → IsAscending names
 unfolding IsStrictlySortedBy
 ascend [] h = tt
 ascend (name ∷ names) h = (h.0, ascend names h.1)
@@ -99,10 +100,10 @@ risen_same (x ∷ xs) (y ∷ ys) first second into back =
       ])
     ]
 
-pub no_more : (xs ys : List (List ℕ)) → Ascend xs → Ascend ys → ((z : List ℕ) → Has xs z → Has ys z) → length xs ≤ length ys
+pub no_more : (xs ys : List (List ℕ)) → IsAscending xs → IsAscending ys → ((z : List ℕ) → Has xs z → Has ys z) → length xs ≤ length ys
 no_more xs ys first second into = risen_fewer xs ys (rise xs first) (rise ys second) into
 
-pub same_names : (xs ys : List (List ℕ)) → Ascend xs → Ascend ys → ((z : List ℕ) → Has xs z → Has ys z) → ((z : List ℕ) → Has ys z → Has xs z) → xs ≡ ys
+pub same_names : (xs ys : List (List ℕ)) → IsAscending xs → IsAscending ys → ((z : List ℕ) → Has xs z → Has ys z) → ((z : List ℕ) → Has ys z → Has xs z) → xs ≡ ys
 same_names xs ys first second into back = risen_same xs ys (rise xs first) (rise ys second) into back
 
 -- ---- the keys of a map
@@ -162,7 +163,7 @@ is_listed q (k ∷ ks) (inl same) = or_left _ _ (subst (λ (x : List ℕ). eq_by
 is_listed q (k ∷ ks) (inr h) = or_right (eq_by_cmp (slice_cmp nat_cmp) q k) _ (is_listed q ks h)
 
 module _ {V : Type 0} (m : MapOf V) where
-  pub keys_ascend : Ascend (keys m)
+  pub keys_ascend : IsAscending (keys m)
   keys_ascend = ascend _ (entries_rise (entries m) (entries_sorted m))
 
   pub key_is : (q : List ℕ) → IsSome (get m q) → Has (keys m) q
@@ -232,7 +233,7 @@ module _ (front : List ℕ) where
   cut_rise (name ∷ names) begin h = (cut_above name names begin.0 begin.1 h.0, cut_rise names begin.1 h.1)
 
 module _ (store : FileStore) (root : List ℕ) where
-  pub tree_ascends : Ascend (tree store root)
+  pub tree_ascends : IsAscending (tree store root)
   tree_ascends =
       ascend _ (cut_rise (folder_path root) _ (kept_begin (folder_path root) (keys store.held)) (kept_rise _ (keys store.held) (rise _ (keys_ascend store.held))))
 

@@ -1,7 +1,7 @@
 -- The steps of a walk over files that are seen to the end.
 use Rattle.std.proofs.Common.{◌≡◌, ◌∙◌, ◌++◌, ◌<◌, ◌≤◌, ◌+◌, ◌-◌, ◌^◌, ℕ, zero, suc, List, [], ◌∷◌, Option, Some, None, Result, Ok, Err, Contains, get_or, length, min, slice_get, take, sym, ap, subst, arith}
 use Rattle.std.specs.Prelude.{IfErr, IfSome, OnOk}
-use Rattle.std.specs.FinMap.{insert, keys}
+use Rattle.std.specs.FinMap.{insert}
 use Rattle.std.specs.List.{AllByRecursion, sum_by}
 use Rattle.std.proofs.lemmas.List.{take_more}
 use Rattle.std.proofs.lemmas.Option.{slice_get-get_or}
@@ -32,11 +32,11 @@ on_ok (Err e) f h = tt
 -- ---- a name
 
 pub looked_seen : (seen : Option SeenFiles) (root folder name path full : List ℕ) (what : Shape) (done : Result Unit WalkFault) (old new : Found) → path ≡ child folder name → full ≡ path_at root path
-    → IfSome seen (λ now. what ≡ shape_at now.store full) → OnOk done (Adds path what old new) → OnOk done (length (keys old.files) ≤ 1000000 → length (keys new.files) ≤ 1000000)
+    → IfSome seen (λ now. what ≡ shape_at now.store full) → OnOk done (Adds path what old new)
     → IfSome seen (λ now. IsName name → IsSound now.store root old → OnOk done (IsPartway now.store root folder (name ∷ []) old new))
-looked_seen None root folder name path full what done old new of_name at is adds few = tt
-looked_seen (Some now) root folder name path full what (Err why) old new of_name at is adds few = λ named sound. tt
-looked_seen (Some now) root folder name path full what (Ok u) old new of_name at is adds few = looked now.store root folder name path full what old new of_name at is adds few
+looked_seen None root folder name path full what done old new of_name at is adds = tt
+looked_seen (Some now) root folder name path full what (Err why) old new of_name at is adds = λ named sound. tt
+looked_seen (Some now) root folder name path full what (Ok u) old new of_name at is adds = looked now.store root folder name path full what old new of_name at is adds
 
 pub over_seen : (seen : Option SeenFiles) (root folder name path full : List ℕ) (what : Shape) (done : Result Unit WalkFault) (old new : Found) → path ≡ child folder name → full ≡ path_at root path
     → IfSome seen (λ now. what ≡ shape_at now.store full) → IfErr done (IsOver path what old new) → IfSome seen (λ now. IsName name → IsSound now.store root old → IfErr done (IsRefused now.store root))

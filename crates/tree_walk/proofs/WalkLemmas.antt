@@ -12,6 +12,7 @@ use Rattle.std.proofs.lemmas.List.Sums.{sum_by-cons}
 use Rattle.std.specs.Cmp.Lexicographic.{slice_cmp}
 use Rattle.std.specs.Ordering.{nat_cmp}
 use Rattle.s3_model.specs.Counts.{Rose}
+use Rattle.s3_model.specs.Entries.{IsAscending, keys_of}
 use Rattle.s3_model.specs.Files.{FileStore, HeldFile, ends_in_slash, folder_path, is_folder, is_listed, tree}
 use Rattle.s3_model.specs.Maps.{MapOf}
 use Rattle.s3_model.specs.declared.places.Entry.{Entry}
@@ -25,8 +26,8 @@ use Rattle.s3_outside.specs.declared.files.FileNote.TheVariants as note
 use Rattle.s3_outside.specs.declared.wire.Failed.{Failed}
 use Rattle.s3_outside.specs.declared.files.Shape.{Shape}
 use Rattle.s3_outside.specs.declared.files.Shape.TheVariants as shape
-use Rattle.tree_walk.specs.Finding.{Grows, IsComplete, IsFound, IsOnTheWay, IsPartway, IsSound, IsVisited, Recorded, Visits, entry_in}
-use Rattle.tree_walk.specs.Trees.{Ascend, Describes, IsFolderIn, IsLook, IsOrderly, IsRefused, IsWalked, LooksOnce, OnlyLooks, Stands, bare, child, depth, path_at, place_of}
+use Rattle.tree_walk.specs.Finding.{Grows, IsComplete, IsFew, IsFound, IsOnTheWay, IsPartway, IsSound, IsVisited, Recorded, Visits, entry_in}
+use Rattle.tree_walk.specs.Trees.{Describes, IsFolderIn, IsLook, IsOrderly, IsRefused, IsWalked, LooksOnce, OnlyLooks, Stands, bare, child, depth, path_at, place_of}
 use Rattle.tree_walk.specs.declared.found.Found.{Found}
 use Rattle.tree_walk.specs.declared.found.Look.{Look}
 use Rattle.tree_walk.specs.declared.walks.Walked.{Walked}
@@ -179,7 +180,6 @@ module _ (store : FileStore) (root folder place : List ℕ) (names : List (List 
           let was = part.sound.counts q (still_some _ _ (sym kept) h) in
           (same_folders mid.folders.items new.folders.items q folders was.0, kept ∙ was.1)
     ];
-    few = subst (λ (m : MapOf Look). length (keys m) ≤ 1000000) (sym files) part.sound.few;
   }
 
   new_grows : Grows store root old new
@@ -306,6 +306,39 @@ no_length : (path : List ℕ) → length path ≤ 0 → path ≡ []
 no_length [] short = refl
 no_length (byte ∷ path) short = absurd (omega arith)
 
+-- ---- the entries of the files that were found
+
+keys_of_entries : (files : MapOf Look) (ks : List (List ℕ)) → keys_of (map (entry_in files) ks) ≡ ks
+keys_of_entries files [] = refl
+keys_of_entries files (k ∷ ks) = ap (λ (xs : List (List ℕ)). k ∷ xs) (keys_of_entries files ks)
+
+module _ (store : FileStore) (root : List ℕ) (found : Found) (sound : IsSound store root found) where
+  look_of : (path : List ℕ) (look : Look) → get found.files path ≡ Some look → unwrap_or (get found.files path) (record { size = 0; micros = 0 }) ≡ look
+  look_of path look e = ap (λ (o : Option Look). unwrap_or o (record { size = 0; micros = 0 })) e
+
+  described : (path : List ℕ) → IsSome (get found.files path) → Describes store root (entry_in found.files path)
+  described path some =
+      let good = sound.files path some in
+      let look = look_of path (record { size = length good.1.bytes; micros = good.1.micros }) good.3 in
+      record { file = good.1; held = good.2; size = ap (λ (l : Look). l.size) look; micros = ap (λ (l : Look). l.micros) look; etag = refl }
+
+  all_described : (ks : List (List ℕ)) → ((q : List ℕ) → Has ks q → IsSome (get found.files q)) → AllByRecursion (Describes store root) (map (entry_in found.files) ks)
+  all_described [] all = tt
+  all_described (k ∷ ks) all = (described k (all k (inl refl)), all_described ks (λ q h. all q (inr h)))
+
+module _ (found : Found) (entries : List Entry) (is : entries ≡ map (entry_in found.files) (keys found.files)) where
+  keys_are : keys_of entries ≡ keys found.files
+  keys_are = ap keys_of is ∙ keys_of_entries found.files (keys found.files)
+
+  entries_ascend : IsAscending (keys_of entries)
+  entries_ascend = subst IsAscending (sym keys_are) (keys_ascend found.files)
+
+  few_entries : IsFew found → length entries ≤ 1000000
+  few_entries few = subst (λ (n : ℕ). n ≤ 1000000) (sym (ap (λ (xs : List Entry). length xs) is ∙ length-map (keys found.files) (entry_in found.files))) few
+
+  entries_are_there : (store : FileStore) (root : List ℕ) → IsSound store root found → AllByRecursion (Describes store root) entries
+  entries_are_there store root sound = subst (AllByRecursion (Describes store root)) (sym is) (all_described store root found sound (keys found.files) (is_key found.files))
+
 module _ (store : FileStore) (root : List ℕ) (orderly : IsOrderly store root) (found : Found) (start : shape_at store (bare root) ≡ shape.Folder → Contains found.folders.items [])
     (visited : (folder : List ℕ) → Contains found.folders.items folder → IsVisited store root found folder) (sound : IsSound store root found) where
   abbrev Reached : ℕ → Type 0
@@ -349,23 +382,6 @@ module _ (store : FileStore) (root : List ℕ) (orderly : IsOrderly store root) 
       (λ q h. let good = sound.files q (is_key found.files q h) in in_tree store root q (is_some_of _ good.1 good.2))
       (λ q h. key_is found.files q (found_file q (of_tree store root q h)))
 
-  keys_of_entries : (ks : List (List ℕ)) → map (λ (entry : Entry). entry.key) (map (entry_in found.files) ks) ≡ ks
-  keys_of_entries [] = refl
-  keys_of_entries (k ∷ ks) = ap (λ (xs : List (List ℕ)). k ∷ xs) (keys_of_entries ks)
-
-  look_of : (path : List ℕ) (look : Look) → get found.files path ≡ Some look → unwrap_or (get found.files path) (record { size = 0; micros = 0 }) ≡ look
-  look_of path look e = ap (λ (o : Option Look). unwrap_or o (record { size = 0; micros = 0 })) e
-
-  described : (path : List ℕ) → IsSome (get found.files path) → Describes store root (entry_in found.files path)
-  described path some =
-      let good = sound.files path some in
-      let look = look_of path (record { size = length good.1.bytes; micros = good.1.micros }) good.3 in
-      record { file = good.1; held = good.2; size = ap (λ (l : Look). l.size) look; micros = ap (λ (l : Look). l.micros) look; etag = refl }
-
-  all_described : (ks : List (List ℕ)) → ((q : List ℕ) → Has ks q → IsSome (get found.files q)) → AllByRecursion (Describes store root) (map (entry_in found.files) ks)
-  all_described [] all = tt
-  all_described (k ∷ ks) all = (described k (all k (inl refl)), all_described ks (λ q h. all q (inr h)))
-
   same_sum : (a b : List ℕ → ℕ) (ks : List (List ℕ)) → ((q : List ℕ) → Has ks q → a q ≡ b q) → sum_by a ks ≡ sum_by b ks
   same_sum a b [] alike = refl
   same_sum a b (k ∷ ks) alike =
@@ -389,13 +405,13 @@ module _ (store : FileStore) (root : List ℕ) (orderly : IsOrderly store root) 
     λ is. contains_of _ folder (key_is found.unnamed folder (is_some_of _ _ (visited folder (listed folder is)).counted)),
   )
 
-  pub finished : (entries : List Entry) (others : List (List ℕ)) (unnamed : ℕ) → entries ≡ map (entry_in found.files) (keys found.files) → others ≡ keys found.others
+  pub finished : (entries : List Entry) (others : List (List ℕ)) (unnamed : ℕ) → IsFew found → entries ≡ map (entry_in found.files) (keys found.files) → others ≡ keys found.others
       → unnamed ≡ min (sum_by (λ folder. unwrap_or (get found.unnamed folder) 0) (keys found.unnamed)) (2 ^ 64 - 1) → IsWalked store root entries others unnamed
-  finished entries others unnamed entries_is others_is unnamed_is = record {
-    keys = ap (map (λ (entry : Entry). entry.key)) entries_is ∙ keys_of_entries (keys found.files) ∙ files_are;
-    files = subst (AllByRecursion (Describes store root)) (sym entries_is) (all_described (keys found.files) (is_key found.files));
-    few = subst (λ (n : ℕ). n ≤ 1000000) (sym (ap (λ (xs : List Entry). length xs) entries_is ∙ length-map (keys found.files) (entry_in found.files))) sound.few;
-    others_once = subst Ascend (sym others_is) (keys_ascend found.others);
+  finished entries others unnamed few entries_is others_is unnamed_is = record {
+    keys = keys_are found entries entries_is ∙ files_are;
+    files = entries_are_there found entries entries_is store root sound;
+    few = few_entries found entries entries_is few;
+    others_once = subst IsAscending (sym others_is) (keys_ascend found.others);
     others_all = λ path. subst (λ (xs : List (List ℕ)). Contains xs path ↔ ((path ≢ []) × (shape_at store (path_at root path) ≡ shape.Other))) (sym others_is) (others_are path);
     counted = record {
       folders = keys found.unnamed;
@@ -413,20 +429,12 @@ no_keys : {V : Type 0} (m : MapOf V) (q : List ℕ) → m ≡ empty → IsSome (
 no_keys {V} m q e h = not_some _ (ap (λ (x : MapOf V). get x q) e ∙ get-empty (slice_cmp nat_cmp) q) h
 
 module _ (store : FileStore) (root : List ℕ) (found : Found) (files : found.files ≡ empty) (others : found.others ≡ empty) (unnamed : found.unnamed ≡ empty) where
-  few_keys : length (keys found.files) ≤ 1000000
-  few_keys = none_few (keys found.files) (λ q h. no_keys found.files q files (is_key found.files q h))
-    where
-      none_few : (ks : List (List ℕ)) → ((q : List ℕ) → Has ks q → ⊥) → length ks ≤ 1000000
-      none_few [] none = omega arith
-      none_few (k ∷ ks) none = absurd (none k (inl refl))
-
   sound_first : ((q : List ℕ) → Contains found.folders.items q → q ≡ []) → IsSound store root found
   sound_first only = record {
     files = λ q h. absurd (no_keys found.files q files h);
     others = λ q h. absurd (no_keys found.others q others h);
     folders = λ q h. (inl (only q h), ap ends_in_slash (only q h), subst (λ (p : List ℕ). depth p ≤ 128) (sym (only q h)) (omega arith));
     counts = λ q h. absurd (no_keys found.unnamed q unnamed h);
-    few = few_keys;
   }
 
   pub begun : found.folders.items ≡ [] ∷ [] → IsOnTheWay store root 0 found
@@ -463,14 +471,42 @@ arrived store root k found end way = record {
   visited = λ folder h. let place = place_in found.folders.items folder (has found.folders.items folder h) in way.visited place.0 folder (let below = place.1 in omega arith) place.2;
 }
 
-pub walked : (seen : Option SeenFiles) (root : List ℕ) (found : Found) (r : Result Walked WalkFault) → IfSome seen (λ now. IsComplete now.store root found)
-    → IfOk r (λ w. w.entries.items ≡ map (entry_in found.files) (keys found.files)) → IfOk r (λ w. w.others.items ≡ keys found.others)
-    → IfOk r (λ w. w.unnamed ≡ min (sum_by (λ folder. unwrap_or (get found.unnamed folder) 0) (keys found.unnamed)) (2 ^ 64 - 1))
-    → IfSome seen (λ now. IsOrderly now.store root → IfOk r (λ w. IsWalked now.store root w.entries.items w.others.items w.unnamed))
-walked None root found r all entries others unnamed = tt
-walked (Some now) root found (Err why) all entries others unnamed = λ orderly. tt
-walked (Some now) root found (Ok w) all entries others unnamed =
-    λ orderly. finished now.store root orderly found all.begun all.visited all.sound w.entries.items w.others.items w.unnamed entries others unnamed
+-- ---- what a walk answers
+
+-- no file is few
+pub few_first : (found : Found) → found.files ≡ empty → IsFew found
+few_first found none = none_few (keys found.files) (λ q h. no_keys found.files q none (is_key found.files q h))
+  where
+    none_few : (ks : List (List ℕ)) → ((q : List ℕ) → Has ks q → ⊥) → length ks ≤ 1000000
+    none_few [] none = omega arith
+    none_few (k ∷ ks) none = absurd (none k (inl refl))
+
+module _ (found : Found) where
+  abbrev HasEntries : Result Walked WalkFault → Type 0
+  HasEntries r = IfOk r (λ w. w.entries.items ≡ map (entry_in found.files) (keys found.files))
+
+  pub walked_ascends : (r : Result Walked WalkFault) → HasEntries r → IfOk r (λ w. IsAscending (keys_of w.entries.items))
+  walked_ascends (Ok w) entries = entries_ascend found w.entries.items entries
+  walked_ascends (Err why) entries = tt
+
+  pub walked_few : (r : Result Walked WalkFault) → IsFew found → HasEntries r → IfOk r (λ w. length w.entries.items ≤ 1000000)
+  walked_few (Ok w) few entries = few_entries found w.entries.items entries few
+  walked_few (Err why) few entries = tt
+
+  pub walked_found : (seen : Option SeenFiles) (root : List ℕ) (r : Result Walked WalkFault) → IfSome seen (λ now. IsComplete now.store root found) → HasEntries r
+      → IfSome seen (λ now. IfOk r (λ w. AllByRecursion (Describes now.store root) w.entries.items))
+  walked_found None root r all entries = tt
+  walked_found (Some now) root (Ok w) all entries = entries_are_there found w.entries.items entries now.store root all.sound
+  walked_found (Some now) root (Err why) all entries = tt
+
+  pub walked : (seen : Option SeenFiles) (root : List ℕ) (r : Result Walked WalkFault) → IfSome seen (λ now. IsComplete now.store root found) → IsFew found
+      → HasEntries r → IfOk r (λ w. w.others.items ≡ keys found.others)
+      → IfOk r (λ w. w.unnamed ≡ min (sum_by (λ folder. unwrap_or (get found.unnamed folder) 0) (keys found.unnamed)) (2 ^ 64 - 1))
+      → IfSome seen (λ now. IsOrderly now.store root → IfOk r (λ w. IsWalked now.store root w.entries.items w.others.items w.unnamed))
+  walked None root r all few entries others unnamed = tt
+  walked (Some now) root (Err why) all few entries others unnamed = λ orderly. tt
+  walked (Some now) root (Ok w) all few entries others unnamed =
+      λ orderly. finished now.store root orderly found all.begun all.visited all.sound w.entries.items w.others.items w.unnamed few entries others unnamed
 
 -- ---- faults that tell nothing of the tree
 

@@ -51,6 +51,10 @@ IsOver path what old new fault.TooMany = Adds path what old new × (1000000 < le
 IsOver path what old new fault.Files = ⊥
 IsOver path what old new fault.Memory = Unit {0}
 
+-- no more files were found than a tree may have
+abbrev pub IsFew : Found → Type 0
+IsFew found = length (keys found.files) ≤ 1000000
+
 -- all that was found is there
 pub record IsSound (store : FileStore) (root : List ℕ) (found : Found) : Type 0 where
   pub files : (path : List ℕ) → IsSome (get found.files path) → (path ≢ []) × (file : HeldFile)
@@ -63,7 +67,6 @@ pub record IsSound (store : FileStore) (root : List ℕ) (found : Found) : Type 
       × (ends_in_slash path ≡ false) × (depth path ≤ 128)
   pub counts : (path : List ℕ) → IsSome (get found.unnamed path) → Contains found.folders.items path
       × (get found.unnamed path ≡ Some (unnamed_in store (place_of root path)))
-  pub few : length (keys found.files) ≤ 1000000
 
 -- what stands in a folder was found, and its names that are no text were counted
 pub record IsVisited (store : FileStore) (root : List ℕ) (found : Found) (folder : List ℕ) : Type 0 where

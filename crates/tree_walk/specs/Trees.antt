@@ -1,13 +1,11 @@
 -- The tree of files below a root, and what a walk over it answers.
 use Rattle.std.specs.Prelude.{◌≡◌, ◌≢◌, ◌≤◌, ◌<◌, ◌⊎◌, ◌++◌, ◌+◌, ◌-◌, ◌^◌, ◌==◌, ◌&&◌, ◌↔◌, ℕ, false}
 use Rattle.std.specs.Prelude.{true, not, if◌then◌else◌, List, [], ◌∷◌, Option, Some}
-use Rattle.std.specs.Prelude.{None, Result, IsSome, Contains, length, map, min}
+use Rattle.std.specs.Prelude.{None, Result, IsSome, Contains, length, min}
 use Rattle.std.specs.FinMap.{get}
 use Rattle.std.specs.List.{AllByRecursion, count_by, sum_by}
-use Rattle.std.specs.List.Sorted.{IsStrictlySortedBy}
-use Rattle.std.specs.Cmp.Lexicographic.{slice_cmp}
-use Rattle.std.specs.Ordering.{nat_cmp}
 use Rattle.s3_model.specs.Counts.{Rose}
+use Rattle.s3_model.specs.Entries.{IsAscending, keys_of}
 use Rattle.s3_model.specs.Files.{FileStore, HeldFile, ends_in_slash, folder_path, is_folder, is_listed, tree}
 use Rattle.s3_model.specs.declared.places.Entry.{Entry}
 use Rattle.local_files.specs.Names.{IsName}
@@ -78,9 +76,6 @@ IsRefused store root other = Unit {0}
 
 -- ---- what a walk answers
 
-abbrev pub Ascend : List (List ℕ) → Type 0
-Ascend names = IsStrictlySortedBy (slice_cmp nat_cmp) names
-
 -- the size and the time of the file that an entry names
 pub record Describes (store : FileStore) (root : List ℕ) (entry : Entry) : Type 0 where
   pub file : HeldFile
@@ -92,7 +87,7 @@ pub record Describes (store : FileStore) (root : List ℕ) (entry : Entry) : Typ
 -- how many names are no text in all folders of the tree, each folder once, up to the last number
 pub record CountsUnnamed (store : FileStore) (root : List ℕ) (count : ℕ) : Type 0 where
   pub folders : List (List ℕ)
-  pub once : Ascend folders
+  pub once : IsAscending folders
   pub all : (folder : List ℕ) → Contains folders folder ↔ IsFolderIn store root folder
   pub sum : count ≡ min (sum_by (λ folder. unnamed_in store (place_of root folder)) folders) (2 ^ 64 - 1)
 
@@ -100,10 +95,10 @@ pub record CountsUnnamed (store : FileStore) (root : List ℕ) (count : ℕ) : T
 -- text. No folder is more than 128 names below the root.
 pub record IsWalked (store : FileStore) (root : List ℕ)
     (entries : List Entry) (others : List (List ℕ)) (unnamed : ℕ) : Type 0 where
-  pub keys : map (λ entry. entry.key) entries ≡ tree store root
+  pub keys : keys_of entries ≡ tree store root
   pub files : AllByRecursion (Describes store root) entries
   pub few : length entries ≤ 1000000
-  pub others_once : Ascend others
+  pub others_once : IsAscending others
   pub others_all : (path : List ℕ)
       → Contains others path ↔ ((path ≢ []) × (shape_at store (path_at root path) ≡ shape.Other))
   pub counted : CountsUnnamed store root unnamed

@@ -1,8 +1,8 @@
 //! What a walk has found so far.
 
-ghost use Rattle.std.specs.Prelude.{◌≡◌, ◌≤◌, ◌++◌, ◌∷◌, [], IfErr, IfOk, OnOk, length};
-ghost use Rattle.std.specs.FinMap.{empty, insert, keys};
-ghost use Rattle.tree_walk.specs.Finding.{Adds, IsOver};
+ghost use Rattle.std.specs.Prelude.{◌≡◌, ◌++◌, ◌∷◌, [], IfErr, IfOk, OnOk};
+ghost use Rattle.std.specs.FinMap.{empty, insert};
+ghost use Rattle.tree_walk.specs.Finding.{Adds, IsFew, IsOver};
 
 use crate::paths::depth;
 use crate::walks::WalkFault;
@@ -72,7 +72,7 @@ impl Found {
     #[tactic(auto, using(crate::proofs::FoundLemmas::over_memory))]
     pub(crate) fn add(&mut self, alloc: Global, path: &str, shape: Shape) -> Result<(), WalkFault>
         ensures added { OnOk result (Adds path.now shape self.old self.new) }
-        ensures few { OnOk result (length (keys self.old.files) ≤ 1000000 → length (keys self.new.files) ≤ 1000000) }
+        ensures few { OnOk result (IsFew self.old → IsFew self.new) }
         ensures over { IfErr result (IsOver path.now shape self.old self.new) }
     {
         match shape {
@@ -86,7 +86,7 @@ impl Found {
     #[tactic(auto, using(crate::proofs::FoundLemmas::over_memory))]
     fn add_file(&mut self, alloc: Global, path: &str, look: Look) -> Result<(), WalkFault>
         ensures added { OnOk result (Adds path.now (Shape.File look.size look.micros) self.old self.new) }
-        ensures few { OnOk result (length (keys self.new.files) ≤ 1000000) }
+        ensures few { OnOk result (IsFew self.new) }
         ensures over { IfErr result (IsOver path.now (Shape.File look.size look.micros) self.old self.new) }
     {
         if self.files.insert(alloc, path, look).is_err() {

@@ -1,11 +1,13 @@
 //! The walk over a tree of files.
 
-ghost use Rattle.std.specs.Prelude.{◌≡◌, ◌⊎◌, ◌≤◌, ◌∷◌, [], Contains, Err, IfErr, IfOk, IfSome, OnErr, OnOk, Result};
+ghost use Rattle.std.specs.Prelude.{◌≡◌, ◌⊎◌, ◌≤◌, ◌∷◌, [], Contains, Err, IfErr, IfOk, IfSome, OnErr, OnOk, Result, length};
 ghost use Rattle.std.specs.List.{AllByRecursion};
 ghost use Rattle.local_files.specs.Names.{AreNames, IsName};
 ghost use Rattle.s3_outside.specs.FileCalls.{unnamed_in};
 ghost use Rattle.s3_model.specs.Counts.{Rose};
+ghost use Rattle.s3_model.specs.Entries.{IsAscending, keys_of};
 ghost use Rattle.tree_walk.specs.Trees.{
+  Describes,
   IsOrderly,
   IsRefused,
   IsWalked,
@@ -14,7 +16,7 @@ ghost use Rattle.tree_walk.specs.Trees.{
   bare as bare_of,
   place_of as place_at,
 };
-ghost use Rattle.tree_walk.specs.Finding.{IsComplete, IsOnTheWay, IsPartway, IsSound, Visits};
+ghost use Rattle.tree_walk.specs.Finding.{IsComplete, IsFew, IsOnTheWay, IsPartway, IsSound, Visits};
 ghost use Rattle.s3_outside.specs.Files.{asked_kind, shape_at};
 ghost use Rattle.s3_outside.specs.Seen.{IsSeenAfter};
 
@@ -49,6 +51,10 @@ pub enum WalkFault {
 /// is left out.
 #[tactic(auto, using(crate::proofs::WalkLemmas::walked, crate::proofs::WalkLemmas::untold_seen))]
 pub fn walk<F: Files>(alloc: Global, files: &mut F, root: &str) -> Result<Walked, WalkFault>
+    ensures ascending { IfOk result (λ walked. IsAscending (keys_of walked.entries.items)) }
+    ensures few { IfOk result (λ walked. length walked.entries.items ≤ 1000000) }
+    ensures found { IfSome (F.seen files.new) (λ now. IfOk result (λ walked.
+        AllByRecursion (Describes now.store root.now) walked.entries.items)) }
     ensures tree { IfSome (F.seen files.new) (λ now. IsOrderly now.store root.now → IfOk result (λ walked.
         IsWalked now.store root.now walked.entries.items walked.others.items walked.unnamed)) }
     ensures refused { IfSome (F.seen files.new) (λ now. IfErr result (IsRefused now.store root.now)) }
@@ -67,6 +73,7 @@ pub fn walk<F: Files>(alloc: Global, files: &mut F, root: &str) -> Result<Walked
 #[tactic(auto, using(crate::proofs::WalkLemmas::no_folder))]
 fn find_all<F: Files>(alloc: Global, files: &mut F, root: &str) -> Result<Found, WalkFault>
     ensures found { IfSome (F.seen files.new) (λ now. IfOk result (IsComplete now.store root.now)) }
+    ensures few { IfOk result IsFew }
     ensures refused { IfSome (F.seen files.new) (λ now. IfErr result (IsRefused now.store root.now)) }
     ensures kept { OnlyLooks (F.seen files.old) (F.seen files.new) (F.faults files.old) (F.faults files.new) }
     ensures alone { LooksOnce (bare_of root.now) (F.seen files.old) (F.seen files.new) }
@@ -84,6 +91,7 @@ fn find_all<F: Files>(alloc: Global, files: &mut F, root: &str) -> Result<Found,
 #[tactic(auto, using(crate::proofs::WalkLemmas::keeps_all, crate::proofs::WalkLemmas::untold_seen))]
 fn find_below<F: Files>(alloc: Global, files: &mut F, root: &str) -> Result<Found, WalkFault>
     ensures found { IfSome (F.seen files.new) (λ now. IfOk result (IsComplete now.store root.now)) }
+    ensures few { IfOk result IsFew }
     ensures refused { IfSome (F.seen files.new) (λ now. IfErr result (IsRefused now.store root.now)) }
     ensures kept { OnlyLooks (F.seen files.old) (F.seen files.new) (F.faults files.old) (F.faults files.new) }
     ensures failed { result ≡ Err WalkFault.Files → Rose (F.faults files.old) (F.faults files.new) }
@@ -150,6 +158,7 @@ fn visit_all<F: Files>(
 ) -> Result<(), WalkFault>
     ensures visited { IfSome (F.seen files.new) (λ now. IsOnTheWay now.store root.now 0 found.old →
         OnOk result (IsComplete now.store root.now found.new)) }
+    ensures few { OnOk result (IsFew found.old → IsFew found.new) }
     ensures kept { OnlyLooks (F.seen files.old) (F.seen files.new) (F.faults files.old) (F.faults files.new) }
     ensures refused { IfSome (F.seen files.new) (λ now. IsOnTheWay now.store root.now 0 found.old →
         IfErr result (IsRefused now.store root.now)) }
@@ -180,6 +189,7 @@ fn visit<F: Files>(
     ensures visited { IfSome (F.seen files.new) (λ now. IsSound now.store root.now found.old →
         Contains found.old.folders.items folder.now →
         OnOk result (Visits now.store root.now folder.now found.old found.new)) }
+    ensures few { OnOk result (IsFew found.old → IsFew found.new) }
     ensures kept { OnlyLooks (F.seen files.old) (F.seen files.new) (F.faults files.old) (F.faults files.new) }
     ensures refused { IfSome (F.seen files.new) (λ now. IsSound now.store root.now found.old →
         IfErr result (IsRefused now.store root.now)) }
@@ -204,6 +214,7 @@ fn look_at_all<F: Files>(
     ensures found { IfSome (F.seen files.new) (λ now. AllByRecursion IsName names.now →
         IsSound now.store root.now found.old →
         OnOk result (IsPartway now.store root.now folder.now names.now found.old found.new)) }
+    ensures few { OnOk result (IsFew found.old → IsFew found.new) }
     ensures kept { OnlyLooks (F.seen files.old) (F.seen files.new) (F.faults files.old) (F.faults files.new) }
     ensures refused { IfSome (F.seen files.new) (λ now. AllByRecursion IsName names.now →
         IsSound now.store root.now found.old → IfErr result (IsRefused now.store root.now)) }
@@ -228,6 +239,7 @@ fn look_at<F: Files>(
 ) -> Result<(), WalkFault>
     ensures found { IfSome (F.seen files.new) (λ now. IsName name.now → IsSound now.store root.now found.old →
         OnOk result (IsPartway now.store root.now folder.now (name.now ∷ []) found.old found.new)) }
+    ensures few { OnOk result (IsFew found.old → IsFew found.new) }
     ensures kept { OnlyLooks (F.seen files.old) (F.seen files.new) (F.faults files.old) (F.faults files.new) }
     ensures refused { IfSome (F.seen files.new) (λ now. IsName name.now → IsSound now.store root.now found.old →
         IfErr result (IsRefused now.store root.now)) }

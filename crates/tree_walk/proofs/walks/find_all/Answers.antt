@@ -1,6 +1,6 @@
 use Rattle.std.proofs.Common.{arith, refl}
 use Rattle.s3_outside.specs.declared.files.Shape.TheVariants as shape
-use Rattle.tree_walk.proofs.WalkLemmas.{keeps_then, no_folder, no_look, one_look, says_nothing}
+use Rattle.tree_walk.proofs.WalkLemmas.{few_first, keeps_then, no_folder, no_look, one_look, says_nothing}
 use Rattle.tree_walk.proofs.walks.find_all.Goals as goal
 
 pub returns-in-Err-clause-alone : goal.returns-in-Err-clause-alone
@@ -28,6 +28,9 @@ returns-in-Err-clause-found g c = says_nothing _
 
 pub returns-in-Err-clause-kept : goal.returns-in-Err-clause-kept
 returns-in-Err-clause-kept g c = c.in-Err.ensures.kept
+
+pub returns-in-Ok-clause-few : goal.returns-in-Ok-clause-few
+returns-in-Ok-clause-few g c = few_first c.make.result c.make.ensures.files
 
 pub returns-in-Ok-clause-refused : goal.returns-in-Ok-clause-refused
 returns-in-Ok-clause-refused g c = says_nothing _

@@ -1,7 +1,7 @@
 use Rattle.s3_model.specs.Files.{FileStore}
 use Rattle.tree_walk.specs.Finding.{IsComplete}
 use Rattle.tree_walk.specs.Trees.{IsRefused}
-use Rattle.tree_walk.proofs.WalkLemmas.{from_begun, keeps_all, says_nothing}
+use Rattle.tree_walk.proofs.WalkLemmas.{few_first, from_begun, keeps_all, says_nothing}
 use Rattle.std.proofs.lemmas.Result.{err_from_is_err_and}
 use Rattle.tree_walk.proofs.walks.find_below.Goals as goal
 
@@ -18,6 +18,9 @@ returns-in-Ok-clause-found g c =
     from_begun (λ (store : FileStore). IsComplete store c.args.root.now c.visit_all.new.found) _ c.args.root.now
     c.in_ok-found.found c.in_ok-found.ensures.files c.in_ok-found.ensures.others c.in_ok-found.ensures.unnamed c.in_ok-found.ensures.folders
     c.in-Ok.ensures.visited
+
+pub returns-in-Ok-clause-few : goal.returns-in-Ok-clause-few
+returns-in-Ok-clause-few g c = c.in-Ok.ensures.few (few_first c.in_ok-found.found c.in_ok-found.ensures.files)
 
 pub returns-in-Ok-clause-refused : goal.returns-in-Ok-clause-refused
 returns-in-Ok-clause-refused g c = says_nothing _

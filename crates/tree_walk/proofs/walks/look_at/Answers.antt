@@ -8,7 +8,7 @@ pub returns-in-Ok-shape_of-clause-found : goal.returns-in-Ok-shape_of-clause-fou
 returns-in-Ok-shape_of-clause-found g c =
     looked_seen _ c.args.root.now c.args.folder.now c.args.name.now c.as_str-in-Ok-shape_of.result.now c.as_str-2.result.now c.in-Ok-shape_of.shape c.add.result _ _
     (c.as_str-in-Ok-shape_of.ensures ∙ c.in-Ok.ensures) (c.as_str-2.ensures ∙ c.in-Ok-path_at.ensures ∙ ap (λ (p : List ℕ). path_at c.args.root.now p) (c.as_str.ensures ∙ sym c.as_str-in-Ok-shape_of.ensures))
-    c.in-Ok-shape_of.ensures.shape c.add.ensures.added c.add.ensures.few
+    c.in-Ok-shape_of.ensures.shape c.add.ensures.added
 
 pub returns-in-Ok-shape_of-clause-refused : goal.returns-in-Ok-shape_of-clause-refused
 returns-in-Ok-shape_of-clause-refused g c =

@@ -21,6 +21,7 @@ pub loop-name-init : goal.loop-name-init
 loop-name-init g c = record {
   kept = keeps_all _ _;
   later = search rules;
+  few = λ few. few;
   found = none_yet _ c.args.root.now c.args.folder.now c.args.names.now c.args.found.now;
 }
 
@@ -28,6 +29,7 @@ pub loop-name-preserved : goal.loop-name-preserved
 loop-name-preserved g c = record {
   kept = keeps_then _ _ _ _ _ _ c.loop-name.invariant.later c.look_at.ensures.later c.loop-name.invariant.kept c.look_at.ensures.kept;
   later = search rules;
+  few = λ few. c.in_ok-look_at.ensures.few (c.loop-name.invariant.few few);
   found = names_step _ _ _ _ c.look_at.ensures.kept c.args.root.now c.args.folder.now c.args.names.now c.loop-name.name-index c.as_str.result.now _ _ _ c.loop-name-test.true (c.as_str.ensures ∙ c.name-item.is) c.loop-name.invariant.found _
       c.in_ok-look_at.ensures.found;
 }

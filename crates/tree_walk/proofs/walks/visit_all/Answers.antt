@@ -12,6 +12,7 @@ pub loop-place-preserved : goal.loop-place-preserved
 loop-place-preserved g c = record {
   kept = keeps_then _ _ _ _ _ _ c.loop-place.invariant.later c.visit.ensures.later c.loop-place.invariant.kept c.visit.ensures.kept;
   later = search rules;
+  few = λ few. c.in_ok-visit.ensures.few (c.loop-place.invariant.few few);
   visited = way_step _ _ _ _ c.visit.ensures.kept c.args.root.now c.as_str.result.now c.loop-place.place c.args.found.now c.loop-place.found c.loop-place.invariant.visited c.visit.new.found
       (got_at c.loop-place.found.folders.items c.deref.result.now c.loop-place.place c.in-Some.folder.now c.as_str.result.now c.deref.ensures.value c.in-Some.ensures.lookup.3.0 c.in-Some.ensures.lookup.1 (c.as_str.ensures ∙ c.in-Ok.ensures)) c.in_ok-visit.ensures.visited;
 }
@@ -23,7 +24,7 @@ returns-in_err-visit-clause-refused g c =
     c.loop-place.invariant.visited c.in_err-visit.field-0.0 c.in_err-visit.ensures.refused)
 
 pub loop-place-init : goal.loop-place-init
-loop-place-init g c = record { kept = keeps_all _ _; later = search rules; visited = still_so _ _ }
+loop-place-init g c = record { kept = keeps_all _ _; later = search rules; few = λ few. few; visited = still_so _ _ }
 
 pub returns-in_default-clause-kept : goal.returns-in_default-clause-kept
 returns-in_default-clause-kept g c = c.loop-place.invariant.kept
