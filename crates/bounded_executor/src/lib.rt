@@ -16,5 +16,5 @@ mod worker;
 
 pub use boss::Boss;
 pub use desk::Desk;
-pub use run::{with_stack_size, with_workers};
+pub use run::{close_desk, open_desk, with_stack_size, with_workers};
 pub use worker::Worker;

@@ -1,6 +1,9 @@
-//! A run of workers under a boss.
+//! A desk is opened over workers, directed, and closed.
 
-ghost use Rattle.std.specs.Prelude.{◌≡◌, ◌≤◌, [], replicate, vec_len, vec_capacity, IfOk, OnOk, OnErr};
+ghost use Rattle.std.specs.Prelude.{◌≡◌, ◌≤◌, [], length, replicate, vec_len, vec_capacity, IfOk, OnOk, OnErr};
+ghost use Rattle.bounded_executor.specs.Desk.{all_out};
+ghost use Rattle.bounded_executor.specs.Exchange.{unused};
+ghost use Rattle.bounded_executor.specs.Runs.{EachRuns};
 ghost use Rattle.bounded_executor.specs.WholeRun.{HasRun};
 
 use crate::boss::Boss;
@@ -80,14 +83,91 @@ where
     ensures ok { OnOk result (HasRun W.carries B.directs workers.old.items boss.old workers.new.items boss.new) }
     ensures err { OnErr result ((workers.new.items ≡ workers.old.items) × (boss.new ≡ boss.old)) }
 {
-    match Means::new(rt, alloc, workers.len(), depth) {
-        Ok(means) => {
-            let begun = mem::replace(workers, Vec::new(alloc));
-            *workers = direct_lanes(rt, begun, means, depth, boss, stack_size);
+    match open_sized(rt, alloc, workers, depth, stack_size) {
+        Ok(desk) => {
+            let mut desk = desk;
+            boss.direct(rt, &mut desk);
+            close_desk(rt, alloc, desk, workers);
             Ok(())
         }
         Err(fault) => Err(fault),
     }
+}
+
+/// Moves each worker into a thread of its own behind a lane of a new desk: the first half of `with_workers`, for a caller
+/// that gives the jobs by itself.
+///
+/// There are at most 65,535 workers, and a lane holds at most `depth` jobs, at most 64. `workers` is empty while the desk
+/// is open, and keeps the room for them; `close_desk` puts each in its place again. Where memory ran out, the only error,
+/// all stand there as before. The jobs of a lane whose thread could not be started are carried inside `Desk::take`.
+pub fn open_desk<R: Threads + Wait + Clone + Send + Drop + 'static, W: Worker + 'static>(
+    rt: &R,
+    alloc: Global,
+    workers: &mut Vec<W>,
+    depth: u32,
+) -> Result<Desk<W>, AllocError>
+where
+    W::Job: 'static,
+    W::Done: 'static,
+    requires lanes { vec_len workers.old ≤ 65535 }
+    requires depth { depth ≤ 64 }
+    ensures depth { IfOk result (λ desk. desk.depth ≡ depth) }
+    ensures begun { IfOk result (λ desk. desk.workers ≡ workers.old.items) }
+    ensures unused { IfOk result (λ desk. desk.lanes ≡ replicate (length workers.old.items) unused) }
+    ensures none { IfOk result (λ desk. workers.new.items ≡ []) }
+    ensures room { IfOk result (λ desk. length desk.workers ≤ vec_capacity workers.new) }
+    ensures err { OnErr result (workers.new.items ≡ workers.old.items) }
+{
+    open_sized(rt, alloc, workers, depth, None)
+}
+
+fn open_sized<R: Threads + Wait + Clone + Send + Drop + 'static, W: Worker + 'static>(
+    rt: &R,
+    alloc: Global,
+    workers: &mut Vec<W>,
+    depth: u32,
+    stack_size: Option<usize>,
+) -> Result<Desk<W>, AllocError>
+where
+    W::Job: 'static,
+    W::Done: 'static,
+    requires lanes { vec_len workers.old ≤ 65535 }
+    requires depth { depth ≤ 64 }
+    ensures depth { IfOk result (λ desk. desk.depth ≡ depth) }
+    ensures begun { IfOk result (λ desk. desk.workers ≡ workers.old.items) }
+    ensures unused { IfOk result (λ desk. desk.lanes ≡ replicate (length workers.old.items) unused) }
+    ensures none { IfOk result (λ desk. workers.new.items ≡ []) }
+    ensures room { IfOk result (λ desk. length desk.workers ≤ vec_capacity workers.new) }
+    ensures err { OnErr result (workers.new.items ≡ workers.old.items) }
+{
+    match Means::new(rt, alloc, workers.len(), depth) {
+        Ok(
+            Means {
+                ready,
+                parts,
+                lanes,
+                back,
+            },
+        ) => {
+            let begun = mem::replace(workers, back);
+            let lanes = open_lanes(rt, begun, parts, lanes, depth, stack_size);
+            Ok(Desk::new(depth, lanes, ready))
+        }
+        Err(fault) => Err(fault),
+    }
+}
+
+/// Ends the threads of a desk with no job out, and puts each worker in its place again: the second half of `with_workers`.
+/// What each worker then is, it is by having carried just the jobs that were given to its lane, in their order, and the
+/// outcomes taken there are theirs.
+pub fn close_desk<R: Threads, W: Worker>(rt: &R, alloc: Global, desk: Desk<W>, workers: &mut Vec<W>)
+    requires none_out { all_out desk ≡ 0 }
+    requires empty { workers.old.items ≡ [] }
+    requires room { length desk.workers ≤ vec_capacity workers.old }
+    ensures { EachRuns W.carries desk.workers desk.lanes workers.new.items }
+{
+    let back = mem::replace(workers, Vec::new(alloc));
+    *workers = desk.finish(rt, back);
 }
 
 // All that a run needs beside its workers, so that they move only once no memory is wanted any more.
@@ -117,36 +197,4 @@ impl<R: Clone + Drop, W: Worker> Means<R, W> {
             Err(fault) => Err(fault),
         }
     }
-}
-
-// Opens the lanes, lets the boss direct their workers, and brings these back.
-fn direct_lanes<R: Threads + Wait + Clone + Send + Drop + 'static, W: Worker + 'static, B: Boss<W>>(
-    rt: &R,
-    workers: Vec<W>,
-    means: Means<R, W>,
-    depth: u32,
-    boss: &mut B,
-    stack_size: Option<usize>,
-) -> Vec<W>
-where
-    W::Job: 'static,
-    W::Done: 'static,
-    requires few { vec_len workers ≤ 65535 }
-    requires shallow { depth ≤ 64 }
-    requires boss { B.may_direct boss.old (vec_len workers) depth }
-    requires parts { means.parts.items ≡ replicate (vec_len workers) depth }
-    requires lanes { (means.lanes.items ≡ []) × (vec_len workers ≤ vec_capacity means.lanes) }
-    requires back { (means.back.items ≡ []) × (vec_len workers ≤ vec_capacity means.back) }
-    ensures { HasRun W.carries B.directs workers.items boss.old result.items boss.new }
-{
-    let Means {
-        ready,
-        parts,
-        lanes,
-        back,
-    } = means;
-    let lanes = open_lanes(rt, workers, parts, lanes, depth, stack_size);
-    let mut desk = Desk::new(depth, lanes, ready);
-    boss.direct(rt, &mut desk);
-    desk.finish(rt, back)
 }
