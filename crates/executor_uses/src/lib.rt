@@ -2,5 +2,7 @@
 #![tactic(auto)]
 
 mod one_lane;
+mod single;
 
 pub use one_lane::doubled;
+pub use single::carried_apart;
