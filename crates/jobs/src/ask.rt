@@ -23,15 +23,6 @@ use crate::what::What;
 use s3_model::{Ask, JobId, Kind, Op, OutOfMemory, Place, Task, Text, Texts, UploadId};
 use std::alloc::Global;
 
-fn copy_of(text: &Option<Text>) -> Result<Option<Text>, OutOfMemory>
-    ensures { IfOk result (λ copy. copy ≡ text.now) }
-{
-    match text {
-        Some(text) => Ok(Some(text.copy()?)),
-        None => Ok(None),
-    }
-}
-
 fn copy_all(alloc: Global, texts: &Texts) -> Result<Texts, OutOfMemory>
     ensures { IfOk result (λ copies. copies.items ≡ texts.now.items) }
 {
@@ -150,7 +141,7 @@ fn put(task: &Task) -> Result<Ask, OutOfMemory>
     ensures { IfOk result (λ asked. (to : Target task.now)
         × (asked ≡ ask.Put to.bucket to.key task.now.content task.now.fresh)) }
 {
-    let content = copy_of(&task.content)?;
+    let content = Text::copy_option(&task.content)?;
     let to = dest(task)?;
     Ok(Ask::Put {
         bucket: to.bucket,
@@ -213,7 +204,7 @@ fn content_of(task: &Task) -> Result<Option<Text>, OutOfMemory>
 {
     match task.kind {
         Kind::Copy => Ok(None),
-        _ => copy_of(&task.content),
+        _ => Text::copy_option(&task.content),
     }
 }
 
@@ -369,7 +360,7 @@ fn list(
         bucket: bucket.copy()?,
         prefix: prefix.copy()?,
         delimited,
-        token: copy_of(token)?,
+        token: Text::copy_option(token)?,
     })
 }
 

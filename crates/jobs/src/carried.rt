@@ -1,8 +1,10 @@
 //! What lanes hand back.
 
+ghost use Rattle.std.specs.Prelude.{◌≡◌};
+
 use crate::ending::Ending;
 use crate::job::Job;
-use s3_model::Tries;
+use s3_model::{JobId, Tries};
 use std::marker::Model;
 
 /// A job that a lane carried, with the marks of its attempts and its ending.
@@ -24,4 +26,13 @@ impl Model for Carried {
     ghost view = { λ c. record { job = c.job; tries = c.tries; ending = c.ending } };
 
     ghost invariant = { λ c. IsEnded c.ending c.job.id.op c.job.part c.job.cell c.tries };
+}
+
+impl Carried {
+    /// The id of the job.
+    pub fn id(&self) -> JobId
+        ensures { result ≡ self.now.job.id }
+    {
+        self.job.id
+    }
 }

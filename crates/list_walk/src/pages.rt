@@ -53,15 +53,6 @@ impl Model for Pages {
         (record { entries = p.entries.items; prefixes = p.prefixes.items; empty = p.empty }) };
 }
 
-fn copy_token(token: &Option<Text>) -> Result<Option<Text>, OutOfMemory>
-    ensures { IfOk result (λ copy. copy ≡ token.now) }
-{
-    match token {
-        Some(token) => Ok(Some(token.copy()?)),
-        None => Ok(None),
-    }
-}
-
 fn is_empty(page: &Listed) -> bool
     ensures { result ≡ (count_of page.now == 0) }
 {
@@ -103,7 +94,7 @@ impl Pages {
             bucket: self.bucket.copy()?,
             prefix: self.prefix.copy()?,
             delimited: self.delimited,
-            token: copy_token(&self.token)?,
+            token: Text::copy_option(&self.token)?,
         }))
     }
 
@@ -229,7 +220,7 @@ impl Pages {
     {
         self.entries.reserve(page.entries.len())?;
         self.prefixes.reserve(page.prefixes.len())?;
-        let token = copy_token(&page.token)?;
+        let token = Text::copy_option(&page.token)?;
         let entries = copy_all(self.alloc, page.entries.as_slice())?;
         let prefixes = copy_all(self.alloc, page.prefixes.as_slice())?;
         self.empty = self.empty_with(page);

@@ -2,6 +2,7 @@
 use Rattle.std.specs.Prelude.{◌≡◌, ⊤, ℕ, Bool, true, false, not, List, [], ◌∷◌, Option, Some, None}
 use Rattle.std.specs.Option.{unwrap_or}
 use Rattle.std.specs.Str.{chars}
+use Rattle.s3_model.specs.Places.{IsObject}
 use Rattle.s3_model.specs.declared.places.Place.{Place}
 use Rattle.s3_model.specs.declared.tasks.Mode.{Mode}
 use Rattle.s3_model.specs.declared.tasks.Times.{Times}
@@ -83,3 +84,7 @@ arguments_of (word ∷ words) = roles Anything words
 pub record IsCommand (words : List (List ℕ)) (command : Command) : Type 0 where
   pub verb : verb_of words ≡ Some command.verb
   pub asks : Asks (arguments_of words) command
+
+-- an object is named
+abbrev pub NamesObject : Command → Type 0
+NamesObject command = IsObject command.from

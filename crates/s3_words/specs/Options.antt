@@ -52,6 +52,14 @@ abbrev pub is_sync : Verb → Bool
 is_sync Sync = true
 is_sync verb = false
 
+abbrev pub is_copy : Verb → Bool
+is_copy Cp = true
+is_copy verb = false
+
+abbrev pub is_listing : Verb → Bool
+is_listing Ls = true
+is_listing verb = false
+
 abbrev pub is_presign : Verb → Bool
 is_presign Presign = true
 is_presign verb = false

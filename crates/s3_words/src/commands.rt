@@ -1,7 +1,7 @@
 //! Commands.
 
 ghost use Rattle.std.specs.Prelude.{◌≡◌};
-ghost use Rattle.s3_words.specs.Options.{changes, recurses, transfers, verb_named};
+ghost use Rattle.s3_words.specs.Options.{changes, is_copy, is_listing, is_presign, recurses, transfers, verb_named};
 
 use path_filters::Filters;
 use s3_model::{Endpoint, Mode, Place, Text, Times};
@@ -73,5 +73,26 @@ impl Verb {
         ensures { result ≡ recurses self }
     {
         matches!(self, Verb::Cp | Verb::Mv | Verb::Rm | Verb::Ls)
+    }
+
+    /// Whether the command is `cp`.
+    pub fn is_copy(self) -> bool
+        ensures { result ≡ is_copy self }
+    {
+        matches!(self, Verb::Cp)
+    }
+
+    /// Whether the command is `ls`.
+    pub fn is_listing(self) -> bool
+        ensures { result ≡ is_listing self }
+    {
+        matches!(self, Verb::Ls)
+    }
+
+    /// Whether the command is `presign`.
+    pub fn is_presign(self) -> bool
+        ensures { result ≡ is_presign self }
+    {
+        matches!(self, Verb::Presign)
     }
 }

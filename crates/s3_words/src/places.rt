@@ -1,7 +1,7 @@
 //! The paths of a command.
 
-ghost use Rattle.std.specs.Prelude.{◌≡◌, ◌≢◌, ◌≤◌, ◌&&◌, ◌||◌, codes, length, nat_eq, true, OnOk, IfOk, IfErr, Some, None};
-ghost use Rattle.std.specs.List.{ends_with, list_all, list_any};
+ghost use Rattle.std.specs.Prelude.{◌≡◌, ◌≢◌, ◌≤◌, ◌&&◌, ◌||◌, length, true, OnOk, IfOk, IfErr, Some, None};
+ghost use Rattle.std.specs.List.{list_all, list_any};
 ghost use Rattle.s3_words.specs.Commands.{first_of, second_of};
 ghost use Rattle.s3_words.specs.Places.{
   first_is_single_source,
@@ -18,7 +18,7 @@ ghost use Rattle.s3_words.specs.Places.{
 ghost use Rattle.s3_words.specs.Values.{bad_unless};
 
 use crate::commands::Verb;
-use s3_model::{Place, Text, UriFault, WordFault};
+use s3_model::{Place, Text, UriFault, WordFault, ends_in_slash};
 use s3_paths::S3Uri;
 use std::alloc::Global;
 
@@ -91,12 +91,6 @@ fn has_key(place: &Place) -> bool
         Place::Object { key, .. } => !key.as_str().is_empty(),
         Place::File { .. } => false,
     }
-}
-
-fn ends_in_slash(text: &str) -> bool
-    ensures { result ≡ ends_with nat_eq text.now (codes "/") }
-{
-    text.ends_with("/")
 }
 
 fn is_single_source(place: &Place) -> bool

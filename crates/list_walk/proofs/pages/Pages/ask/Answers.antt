@@ -16,4 +16,4 @@ asked walk inside bucket prefix token same on e f h =
 
 pub returns : goal.returns
 returns c =
-    asked _ _ _ _ _ c.self.view_is c.if-self.false c.in_ok-copy.ensures c.in_ok-copy-2.ensures c.in_ok-copy_token.ensures
+    asked _ _ _ _ _ c.self.view_is c.if-self.false c.in_ok-copy.ensures c.in_ok-copy-2.ensures c.in_ok-copy_option.ensures
