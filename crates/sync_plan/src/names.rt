@@ -1,18 +1,11 @@
 //! The names of one side of a plan: relative paths, with what stands there.
 
-ghost use Rattle.std.specs.Prelude.{◌≡◌, ◌<◌, codes, nat_eq};
-ghost use Rattle.std.specs.List.{ends_with};
+ghost use Rattle.std.specs.Prelude.{◌≡◌, ◌<◌};
 ghost use Rattle.s3_model.specs.ContentTypes.{last_name};
 ghost use Rattle.sync_plan.specs.Errands.{behind, behind_prefix, is_marker, relative, text_of};
 ghost use Rattle.sync_plan.specs.Sides.{IsFirst};
 
-use s3_model::{Entry, Place};
-
-pub(crate) fn ends_in_slash(text: &str) -> bool
-    ensures { result ≡ ends_with nat_eq text.now (codes "/") }
-{
-    text.ends_with("/")
-}
+use s3_model::{Entry, Place, ends_in_slash};
 
 /// What follows the last `/`, or the whole path.
 fn last_name(path: &str) -> &str

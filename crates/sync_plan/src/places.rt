@@ -1,12 +1,11 @@
 //! Where a name comes from and goes to, and which names are left out.
 
 ghost use Rattle.std.specs.Prelude.{◌≡◌, ◌++◌, IfOk, if◌then◌else◌};
-ghost use Rattle.s3_paths.specs.Names.{key_skip, local_path};
+ghost use Rattle.s3_paths.specs.Names.{key_skip};
 ghost use Rattle.sync_plan.specs.Errands.{dest_at, is_joined, place_at, skip_by, skip_of, source_at, takes_name};
 
-use crate::names::ends_in_slash;
-use s3_model::{KeySkip, OutOfMemory, Place, Text};
-use s3_paths::name_skip;
+use s3_model::{KeySkip, OutOfMemory, Place, Text, ends_in_slash};
+use s3_paths::{joined, name_skip};
 use std::alloc::Global;
 
 /// In bytes.
@@ -27,13 +26,6 @@ fn is_joined(to: &Place, many: bool) -> bool
     many || takes_name(to)
 }
 
-fn local_path(alloc: Global, root: &str, path: &str) -> Result<Text, OutOfMemory>
-    ensures { IfOk result (λ text. text ≡ local_path root.now path.now) }
-{
-    let between = if ends_in_slash(root) { "" } else { "/" };
-    Text::joined(alloc, &[root, between, path])
-}
-
 fn below(alloc: Global, place: &Place, path: &str) -> Result<Place, OutOfMemory>
     ensures { IfOk result (λ made. made ≡ place_at place.now path.now) }
 {
@@ -43,20 +35,8 @@ fn below(alloc: Global, place: &Place, path: &str) -> Result<Place, OutOfMemory>
             key: Text::joined(alloc, &[key.as_str(), path])?,
         }),
         Place::File { path: root } => Ok(Place::File {
-            path: local_path(alloc, root.as_str(), path)?,
+            path: joined(alloc, root.as_str(), path)?,
         }),
-    }
-}
-
-fn copy(place: &Place) -> Result<Place, OutOfMemory>
-    ensures { IfOk result (λ made. made ≡ place.now) }
-{
-    match place {
-        Place::Object { bucket, key } => Ok(Place::Object {
-            bucket: bucket.copy()?,
-            key: key.copy()?,
-        }),
-        Place::File { path } => Ok(Place::File { path: path.copy()? }),
     }
 }
 
@@ -66,7 +46,7 @@ fn place_for(alloc: Global, place: &Place, join: bool, path: &str) -> Result<Pla
     if join {
         below(alloc, place, path)
     } else {
-        copy(place)
+        place.copy()
     }
 }
 

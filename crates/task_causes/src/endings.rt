@@ -2,12 +2,10 @@
 
 ghost use Rattle.std.specs.Prelude.{◌≡◌, is_some};
 ghost use Rattle.std.specs.Str.{bytes_eq};
-ghost use Rattle.s3_model.specs.Classes.{tried_again_codes};
-ghost use Rattle.s3_model.specs.Files.{is_listed};
 ghost use Rattle.task_acts.specs.Failures.{is_cut_short, is_unfinished};
 
 use jobs::{Carried, Ending, Job};
-use s3_model::Why;
+use s3_model::{Why, is_passing};
 use task_acts::Work;
 
 /// Whether a code has that name, compared whole.
@@ -15,16 +13,6 @@ pub(crate) fn is_code(code: &str, name: &str) -> bool
     ensures { result ≡ bytes_eq name.now code.now }
 {
     name == code
-}
-
-/// Whether a refusal with that code is over soon.
-#[tactic(auto, using(crate::proofs::Rows::one_of_three))]
-fn is_passing(code: &str) -> bool
-    ensures { result ≡ is_listed tried_again_codes code.now }
-{
-    is_code(code, "SlowDown")
-        || is_code(code, "ServiceUnavailable")
-        || is_code(code, "RequestTimeout")
 }
 
 /// Whether an ending behind so many attempts would be tried again.
