@@ -12,17 +12,11 @@ ghost use Rattle.result_lines.specs.Rows.{
   right_in,
 };
 
-use jiff_core::civil::Date;
-use s3_model::{Entry, OutOfMemory, Text};
+use s3_model::{Entry, OutOfMemory, Text, civil_time};
 use std::alloc::Global;
 use std::mem;
 
 const MICROS_PER_SECOND: u64 = 1_000_000;
-
-const SECONDS_PER_DAY: u64 = 86_400;
-
-/// 1970-01-01, in days since the first day that the calendar library has.
-const EPOCH: u32 = 4_371_587;
 
 #[tactic(auto, using(crate::proofs::PaddingLemmas::zeros))]
 fn two_digits(alloc: Global, n: u32) -> Result<Text, OutOfMemory>
@@ -119,10 +113,8 @@ fn timed_row(alloc: Global, micros: u64, rest: &str) -> Result<Text, OutOfMemory
     requires { micros < 253402300800000000 }
     ensures { IfOk result (IsTimed micros rest.now) }
 {
-    let seconds = micros / MICROS_PER_SECOND;
-    let date = Date::from_days_since_min(EPOCH + (seconds / SECONDS_PER_DAY) as u32);
-    let clock = (seconds % SECONDS_PER_DAY) as u32;
-    moment_row(alloc, date.year as u16, date.month, date.day, clock, rest)
+    let time = civil_time(micros / MICROS_PER_SECOND);
+    moment_row(alloc, time.year, time.month, time.day, time.second, rest)
 }
 
 /// The size right in 10 places.
