@@ -26,7 +26,7 @@ use Rattle.file_laws.proofs.Ranges.{AreSound, range_in, range_inside, ranges_apa
 use Rattle.file_laws.proofs.Runs.{leads_at, through}
 use Rattle.file_laws.proofs.TempFiles as temps
 use Rattle.file_laws.proofs.TempFiles.{Absent, InUse, Stayed, Untouched, write_makes}
-use Rattle.file_laws.proofs.Written.{written_beside, written_length, written_there}
+use Rattle.local_files.proofs.Written.{written_beside, written_length, written_there}
 
 swapped : {A B : Type 0} → A ⊎ B → B ⊎ A
 swapped (inl a) = inr a

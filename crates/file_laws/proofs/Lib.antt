@@ -14,4 +14,3 @@ pub mod Requests
 pub mod Resized
 pub mod Runs
 pub mod TempFiles
-pub mod Written

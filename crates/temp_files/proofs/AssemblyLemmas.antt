@@ -7,7 +7,7 @@ use Rattle.std.specs.FinMap.{get, insert, remove}
 use Rattle.std.specs.Prelude.{IfOk, OnErr, OnOk}
 use Rattle.std.proofs.lemmas.List.{ext_get_or, get_or-drop, get_or-take}
 use Rattle.std.proofs.lemmas.List.Elements.{Contains-append_cases}
-use Rattle.file_laws.proofs.Written.{written_beside, written_length, written_there}
+use Rattle.local_files.proofs.Written.{written_beside, written_length, written_there}
 use Rattle.local_files.specs.Calls.{Leads, written_at}
 use Rattle.local_files.specs.Calls as calls
 use Rattle.s3_model.specs.Files.{HeldFile}

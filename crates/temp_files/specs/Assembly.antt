@@ -5,7 +5,10 @@ use Rattle.std.specs.FinMap.{get}
 use Rattle.s3_model.specs.Files.{HeldFile}
 use Rattle.s3_model.specs.Maps.{MapOf}
 use Rattle.s3_outside.specs.Files.{SeenFiles}
+use Rattle.s3_outside.specs.FileCalls.{IsMade}
 use Rattle.s3_outside.specs.declared.files.FileFault.{FileFault}
+use Rattle.s3_outside.specs.declared.files.FileFault.TheVariants as fault
+use Rattle.s3_outside.specs.declared.files.FileNote.TheVariants as note
 
 -- an assembly: its temporary file, its destination, and how many bytes it will have
 pub record Assembling : Type 0 where
@@ -56,6 +59,11 @@ BothSeen old new P = Unit {0}
 -- the file at a path has these bytes
 abbrev pub HasBytes : MapOf HeldFile → List ℕ → List ℕ → Type 0
 HasBytes held path bytes = (file : HeldFile) × (get held path ≡ Some file) × (file.bytes ≡ bytes)
+
+-- No temporary file was made: memory ran out, no call was made and all is as it was, or a call was made that failed so.
+abbrev pub IsUnmade : List ℕ → FileFault → (old new : Option SeenFiles) → (before after : ℕ) → Type 0
+IsUnmade dest why old new before after = ((why ≡ fault.Memory) × (new ≡ old) × (after ≡ before))
+    ⊎ IsMade (note.MakeTemp dest (Err why)) old new before after
 
 -- why a destination was not replaced, without the assembly that came back
 abbrev pub refusal_of : Result Unit (Assembling × FileFault) → Result Unit FileFault

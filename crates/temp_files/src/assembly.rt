@@ -29,6 +29,7 @@ ghost use Rattle.temp_files.specs.Assembly.{
   HasBytes,
   Holds,
   IsApart,
+  IsUnmade,
   Range,
   SparesOthers,
   refusal_of,
@@ -80,6 +81,8 @@ impl Assembly {
             (new.store.held ≡ old.store.held)) }
         ensures calls { IfOk result (λ made. IsMade (FileNote.MakeTemp dest.now (Ok made.temp)) (F.seen files.old)
             (F.seen files.new) (F.faults files.old) (F.faults files.new)) }
+        ensures unmade { IfErr result (λ why. IsUnmade dest.now why (F.seen files.old) (F.seen files.new)
+            (F.faults files.old) (F.faults files.new)) }
         ensures front { IfErr result (NamesFront dest.now) }
         ensures way { IfSome (F.seen files.old) (λ seen. IfErr result (HasObstacle seen.store dest.now)) }
         ensures free { IfSome (F.seen files.old) (λ seen. OnOk result (IsFree seen.store dest.now)) }

@@ -1,4 +1,5 @@
-use Rattle.std.proofs.Common.{Ok, rules, arith}
+use Rattle.std.proofs.Common.{Ok, inr, rules, arith}
+use Rattle.std.proofs.lemmas.Result.{err_from_is_err_and}
 use Rattle.temp_files.proofs.AssemblyLemmas.{made_empty, made_spares}
 use Rattle.temp_files.proofs.assembly.Assembly.make.Goals as goal
 
@@ -31,6 +32,11 @@ returns-clause-free g c = c.in_ok-temp.ensures.free
 
 pub returns-clause-later : goal.returns-clause-later
 returns-clause-later g c = search rules
+
+pub returns-in_err-temp-clause-unmade : goal.returns-in_err-temp-clause-unmade
+returns-in_err-temp-clause-unmade g c =
+    let why = err_from_is_err_and c.from_residual.result c.from_residual.ensures.1 in
+    rw (why.1, why.2) (inr c.in_err-temp.ensures.calls)
 
 pub returns-in_err-temp-clause-front : goal.returns-in_err-temp-clause-front
 returns-in_err-temp-clause-front g c = search rules
