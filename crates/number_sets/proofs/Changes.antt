@@ -9,9 +9,7 @@ use Rattle.std.proofs.lemmas.List.FromFn.{fill_by_all, get_or-map-range_with_len
 use Rattle.std.proofs.lemmas.List.Sums.{position_or_len_is}
 use Rattle.std.proofs.lemmas.Nat.Bits.{bit_at-zero}
 use Rattle.number_sets.specs.Members.{AreNone, IsFirstUsed, IsSummed, flags, has_bit, is_set}
-
-false_true : {P : Type 0} → false ≡ true → P
-false_true e = cc
+use Rattle.shared_lemmas.proofs.Clashes.{clash}
 
 -- ---- one bit
 
@@ -100,7 +98,7 @@ none_summed count long small is = record {
   small = small;
   long = length-replicate long 0 ∙ is;
   summary_long = length-replicate (long / 64 + 1) 0 ∙ ap (λ (n : ℕ). n / 64 + 1) (sym (length-replicate long 0));
-  below = λ n member. (false_true (sym (no_bit long n) ∙ member));
+  below = λ n member. (clash (sym (no_bit long n) ∙ member));
   summed = λ j. no_bit (long / 64 + 1) j ∙ sym (ap (λ (v : ℕ). not (v == 0)) (no_word long j));
 }
 
@@ -124,12 +122,12 @@ none_lower words index t within before zeros n below = elim (cases_lt (n / 64) i
 
 -- a word is used where the summary says so
 used : (v : ℕ) → not (v == 0) ≡ true → 0 < v
-used zero e = (false_true e)
+used zero e = (clash e)
 used (suc v) e = omega arith
 
 unused : (v : ℕ) → not (v == 0) ≡ false → v ≡ 0
 unused zero e = refl
-unused (suc v) e = (false_true (sym e ∙ ap not (ne_eqb (suc v) 0 (λ is. omega arith))))
+unused (suc v) e = (clash (sym e ∙ ap not (ne_eqb (suc v) 0 (λ is. omega arith))))
 
 pub first_word : (count : ℕ) (words summary : List ℕ) (index : ℕ) → IsSummed count words summary → has_bit summary index ≡ true → AreNone summary index
     → IsFirstUsed words index

@@ -4,7 +4,7 @@ use Rattle.std.specs.Prelude.{IfOk}
 use Rattle.std.specs.List.{AllPass, list_any, list_all}
 use Rattle.std.specs.Str.Pattern.{RFindsChar, SplitsAroundMatch}
 use Rattle.std.proofs.Math.Seq.{split_at}
-use Rattle.std.proofs.lemmas.Bool.{and_from, and_parts, eqb-true, le-leb}
+use Rattle.std.proofs.lemmas.Bool.{and_from, and_parts, eqb-true, false≢true, le-leb, or_from, or_right}
 use Rattle.std.proofs.lemmas.List.{append_assoc, length-append, drop_at, take_at}
 use Rattle.std.proofs.lemmas.List.Sums.{AllPass-from_list_all, list_all-from_AllPass}
 use Rattle.std.proofs.lemmas.List.Folds.{list_all-append}
@@ -13,6 +13,7 @@ use Rattle.std.proofs.lemmas.Str.Pattern.{NoCharPasses-char}
 use Rattle.s3_model.specs.TempNames.{is_lower_hex, is_temp_ending, is_temp_name}
 use Rattle.local_files.specs.Calls.{IsTempFor, folder_of}
 use Rattle.s3_outside.specs.FileCalls.{IsStem, IsTempPath}
+use Rattle.shared_lemmas.proofs.Tests.{or_false}
 
 abbrev is_slash : ℕ → Bool
 is_slash byte = byte == 47
@@ -20,21 +21,13 @@ is_slash byte = byte == 47
 apart_from : (byte : ℕ) → (byte ≡ 47 → ⊥) → is_slash byte ≡ false
 apart_from byte other = grind arith
 
-or_false : (a b : Bool) → a ≡ false → b ≡ false → (a || b) ≡ false
-or_false true b h g = h
-or_false false b h g = g
-
-or_true_right : (a b : Bool) → b ≡ true → (a || b) ≡ true
-or_true_right true b h = refl
-or_true_right false b h = h
-
 slashless : (bytes : List ℕ) → ((k : ℕ) → k < length bytes → get_or bytes k 0 ≡ 47 → ⊥) → list_any is_slash bytes ≡ false
 slashless [] none = refl
-slashless (byte ∷ bytes) none = or_false (is_slash byte) (list_any is_slash bytes) (apart_from byte (none 0 (omega arith))) (slashless bytes (λ k inside. none (suc k) (omega arith)))
+slashless (byte ∷ bytes) none = or_from (is_slash byte) (list_any is_slash bytes) (apart_from byte (none 0 (omega arith))) (slashless bytes (λ k inside. none (suc k) (omega arith)))
 
 has_slash : (front back : List ℕ) → list_any is_slash (front ++ 47 ∷ back) ≡ true
 has_slash [] back = refl
-has_slash (byte ∷ front) back = or_true_right (is_slash byte) (list_any is_slash (front ++ 47 ∷ back)) (has_slash front back)
+has_slash (byte ∷ front) back = or_right (is_slash byte) (list_any is_slash (front ++ 47 ∷ back)) (has_slash front back)
 
 folder_none : (path : List ℕ) → list_any is_slash path ≡ false → folder_of path ≡ []
 folder_none [] none = refl
@@ -108,13 +101,6 @@ any_append (byte ∷ front) back = ap (λ (b : Bool). is_slash byte || b) (any_a
     or_assoc true b c = refl
     or_assoc false b c = refl
 
-false_true : false ≡ true → ⊥
-false_true e = cc
-
-or_none : (a : Bool) → (a || false) ≡ a
-or_none true = refl
-or_none false = refl
-
 any_each : (byte : ℕ) (path : List ℕ) → list_any is_slash (folder_of path) ≡ list_any is_slash path → (b : Bool) → list_any is_slash (byte ∷ path) ≡ b → list_any is_slash (if b then byte ∷ folder_of path else []) ≡ b
 any_each byte path same true e = ap (λ (c : Bool). is_slash byte || c) same ∙ e
 any_each byte path same false e = refl
@@ -127,7 +113,7 @@ again_each : (byte : ℕ) (path tail : List ℕ) → list_any is_slash tail ≡ 
     → folder_of ((if b then byte ∷ folder_of path else []) ++ tail) ≡ (if b then byte ∷ folder_of path else [])
 again_each byte path tail none again true e =
     let some : list_any is_slash (byte ∷ (folder_of path ++ tail)) ≡ true =
-    ap (λ (c : Bool). is_slash byte || c) (any_append (folder_of path) tail ∙ ap (λ (c : Bool). c || list_any is_slash tail) (any_folder path) ∙ ap (λ (c : Bool). list_any is_slash path || c) none ∙ or_none (list_any is_slash path)) ∙ e in
+    ap (λ (c : Bool). is_slash byte || c) (any_append (folder_of path) tail ∙ ap (λ (c : Bool). c || list_any is_slash tail) (any_folder path) ∙ ap (λ (c : Bool). list_any is_slash path || c) none ∙ or_false (list_any is_slash path)) ∙ e in
     ap (λ (c : Bool). if c then byte ∷ folder_of (folder_of path ++ tail) else []) some ∙ ap (λ (bytes : List ℕ). byte ∷ bytes) again
 again_each byte path tail none again false e = folder_none tail none
 
@@ -153,7 +139,7 @@ take_none (suc n) (byte ∷ path) none = both (is_slash byte) (list_any is_slash
     both false b h f = f h
 
 hex_each : (byte : ℕ) → is_lower_hex byte ≡ true → (b : Bool) → is_slash byte ≡ b → b ≡ false
-hex_each byte hex true e = absurd (false_true (sym (ap is_lower_hex (eqb-true byte 47 e)) ∙ hex))
+hex_each byte hex true e = absurd (false≢true (sym (ap is_lower_hex (eqb-true byte 47 e)) ∙ hex))
 hex_each byte hex false e = refl
 
 hex_apart : (byte : ℕ) → is_lower_hex byte ≡ true → is_slash byte ≡ false
@@ -161,7 +147,7 @@ hex_apart byte hex = hex_each byte hex (is_slash byte) refl
 
 hex_none : (digits : List ℕ) → list_all is_lower_hex digits ≡ true → list_any is_slash digits ≡ false
 hex_none [] hex = refl
-hex_none (byte ∷ digits) hex = let parts = and_parts (is_lower_hex byte) (list_all is_lower_hex digits) hex in or_false (is_slash byte) (list_any is_slash digits) (hex_apart byte parts.0) (hex_none digits parts.1)
+hex_none (byte ∷ digits) hex = let parts = and_parts (is_lower_hex byte) (list_all is_lower_hex digits) hex in or_from (is_slash byte) (list_any is_slash digits) (hex_apart byte parts.0) (hex_none digits parts.1)
 
 named_temp : (stem digits name : List ℕ) → name ≡ stem ++ codes "." ++ digits ++ codes ".s3part" → length digits ≡ 8 → AllPass is_lower_hex digits → is_temp_name name ≡ true
 named_temp stem digits name is eight hex =
@@ -178,7 +164,7 @@ pub temp_for : (dest temp : List ℕ) → IsTempPath dest temp → (temp ≡ des
 temp_for dest temp is apart =
     let tail = is.stem ++ (codes "." ++ (is.digits ++ codes ".s3part")) in
     let none : list_any is_slash tail ≡ false =
-    any_append is.stem (codes "." ++ (is.digits ++ codes ".s3part")) ∙ or_false (list_any is_slash is.stem) (list_any is_slash (is.digits ++ codes ".s3part")) (ap (list_any is_slash) is.cut.front ∙ take_none is.cut.count (drop (length (folder_of dest)) dest) (name_none dest)) (any_append is.digits (codes ".s3part") ∙ or_false (list_any is_slash is.digits) false (hex_none is.digits (list_all-from_AllPass is_lower_hex is.digits is.hex)) refl) in
+    any_append is.stem (codes "." ++ (is.digits ++ codes ".s3part")) ∙ or_from (list_any is_slash is.stem) (list_any is_slash (is.digits ++ codes ".s3part")) (ap (list_any is_slash) is.cut.front ∙ take_none is.cut.count (drop (length (folder_of dest)) dest) (name_none dest)) (any_append is.digits (codes ".s3part") ∙ or_from (list_any is_slash is.digits) false (hex_none is.digits (list_all-from_AllPass is_lower_hex is.digits is.hex)) refl) in
     let whole : temp ≡ folder_of dest ++ tail = is.path ∙ simp append_assoc in
     (apart, ap folder_of whole ∙ folder_again dest tail none, named_temp (folder_of dest ++ is.stem) is.digits temp is.path is.eight is.hex)
 

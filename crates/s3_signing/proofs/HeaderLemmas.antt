@@ -9,16 +9,14 @@ use Rattle.s3_signing.specs.declared.headers.Header.{Header}
 use Rattle.s3_signing.specs.Pairs.{Pair}
 use Rattle.s3_signing.specs.Headers.{text_pairs, pairs_of, next_piece}
 use Rattle.s3_signing.specs.Signing.{canonical_header, parameter, parameters, signed_names, words}
-
-suc_not_zero : (n : ℕ) → nat_eq (suc n) 0 ≡ false
-suc_not_zero n = grind (arith, nat_tests)
+use Rattle.shared_lemmas.proofs.Tests.{suc_is_not_zero}
 
 -- one more piece of a joined text
 pub join_more : (c : ℕ) (pieces : List (List ℕ)) (piece : List ℕ) → join_with_byte c (pieces ++ piece ∷ []) ≡ join_with_byte c pieces ++ next_piece (c ∷ []) (nat_eq (length pieces) 0) piece
 join_more c [] piece = refl
 join_more c (x ∷ []) piece = refl
 join_more c (x ∷ y ∷ rest) piece =
-    rw (join_more c (y ∷ rest) piece, suc_not_zero (length rest), suc_not_zero (suc (length rest))) (sym (append_assoc x (c ∷ join_with_byte c (y ∷ rest)) ((c ∷ []) ++ piece)))
+    rw (join_more c (y ∷ rest) piece, suc_is_not_zero (length rest), suc_is_not_zero (suc (length rest))) (sym (append_assoc x (c ∷ join_with_byte c (y ∷ rest)) ((c ∷ []) ++ piece)))
 
 -- one more name
 pub signed_names_more : (headers : List Header) (i : ℕ) (d : Header) → i < length headers → signed_names (pairs_of (take (i + 1) headers)) ≡ signed_names (pairs_of (take i headers)) ++ next_piece (59 ∷ []) (nat_eq i 0) (get_or headers i d).name.now

@@ -12,8 +12,8 @@ some_is_none x e = cc
 pub no_some : {X P : Type 0} {x : X} → Some x ≡ None → P
 no_some e = cc
 
-pub err_is : {T E : Type 0} {a b : E} → ◌≡◌ {A = Result T E} (Err a) (Err b) → a ≡ b
-err_is e = cc
+pub err_is : {T E : Type 0} (a b : E) → ◌≡◌ {A = Result T E} (Err a) (Err b) → a ≡ b
+err_is a b e = cc
 
 pub one_is_two : ◌≡◌ {A = ℕ} 1 2 → ⊥
 one_is_two e = omega arith

@@ -1,8 +1,10 @@
+pub mod AfterLast
 pub mod Clashes
 pub mod Filled
 pub mod Lists
 pub mod Maps
 pub mod Members
 pub mod Options
+pub mod Orders
 pub mod Places
 pub mod Tests

@@ -1,7 +1,9 @@
 -- Lists by their first member, and lists that are equal.
-use Rattle.std.proofs.Common.{◌≡◌, ◌≢◌, ◌∙◌, ◌≤◌, ◌==◌, true, false, List, [], ◌∷◌, ◌++◌, length, map, ap, sym, refl, arith}
-use Rattle.std.proofs.lemmas.Bool.{eq-eqb, eqb-true, false≢true}
-use Rattle.std.proofs.lemmas.List.{nil_from_length}
+use Rattle.std.proofs.Common.{◌+◌, ℕ, nat_eq, ◌≡◌, ◌≢◌, ◌∙◌, ◌≤◌, ◌==◌, true, false, List, [], ◌∷◌, ◌++◌, length, map, ap, sym, refl, arith}
+use Rattle.std.specs.Cmp.{nat_eq_equiv}
+use Rattle.std.specs.List.{starts_with}
+use Rattle.std.proofs.lemmas.Bool.{and_from, eq-eqb, eqb-true, false≢true}
+use Rattle.std.proofs.lemmas.List.{length-append, nil_from_length}
 
 pub head_is : {X : Type 0} (x y : X) (xs ys : List X) → x ∷ xs ≡ y ∷ ys → x ≡ y
 head_is x y xs ys e = cc
@@ -37,3 +39,10 @@ none_from_test xs e = nil_from_length xs (eqb-true (length xs) 0 e)
 
 pub some_from_test : {X : Type 0} (xs : List X) → (length xs == 0) ≡ false → xs ≢ []
 some_from_test xs e none = false≢true (sym e ∙ eq-eqb (length xs) 0 (ap length none))
+
+pub starts_front : (front rest : List ℕ) → starts_with nat_eq (front ++ rest) front ≡ true
+starts_front [] rest = refl
+starts_front (x ∷ front) rest = and_from _ _ (nat_eq_equiv.refl x) (starts_front front rest)
+
+pub one_longer : {X : Type 0} (front : List X) (x : X) (n : ℕ) → length front ≡ n → length (front ++ x ∷ []) ≡ n + 1
+one_longer front x n long = length-append front (x ∷ []) ∙ ap (λ (m : ℕ). m + 1) long

@@ -1,20 +1,19 @@
 -- Maps at one key: what is there after a change.
 use Rattle.shared_lemmas.proofs.Clashes.{none_is_some, some_is}
+use Rattle.shared_lemmas.proofs.Orders.{equal_from_test}
 use Rattle.std.proofs.Common.{[], ◌≡◌, ◌∙◌, ◌⊎◌, ℕ, Bool, true, false, cond, List, Option, Some, None, refl, sym, ap, inl, inr}
 use Rattle.std.proofs.lemmas.Bool.{cases_Bool}
 use Rattle.std.proofs.lemmas.List.{nil_from_length}
+use Rattle.std.proofs.lemmas.Cmp.{tied_itself}
+use Rattle.std.proofs.lemmas.Map.Text.{is_eq-slice_cmp}
+use Rattle.std.specs.Str.{bytes_eq}
 use Rattle.std.specs.Prelude.{IsNone}
-use Rattle.std.specs.Ordering.{eq_by_cmp, is_eq, nat_cmp}
+use Rattle.std.specs.Ordering.{eq_by_cmp, nat_cmp}
 use Rattle.std.specs.declared.cmp.Ordering.{Ordering}
-use Rattle.std.specs.declared.cmp.Ordering.TheVariants.{Less, Equal, Greater}
+use Rattle.std.specs.declared.cmp.Ordering.TheVariants.{Less}
 use Rattle.std.specs.Cmp.{IsTotalOrder, eq_by_cmp_equiv}
 use Rattle.std.specs.Cmp.Lexicographic.{slice_cmp, nat_list_cmp_total}
 use Rattle.std.specs.FinMap.{entries, len-entries, len-empty, FinMap, get, insert, remove, empty, get-insert, get-remove, get-empty, IsAntisymmetric, slice_cmp-IsAntisymmetric, nat_cmp-IsAntisymmetric}
-
-pub equal_from_test : (o : Ordering) → is_eq o ≡ true → o ≡ Equal
-equal_from_test Less e = cc
-equal_from_test Equal e = refl
-equal_from_test Greater e = cc
 
 -- nothing and something are never found at once
 pub not_both : {V : Type 0} (found : Option V) (w : V) → found ≡ None → found ≡ Some w → ⊥
@@ -86,3 +85,10 @@ text_decided x y = key_decided nat_list_cmp_total text_exact x y
 
 pub text_same : (x y : List ℕ) → eq_by_cmp (slice_cmp nat_cmp) x y ≡ true → x ≡ y
 text_same x y e = text_exact x y (equal_from_test _ e)
+
+pub same_bytes : (x y : List ℕ) → bytes_eq x y ≡ true → x ≡ y
+same_bytes x y e = text_exact x y (equal_from_test _ (is_eq-slice_cmp x y ∙ e))
+
+-- a text is not before itself
+pub not_before_itself : (x : List ℕ) → slice_cmp nat_cmp x x ≡ Less → ⊥
+not_before_itself x below = let tied = tied_itself nat_list_cmp_total x in absurd cc

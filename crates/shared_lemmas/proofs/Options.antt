@@ -26,3 +26,7 @@ from_some (Some y) x e h = h
 pub not_hidden : {X : Type 0} (b : Bool) (o : Option X) (x : X) → (if b then None else o) ≡ Some x → b ≡ false
 not_hidden true o x e = absurd (none_is_some x e)
 not_hidden false o x e = refl
+
+pub or_none : {X : Type 0} (o : Option X) → option_or o None ≡ o
+or_none None = refl
+or_none (Some x) = refl

@@ -1,6 +1,6 @@
 -- Tests that are known to be true or false.
 use Rattle.shared_lemmas.proofs.Clashes.{clash, true_is_false}
-use Rattle.std.proofs.Common.{◌≡◌, ◌≢◌, ◌⊎◌, ◌<◌, ◌≤◌, ◌==◌, ◌&&◌, ◌||◌, ℕ, suc, Bool, true, false, T, not, nat_lt, refl, sym, arith, if◌then◌else◌}
+use Rattle.std.proofs.Common.{◌≡◌, ◌≢◌, ◌⊎◌, ◌↔◌, ◌<◌, ◌≤◌, ◌==◌, ◌&&◌, ◌||◌, ℕ, suc, Bool, true, false, T, not, nat_lt, refl, sym, arith, if◌then◌else◌}
 
 pub same_number : (n : ℕ) → (n == n) ≡ true
 same_number n = grind arith
@@ -59,3 +59,18 @@ false_if_clash false f = refl
 pub if_false : {X : Type 0} (b : Bool) (x y : X) → b ≡ false → (if b then x else y) ≡ y
 if_false true x y e = clash (sym e)
 if_false false x y e = refl
+
+pub iff_chain : {P Q R : Type 0} → P ↔ Q → Q ↔ R → P ↔ R
+iff_chain h k = (λ p. k.0 (h.0 p), λ r. h.1 (k.1 r))
+
+pub and_true : (b : Bool) → (b && true) ≡ b
+and_true true = refl
+and_true false = refl
+
+pub and_false : (b : Bool) → (b && false) ≡ false
+and_false true = refl
+and_false false = refl
+
+pub or_false : (b : Bool) → (b || false) ≡ b
+or_false true = refl
+or_false false = refl

@@ -1,4 +1,4 @@
-use Rattle.std.proofs.Common.{◌≡◌, ◌∙◌, ◌<◌, ◌≤◌, ℕ, Bool, List, true, false, get_or, set, length, length-set, arith, ap, inl, inr}
+use Rattle.std.proofs.Common.{◌∙◌, Bool, List, true, false, get_or, length, length-set, arith, ap, inl, inr}
 use Rattle.std.proofs.lemmas.Bool.{cases_eq}
 use Rattle.std.proofs.lemmas.List.{get_or-set_same, get_or-set_other}
 use Rattle.number_sets.proofs.Changes.{all_members}

@@ -1,5 +1,6 @@
--- The last name of a path.
-use Rattle.std.proofs.Common.{◌≡◌, ◌≢◌, ◌==◌, ◌<◌, ◌≤◌, ◌-◌, ◌+◌, ◌∙◌, ℕ, true, false, not, List, None, ap, arith, length, drop, get_or}
+-- What is behind the last of a character.
+use Rattle.std.proofs.Common.{◌≡◌, ◌==◌, ◌<◌, ◌≤◌, ◌-◌, ◌+◌, ◌∙◌, ℕ, not, List, None, ap, arith, length, drop, get_or}
+use Rattle.shared_lemmas.proofs.Tests.{is_other, not_other}
 use Rattle.std.specs.Char.{len_utf8}
 use Rattle.std.specs.Str.Pattern.{RFindsChar, SplitsAroundMatch}
 use Rattle.std.specs.List.{after_last, suffix_len}
@@ -7,12 +8,6 @@ use Rattle.std.proofs.lemmas.List.{length-drop, get_or-drop}
 use Rattle.std.proofs.lemmas.List.Sums.{suffix_len_is}
 use Rattle.std.proofs.lemmas.Str.{len_utf8_ascii}
 use Rattle.std.proofs.lemmas.Str.Pattern.{NoCharPasses-char}
-
-is_other : (b c : ℕ) → b ≢ c → not (b == c) ≡ true
-is_other b c other = grind arith
-
-is_same : (b c : ℕ) → b ≡ c → not (b == c) ≡ false
-is_same b c same = grind arith
 
 module _ (c : ℕ) (low : c < 128) (bs : List ℕ) where
   pub none_in : RFindsChar c bs None → bs ≡ after_last (λ b. b == c) bs
@@ -27,7 +22,7 @@ module _ (c : ℕ) (low : c < 128) (bs : List ℕ) where
       (λ k from inside. is_other (get_or bs k 0) c (λ same.
       NoCharPasses-char c (drop j bs) (k - j) found.0 low (omega (arith, length-drop j bs))
       (get_or-drop j bs (k - j) 0 ∙ (ap (λ (n : ℕ). get_or bs n 0) (back_at j k from) ∙ same))))
-      (λ some. is_same (get_or bs (j - 1) 0) c (ap (λ (n : ℕ). get_or bs n 0) (before i j found.1.ends) ∙ found.1.byte low)) in
+      (λ some. not_other (get_or bs (j - 1) 0) c (ap (λ (n : ℕ). get_or bs n 0) (before i j found.1.ends) ∙ found.1.byte low)) in
       let start : j ≡ length bs - suffix_len (λ b. not (b == c)) bs = omega (arith, after) in
       is_back ∙ ap (λ (n : ℕ). drop n bs) start
     where
