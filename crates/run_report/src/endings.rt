@@ -100,18 +100,6 @@ pub fn end_not_a_file(alloc: Global, path: Text, mode: Mode) -> Result<Executed,
     })
 }
 
-fn copy_of(place: &Place) -> Result<Place, OutOfMemory>
-    ensures { IfOk result (λ copy. copy ≡ place.now) }
-{
-    match place {
-        Place::Object { bucket, key } => Ok(Place::Object {
-            bucket: bucket.copy()?,
-            key: key.copy()?,
-        }),
-        Place::File { path } => Ok(Place::File { path: path.copy()? }),
-    }
-}
-
 /// A run whose file is skipped.
 pub fn end_skipped(
     alloc: Global,
@@ -127,7 +115,7 @@ pub fn end_skipped(
     let mut skips = list_of(alloc, 1)?;
     let mut warnings = list_of(alloc, 1)?;
     skips.push(Warning::Skipped {
-        place: copy_of(&place)?,
+        place: place.copy()?,
         why,
     });
     let warning = Warning::Skipped { place, why };
