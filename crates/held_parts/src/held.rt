@@ -22,7 +22,7 @@ ghost use Rattle.held_parts.specs.Held.{
 };
 
 use chunk_plan::PartPool;
-use s3_model::{OutOfMemory, Part};
+use s3_model::{OutOfMemory, Part, nones};
 use std::alloc::Global;
 use std::marker::Model;
 use std::mem;
@@ -53,16 +53,6 @@ impl Model for HeldParts {
     ghost view = { λ h. record { pool = h.pool; slots = h.slots.items } };
 
     ghost invariant = { λ h. IsTable h.pool h.slots.items };
-}
-
-fn empty(alloc: Global, count: usize) -> Result<Vec<Option<Held>>, OutOfMemory>
-    ensures { IfOk result (λ slots. slots.items ≡ replicate count None) }
-{
-    let mut slots = Vec::with_capacity(alloc, count)?;
-    for _ in 0..count {
-        slots.push(None)?;
-    }
-    Ok(slots)
 }
 
 /// Whether a place is that of the piece.
@@ -130,7 +120,7 @@ impl HeldParts {
         ensures slots { IfOk result (λ held. held.slots ≡ replicate count None) }
     {
         let pool = PartPool::make(alloc, count, bytes)?;
-        let slots = empty(alloc, count as usize)?;
+        let slots = nones(alloc, count as usize)?;
         Ok(HeldParts { pool, slots })
     }
 

@@ -3,7 +3,8 @@ use Rattle.std.specs.Prelude.{◌≡◌, ℕ, List}
 use Rattle.s3_model.specs.declared.settings.Keys.{Keys}
 use Rattle.s3_requests.specs.declared.head.Key.{Key}
 use Rattle.s3_signing.specs.Signing.{signing_key}
-use Rattle.s3_signing.specs.Times.{basic_date, civil_day, date_text}
+use Rattle.s3_model.specs.CivilTimes.{civil_day}
+use Rattle.s3_signing.specs.Times.{basic_date, date_text}
 
 -- the key is the signing key of the moment's date
 abbrev pub IsKey : Key → Type 0

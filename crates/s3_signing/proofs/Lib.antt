@@ -3,4 +3,3 @@ pub mod HeaderLemmas
 pub mod JoinLemmas
 pub mod PathLemmas
 pub mod SortLemmas
-pub mod TimesLemmas
