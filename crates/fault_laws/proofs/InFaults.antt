@@ -3,6 +3,7 @@ use Rattle.std.proofs.Common.{◌≡◌, ◌∙◌, ◌-◌, ◌⊎◌, ⊎_elim
 use Rattle.std.proofs.Common.{refl, sym, ap, subst, arith, inl, inr}
 use Rattle.std.specs.Bool.{MatchBool}
 use Rattle.std.proofs.lemmas.Bool.{cases_Bool, false≢true}
+use Rattle.std.proofs.lemmas.Option.{none-some, same_Some}
 use Rattle.reply_values.specs.References.{IsUnescaped}
 use Rattle.reply_xml.specs.declared.elements.Element.{Element}
 use Rattle.reply_xml.specs.declared.faults.DocFault.{DocFault}
@@ -21,16 +22,16 @@ use Rattle.reply_xml.specs.Tables.{Done, IsAgain, IsFresh, IsOutside, IsParentOf
 use Rattle.reply_xml.specs.Tags.{NameEnds, NamesTag}
 use Rattle.reply_xml.specs.Unfit.{Form}
 use Rattle.reply_xml.proofs.ContentLemmas.{ReadsText-same}
-use Rattle.reply_xml.proofs.FrontLemmas.{none_is_some}
-use Rattle.fault_laws.proofs.LeafFaults.{BreaksLeaf-same, leaf_whole, nil_or, nil_starts, starts_some}
+use Rattle.fault_laws.proofs.LeafFaults.{BreaksLeaf-same, leaf_whole, nil_or, starts_some}
 use Rattle.fault_laws.proofs.LeavesSame.{LeavesEndTag-same, LeavesStart-same, LeavesTagEnd-same, start_left, tag_end_left}
 use Rattle.reply_xml.proofs.OpenLemmas.{ReadsElement-same, inner_at, inner_of}
-use Rattle.reply_xml.proofs.RunLemmas.{parts_same}
 use Rattle.fault_laws.proofs.TablesSame.{again_same, outside_again, outside_or_parent, outside_or_text, parent_same}
-use Rattle.fault_laws.proofs.TablesSame.{some_same, text_or_parent, text_same}
+use Rattle.fault_laws.proofs.TablesSame.{text_or_parent, text_same}
 use Rattle.reply_xml.proofs.TagLemmas.{NamesTag-same, ReadsName-first, ReadsTagEnd-same}
 use Rattle.fault_laws.proofs.TextsSame.{BreaksText-same, stands_same, text_at_end, text_whole}
-use Rattle.fault_laws.proofs.WellFaults.{all_fit, fits_again, fits_parent, fits_text, open_at, well_breaks}
+use Rattle.fault_laws.proofs.WellFaults.{all_fit, fits_again, fits_parent, fits_text, well_breaks}
+use Rattle.s3_replies.proofs.EncodingLemmas.{ends_open}
+use Rattle.shared_lemmas.proofs.Lists.{cons_parts, no_nil}
 
 -- tags that differ in nothing but where their names stand
 pub record IsLike (tag other : Tag) : Type 0 where
@@ -208,10 +209,10 @@ end_faults_same : (size : ℕ) (a b : DocFault) (table : Table) (front : List (O
     → EndFault size a table front tag at → EndFault size b table front tag at → b ≡ a
 end_faults_same size a b table front tag at (inl r) (inl s) =
     stands_same size r.1.0 s.1.0 a b (LeavesEndTag-same tag.name.now at r.1.0 s.1.0 r.1.1 s.1.1) r.1.2 s.1.2
-end_faults_same size a b table front tag at (inl r) (inr s) = absurd (none_is_some s.0 (sym r.0 ∙ s.1))
-end_faults_same size a b table front tag at (inr r) (inl s) = absurd (none_is_some r.0 (sym s.0 ∙ r.1))
+end_faults_same size a b table front tag at (inl r) (inr s) = absurd (none-some s.0 (sym r.0 ∙ s.1))
+end_faults_same size a b table front tag at (inr r) (inl s) = absurd (none-some r.0 (sym s.0 ∙ r.1))
 end_faults_same size a b table front tag at (inr r) (inr s) =
-    s.2 ∙ ap (λ (e : Element). fault.Missing e) (some_same s.0 r.0 (sym s.1 ∙ r.1)) ∙ sym r.2
+    s.2 ∙ ap (λ (e : Element). fault.Missing e) (same_Some s.0 r.0 (sym s.1 ∙ r.1)) ∙ sym r.2
 
 -- the faults behind an wide tag, by what stands there
 data View (size : ℕ) (reason : DocFault) (table : Table) (front : List (Option Element)) (tag : Tag)
@@ -249,16 +250,16 @@ view size reason table front tag bytes wide (InOther child inner from at plain n
 view size reason table front tag bytes wide (Behind child from next plain names reads breaks) =
     OfLater child from next names reads breaks
 view size reason table front tag bytes wide (AtEndTag at left plain ends complete leaves stands) =
-    let end = open_at tag.closed bytes at wide ends in
+    let end = ends_open tag.closed bytes at wide ends in
     OfEnd end.0 at end.2 end.1 end.3 (inl (complete, (left, leaves, stands)))
 view size reason table front tag bytes wide (Lacks of at ends first is) =
-    let end = open_at tag.closed bytes at wide ends in OfEnd end.0 at end.2 end.1 end.3 (inr (of, first, is))
+    let end = ends_open tag.closed bytes at wide ends in OfEnd end.0 at end.2 end.1 end.3 (inr (of, first, is))
 
 -- what can stand behind a text stands there alone
 start_at_end : (left : ℕ) → LeavesStart [] left → left ≡ 0
 start_at_end left (NoTag lacks e) = e
-start_at_end left (NoTagName more opens l) = absurd (nil_starts 60 more opens)
-start_at_end left (NoNameEnd name at names none e) = absurd (nil_starts 60 names.at_name names.opens)
+start_at_end left (NoTagName more opens l) = absurd (no_nil 60 more opens)
+start_at_end left (NoNameEnd name at names none e) = absurd (no_nil 60 names.at_name names.opens)
 
 start_or_text : (size : ℕ) (a b : DocFault) (text bytes at : List ℕ) (left : ℕ) → BreaksText size a bytes
     → ReadsText text bytes at → LeavesStart at left → b ≡ fault.NotADocument (size - left) → b ≡ a
@@ -293,7 +294,7 @@ tag_or_end : (text other bytes at there name rest more : List ℕ) → ReadsText
 tag_or_end text other bytes at there name rest more r n s e =
     let same = sym (ReadsText-same text other bytes at there r s).1 ∙ e in
     false≢true (ReadsName-first name n.at_name rest more 47 n.named
-    (parts_same 60 60 n.at_name (47 ∷ more) (sym n.opens ∙ same)).1)
+    (cons_parts 60 60 n.at_name (47 ∷ more) (sym n.opens ∙ same)).1)
 
 text_first : (size : ℕ) (a b : DocFault) (table : Table) (front : List (Option Element)) (tag : Tag) (bytes : List ℕ)
     → BreaksText size a bytes → View size b table front tag bytes → b ≡ a
@@ -528,10 +529,10 @@ missing_first size a b table front tag bytes at of ends first e k =
     ⊎_elim
     (
     λ shut. let found = closed_lacks size b table front tag bytes shut k in
-    found.2 ∙ ap (λ (x : Element). fault.Missing x) (some_same found.0 of (sym found.1 ∙ first)) ∙ sym e
+    found.2 ∙ ap (λ (x : Element). fault.Missing x) (same_Some found.0 of (sym found.1 ∙ first)) ∙ sym e
     )
     (
-    λ wide. let end = open_at tag.closed bytes at wide ends in
+    λ wide. let end = ends_open tag.closed bytes at wide ends in
     end_first size a b table front tag bytes end.0 at end.2 end.1 end.3 (inr (of, first, e))
     (view size b table front tag bytes wide k)
     )
@@ -573,7 +574,7 @@ BreaksIn-same size a b table front tag bytes (Behind child from next plain names
     BreaksIn-same size a b table (child.element ∷ front) tag next breaks
     (to_later size b table front tag bytes from next child names reads (view size b table front tag bytes plain k))
 BreaksIn-same size a b table front tag bytes (AtEndTag at left plain ends complete leaves stands) k =
-    let end = open_at tag.closed bytes at plain ends in
+    let end = ends_open tag.closed bytes at plain ends in
     end_first size a b table front tag bytes end.0 at end.2 end.1 end.3 (inl (complete, (left, leaves, stands)))
     (view size b table front tag bytes plain k)
 BreaksIn-same size a b table front tag bytes (Lacks of at ends first is) k =

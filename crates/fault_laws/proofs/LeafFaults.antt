@@ -19,6 +19,7 @@ use Rattle.reply_xml.specs.Unfit.{IsFit, IsUnfit, OwnForm}
 use Rattle.reply_xml.proofs.ContentLemmas.{ReadsText-same}
 use Rattle.fault_laws.proofs.LeavesSame.{LeavesEndTag-same, end_left}
 use Rattle.fault_laws.proofs.TextsSame.{BreaksText-same, stands_same, text_at_end, text_whole}
+use Rattle.shared_lemmas.proofs.Lists.{no_nil}
 
 pub bad_key_same : (url : Bool) (of : Element) (text : List ℕ) (a b : DocFault) → IsBadKey url of text a
     → IsBadKey url of text b → b ≡ a
@@ -74,20 +75,17 @@ nil_or (x ∷ xs) = inr (λ e. cons_nil x xs e)
     cons_nil : (y : ℕ) (ys : List ℕ) → y ∷ ys ≡ [] → ⊥
     cons_nil y ys e = cc
 
-pub nil_starts : (x : ℕ) (xs : List ℕ) → [] ≡ x ∷ xs → ⊥
-nil_starts x xs e = cc
-
 pub starts_some : (bytes : List ℕ) (x : ℕ) (xs : List ℕ) → bytes ≡ x ∷ xs → bytes ≢ []
-starts_some bytes x xs e none = nil_starts x xs (sym none ∙ e)
+starts_some bytes x xs e none = no_nil x xs (sym none ∙ e)
 
 -- where the bytes end, no end tag stands there
 pub end_at_end : (name : List ℕ) (left : ℕ) → LeavesEndTag name [] left → left ≡ 0
 end_at_end name left (NoEndTag lacks e) = e
-end_at_end name left (NoSlash more opens lacks e) = absurd (nil_starts 60 more opens)
-end_at_end name left (NoEndName more opens l) = absurd (nil_starts 60 (47 ∷ more) opens)
+end_at_end name left (NoSlash more opens lacks e) = absurd (no_nil 60 more opens)
+end_at_end name left (NoEndName more opens l) = absurd (no_nil 60 (47 ∷ more) opens)
 end_at_end name left (OtherName size more found at opens named differs front e) =
-    absurd (nil_starts 60 (47 ∷ more) opens)
-end_at_end name left (NoEnd more space at close opens named run lacks e) = absurd (nil_starts 60 (47 ∷ more) opens)
+    absurd (no_nil 60 (47 ∷ more) opens)
+end_at_end name left (NoEnd more space at close opens named run lacks e) = absurd (no_nil 60 (47 ∷ more) opens)
 
 -- the fault of a text, and of the end tag behind it
 pub text_or_end : (size : ℕ) (a b : DocFault) (name raw bytes end : List ℕ) (left : ℕ) → BreaksText size a bytes

@@ -11,10 +11,11 @@ use Rattle.reply_xml.specs.Leaves.{NoSpace, NoTag, NoTagEnd, NoTagName, NoValue,
 use Rattle.reply_xml.specs.Runs.{ReadsRun, is_name_byte}
 use Rattle.reply_xml.specs.Tags.{NameEnds, NamesTag, ReadsAttribute, ReadsAttributes, ReadsEndTag, ReadsName, ReadsTagEnd}
 use Rattle.reply_xml.specs.Tags.{ReadsValue}
-use Rattle.reply_xml.proofs.RunLemmas.{ReadsRun-same, parts_same}
+use Rattle.reply_xml.proofs.RunLemmas.{ReadsRun-same}
 use Rattle.reply_xml.proofs.TagLemmas.{NamesTag-same, ReadsAttribute-same, ReadsName-first, ReadsName-same}
 use Rattle.reply_xml.proofs.TagLemmas.{goes_on, no_tag_end-slash, tag_end_past}
 use Rattle.reply_xml.proofs.TagLemmas.{value_parts}
+use Rattle.shared_lemmas.proofs.Lists.{cons_parts}
 
 pub name_left : (name bytes rest : List ℕ) (left : ℕ) → ReadsName name bytes rest → ¬ (LeavesName bytes left)
 name_left name [] rest left r l = no_name name rest r.some r.run.split
@@ -58,7 +59,7 @@ value_same : (bytes inside other value found at there : List ℕ) (quote mark : 
     → bytes ≡ mark ∷ other → ReadsRun (sort.value quote) value inside at → ReadsRun (sort.value mark) found other there
     → (mark ≡ quote) × (other ≡ inside) × (found ≡ value) × (there ≡ at)
 value_same bytes inside other value found at there quote mark e f run go =
-    let first = parts_same mark quote other inside (sym f ∙ e) in
+    let first = cons_parts mark quote other inside (sym f ∙ e) in
     let moved = subst (λ (m : ℕ). ReadsRun (sort.value m) found inside there) first.0
     (subst (λ (o : List ℕ). ReadsRun (sort.value mark) found o there) first.1 go) in
     let same = ReadsRun-same (sort.value quote) value found inside at there run moved in
@@ -102,7 +103,7 @@ attribute_left bytes rest left r (NoEquals name at named lacks e) =
     lacks r.at_value (sym (attribute_reaches bytes name r.name at r.at_equals named r.named) ∙ r.equals)
 attribute_left bytes rest left r (BadValue name at value named opens l) =
     let same = sym (attribute_reaches bytes name r.name at r.at_equals named r.named) ∙ r.equals in
-    let there : r.at_value ≡ value = (parts_same 61 61 r.at_value value (sym same ∙ opens)).1 in
+    let there : r.at_value ≡ value = (cons_parts 61 61 r.at_value value (sym same ∙ opens)).1 in
     value_left value rest left (subst (λ (v : List ℕ). ReadsValue v rest) there r.value) l
 
 pub LeavesAttribute-same : (bytes : List ℕ) (a b : ℕ) → LeavesAttribute bytes a → LeavesAttribute bytes b → b ≡ a
@@ -121,7 +122,7 @@ LeavesAttribute-same bytes a b (BadValue name at value named opens l) (NoEquals 
     absurd (lacks value (attribute_reaches bytes name other at there named named2 ∙ opens))
 LeavesAttribute-same bytes a b (BadValue name at value named opens l) (BadValue other there found named2 begins m) =
     let same = sym begins ∙ attribute_reaches bytes name other at there named named2 ∙ opens in
-    let to : found ≡ value = (parts_same 61 61 found value same).1 in
+    let to : found ≡ value = (cons_parts 61 61 found value same).1 in
     LeavesValue-same value a b l (subst (λ (v : List ℕ). LeavesValue v b) to m)
 
 -- behind white space
@@ -130,7 +131,7 @@ attribute_lacks at next byte other r more e =
     false≢true (sym other ∙ ReadsName-first r.name at r.at_equals more byte r.named e)
 
 slash_more : (at last there : List ℕ) → at ≡ 47 ∷ last → at ≡ 47 ∷ there → there ≡ last
-slash_more at last there e f = (parts_same 47 47 there last (sym f ∙ e)).1
+slash_more at last there e f = (cons_parts 47 47 there last (sym f ∙ e)).1
 
 pub LeavesAttributes-same : (bytes : List ℕ) (a b : ℕ) → LeavesAttributes bytes a → LeavesAttributes bytes b → b ≡ a
 LeavesAttributes-same bytes a b (NoSpace space at run more slash none e) (NoSpace gap there go more2 slash2 none2 f) =
@@ -210,7 +211,7 @@ LeavesTagEnd-same bytes a b l m =
 
 -- a tag of an element
 start_bytes : (bytes more at_name : List ℕ) → bytes ≡ 60 ∷ more → bytes ≡ 60 ∷ at_name → at_name ≡ more
-start_bytes bytes more at_name e f = (parts_same 60 60 at_name more (sym f ∙ e)).1
+start_bytes bytes more at_name e f = (cons_parts 60 60 at_name more (sym f ∙ e)).1
 
 pub start_left : (name bytes rest : List ℕ) (left : ℕ) → NamesTag name bytes rest → NameEnds rest
     → ¬ (LeavesStart bytes left)
@@ -243,7 +244,7 @@ LeavesStart-same bytes a b (NoNameEnd name at n none e) (NoNameEnd other there n
 -- an end tag
 end_bytes : (bytes more at_name : List ℕ) → bytes ≡ 60 ∷ 47 ∷ more → bytes ≡ 60 ∷ 47 ∷ at_name → at_name ≡ more
 end_bytes bytes more at_name e f =
-    (parts_same 47 47 at_name more (start_bytes bytes (47 ∷ more) (47 ∷ at_name) e f)).1
+    (cons_parts 47 47 at_name more (start_bytes bytes (47 ∷ more) (47 ∷ at_name) e f)).1
 
 no_slash : (bytes more at_name : List ℕ) → bytes ≡ 60 ∷ more → Lacks 47 more → bytes ≡ 60 ∷ 47 ∷ at_name → ⊥
 no_slash bytes more at_name e lacks f = lacks at_name (sym (start_bytes bytes more (47 ∷ at_name) e f))

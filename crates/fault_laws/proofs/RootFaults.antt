@@ -24,10 +24,11 @@ use Rattle.reply_xml.proofs.DocumentLemmas.{BeginsDocument-same, reached, root_e
 use Rattle.fault_laws.proofs.InFaults.{BreaksIn-same, IsLike, tag_moved}
 use Rattle.fault_laws.proofs.LeavesSame.{IsCommonFront-same, LeavesTagEnd-same, name_left, tag_end_left}
 use Rattle.reply_xml.proofs.OpenLemmas.{ReadsInner-same, inner_at}
-use Rattle.reply_xml.proofs.RunLemmas.{ReadsRun-same, parts_same}
+use Rattle.reply_xml.proofs.RunLemmas.{ReadsRun-same}
 use Rattle.reply_xml.proofs.TagLemmas.{NamesTag-same}
 use Rattle.fault_laws.proofs.TextsSame.{stands_same}
 use Rattle.fault_laws.proofs.WellFaults.{tag_name, tag_name_ends, well_breaks}
+use Rattle.shared_lemmas.proofs.Lists.{cons_parts}
 
 -- declarations
 utf8_or : (text : List ℕ) → IsUtf8 text ⊎ ¬ (IsUtf8 text)
@@ -118,7 +119,7 @@ data RootFault (root at : List ℕ) (left : ℕ) : Type 0 where
 no_name_there : (name at rest more : List ℕ) → NamesTag name at rest → at ≡ 60 ∷ more → BeginsOutside is_name_byte more
     → ⊥
 no_name_there name at rest more n e outside =
-    let same = (parts_same 60 60 n.at_name more (sym n.opens ∙ e)).1 in
+    let same = (cons_parts 60 60 n.at_name more (sym n.opens ∙ e)).1 in
     name_left name n.at_name rest (length n.at_name) n.named
     (record { outside = subst (λ (t : List ℕ). BeginsOutside is_name_byte t) (sym same) outside; at = refl })
 
@@ -135,7 +136,7 @@ RootFault-same root at a b (NoRootName more is outside e) (OtherRoot name rest n
     absurd (no_name_there name at rest more n is outside)
 RootFault-same root at a b (NoRootName more is outside e) (NoLess lacks f) = absurd (lacks more is)
 RootFault-same root at a b (NoRootName more is outside e) (NoRootName other is2 outside2 f) =
-    f ∙ ap length (parts_same 60 60 other more (sym is2 ∙ is)).1 ∙ sym e
+    f ∙ ap length (cons_parts 60 60 other more (sym is2 ∙ is)).1 ∙ sym e
 
 record IsRootFault (root doc : List ℕ) (place : ℕ) : Type 0 where
   pub at : List ℕ

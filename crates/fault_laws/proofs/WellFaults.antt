@@ -1,21 +1,19 @@
 -- Where what stands behind a tag is read and no fault stands in it, it does not break.
-use Rattle.std.proofs.Common.{◌≡◌, ◌∙◌, ⊎_elim, ℕ, Bool, true, false, List, [], ◌∷◌, Option}
+use Rattle.std.proofs.Common.{◌≡◌, ◌∙◌, ⊎_elim, ℕ, Bool, List, [], ◌∷◌, Option}
 use Rattle.std.proofs.Common.{refl, sym, subst, arith}
-use Rattle.std.specs.Bool.{MatchBool}
-use Rattle.std.proofs.lemmas.Bool.{false≢true}
+use Rattle.std.proofs.lemmas.Option.{none-some}
 use Rattle.reply_xml.specs.declared.elements.Element.{Element}
 use Rattle.reply_xml.specs.declared.faults.DocFault.{DocFault}
 use Rattle.reply_xml.specs.declared.tags.Tag.{Tag}
 use Rattle.reply_xml.specs.Breaks.{Again, AtEndTag, AtStart, AtText, Behind, BreaksIn, InLeaf, InOther, InTag, Inside}
 use Rattle.reply_xml.specs.Breaks.{Lacks, TooLow}
 use Rattle.reply_xml.specs.Children.{IsLeaf}
-use Rattle.reply_xml.specs.Contents.{Content, Only, Then, ReadsContent, ReadsInner, ReadsText}
+use Rattle.reply_xml.specs.Contents.{Content, Only, Then, ReadsContent, ReadsInner}
 use Rattle.reply_xml.specs.Fits.{Fits, FitsChild, IsParent, IsText, Passed}
 use Rattle.reply_xml.specs.Tables.{Done, IsAgain, IsParentOf, IsTextOf, Table}
 use Rattle.reply_xml.specs.Tags.{NameEnds, NamesTag, ReadsTag}
 use Rattle.reply_xml.specs.Unfit.{Form, IsFit}
 use Rattle.reply_xml.proofs.ContentLemmas.{content_begins, content_cases, content_inner, ends_there, inner_open, only_of}
-use Rattle.reply_xml.proofs.FrontLemmas.{none_is_some}
 use Rattle.fault_laws.proofs.LeafFaults.{leaf_whole, starts_some}
 use Rattle.fault_laws.proofs.LeavesSame.{end_left, start_left, tag_end_left}
 use Rattle.reply_xml.proofs.OpenLemmas.{ReadsElement-same, element_past, inner_of}
@@ -23,6 +21,7 @@ use Rattle.fault_laws.proofs.TablesSame.{outside_again, outside_or_parent, outsi
 use Rattle.fault_laws.proofs.TablesSame.{text_same}
 use Rattle.reply_xml.proofs.TagLemmas.{ReadsTagEnd-first, name_or_end}
 use Rattle.fault_laws.proofs.TextsSame.{text_whole}
+use Rattle.s3_replies.proofs.EncodingLemmas.{ends_open}
 
 -- the name of a tag that is read
 pub tag_name : (closed : Bool) (name bytes rest : List ℕ) → (t : ReadsTag closed name bytes rest)
@@ -32,13 +31,6 @@ tag_name closed name bytes rest t = record { at_name = t.at_name; opens = t.open
 pub tag_name_ends : (closed : Bool) (name bytes rest : List ℕ) → (t : ReadsTag closed name bytes rest)
     → NameEnds t.at_attributes
 tag_name_ends closed name bytes rest t = ReadsTagEnd-first closed t.at_attributes rest t.ends
-
-pub open_at : (closed : Bool) (before at : List ℕ) → closed ≡ false
-    → MatchBool closed (at ≡ before)
-    ((text : List ℕ) × ReadsText text before at × (more : List ℕ) × (at ≡ 60 ∷ 47 ∷ more))
-    → (text : List ℕ) × ReadsText text before at × (more : List ℕ) × (at ≡ 60 ∷ 47 ∷ more)
-open_at true before at e h = absurd (false≢true (sym e))
-open_at false before at e h = h
 
 -- elements that fit are not at fault
 pub fits_again : (Holds : Table → Type 0) (table : Table) (front : List (Option Element)) (child : Option Element)
@@ -132,11 +124,11 @@ well_breaks size reason table front tag bytes rest c r fits (Behind child from n
     (content_inner tag.closed b.more tag.room tag.name.now next rest plain
     (subst (λ (t : List ℕ). ReadsContent b.more tag.room tag.name.now t rest) there b.after)) each.1 breaks
 well_breaks size reason table front tag bytes rest c r fits (AtEndTag at left plain ends complete leaves stands) =
-    let end = open_at tag.closed bytes at plain ends in
+    let end = ends_open tag.closed bytes at plain ends in
     end_left tag.name.now at rest left
     (ends_there c tag.room end.0 tag.name.now bytes at rest end.2 end.1 end.3
     (inner_open tag.closed c tag.room tag.name.now bytes rest plain r)) leaves
 well_breaks size reason table front tag bytes rest c r fits (Lacks of at ends first is) =
     let only = only_of tag.closed c tag.room tag.name.now bytes at rest ends r in
     let complete = subst (λ (d : Content). Fits d table front) only.1 fits in
-    none_is_some of (sym complete ∙ first)
+    none-some of (sym complete ∙ first)

@@ -5,10 +5,9 @@ use Rattle.std.specs.Prelude.{codes, encode_utf8}
 use Rattle.std.specs.Char.{IsScalar, digit_value}
 use Rattle.std.specs.List.{AllByRecursion, flat_map, starts_with}
 use Rattle.std.specs.Str.Parse.{AllDigits, digits_value}
-use Rattle.std.specs.Cmp.{nat_eq_equiv}
 use Rattle.std.proofs.Math.Nat.{mul-le-mul_left}
 use Rattle.std.proofs.Math.Seq.{take-append_seam}
-use Rattle.std.proofs.lemmas.Bool.{and_parts, and_from, eqb-true, false≢true}
+use Rattle.std.proofs.lemmas.Bool.{and_parts, cases_lt, eqb-true, false≢true, or_cases, or_left, or_right}
 use Rattle.std.proofs.lemmas.Bool.Decides.{nat_tests}
 use Rattle.std.proofs.lemmas.Int.Digits.{digits_push, digits_value_push}
 use Rattle.std.proofs.lemmas.List.{append_assoc, append-nil, append_cancel_left, length-append}
@@ -20,6 +19,7 @@ use Rattle.reply_values.specs.References.{IsUnescaped, Names, StandsForText}
 use Rattle.reply_values.proofs.ReferenceLemmas.{no_decimal_x}
 use Rattle.reply_values.proofs.SpellingLemmas.{heads, spells_behind, spells_more, tails}
 use Rattle.reply_values.proofs.UnescapeLemmas.{text_code}
+use Rattle.shared_lemmas.proofs.Lists.{no_cons, starts_front}
 
 -- what begins with a text
 starts_split : (whole front : List ℕ) → starts_with nat_eq whole front ≡ true
@@ -34,10 +34,6 @@ starts_split (w ∷ whole) (f ∷ front) h =
           ∙ ap (λ (bytes : List ℕ). w ∷ bytes) below.1,
     )
 
-starts_front : (front more : List ℕ) → starts_with nat_eq (front ++ more) front ≡ true
-starts_front [] more = refl
-starts_front (f ∷ front) more = and_from _ _ (nat_eq_equiv.refl f) (starts_front front more)
-
 -- of two fronts of a text one begins with the other
 overlap : (a b c d : List ℕ) → a ++ b ≡ c ++ d → ((more : List ℕ) × (c ≡ a ++ more))
     ⊎ ((more : List ℕ) × (a ≡ c ++ more))
@@ -49,23 +45,11 @@ overlap (x ∷ a) b (y ∷ c) d e =
     (λ r. inr (r.0, ap (λ (n : ℕ). n ∷ a) (heads e) ∙ ap (λ (t : List ℕ). y ∷ t) r.1))
     (overlap a b c d (tails e))
 
--- numbers of characters, as far as they are written
-ranked : (n k : ℕ) → (n < k) ⊎ (k ≤ n)
-ranked n k = grind arith
-
-pub tested : (b : Bool) → (b ≡ true) ⊎ (b ≡ false)
-tested true = inl refl
-tested false = inr refl
-
 number_scalar : (number : ℕ) → number < 55296 → IsScalar number
 number_scalar number small = grind (arith, nat_tests)
 
 high_scalar : (number : ℕ) → 57344 ≤ number → number < 1114112 → IsScalar number
 high_scalar number least most = grind (arith, nat_tests)
-
-pub empty_is : (bytes : List ℕ) → nat_eq (length bytes) 0 ≡ true → bytes ≡ []
-empty_is [] e = refl
-empty_is (b ∷ bytes) e = let size = eqb-true _ _ e in absurd (omega arith)
 
 pub long_is : (bytes : List ℕ) → nat_eq (length bytes) 0 ≡ false → 0 < length bytes
 long_is [] e = absurd (false≢true (sym e ∙ refl))
@@ -121,7 +105,7 @@ digits_begin radix digits number least most w small =
     )
     )
     (⊎_elim (λ low. inl low) (λ least. inr (⊎_elim (λ below. inr (least, below)) (λ high. inl high)
-    (ranked number 57344))) (ranked number 55296))
+    (cases_lt number 57344))) (cases_lt number 55296))
 
 pub no_number_begins : (radix : ℕ) (digits : List ℕ) → 1 ≤ radix → 0 < length digits
     → ((number : ℕ) → number < 2 ^ 64 → ¬ (Writes radix digits number)) → BeginsNumber radix digits → ⊥
@@ -146,17 +130,6 @@ abbrev BeginsEntity : List ℕ → Type 0
 BeginsEntity name = (more : List ℕ) × (entity : List ℕ) × (char : ℕ) × IsEntity entity char
     × (name ++ more ≡ entity ++ codes ";")
 
-or_true : (a b : Bool) → (a || b) ≡ true → (a ≡ true) ⊎ (b ≡ true)
-or_true true b h = inl refl
-or_true false b h = inr h
-
-or_left : (a b : Bool) → a ≡ true → (a || b) ≡ true
-or_left a b h = subst (λ (x : Bool). (x || b) ≡ true) (sym h) refl
-
-or_right : (a b : Bool) → b ≡ true → (a || b) ≡ true
-or_right true b h = refl
-or_right false b h = h
-
 pub entity_text : (name : List ℕ) → begins_entity name ≡ true → BeginsEntity name
 entity_text name h =
     ⊎_elim (λ e. let s = starts_split _ name e in (s.0, codes "lt", 60, inl (refl, refl), s.1))
@@ -167,13 +140,13 @@ entity_text name h =
     (
     λ h. ⊎_elim (λ e. let s = starts_split _ name e in (s.0, codes "quot", 34, inr (inr (inr (inl (refl, refl)))), s.1))
     (λ e. let s = starts_split _ name e in (s.0, codes "apos", 39, inr (inr (inr (inr (refl, refl)))), s.1))
-    (or_true _ _ h)
+    (or_cases _ _ h)
     )
-    (or_true _ _ h)
+    (or_cases _ _ h)
     )
-    (or_true _ _ h)
+    (or_cases _ _ h)
     )
-    (or_true _ _ h)
+    (or_cases _ _ h)
 
 front_true : (name more whole : List ℕ) → name ++ more ≡ whole → starts_with nat_eq whole name ≡ true
 front_true name more whole e = subst (λ (w : List ℕ). starts_with nat_eq w name ≡ true) e (starts_front name more)
@@ -207,10 +180,6 @@ entity_true name (more, entity, char, is, e) =
     one_of (inr (inr (inl h))) = inr (inr (inl (begun (codes "amp") h.0)))
     one_of (inr (inr (inr (inl h)))) = inr (inr (inr (inl (begun (codes "quot") h.0))))
     one_of (inr (inr (inr (inr h)))) = inr (inr (inr (inr (begun (codes "apos") h.0))))
-
--- a name that more bytes complete is the front of a name
-nothing_behind : (x : ℕ) (xs : List ℕ) → x ∷ xs ≡ [] → ⊥
-nothing_behind x xs e = cc
 
 name_past : (name whole piece more : List ℕ) → name ≡ whole ++ piece → StartsNoPiece IsReference (38 ∷ name)
     → (char : ℕ) → Names whole char
@@ -356,7 +325,7 @@ first_cut_short rest more text none s = by_pieces s.pieces s.each s.whole
 
     by_pieces : (ps : List Piece) → AllByRecursion (λ piece. StandsForText piece.written piece.meant) ps
         → flat_map (λ piece. piece.written) ps ≡ (38 ∷ rest) ++ more → IsCutShort (38 ∷ rest)
-    by_pieces [] each e = absurd (nothing_behind 38 (rest ++ more) (sym e))
+    by_pieces [] each e = absurd (no_cons 38 (rest ++ more) (sym e))
     by_pieces (p ∷ ps) each e = stands p.written p.meant (flat_map (λ piece. piece.written) ps) each.0 e
 
 pub goes_on_cut : (raw front behind text : List ℕ) → raw ≡ front ++ (38 ∷ behind) → IsUnescaped front text

@@ -1,7 +1,7 @@
 -- Bytes that stand for themselves in URL text.
-use Rattle.std.proofs.Common.{◌≡◌, ◌≢◌, ◌<◌, ◌≤◌, ◌∷◌, ◌∙◌, ◌==◌, ◌||◌, ℕ, Bool, true, false, suc, List, []}
+use Rattle.std.proofs.Common.{◌≢◌, ◌<◌, ◌≤◌, ◌∷◌, ◌∙◌, ◌==◌, ℕ, suc, List, []}
 use Rattle.std.proofs.Common.{length, get_or, take, inr, sym, refl, arith}
-use Rattle.std.proofs.lemmas.Bool.{eq-eqb}
+use Rattle.std.proofs.lemmas.Bool.{eq-eqb, or_left, or_right}
 use Rattle.std.proofs.lemmas.List.{get_or-take, length-take-le}
 use Rattle.memchr.specs.Find.{Nowhere, Passes, is_byte2}
 use Rattle.reply_values.specs.Spelling.{Spells}
@@ -23,14 +23,6 @@ plain_bytes (b ∷ text) p q =
     spells_more StandsForByte (b ∷ []) text (b ∷ []) text (spells_piece StandsForByte (b ∷ []) (b ∷ []) piece)
     (plain_bytes text (λ i h. p (suc i) (omega (arith, h))) (λ i h. q (suc i) (omega (arith, h))))
 
-is_either : (x y : Bool) → x ≡ true → (x || y) ≡ true
-is_either true y e = refl
-is_either false y e = cc
-
-is_other : (x y : Bool) → y ≡ true → (x || y) ≡ true
-is_other true y e = refl
-is_other false y e = e
-
 -- where neither `%` nor `+` was found
 pub plain_front : (text : List ℕ) (place : ℕ) → place ≤ length text → Nowhere (Passes (is_byte2 37 43) text) 0 place
     → Spells StandsForByte (take place text) (take place text)
@@ -38,8 +30,8 @@ plain_front text place within none =
     let size = length-take-le place text within in
     plain_bytes (take place text)
     (λ i h e. let less : i < place = omega (arith, size) in none i (omega arith) less
-    (is_either (get_or text i 0 == 37) (get_or text i 0 == 43)
+    (or_left (get_or text i 0 == 37) (get_or text i 0 == 43)
     (eq-eqb (get_or text i 0) 37 (sym (get_or-take place text i 0 less) ∙ e))))
     (λ i h e. let less : i < place = omega (arith, size) in none i (omega arith) less
-    (is_other (get_or text i 0 == 37) (get_or text i 0 == 43)
+    (or_right (get_or text i 0 == 37) (get_or text i 0 == 43)
     (eq-eqb (get_or text i 0) 43 (sym (get_or-take place text i 0 less) ∙ e))))

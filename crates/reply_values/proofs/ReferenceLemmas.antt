@@ -6,13 +6,14 @@ use Rattle.std.specs.Prelude.{codes, encode_utf8}
 use Rattle.std.specs.Str.Parse.{AllDigits}
 use Rattle.std.proofs.Math.Utf8.{scalar_fits}
 use Rattle.std.specs.List.{list_all}
-use Rattle.std.proofs.lemmas.Bool.{ne_eqb, not_from_false, and_from, and_parts}
+use Rattle.std.proofs.lemmas.Bool.{and_from, and_parts}
 use Rattle.std.proofs.lemmas.Bool.Decides.{nat_tests}
 use Rattle.std.proofs.lemmas.List.{append_assoc}
 use Rattle.reply_values.specs.Numbers.{Writes}
 use Rattle.reply_values.specs.Spelling.{StartsPiece, StartsNoPiece}
 use Rattle.reply_values.proofs.SpellingLemmas.{heads, tails}
 use Rattle.reply_values.specs.References.{IsNumbered, Names, IsReference}
+use Rattle.shared_lemmas.proofs.Tests.{is_other}
 
 pub scalar_small : (char : ℕ) → IsScalar char → char < 2 ^ 64
 scalar_small char h = let small = scalar_fits char h in omega arith
@@ -43,16 +44,13 @@ no_decimal name digits a plain none char (scalar, inr (hex, e, h)) = plain hex (
 abbrev pub Lacks : ℕ → List ℕ → Type 0
 Lacks byte text = list_all (λ b. not (eqb b byte)) text ≡ true
 
-other : (b byte : ℕ) → b ≢ byte → not (eqb b byte) ≡ true
-other b byte differ = not_from_false _ (ne_eqb b byte differ)
-
 pub differs : (b byte : ℕ) → not (eqb b byte) ≡ true → b ≢ byte
 differs b byte h e = let same = eq-eqb b byte e in grind (arith, nat_tests)
 
 pub lacks_from : (byte : ℕ) (text : List ℕ) → ((i : ℕ) → i < length text → get_or text i 0 ≢ byte) → Lacks byte text
 lacks_from byte [] none = refl
 lacks_from byte (b ∷ text) none =
-    and_from _ _ (other b byte (none 0 (omega arith))) (lacks_from byte text (λ i inside. none (suc i) (omega arith)))
+    and_from _ _ (is_other b byte (none 0 (omega arith))) (lacks_from byte text (λ i inside. none (suc i) (omega arith)))
 
 -- the parts before the first such byte
 pub first_cut : (byte : ℕ) (xs ys r s : List ℕ) → Lacks byte xs → Lacks byte ys → xs ++ (byte ∷ r) ≡ ys ++ (byte ∷ s)
@@ -71,7 +69,7 @@ lacks_at byte (x ∷ xs) r h = lacks_at byte xs r (and_parts _ _ h).1
 -- names have no `;`
 digits_lack : (radix : ℕ) (digits : List ℕ) → radix ≤ 36 → AllDigits radix digits → Lacks 59 digits
 digits_lack radix [] small h = refl
-digits_lack radix (d ∷ digits) small h = and_from _ _ (other d 59 (λ e. let value = rw e at h.0 in omega arith))
+digits_lack radix (d ∷ digits) small h = and_from _ _ (is_other d 59 (λ e. let value = rw e at h.0 in omega arith))
     (digits_lack radix digits small h.1)
 
 pub names_lack : (name : List ℕ) (char : ℕ) → Names name char → Lacks 59 name

@@ -7,6 +7,7 @@ use Rattle.std.proofs.lemmas.Bool.{and_parts}
 use Rattle.std.proofs.lemmas.List.{append_assoc, length-append, length-drop, take-append-drop, get_or-drop}
 use Rattle.std.proofs.lemmas.List.{get_or-append_right}
 use Rattle.std.proofs.Math.Seq.{take-append_seam, drop-append_seam}
+use Rattle.std.proofs.lemmas.Option.{same_Some}
 use Rattle.reply_values.specs.Spelling.{StartsPiece, StartsNoPiece}
 use Rattle.reply_values.specs.References.{IsEntity, IsNumbered, Names, IsReference, IsPlain, StandsForText, IsUnescaped}
 use Rattle.reply_values.specs.References.{IsBadReference}
@@ -36,9 +37,6 @@ hash_is_none : (rest : List ℕ) → entity (35 ∷ rest) ≡ None
 unfolding entity
 hash_is_none rest = refl
 
-same_some : {a b : ℕ} → Some a ≡ Some b → a ≡ b
-same_some e = cc
-
 not_both : (name : List ℕ) (char : ℕ) (rest : List ℕ) → IsEntity name char → name ≡ 35 ∷ rest → ⊥
 not_both name char rest h e = let none : Some char ≡ None = sym (entity_is name char h) ∙ ap entity e
     ∙ hash_is_none rest in absurd_some none
@@ -52,7 +50,7 @@ numbered_is name char (scalar, inr (digits, e, h)) = (120 ∷ digits, e)
 
 -- a name stands for one character
 pub Names-same : (name : List ℕ) (a b : ℕ) → Names name a → Names name b → a ≡ b
-Names-same name a b (inl h) (inl k) = same_some (sym (entity_is name a h) ∙ entity_is name b k)
+Names-same name a b (inl h) (inl k) = same_Some _ _ (sym (entity_is name a h) ∙ entity_is name b k)
 Names-same name a b (inl h) (inr k) = let rest = numbered_is name b k in absurd (not_both name a rest.0 h rest.1)
 Names-same name a b (inr h) (inl k) = let rest = numbered_is name a h in absurd (not_both name b rest.0 k rest.1)
 Names-same name a b (inr (_, inl (ds, e, h))) (inr (_, inl (es, f, k))) = Writes-same (rw (tails (sym e ∙ f)) at h) k

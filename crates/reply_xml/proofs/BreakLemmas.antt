@@ -13,11 +13,12 @@ use Rattle.reply_xml.specs.Tables.{Done, Table, first_missing}
 use Rattle.reply_xml.specs.declared.elements.Element.{Element}
 use Rattle.reply_xml.specs.Faults.{IfRefused}
 use Rattle.reply_xml.specs.Fits.{Fits, Passed}
-use Rattle.reply_xml.proofs.FrontLemmas.{fits_any, fresh_done, none_is_some, nothing_missing}
+use Rattle.reply_xml.proofs.FrontLemmas.{fits_any, fresh_done, nothing_missing}
 use Rattle.reply_xml.specs.Reading.{AtEnd, EndsContent, HoldsSome, IsTagOf, NamesChild, ReadsOpen}
 use Rattle.reply_xml.proofs.OpenLemmas.{child_begins, element_of, open_in, open_out, some_before}
 use Rattle.std.specs.Bool.{MatchBool}
 use Rattle.std.proofs.lemmas.Bool.{eqb-true, false≢true}
+use Rattle.std.proofs.lemmas.Option.{none-some}
 use Rattle.reply_values.specs.References.{IsUnescaped}
 use Rattle.reply_xml.specs.Contents.{Only, ReadsText}
 use Rattle.reply_xml.specs.Unfit.{Form, HasText}
@@ -117,7 +118,7 @@ front_is_any size reason table front other tag bytes e (Behind child from next p
 front_is_any size reason table front other tag bytes e (AtEndTag at left plain ends complete leaves stands) =
     AtEndTag at left plain ends (nothing_missing table other e) leaves stands
 front_is_any size reason table front other tag bytes e (Lacks of at ends first is) =
-    absurd (none_is_some of (sym (nothing_missing table front e) ∙ first))
+    absurd (none-some of (sym (nothing_missing table front e) ∙ first))
 
 -- what is left of open elements that are passed over breaks, the innermost last
 abbrev pub BreaksOuter : (size : ℕ) (reason : DocFault) → List Tag → List ℕ → Type 0

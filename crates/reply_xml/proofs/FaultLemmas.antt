@@ -74,10 +74,6 @@ told_instead P fault.BadEscape f kept h = Tells-any f h
 told_instead P fault.TooDeep f kept h = Tells-any f h
 told_instead P (fault.BadText element) f kept h = Tells-any f h
 
--- answers are told apart
-pub err_same : {T E : Type 0} (a b : E) → ◌≡◌ {A = Result T E} (Err a) (Err b) → a ≡ b
-err_same a b e = cc
-
 pub not_err : {T E : Type 0} (x : T) (e : E) → ◌≡◌ {A = Result T E} (Ok x) (Err e) → ⊥
 not_err x e same = cc
 

@@ -15,16 +15,13 @@ use Rattle.reply_xml.specs.Unfit.{Form}
 use Rattle.reply_xml.proofs.ContentLemmas.{content_inner, inner_open}
 use Rattle.reply_xml.proofs.OpenLemmas.{element_before}
 
-pub none_is_some : {V : Type 0} (x : V) → None ≡ Some x → ⊥
-none_is_some x e = cc
-
 -- an element has one row
-row_same : (a b : Element) (child : Option Element) → is_the a child ≡ true → is_the b child ≡ true
+pub row_same : (a b : Element) (child : Option Element) → is_the a child ≡ true → is_the b child ≡ true
     → row_of a ≡ row_of b
 row_same a b None h k = absurd (false≢true h)
 row_same a b (Some x) h k = eqb-true (row_of a) (row_of x) h ∙ sym (eqb-true (row_of b) (row_of x) k)
 
-is_the_row : (a b : Element) (child : Option Element) → row_of a ≡ row_of b → is_the a child ≡ is_the b child
+pub is_the_row : (a b : Element) (child : Option Element) → row_of a ≡ row_of b → is_the a child ≡ is_the b child
 is_the_row a b None e = refl
 is_the_row a b (Some x) e = ap (λ n. nat_eq n (row_of x)) e
 

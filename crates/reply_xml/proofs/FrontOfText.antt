@@ -8,16 +8,14 @@ use Rattle.std.proofs.lemmas.Bool.{false≢true}
 use Rattle.std.proofs.lemmas.Bool.Decides.{nat_tests}
 use Rattle.std.proofs.lemmas.List.{get_or-drop}
 use Rattle.reply_xml.specs.Leaves.{IsAtFault, begun_len}
-
-some_none : {A : Type 0} (x : A) → Some x ≡ None → ⊥
-some_none x e = cc
+use Rattle.shared_lemmas.proofs.Clashes.{some_is_none}
 
 -- where the bytes end in a character, its first byte stands
 error_none : (empty lead : Bool) (after : Option ℕ) → cond empty None (cond lead after (Some 1)) ≡ None → empty ≡ false
     → lead ≡ true
 error_none true lead after e some = absurd (false≢true (sym some))
 error_none false true after e some = refl
-error_none false false after e some = absurd (some_none 1 e)
+error_none false false after e some = absurd (some_is_none 1 e)
 
 lead_there : (bytes : List ℕ) → 0 < length bytes → utf8_error_len bytes ≡ None
     → is_in_range 0xC2 0xF4 (slice_index bytes 0) ≡ true

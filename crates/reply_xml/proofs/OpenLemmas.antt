@@ -292,6 +292,3 @@ left_no_child items inner child here from rest plain b none l =
     let p = element_past l.1.0 inner.room inner.name.now here from l.0 child b
     (inner_open inner.closed l.1.0 inner.room inner.name.now here l.0 plain l.1.1) in
     none p.inside.0 p.inside.1 p.inside.2
-
-pub iff_past : {A B C : Type 0} → A ↔ B → B ↔ C → A ↔ C
-iff_past f g = (λ a. g.0 (f.0 a), λ c. f.1 (g.1 c))

@@ -9,10 +9,8 @@ use Rattle.std.proofs.lemmas.Slice.Eq.{bytes_eq-Decides}
 use Rattle.std.proofs.lemmas.Bool.{cond_both, and_parts, ltb-true, false_from_ne_true}
 use Rattle.std.proofs.lemmas.Bool.Decides.{not_from_Decides}
 use Rattle.std.proofs.lemmas.Str.{IsUtf8-from_ascii}
+use Rattle.std.proofs.lemmas.Option.{same_Some}
 use Rattle.s3_model.specs.FirstRow.{IsFirstRow}
-
-some_injective : {A : Type 0} (x y : A) → Some x ≡ Some y → x ≡ y
-some_injective x y e = cc
 
 -- the value of a row
 abbrev value_at : {V : Type 0} → List (List ℕ × V) → Option ℕ → Option V
@@ -29,7 +27,7 @@ found_later : {V : Type 0} (e : List ℕ × V) (es : List (List ℕ × V)) (name
     → ((r : Option ℕ) → IsFirstRow (map (λ each. each.0) es) name r → found ≡ value_at es r)
     → IsFirstRow (map (λ each. each.0) (e ∷ es)) name row → found ≡ value_at (e ∷ es) row
 found_later e es name found None differs rest h = rest None (λ k. h (suc k))
-found_later e es name found (Some zero) differs rest h = absurd (differs (sym (some_injective _ _ h.0)))
+found_later e es name found (Some zero) differs rest h = absurd (differs (sym (same_Some _ _ h.0)))
 found_later e es name found (Some (suc k)) differs rest h = rest (Some k) (h.0, λ j lt. h.1 (suc j) (omega arith))
 
 lookup_first_row : {V : Type 0} (table : List (List ℕ × V)) (name : List ℕ) (row : Option ℕ)

@@ -10,12 +10,7 @@ use Rattle.memchr.specs.Find.{Nowhere, Passes, is_byte, is_byte2}
 use Rattle.reply_xml.specs.declared.runs.Sort.TheVariants as sort
 use Rattle.reply_xml.specs.declared.runs.Sort.{Sort}
 use Rattle.reply_xml.specs.Runs.{is_of, BeginsOutside, HasNoReference, ReadsRun}
-
-pub parts_same : (x y : ℕ) (xs ys : List ℕ) → x ∷ xs ≡ y ∷ ys → (x ≡ y) × (xs ≡ ys)
-parts_same x y xs ys e = (cc, cc)
-
-pub front_same : (x y : ℕ) (xs ys : List ℕ) → x ≡ y → xs ≡ ys → x ∷ xs ≡ y ∷ ys
-front_same x y xs ys e f = cc
+use Rattle.shared_lemmas.proofs.Lists.{cons_is, cons_parts}
 
 outside : (test : ℕ → Bool) (a : List ℕ) (y : ℕ) (ys : List ℕ) → BeginsOutside test a → a ≡ y ∷ ys → test y ≡ true → ⊥
 outside test a y ys ends e h =
@@ -31,10 +26,10 @@ runs_same test [] (y ∷ ys) a b p q f g e =
 runs_same test (x ∷ xs) [] a b p q f g e =
     absurd (outside test b x (xs ++ a) g (sym e) (All-head (λ x. test x ≡ true) x xs p))
 runs_same test (x ∷ xs) (y ∷ ys) a b p q f g e =
-    let same = parts_same x y (xs ++ a) (ys ++ b) e in
+    let same = cons_parts x y (xs ++ a) (ys ++ b) e in
     let more = runs_same test xs ys a b (All-tail (λ x. test x ≡ true) x xs p) (All-tail (λ x. test x ≡ true) y ys q) f
     g same.1 in
-    (front_same x y xs ys same.0 more.0, more.1)
+    (cons_is x y xs ys same.0 more.0, more.1)
 
 pub ReadsRun-same : (of : Sort) (run other bytes rest left : List ℕ) → ReadsRun of run bytes rest
     → ReadsRun of other bytes left → (other ≡ run) × (left ≡ rest)

@@ -6,13 +6,16 @@ use Rattle.reply_xml.specs.declared.runs.Sort.TheVariants as sort
 use Rattle.std.specs.Result.{IsErrAnd, OnErr}
 use Rattle.std.proofs.lemmas.List.{nil_from_length}
 use Rattle.std.specs.List.{AllPass}
-use Rattle.std.proofs.lemmas.Bool.{eqb-false, eqb-true, eq-eqb, false≢true}
+use Rattle.std.proofs.lemmas.Bool.{eqb-false, false≢true}
 use Rattle.std.proofs.lemmas.List.{take-append-drop}
 use Rattle.std.proofs.lemmas.List.Elements.{All-head, All-nil}
+use Rattle.std.proofs.lemmas.Option.{same_Some}
 use Rattle.reply_xml.specs.Runs.{BeginsOutside, is_name_byte, is_of, is_space, ReadsRun}
 use Rattle.reply_xml.specs.Tags.{NamesTag, ReadsName, ReadsValue, ReadsAttribute, ReadsAttributes, ReadsTagEnd}
 use Rattle.reply_xml.specs.Tags.{IsName, ReadsTag, ReadsEndTag, tag_close, ends_name, NameEnds}
-use Rattle.reply_xml.proofs.RunLemmas.{parts_same, ReadsRun-same}
+use Rattle.reply_xml.proofs.RunLemmas.{ReadsRun-same}
+use Rattle.shared_lemmas.proofs.Clashes.{some_is_none}
+use Rattle.shared_lemmas.proofs.Lists.{cons_parts as parts_same}
 
 pub ReadsName-same : (name other bytes rest left : List ℕ) → ReadsName name bytes rest → ReadsName other bytes left
     → (other ≡ name) × (left ≡ rest)
@@ -169,12 +172,6 @@ tag_end_before closed here space at next rest run some a r =
 pub OnErr-any : {T E Q : Type 0} (r : Result T E) → Q → OnErr r Q
 OnErr-any (Ok x) q = tt
 OnErr-any (Err e) q = q
-
-pub some_from_test : (xs : List ℕ) → (length xs == 0) ≡ false → xs ≢ []
-some_from_test xs e none = false≢true (sym e ∙ eq-eqb (length xs) 0 (ap length none))
-
-pub none_from_test : (xs : List ℕ) → (length xs == 0) ≡ true → xs ≡ []
-none_from_test xs e = nil_from_length xs (eqb-true (length xs) 0 e)
 
 -- what stands behind the name of a tag
 pub tag_end_of : (closed : Bool) (name bytes at_name found at_attributes rest : List ℕ) → bytes ≡ 60 ∷ at_name
@@ -341,20 +338,13 @@ no_tag_end-none bytes e closed rest r = let first =
     nothing : (x : ℕ) (xs : List ℕ) → x ∷ xs ≡ [] → ⊥
     nothing x xs f = cc
 
--- the first byte of a list
-some_same : (x y : ℕ) → Some x ≡ Some y → x ≡ y
-some_same x y e = cc
-
-none_some : (x : ℕ) → Some x ≡ None → ⊥
-none_some x e = cc
-
 pub first_of : (bytes : List ℕ) (x : ℕ) → Some x ≡ slice_get bytes 0 → (more : List ℕ) × (bytes ≡ x ∷ more)
-first_of [] x e = absurd (none_some x e)
-first_of (y ∷ ys) x e = (ys, ap (λ z. z ∷ ys) (sym (some_same x y e)))
+first_of [] x e = absurd (some_is_none x e)
+first_of (y ∷ ys) x e = (ys, ap (λ z. z ∷ ys) (sym (same_Some x y e)))
 
 pub first_none : (bytes : List ℕ) → None ≡ slice_get bytes 0 → bytes ≡ []
 first_none [] e = refl
-first_none (y ∷ ys) e = absurd (none_some y (sym e))
+first_none (y ∷ ys) e = absurd (some_is_none y (sym e))
 
 -- one name stands at the front of a tag
 pub NamesTag-of : (name bytes at_name found rest left : List ℕ) → bytes ≡ 60 ∷ at_name → ReadsName found at_name left

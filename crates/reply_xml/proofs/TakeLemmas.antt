@@ -3,6 +3,7 @@ use Rattle.std.proofs.Common.{◌≡◌, ◌∙◌, ◌↔◌, ℕ, true, false,
 use Rattle.std.proofs.Common.{sym, refl, subst, ap}
 use Rattle.std.specs.Option.{is_some, IsSome}
 use Rattle.std.proofs.lemmas.Bool.{false≢true}
+use Rattle.std.proofs.lemmas.Option.{none-some, same_Some}
 use Rattle.reply_xml.specs.declared.elements.Element.{Element}
 use Rattle.reply_xml.specs.declared.tags.Child.{Child}
 use Rattle.reply_xml.specs.declared.tags.Tag.{Tag}
@@ -194,22 +195,16 @@ named_passes {V} Left of child h inner text more value =
     let e = named_past of text child.element inner more h in
     (λ l. subst (λ (cs : List Content). Left cs value) e l, λ l. subst (λ (cs : List Content). Left cs value) (sym e) l)
 
-none_some : {V : Type 0} (x : V) → None ≡ Some x → ⊥
-none_some x e = cc
-
-some_value : {V : Type 0} (v x : V) → Some v ≡ Some x → v ≡ x
-some_value v x e = cc
-
 -- an element that may be absent, found for the first time
 at_most_here : {V : Type 0} (P : Content → V → Type 0) (contents all : List Content) (inner : Content) (x : V)
     → all ≡ inner ∷ contents
     → ((v : V) → OnceLeft P None all v ↔ OnceLeft P (Some x) contents v) → (o : Option V)
     → AtMostOnceLeft P None all o ↔ AtMostOnceLeft P (Some x) contents o
 at_most_here P contents all inner x e same None =
-    (λ h. absurd (nothing_there inner contents (sym e ∙ h)), λ h. absurd (none_some x h.1))
+    (λ h. absurd (nothing_there inner contents (sym e ∙ h)), λ h. absurd (none-some x h.1))
 at_most_here P contents all inner x e same (Some v) = (
   λ h. let left = (same v).0 h in (left.0, ap Some left.1),
-  λ h. (same v).1 (h.0, some_value v x h.1),
+  λ h. (same v).1 (h.0, same_Some v x h.1),
 )
 
 pub at_most_advanced : {V : Type 0} (Spells : List ℕ → V → Type 0) (of : Element) (found now : Option V) (child : Child)
@@ -223,7 +218,7 @@ at_most_advanced Spells of None (Some x) child bytes rest h e s a = (
   λ text more o. at_most_here (IsLeafOf Spells) (named of more) (named of (Then text child.element a.0 more)) a.0 x
       (named_here of text child.element a.0 more h) (λ v. a.2 text more v) o,
 )
-at_most_advanced Spells of (Some y) now child bytes rest h e s a = absurd (none_some y (sym e))
+at_most_advanced Spells of (Some y) now child bytes rest h e s a = absurd (none-some y (sym e))
 
 at_most_once : {V : Type 0} (P : Content → V → Type 0) (found : Option V) (contents : List Content) (o : Option V)
     → AtMostOnceLeft P found contents o → (contents ≡ []) ⊎ ((v : V) × OnceLeft P found contents v)

@@ -21,12 +21,12 @@ use Rattle.reply_xml.proofs.ChildLemmas.{named_here, nothing_there}
 use Rattle.reply_xml.proofs.ContentLemmas.{ReadsText-same, inner_open}
 use Rattle.reply_xml.proofs.DocumentLemmas.{root_left}
 use Rattle.reply_xml.proofs.OpenLemmas.{ReadsInner-same, element_past, inner_at, tag_of}
-use Rattle.reply_xml.proofs.RunLemmas.{parts_same}
 use Rattle.reply_xml.proofs.TagLemmas.{NamesTag-same, ReadsName-first, ReadsTagEnd-same}
 use Rattle.reply_xml.specs.Unfit.{HasText}
 use Rattle.s3_replies.specs.Encodings.{Behind, FirstIs, Found, HasElementText}
 use Rattle.s3_replies.specs.Listing.{EncodingLeft, HasEncoding}
 use Rattle.s3_replies.proofs.PageLemmas.{encoding_is}
+use Rattle.shared_lemmas.proofs.Lists.{cons_parts, no_cons}
 
 -- one element begins at the front
 pub NamesChild-same : (room : ℕ) (bytes from other : List ℕ) (c d : Child) → NamesChild room bytes c from
@@ -49,7 +49,7 @@ ReadsSome-same c d bytes next later name room r s =
     ).1
 
 -- no element begins where the content ends
-ends_open : (closed : Bool) (bytes at : List ℕ) → closed ≡ false
+pub ends_open : (closed : Bool) (bytes at : List ℕ) → closed ≡ false
     → MatchBool closed (at ≡ bytes) ((text : List ℕ) × ReadsText text bytes at
     × (more : List ℕ) × (at ≡ 60 ∷ 47 ∷ more))
     → (text : List ℕ) × ReadsText text bytes at × (more : List ℕ) × (at ≡ 60 ∷ 47 ∷ more)
@@ -62,7 +62,7 @@ child_at_end root room bytes at from child plain ends b =
     let open_end = ends_open root.closed bytes at plain ends in
     let there = (ReadsText-same b.text open_end.0 bytes b.at_tag at b.before open_end.1).1 in
     let slash : b.names.at_name ≡ 47 ∷ open_end.2 =
-    (parts_same 60 60 b.names.at_name (47 ∷ open_end.2) (sym b.names.opens ∙ sym there ∙ open_end.3)).1 in
+    (cons_parts 60 60 b.names.at_name (47 ∷ open_end.2) (sym b.names.opens ∙ sym there ∙ open_end.3)).1 in
     false≢true (ReadsName-first child.name.now b.names.at_name from open_end.2 47 b.names.named slash)
 
 -- the first element of a name
@@ -177,10 +177,6 @@ first_no_end of room text bytes from child b other none (Behind c at later names
       ),
     )
 
--- the encoding of a page whose root is read
-nothing_behind : (x : ℕ) (xs : List ℕ) → x ∷ xs ≡ [] → ⊥
-nothing_behind x xs e = cc
-
 only_nothing : (raw : List ℕ) → Only raw ≡ Only [] → raw ≡ []
 only_nothing raw e = cc
 
@@ -209,7 +205,7 @@ leaf_has_text child (Only raw) text from next r leaf = by_closed r.0 r.1 r.2 r.3
       ends = record { ends = ends; name = refl; element = refl; room = refl };
       rest = inside.0;
       has = (raw, inside.1, leaf);
-      followed = λ plain none. nothing_behind 60 (47 ∷ inside.2.at_name) (sym inside.2.opens ∙ none);
+      followed = λ plain none. no_cons 60 (47 ∷ inside.2.at_name) (sym inside.2.opens ∙ none);
     }
 
 url_named : (inner : Content) (contents all : List Content) (url : Bool) → all ≡ inner ∷ contents → HasEncoding all url

@@ -1,7 +1,8 @@
 use Rattle.std.proofs.Common.{◌∙◌, ◌∷◌, [], sym}
-use Rattle.reply_values.proofs.CutLemmas.{empty_is, long_is}
+use Rattle.reply_values.proofs.CutLemmas.{long_is}
 use Rattle.reply_values.proofs.UrlPieces.{all_plain, piece_more, stuck_behind}
 use Rattle.reply_values.proofs.url_text.decoded_bytes.Goals as goal
+use Rattle.shared_lemmas.proofs.Lists.{none_from_test}
 
 pub returns-then-is_empty-clause-value : goal.returns-then-is_empty-clause-value
 returns-then-is_empty-clause-value c =
@@ -9,7 +10,7 @@ returns-then-is_empty-clause-value c =
     let items = rw c.if-is_err.ensures.negation at c.extend_from_slice.ensures.items in
     rw items (all_plain c.args.text.now inv.0 c.pieces.rest.now _ _ c.pieces.bytes.items inv.1
     c.split_plain.ensures.split inv.2 c.split_plain.ensures.plain
-    (empty_is _ (sym c.is_empty.ensures ∙ c.if-is_empty.true)))
+    (none_from_test _ (sym c.is_empty.ensures ∙ c.if-is_empty.true)))
 
 pub returns-in_default-first_byte-clause-refused :
     goal.returns-in_default-first_byte-clause-refused

@@ -1,4 +1,4 @@
-use Rattle.std.proofs.Common.{◌≡◌, ◌∙◌, Result, Err, sym, ap}
+use Rattle.std.proofs.Common.{◌≡◌, ◌∙◌, Err, sym, ap}
 use Rattle.std.proofs.lemmas.Bool.{false≢true}
 use Rattle.std.proofs.lemmas.Result.{err_from_is_err_and}
 use Rattle.std.proofs.lemmas.Str.{IsUtf8-string_bytes}
@@ -7,14 +7,12 @@ use Rattle.reply_values.specs.UrlText.{StandsForByte}
 use Rattle.reply_values.proofs.SpellingLemmas.{spells_one}
 use Rattle.reply_values.proofs.UrlTextLemmas.{url_code}
 use Rattle.reply_values.proofs.url_text.url_decode.Goals as goal
-
-same_fault : {T E : Type 0} {a b : E} → ◌≡◌ {A = Result T E} (Err a) (Err b) → a ≡ b
-same_fault e = cc
+use Rattle.shared_lemmas.proofs.Clashes.{err_is}
 
 pub returns-in_err-bytes-clause-refused : goal.returns-in_err-bytes-clause-refused
 returns-in_err-bytes-clause-refused c = λ bad decoded h.
     let p = err_from_is_err_and c.from_residual.result c.from_residual.ensures.1 in
-    let fault = sym p.2 ∙ same_fault (sym p.1 ∙ bad) in
+    let fault = sym p.2 ∙ err_is _ _ (sym p.1 ∙ bad) in
     c.in_err-bytes.ensures.refused (ap Err fault) decoded (rw (sym c.as_bytes.ensures.value) at h.bytes)
 
 pub returns-in-Ok-clause-value : goal.returns-in-Ok-clause-value

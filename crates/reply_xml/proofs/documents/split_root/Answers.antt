@@ -10,8 +10,9 @@ use Rattle.reply_xml.proofs.DocumentLemmas.{NamesRoot-tag, reached, reached_decl
 use Rattle.reply_xml.specs.Runs.{ReadsRun}
 use Rattle.reply_xml.specs.Tags.{NameEnds, NamesTag}
 use Rattle.reply_xml.specs.declared.runs.Sort.TheVariants as sort
-use Rattle.reply_xml.proofs.FaultLemmas.{err_same, not_err}
+use Rattle.reply_xml.proofs.FaultLemmas.{not_err}
 use Rattle.reply_xml.proofs.documents.split_root.Goals as goal
+use Rattle.shared_lemmas.proofs.Clashes.{err_is}
 
 named_root : (name doc space at at_space between at_root rest : List ℕ) → ReadsRun sort.Space space doc at
     → MayDeclare at at_space → ReadsRun sort.Space between at_space at_root
@@ -87,7 +88,7 @@ returns-in_err-name-clause-bare c place l =
     let there = reached c.args.doc.now _ _ _ _ _ l.rest c.split_run.ensures.value c.in_ok-at_space.ensures.value
     c.split_run-2.ensures.value l.reaches in
     err_given c.from_residual-in_err-name.result c.in_err-name.field-0.0 (length l.rest) c.from_residual-in_err-name.ensures.1
-    (err_same _ _ (c.in_err-name.ensures.bare (λ more e. l.none more (there ∙ e))) ∙ ap length (sym there))
+    (err_is _ _ (c.in_err-name.ensures.bare (λ more e. l.none more (there ∙ e))) ∙ ap length (sym there))
 
 pub returns-then-not-is_same-clause-bare : goal.returns-then-not-is_same-clause-bare
 returns-then-not-is_same-clause-bare c place l =
@@ -112,7 +113,7 @@ returns-in_err-name-clause-nameless c place l =
     let there = reached c.args.doc.now _ _ _ _ _ (60 ∷ l.rest) c.split_run.ensures.value c.in_ok-at_space.ensures.value
     c.split_run-2.ensures.value l.reaches in
     err_given c.from_residual-in_err-name.result c.in_err-name.field-0.0 (length l.rest) c.from_residual-in_err-name.ensures.1
-    (err_same _ _ (c.in_err-name.ensures.nameless l.rest (sym there) l.unnamed))
+    (err_is _ _ (c.in_err-name.ensures.nameless l.rest (sym there) l.unnamed))
 
 pub returns-then-not-is_same-clause-nameless : goal.returns-then-not-is_same-clause-nameless
 returns-then-not-is_same-clause-nameless c place l =

@@ -1,10 +1,11 @@
 use Rattle.std.proofs.Common.{◌∙◌, Err, ap, sym}
-use Rattle.reply_xml.proofs.FaultLemmas.{Tells-map, err_same, fault_past, not_err, refused_past, same_fault, untold}
+use Rattle.reply_xml.proofs.FaultLemmas.{Tells-map, fault_past, not_err, refused_past, same_fault, untold}
 use Rattle.reply_xml.proofs.WholeLemmas.{behind_root, behind_there, no_root, no_inside, no_whole, whole}
 use Rattle.reply_xml.specs.declared.faults.DocFault.TheVariants as fault
 use Rattle.reply_xml.specs.Breaks.{BehindRoot, InRoot}
 use Rattle.reply_xml.proofs.BreakLemmas.{OnBroken-map, broken_past, sized}
 use Rattle.reply_xml.proofs.parts.read_document.Goals as goal
+use Rattle.shared_lemmas.proofs.Clashes.{err_is}
 
 pub returns-in-Err-clause-refused : goal.returns-in-Err-clause-refused
 returns-in-Err-clause-refused g c =
@@ -30,7 +31,7 @@ returns-clause-value g c =
     c.in-Ok.ensures.room c.in-Ok.ensures.named c.in_ok-whole.ensures.value c.in_ok-close.ensures.value
 
 pub returns-in-Err-clause-other_root : goal.returns-in-Err-clause-other_root
-returns-in-Err-clause-other_root g c place o = ap Err (err_same _ _ (c.in-Err.ensures.other place o))
+returns-in-Err-clause-other_root g c place o = ap Err (err_is _ _ (c.in-Err.ensures.other place o))
 
 pub returns-in_err-whole-clause-other_root : goal.returns-in_err-whole-clause-other_root
 returns-in_err-whole-clause-other_root g c place o = absurd (not_err _ _ (c.in-Ok.ensures.other place o))
@@ -67,7 +68,7 @@ returns-in_err-close-clause-behind g c place b =
     fault_past c.from_residual-in_err-close.result c.in_err-close.field-0.0
     (fault.NotADocument place) c.from_residual-in_err-close.ensures.1
     (same_fault c.in_err-close.field-0.0 (fault.NotADocument place)
-    (err_same _ _ (c.in_err-close.ensures.behind b.more space b.some) ∙ ap (λ n. fault.NotADocument n) (sym b.at)))
+    (err_is _ _ (c.in_err-close.ensures.behind b.more space b.some) ∙ ap (λ n. fault.NotADocument n) (sym b.at)))
 
 pub returns-clause-behind : goal.returns-clause-behind
 returns-clause-behind g c place b =

@@ -1,10 +1,10 @@
 use Rattle.std.proofs.Common.{Bool, List, ℕ, arith, sym, ◌∙◌, refl}
 use Rattle.reply_xml.specs.Tags.{ReadsTagEnd}
 use Rattle.reply_xml.proofs.TagLemmas.{no_tag_end-slash, goes_on, tag_end_past, tag_end_before, OnErr-any}
-use Rattle.reply_xml.proofs.TagLemmas.{none_from_test, some_from_test}
 use Rattle.reply_xml.specs.Leaves.{BadAttribute, NoSpace, NoTagEnd}
 use Rattle.reply_xml.proofs.LeaveLemmas.{leaves_past, tag_leaves_before}
 use Rattle.reply_xml.proofs.tags.after_tag_end.Goals as goal
+use Rattle.shared_lemmas.proofs.Lists.{none_from_test, some_from_test}
 
 pub returns-in-None-clause-refused : goal.returns-in-None-clause-refused
 returns-in-None-clause-refused c closed rest r =

@@ -3,8 +3,9 @@ use Rattle.std.proofs.Common.{sym, ◌∙◌, refl}
 use Rattle.std.proofs.lemmas.Bool.{eqb-true}
 use Rattle.reply_xml.specs.declared.runs.Sort.TheVariants as sort
 use Rattle.reply_xml.proofs.RunLemmas.{no_run, no_run_begins}
-use Rattle.reply_xml.proofs.TagLemmas.{no_name, some_from_test, none_from_test}
+use Rattle.reply_xml.proofs.TagLemmas.{no_name}
 use Rattle.reply_xml.proofs.tags.split_name.Goals as goal
+use Rattle.shared_lemmas.proofs.Lists.{none_from_test, some_from_test}
 
 pub returns-then-is_empty-clause-refused : goal.returns-then-is_empty-clause-refused
 returns-then-is_empty-clause-refused c name rest r =

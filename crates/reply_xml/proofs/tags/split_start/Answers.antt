@@ -3,12 +3,13 @@ use Rattle.reply_xml.proofs.TagLemmas.{first_none, first_of, tag_end_of, no_tag_
 use Rattle.reply_xml.proofs.TagLemmas.{no_name_end-first, no_name_end-none}
 use Rattle.reply_xml.specs.Tags.{NameEnds, NamesTag, ReadsName}
 use Rattle.reply_xml.proofs.TagLemmas.{IfErr-any, OnErr-any, err_given}
-use Rattle.reply_xml.proofs.FaultLemmas.{err_same, not_err}
+use Rattle.reply_xml.proofs.FaultLemmas.{not_err}
 use Rattle.reply_xml.specs.Runs.{BeginsOutside, is_name_byte}
-use Rattle.reply_xml.proofs.RunLemmas.{parts_same}
 use Rattle.reply_xml.specs.Leaves.{NoNameEnd, NoTag, NoTagName}
 use Rattle.reply_xml.proofs.LeaveLemmas.{leaves_past}
 use Rattle.reply_xml.proofs.tags.split_start.Goals as goal
+use Rattle.shared_lemmas.proofs.Lists.{cons_parts}
+use Rattle.shared_lemmas.proofs.Clashes.{err_is}
 
 pub returns-in_default-first-clause-refused : goal.returns-in_default-first-clause-refused
 returns-in_default-first-clause-refused c closed name rest r =
@@ -26,7 +27,7 @@ returns-in_err-name-clause-unnamed c =
     let none : (name rest : List ℕ) → NamesTag name c.args.bytes.now rest → ¬ (NameEnds rest) =
     λ name rest n ends. c.in_err-name.ensures.refused name rest
     (subst (λ (b : List ℕ). ReadsName name b rest)
-    (parts_same 60 60 n.at_name _ (sym n.opens ∙ c.in-Some.ensures.value)).1 n.named) in
+    (cons_parts 60 60 n.at_name _ (sym n.opens ∙ c.in-Some.ensures.value)).1 n.named) in
     OnErr-any c.from_residual.result none
 
 pub returns-in_default-first-clause-unnamed : goal.returns-in_default-first-clause-unnamed
@@ -57,24 +58,24 @@ returns-in_default-clause-nameless c more e h = absurd (c.in_default.ensures.val
 
 pub returns-in_err-name-clause-nameless : goal.returns-in_err-name-clause-nameless
 returns-in_err-name-clause-nameless c more e h =
-    let same = (parts_same 60 60 _ more (sym c.in-Some.ensures.value ∙ e)).1 in
+    let same = (cons_parts 60 60 _ more (sym c.in-Some.ensures.value ∙ e)).1 in
     let outside = subst (BeginsOutside is_name_byte) (sym same) h in
     err_given c.from_residual.result c.in_err-name.field-0.0 (length more) c.from_residual.ensures.1
-    (err_same _ _ (c.in_err-name.ensures.outside outside) ∙ ap length same)
+    (err_is _ _ (c.in_err-name.ensures.outside outside) ∙ ap length same)
 
 pub returns-in_default-first-clause-nameless : goal.returns-in_default-first-clause-nameless
 returns-in_default-first-clause-nameless c more e h =
-    let same = (parts_same 60 60 _ more (sym c.in-Some.ensures.value ∙ e)).1 in
+    let same = (cons_parts 60 60 _ more (sym c.in-Some.ensures.value ∙ e)).1 in
     absurd (not_err _ _ (c.in_ok-name.ensures.outside (subst (BeginsOutside is_name_byte) (sym same) h)))
 
 pub returns-then-not-ends_name-clause-nameless : goal.returns-then-not-ends_name-clause-nameless
 returns-then-not-ends_name-clause-nameless c more e h =
-    let same = (parts_same 60 60 _ more (sym c.in-Some.ensures.value ∙ e)).1 in
+    let same = (cons_parts 60 60 _ more (sym c.in-Some.ensures.value ∙ e)).1 in
     absurd (not_err _ _ (c.in_ok-name.ensures.outside (subst (BeginsOutside is_name_byte) (sym same) h)))
 
 pub returns-clause-nameless : goal.returns-clause-nameless
 returns-clause-nameless c more e h =
-    let same = (parts_same 60 60 _ more (sym c.in-Some.ensures.value ∙ e)).1 in
+    let same = (cons_parts 60 60 _ more (sym c.in-Some.ensures.value ∙ e)).1 in
     absurd (not_err _ _ (c.in_ok-name.ensures.outside (subst (BeginsOutside is_name_byte) (sym same) h)))
 
 pub returns-in_default-clause-named : goal.returns-in_default-clause-named
@@ -87,7 +88,7 @@ returns-in_err-name-clause-named c =
     λ left name rest n. absurd
     (c.in_err-name.ensures.refused name rest
     (subst (λ (b : List ℕ). ReadsName name b rest)
-    (parts_same 60 60 n.at_name _ (sym n.opens ∙ c.in-Some.ensures.value)).1 n.named))
+    (cons_parts 60 60 n.at_name _ (sym n.opens ∙ c.in-Some.ensures.value)).1 n.named))
     )
 
 pub returns-in_default-first-clause-named : goal.returns-in_default-first-clause-named

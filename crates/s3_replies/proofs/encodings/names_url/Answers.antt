@@ -2,13 +2,13 @@ use Rattle.std.proofs.Common.{◌∙◌, arith, codes, false, sym}
 use Rattle.std.proofs.lemmas.Bool.{false≢true}
 use Rattle.reply_xml.specs.declared.elements.Element.TheVariants as element
 use Rattle.reply_xml.proofs.FaultLemmas.{IfOk-map, told}
-use Rattle.reply_xml.proofs.OpenLemmas.{iff_past}
 use Rattle.reply_xml.proofs.TakeLemmas.{advanced, at_end_left, named_passes, skipped}
 use Rattle.s3_replies.specs.Encodings.{Behind, Found}
 use Rattle.s3_replies.specs.Listing.{EncodingLeft, HasEncoding}
 use Rattle.s3_replies.proofs.EncodingLemmas.{first_at_end, first_here, first_no_child, first_no_end, first_past}
 use Rattle.s3_replies.proofs.EncodingLemmas.{no_end_there, nothing_named, url_there}
 use Rattle.s3_replies.proofs.encodings.names_url.Goals as goal
+use Rattle.shared_lemmas.proofs.Tests.{iff_chain}
 
 -- at the end nothing is named
 pub returns-in-Ok-None-clause-first : goal.returns-in-Ok-None-clause-first
@@ -111,12 +111,12 @@ children-preserved c =
     let now = rw c.in-Ok-Some.field-0-is at c.in-Ok-Some.ensures in
     let other = sym c.is_the.ensures ∙ c.if-is_the.false in
     record {
-      first = iff_past c.children.invariant.first (
+      first = iff_chain c.children.invariant.first (
         λ f. first_past element.EncodingType c.args.root.now.room
             (codes "url") c.children.here.rest.now _ _ c.in-Ok-Some.child now.child other c.in_default.ensures.value f,
         λ f. Behind c.in-Ok-Some.child _ _ now.child other c.in_default.ensures.value f,
       );
-      page = λ rest url. iff_past (c.children.invariant.page rest url)
+      page = λ rest url. iff_chain (c.children.invariant.page rest url)
           (
           advanced (EncodingLeft false) (EncodingLeft false) c.args.root.now c.in-Ok-Some.child _ _ _ rest url now.apart
           now.child

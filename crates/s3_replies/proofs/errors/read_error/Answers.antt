@@ -1,9 +1,10 @@
 use Rattle.std.proofs.Common.{◌∙◌, [], ap, sym, unwrap_or}
-use Rattle.reply_xml.proofs.FaultLemmas.{err_past, err_same, fault_past, not_err, refused_past}
+use Rattle.reply_xml.proofs.FaultLemmas.{err_past, fault_past, not_err, refused_past}
 use Rattle.s3_replies.proofs.ErrorLemmas.{error_behind, error_found, error_told}
 use Rattle.reply_xml.specs.declared.faults.DocFault.TheVariants as fault
 use Rattle.reply_xml.proofs.BreakLemmas.{broken_past}
 use Rattle.s3_replies.proofs.errors.read_error.Goals as goal
+use Rattle.shared_lemmas.proofs.Clashes.{err_is}
 
 pub returns-in_err-code-clause-refused : goal.returns-in_err-code-clause-refused
 returns-in_err-code-clause-refused c =
@@ -22,7 +23,7 @@ returns-in-None-clause-value c = error_told c.args.doc.now c.in_ok-code.code _ c
 pub returns-in_err-code-clause-other_root : goal.returns-in_err-code-clause-other_root
 returns-in_err-code-clause-other_root c place o =
     err_past c.from_residual.result c.in_err-code.field-0.0 _ c.from_residual.ensures.1
-    (err_same _ _ (c.in_err-code.ensures.other_root place o))
+    (err_is _ _ (c.in_err-code.ensures.other_root place o))
 
 pub returns-in-Some-clause-other_root : goal.returns-in-Some-clause-other_root
 returns-in-Some-clause-other_root c place o = absurd (not_err _ _ (c.in_ok-code.ensures.other_root place o))

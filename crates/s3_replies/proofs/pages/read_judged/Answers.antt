@@ -4,7 +4,7 @@ use Rattle.reply_xml.specs.Unfit.{AKey, APrefix}
 use Rattle.reply_xml.specs.declared.faults.DocFault.TheVariants as fault
 use Rattle.s3_replies.specs.Encodings.{BreaksPage}
 use Rattle.s3_replies.specs.Listing.{HasListing, HasPage, page_table}
-use Rattle.reply_xml.proofs.FaultLemmas.{IfOk-map, Tells-map, err_same, fault_past, not_err, refused_past, refused_so}
+use Rattle.reply_xml.proofs.FaultLemmas.{IfOk-map, Tells-map, fault_past, not_err, refused_past, refused_so}
 use Rattle.reply_xml.proofs.FaultLemmas.{same_fault, untold}
 use Rattle.reply_xml.proofs.WholeLemmas.{behind_root, no_root, no_whole, whole}
 use Rattle.reply_xml.proofs.BreakLemmas.{broken_past, sized, unbroken}
@@ -13,6 +13,7 @@ use Rattle.s3_replies.proofs.JudgedLemmas.{memory_broken, memory_fault, memory_r
 use Rattle.s3_replies.proofs.JudgedLemmas.{no_judged, no_judged_behind}
 use Rattle.s3_replies.proofs.ListingLemmas.{said_there}
 use Rattle.s3_replies.proofs.pages.read_judged.Goals as goal
+use Rattle.shared_lemmas.proofs.Clashes.{err_is}
 
 -- no root
 pub returns-in-Err-clause-refused : goal.returns-in-Err-clause-refused
@@ -26,7 +27,7 @@ returns-in-Err-clause-broken c =
     c.in-Err.ensures.refused c.in-Err.ensures.broken
 
 pub returns-in-Err-clause-other_root : goal.returns-in-Err-clause-other_root
-returns-in-Err-clause-other_root c place o = ap Err (err_same _ _ (c.in-Err.ensures.other place o))
+returns-in-Err-clause-other_root c place o = ap Err (err_is _ _ (c.in-Err.ensures.other place o))
 
 pub returns-in-Err-clause-behind : goal.returns-in-Err-clause-behind
 returns-in-Err-clause-behind c place b =
@@ -120,7 +121,7 @@ returns-in_err-close-clause-behind c place b =
     fault_past c.from_residual-in_err-close.result c.in_err-close.field-0.0
     (fault.NotADocument place) c.from_residual-in_err-close.ensures.1
     (same_fault c.in_err-close.field-0.0 (fault.NotADocument place)
-    (err_same _ _ (c.in_err-close.ensures.behind b.more space b.some) ∙ ap (λ n. fault.NotADocument n) (sym b.at)))
+    (err_is _ _ (c.in_err-close.ensures.behind b.more space b.some) ∙ ap (λ n. fault.NotADocument n) (sym b.at)))
 
 -- a whole page
 pub returns-clause-value : goal.returns-clause-value

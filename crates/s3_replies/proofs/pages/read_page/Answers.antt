@@ -1,14 +1,15 @@
 use Rattle.std.proofs.Common.{Err, List, ap, codes, subst, ℕ}
 use Rattle.reply_xml.specs.Documents.{ReadsSpace}
 use Rattle.s3_replies.specs.Listing.{HasListing, HasPage}
-use Rattle.reply_xml.proofs.FaultLemmas.{IfOk-map, err_same, not_err}
+use Rattle.reply_xml.proofs.FaultLemmas.{IfOk-map, not_err}
 use Rattle.reply_xml.proofs.WholeLemmas.{behind_root, whole}
 use Rattle.s3_replies.proofs.JudgedLemmas.{on_ok}
 use Rattle.s3_replies.proofs.ListingLemmas.{said_there}
 use Rattle.s3_replies.proofs.pages.read_page.Goals as goal
+use Rattle.shared_lemmas.proofs.Clashes.{err_is}
 
 pub returns-in-Err-clause-other_root : goal.returns-in-Err-clause-other_root
-returns-in-Err-clause-other_root c place o = ap Err (err_same _ _ (c.in-Err.ensures.other place o))
+returns-in-Err-clause-other_root c place o = ap Err (err_is _ _ (c.in-Err.ensures.other place o))
 
 pub returns-in_err-page-clause-other_root : goal.returns-in_err-page-clause-other_root
 returns-in_err-page-clause-other_root c place o = absurd (not_err _ _ (c.in-Ok.ensures.other place o))

@@ -1,12 +1,13 @@
-use Rattle.reply_xml.proofs.FaultLemmas.{err_past, err_same, fault_past, not_err}
+use Rattle.reply_xml.proofs.FaultLemmas.{err_past, fault_past, not_err}
 use Rattle.reply_xml.specs.declared.faults.DocFault.TheVariants as fault
 use Rattle.reply_xml.proofs.BreakLemmas.{broken_past}
 use Rattle.s3_replies.proofs.results.read_completed.Goals as goal
+use Rattle.shared_lemmas.proofs.Clashes.{err_is}
 
 pub returns-in_err-_etag-clause-other_root : goal.returns-in_err-_etag-clause-other_root
 returns-in_err-_etag-clause-other_root c place o =
     err_past c.from_residual.result c.in_err-_etag.field-0.0 _ c.from_residual.ensures.1
-    (err_same _ _ (c.in_err-_etag.ensures.other_root place o))
+    (err_is _ _ (c.in_err-_etag.ensures.other_root place o))
 
 pub returns-clause-other_root : goal.returns-clause-other_root
 returns-clause-other_root c place o = absurd (not_err _ _ (c.in_ok-_etag.ensures.other_root place o))

@@ -2,8 +2,8 @@ use Rattle.std.proofs.Common.{◌-◌, ◌∙◌, [], Err, ap, length, sym, refl
 use Rattle.reply_xml.specs.declared.faults.DocFault.TheVariants as fault
 use Rattle.reply_xml.specs.declared.runs.Sort.TheVariants as sort
 use Rattle.reply_xml.proofs.RunLemmas.{ReadsRun-same}
-use Rattle.reply_xml.proofs.TagLemmas.{none_from_test, some_from_test}
 use Rattle.reply_xml.proofs.reader.Reader.close.Goals as goal
+use Rattle.shared_lemmas.proofs.Lists.{none_from_test, some_from_test}
 
 pub returns-then-not-is_empty-clause-refused : goal.returns-then-not-is_empty-clause-refused
 returns-then-not-is_empty-clause-refused c space =

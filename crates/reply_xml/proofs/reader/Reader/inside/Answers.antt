@@ -1,11 +1,11 @@
 use Rattle.std.proofs.Common.{refl, arith, ◌∙◌, ◌∷◌}
 use Rattle.reply_xml.proofs.FaultLemmas.{refused_past}
-use Rattle.reply_xml.proofs.OpenLemmas.{iff_past}
 use Rattle.reply_xml.proofs.TakeLemmas.{advanced, stopped, ended, at_end_left}
 use Rattle.reply_xml.specs.Breaks.{Behind}
 use Rattle.reply_xml.proofs.FrontLemmas.{complete_so, goes_on_before, goes_on_end, read_so}
 use Rattle.reply_xml.proofs.BreakLemmas.{broken_past, child_breaks, lacks_there, sized, tabled}
 use Rattle.reply_xml.proofs.reader.Reader.inside.Goals as goal
+use Rattle.shared_lemmas.proofs.Tests.{iff_chain}
 
 pub returns-in_err-child-clause-refused : goal.returns-in_err-child-clause-refused
 returns-in_err-child-clause-refused g c =
@@ -18,7 +18,7 @@ children-preserved g c =
     let now = rw c.in-Some.is at c.in_ok-child.ensures in
     record {
       no_longer = omega (arith, c.in_ok-child.ensures.no_longer, c.in_ok-take.ensures.no_longer);
-      same = λ rest whole. iff_past (c.children.invariant.same rest whole)
+      same = λ rest whole. iff_chain (c.children.invariant.same rest whole)
           (advanced (g.P.Parts.left c.children.parts) (g.P.Parts.left c.take.new.self) c.args.parent.now c.in-Some.child
           _ _ _ rest whole now.apart now.child c.in_ok-take.ensures.value);
       size = c.in_ok-take.ensures.size ∙ now.size ∙ c.children.invariant.size;

@@ -1,11 +1,12 @@
 use Rattle.std.proofs.Common.{Err, ap, ⊎_elim, refl, rules}
 use Rattle.reply_xml.specs.declared.faults.DocFault.TheVariants as fault
-use Rattle.reply_xml.proofs.FaultLemmas.{err_same, not_err}
+use Rattle.reply_xml.proofs.FaultLemmas.{not_err}
 use Rattle.reply_xml.proofs.DocumentLemmas.{otherwise_at, root_begins, root_end}
 use Rattle.reply_xml.specs.Breaks.{InRootTag, NoRoot}
 use Rattle.std.proofs.lemmas.Str.{is_utf8-from_IsUtf8}
 use Rattle.reply_xml.proofs.Utf8Lemmas.{behind_begin}
 use Rattle.reply_xml.proofs.reader.Reader.open.Goals as goal
+use Rattle.shared_lemmas.proofs.Clashes.{err_is}
 
 pub returns-in-Err-after_tag_end-clause-refused : goal.returns-in-Err-after_tag_end-clause-refused
 returns-in-Err-after_tag_end-clause-refused c closed rest b =
@@ -20,8 +21,8 @@ returns-in-Err-clause-other c place o =
     ap (λ n. Err (fault.NotADocument n))
     (
     otherwise_at c.args.root.now c.args.doc.now place c.in-Err.left o
-    (λ x. err_same _ _ (c.in-Err.ensures.other place x)) (λ x. err_same _ _ (c.in-Err.ensures.bare place x))
-    (λ x. err_same _ _ (c.in-Err.ensures.nameless place x))
+    (λ x. err_is _ _ (c.in-Err.ensures.other place x)) (λ x. err_is _ _ (c.in-Err.ensures.bare place x))
+    (λ x. err_is _ _ (c.in-Err.ensures.nameless place x))
     )
 
 pub returns-in-Err-after_tag_end-clause-other : goal.returns-in-Err-after_tag_end-clause-other

@@ -3,10 +3,11 @@ use Rattle.reply_xml.specs.Tables.{Done}
 use Rattle.reply_xml.proofs.FrontLemmas.{fresh_outside}
 use Rattle.std.proofs.lemmas.List.{append-nil}
 use Rattle.reply_xml.proofs.FaultLemmas.{refused_past}
-use Rattle.reply_xml.proofs.OpenLemmas.{child_begins, left_in, left_out, left_end, left_none, left_no_child, iff_past}
+use Rattle.reply_xml.proofs.OpenLemmas.{child_begins, left_in, left_out, left_end, left_none, left_no_child}
 use Rattle.reply_xml.specs.Breaks.{InTag}
 use Rattle.reply_xml.proofs.BreakLemmas.{broken_past, open_sized, opened_in, opened_out, sized}
 use Rattle.reply_xml.proofs.reader.Reader.skip_content.Goals as goal
+use Rattle.shared_lemmas.proofs.Tests.{iff_chain}
 
 pub returns-in_err-child-clause-refused : goal.returns-in_err-child-clause-refused
 returns-in_err-child-clause-refused c =
@@ -39,7 +40,7 @@ elements-preserved-in-Ok c =
     c.in_ok-within-in-Some.ensures.value in
     record {
       no_longer = omega (arith, c.in_ok-child.ensures.no_longer, c.in_ok-within-in-Some.ensures.no_longer);
-      same = λ rest. iff_past
+      same = λ rest. iff_chain
           (left_in c.elements.outer.items c.push.new.self.items c.elements.inner c.in_ok-within-in-Some.within _ _ rest
           now.apart begins c.in-Ok.ensures.items) (c.elements.invariant.same rest);
       size = c.in_ok-within-in-Some.ensures.size ∙ now.size ∙ c.elements.invariant.size;
@@ -55,7 +56,7 @@ elements-preserved c =
     let now = rw c.in-None.is at c.in_ok-child.ensures in
     record {
       no_longer = omega (arith, c.in_ok-child.ensures.no_longer, c.in_ok-end-in-None.ensures.no_longer);
-      same = λ rest. iff_past
+      same = λ rest. iff_chain
           (left_out c.pop.new.self.items c.elements.outer.items c.elements.inner c.in-Some-pop.parent _ _ rest
           (c.in_ok-end-in-None.ensures.value _ now.end) c.in-Some-pop.ensures.items) (c.elements.invariant.same rest);
       size = c.in_ok-end-in-None.ensures.size ∙ now.size ∙ c.elements.invariant.size;

@@ -1,7 +1,6 @@
 use Rattle.std.proofs.Common.{arith, sym, ◌∙◌, ap, refl}
 use Rattle.reply_xml.proofs.FaultLemmas.{Tells-any, bad_told, ends_told}
 use Rattle.reply_xml.proofs.ContentLemmas.{no_meaning, no_text, no_text_at_end}
-use Rattle.reply_xml.proofs.TagLemmas.{none_from_test, some_from_test}
 use Rattle.reply_xml.specs.declared.faults.DocFault.TheVariants as fault
 use Rattle.reply_xml.specs.Breaks.{BadReference, Leaves}
 use Rattle.reply_xml.specs.Leaves.{NotUtf8}
@@ -9,6 +8,7 @@ use Rattle.reply_xml.proofs.LeaveLemmas.{bad_at, ends_at, ends_within, text_ends
 use Rattle.reply_xml.proofs.RunLemmas.{run_within}
 use Rattle.reply_xml.proofs.Utf8Lemmas.{judged, judged_on, text_parts}
 use Rattle.reply_xml.proofs.reader.Reader.text.Goals as goal
+use Rattle.shared_lemmas.proofs.Lists.{none_from_test, some_from_test}
 
 pub returns-then-is_empty-clause-refused : goal.returns-then-is_empty-clause-refused
 returns-then-is_empty-clause-refused c =
