@@ -28,12 +28,6 @@ one_of_two true b r p e = absurd (true_is_false p)
 one_of_two false true r p e = e
 one_of_two false false r p e = e
 
-pub one_of_three : (a b c r : Bool) → a ≡ false → b ≡ false → r ≡ c → r ≡ a || (b || (c || false))
-one_of_three true b c r p q e = absurd (true_is_false p)
-one_of_three false true c r p q e = absurd (true_is_false q)
-one_of_three false false true r p q e = e
-one_of_three false false false r p q e = e
-
 -- ---- Error documents
 
 -- where the document of an error is looked for: not found, and not for want of memory

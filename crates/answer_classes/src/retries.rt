@@ -1,21 +1,9 @@
 //! Requests that are tried again.
 
 ghost use Rattle.std.specs.Prelude.{◌≡◌};
-ghost use Rattle.s3_model.specs.Classes.{is_tried_again, tried_again_codes};
-ghost use Rattle.s3_model.specs.Files.{is_listed};
+ghost use Rattle.s3_model.specs.Classes.{is_tried_again};
 
-use crate::refusals::is_code;
-use s3_model::{Class, Why};
-
-/// Whether a refusal with that code is over soon.
-#[tactic(auto, using(crate::proofs::Rows::one_of_three))]
-fn is_passing(code: &str) -> bool
-    ensures { result ≡ is_listed tried_again_codes code.now }
-{
-    is_code(code, "SlowDown")
-        || is_code(code, "ServiceUnavailable")
-        || is_code(code, "RequestTimeout")
-}
+use s3_model::{Class, Why, is_passing};
 
 /// Whether a request with an answer of that class is tried again: one that is left open, unless memory ran out, and
 /// one that was refused with the code `SlowDown`, `ServiceUnavailable` or `RequestTimeout`.
