@@ -130,7 +130,7 @@ impl StepJobs {
         ensures unheard { IfOk result (λ made. made.cell.known ≡ None) }
         ensures whole { IfOk result HasAll }
     {
-        let task = task_copies::share(alloc, task)?;
+        let task = task.share(alloc)?;
         let mut cell = CancelCell::make(alloc)?;
         let shares = make_shares(alloc, &task, &mut cell, 4 + work.count as usize)?;
         Ok(StepJobs {
