@@ -5,6 +5,7 @@ use Rattle.path_filters.specs.declared.pieces.Piece.{Piece}
 use Rattle.path_filters.specs.declared.pieces.Piece.TheVariants.{Star, One, Set, Question}
 use Rattle.path_filters.specs.Patterns.{Takes, Matches, is_star}
 use Rattle.path_filters.specs.Runs.{Fits, IsLeft, StopsAtStar}
+use Rattle.shared_lemmas.proofs.Lists.{no_nil}
 
 -- a piece other than a star stands for one character
 pub Matches-cons : (piece : Piece) (pieces : List Piece) (code : ℕ) (codes : List ℕ) → Takes piece code → Matches pieces codes → Matches (piece ∷ pieces) (code ∷ codes)
@@ -27,14 +28,11 @@ Matches-uncons Question pieces code codes s m = parts_of Question pieces code co
 Matches-uncons (One letter) pieces code codes s m = parts_of (One letter) pieces code codes m
 Matches-uncons (Set negated members) pieces code codes s m = parts_of (Set negated members) pieces code codes m
 
-nothing_left : (code : ℕ) (codes : List ℕ) → [] ≡ code ∷ codes → ⊥
-nothing_left code codes e = cc
-
 pub Matches-nil : (piece : Piece) (pieces : List Piece) → is_star piece ≡ false → Matches (piece ∷ pieces) [] → ⊥
 Matches-nil Star pieces s m = absurd cc
-Matches-nil Question pieces s (code, codes, e, t, m) = nothing_left code codes e
-Matches-nil (One letter) pieces s (code, codes, e, t, m) = nothing_left code codes e
-Matches-nil (Set negated members) pieces s (code, codes, e, t, m) = nothing_left code codes e
+Matches-nil Question pieces s (code, codes, e, t, m) = no_nil code codes e
+Matches-nil (One letter) pieces s (code, codes, e, t, m) = no_nil code codes e
+Matches-nil (Set negated members) pieces s (code, codes, e, t, m) = no_nil code codes e
 
 takes_no_star : (piece : Piece) (code : ℕ) → Takes piece code → is_star piece ≡ false
 takes_no_star Star code t = absurd t
@@ -56,15 +54,15 @@ past_front (piece ∷ front) after (code ∷ fitting) [] f m = absurd (Matches-n
 past_front (piece ∷ front) after (code ∷ fitting) (other ∷ text) f m = past_front front after fitting text f.1 (Matches-uncons piece (front ++ after) other text (takes_no_star piece code f.0) m).1
 
 Fits-push : (front : List Piece) (piece : Piece) (text : List ℕ) (code : ℕ) (rest : List ℕ) → Fits front text → drop (length front) text ≡ code ∷ rest → Takes piece code → Fits (front ++ piece ∷ []) text
-Fits-push [] piece [] code rest f e t = nothing_left code rest e
+Fits-push [] piece [] code rest f e t = no_nil code rest e
 Fits-push [] piece (other ∷ text) code rest f e t = (subst (Takes piece) (head_same other text code rest e).0 t, tt)
 Fits-push (first ∷ front) piece [] code rest f e t = absurd f
 Fits-push (first ∷ front) piece (other ∷ text) code rest f e t = (f.0, Fits-push front piece text code rest f.1 e t)
 
 drop-push : (front : List Piece) (piece : Piece) (text : List ℕ) (code : ℕ) (rest : List ℕ) → drop (length front) text ≡ code ∷ rest → rest ≡ drop (length (front ++ piece ∷ [])) text
-drop-push [] piece [] code rest e = absurd (nothing_left code rest e)
+drop-push [] piece [] code rest e = absurd (no_nil code rest e)
 drop-push [] piece (other ∷ text) code rest e = (head_same other text code rest e).1
-drop-push (first ∷ front) piece [] code rest e = absurd (nothing_left code rest e)
+drop-push (first ∷ front) piece [] code rest e = absurd (no_nil code rest e)
 drop-push (first ∷ front) piece (other ∷ text) code rest e = drop-push front piece text code rest e
 
 pub IsLeft-more : {pieces : List Piece} {text : List ℕ} {piece : Piece} {more : List Piece} {rest : List ℕ} (code : ℕ) (after : List ℕ) → IsLeft pieces text (piece ∷ more) rest → rest ≡ code ∷ after → Takes piece code → IsLeft pieces text more after
@@ -133,7 +131,7 @@ star_moves pieces text code codes e apart =
 -- at the end of the text a star has no other place
 pub star_at_end : (pieces : List Piece) (text : List ℕ) → text ≡ [] → ¬ (Matches pieces text) → ¬ (Matches (Star ∷ pieces) text)
 star_at_end pieces text e apart ([], back, whole, m) = apart (subst (Matches pieces) (sym whole) m)
-star_at_end pieces text e apart (first ∷ front, back, whole, m) = nothing_left first (front ++ back) (sym e ∙ whole)
+star_at_end pieces text e apart (first ∷ front, back, whole, m) = no_nil first (front ++ back) (sym e ∙ whole)
 
 -- no pieces match no text
 pub Matches-ended : {pieces : List Piece} {text : List ℕ} → pieces ≡ [] → Matches pieces text ↔ (text ≡ [])

@@ -7,10 +7,8 @@ use Rattle.path_filters.specs.declared.pieces.Piece.{Piece}
 use Rattle.path_filters.specs.declared.pieces.Piece.TheVariants.{Star, One, Set, Question}
 use Rattle.path_filters.specs.declared.pieces.Range.{Range}
 use Rattle.path_filters.specs.Patterns.{ranges_of, bracketed, IsInside, IsClosed, BeginsWith, IsPattern}
-use Rattle.path_filters.proofs.SetLemmas.{nothing_first, tails_same}
-
-two_same : (code other : ℕ) (codes others : List ℕ) → code ≡ other → codes ≡ others → code ∷ codes ≡ other ∷ others
-two_same code other codes others e f = cc
+use Rattle.path_filters.proofs.SetLemmas.{tails_same}
+use Rattle.shared_lemmas.proofs.Lists.{cons_is, no_nil}
 
 -- a list is cut at its first `]` in one way
 cut_same : (before others after rest : List ℕ) → All (λ code. code ≢ 93) before → All (λ code. code ≢ 93) others → before ++ 93 ∷ after ≡ others ++ 93 ∷ rest → (before ≡ others) × (after ≡ rest)
@@ -20,7 +18,7 @@ cut_same (code ∷ before) [] after rest b o e = absurd (All-head (λ code. code
 cut_same (code ∷ before) (other ∷ others) after rest b o e =
     let same = tails_same _ _ _ _ e in
     let more = cut_same before others after rest (All-tail (λ code. code ≢ 93) code before b) (All-tail (λ code. code ≢ 93) other others o) same.1 in
-    (two_same code other before others same.0 more.0, more.1)
+    (cons_is code other before others same.0 more.0, more.1)
 
 -- so a set is read in one way
 set_same : (negated other : Bool) (inside others after rest : List ℕ) → IsInside negated inside → IsInside other others → bracketed negated inside ++ 93 ∷ after ≡ bracketed other others ++ 93 ∷ rest → (negated ≡ other) × (inside ≡ others) × (after ≡ rest)
@@ -29,13 +27,13 @@ set_same negated other (code ∷ inside) [] after rest i o e = absurd o
 set_same true true (code ∷ inside) (first ∷ others) after rest i o e =
     let same = tails_same _ _ _ _ (tails_same _ _ _ _ e).1 in
     let more = cut_same inside others after rest i.1 o.1 same.1 in
-    (refl, two_same code first inside others same.0 more.0, more.1)
+    (refl, cons_is code first inside others same.0 more.0, more.1)
 set_same true false (code ∷ inside) (first ∷ others) after rest i o e = absurd (o.0 refl (sym (tails_same _ _ _ _ e).0))
 set_same false true (code ∷ inside) (first ∷ others) after rest i o e = absurd (i.0 refl (tails_same _ _ _ _ e).0)
 set_same false false (code ∷ inside) (first ∷ others) after rest i o e =
     let same = tails_same _ _ _ _ e in
     let more = cut_same inside others after rest i.1 o.1 same.1 in
-    (refl, two_same code first inside others same.0 more.0, more.1)
+    (refl, cons_is code first inside others same.0 more.0, more.1)
 
 other_first : (text : List ℕ) (code other : ℕ) (codes others : List ℕ) → text ≡ code ∷ codes → text ≡ other ∷ others → (code ≡ other) × (codes ≡ others)
 other_first text code other codes others e f = tails_same code codes other others (sym e ∙ f)
@@ -72,10 +70,10 @@ begins_same text (One code) (Set negated members) after rest e f = absurd (set_a
 begins_same text (One code) (One other) after rest e f = let same = other_first text code other after rest e.0 f.0 in (ap One same.0, same.1)
 
 begins_something : (text : List ℕ) (piece : Piece) (rest : List ℕ) → text ≡ [] → BeginsWith text piece rest → ⊥
-begins_something text Star rest n e = nothing_first 42 rest (sym n ∙ e)
-begins_something text Question rest n e = nothing_first 63 rest (sym n ∙ e)
-begins_something text (Set negated members) rest n e = nothing_first 91 _ (sym n ∙ e.1)
-begins_something text (One code) rest n e = nothing_first code rest (sym n ∙ e.0)
+begins_something text Star rest n e = no_nil 42 rest (sym n ∙ e)
+begins_something text Question rest n e = no_nil 63 rest (sym n ∙ e)
+begins_something text (Set negated members) rest n e = no_nil 91 _ (sym n ∙ e.1)
+begins_something text (One code) rest n e = no_nil code rest (sym n ∙ e.0)
 
 more_same : (piece other : Piece) (pieces others : List Piece) → piece ≡ other → pieces ≡ others → piece ∷ pieces ≡ other ∷ others
 more_same piece other pieces others e f = cc

@@ -11,9 +11,7 @@ use Rattle.std.proofs.lemmas.Str.Pattern.{IsSplitOnceResult}
 use Rattle.path_filters.specs.Patterns.{ranges_of, bracketed, IsInside, IsClosed}
 use Rattle.path_filters.specs.Sets.{IsRangeEnd, NeverClosed}
 use Rattle.path_filters.proofs.TextLemmas.{chars_empty}
-
-pub nothing_first : (code : ℕ) (codes : List ℕ) → [] ≡ code ∷ codes → ⊥
-nothing_first code codes e = cc
+use Rattle.shared_lemmas.proofs.Lists.{no_nil}
 
 each_other : (cs : List ℕ) → NonePass (λ d. eqb d 93) cs → AllByRecursion (λ code. code ≢ 93) cs
 each_other [] h = tt
@@ -62,7 +60,7 @@ closed_mark text negated inner w plain (other, first ∷ inside, rest, e, i) = (
 pub unclosed_at_end : (text : List ℕ) (negated : Bool) (inner : List ℕ) → text ≡ bracketed negated inner → (negated ≡ false → (after : List ℕ) → inner ≢ 33 ∷ after) → inner ≡ [] → ¬ (IsClosed text)
 unclosed_at_end text negated inner w plain none = λ closed.
     let found = closed_mark text negated inner w plain closed in
-    nothing_first found.0 (found.1 ++ 93 ∷ found.2) (sym none ∙ found.3)
+    no_nil found.0 (found.1 ++ 93 ∷ found.2) (sym none ∙ found.3)
 
 -- nor does one with no `]` behind the first character
 pub unclosed : (text : List ℕ) (negated : Bool) (inner : List ℕ) (first : ℕ) (more : List ℕ) → text ≡ bracketed negated inner → (negated ≡ false → (after : List ℕ) → inner ≢ 33 ∷ after) → inner ≡ first ∷ more → All (λ code. code ≢ 93) more → ¬ (IsClosed text)
@@ -81,14 +79,14 @@ ranges_of-alone first (dash ∷ to ∷ codes) apart = cond-false _ _ _ (ne_eqb d
 -- a `-` and what the text behind it begins with
 pub range_end_behind : (text after : List ℕ) (r : Option (ℕ × Bor (List ℕ))) → chars text ≡ 45 ∷ chars after → MatchOption r (after ≡ []) (λ parts. chars after ≡ parts.0 ∷ chars parts.1.now) →
     MatchOption r (¬ (IsRangeEnd (chars text))) (λ parts. chars text ≡ 45 ∷ parts.0 ∷ chars parts.1.now)
-range_end_behind text after None e none = λ ends. nothing_first ends.0 ends.1 (sym (chars_empty after none) ∙ (tails_same 45 (chars after) 45 (ends.0 ∷ ends.1) (sym e ∙ ends.2)).1)
+range_end_behind text after None e none = λ ends. no_nil ends.0 ends.1 (sym (chars_empty after none) ∙ (tails_same 45 (chars after) 45 (ends.0 ∷ ends.1) (sym e ∙ ends.2)).1)
 range_end_behind text after (Some parts) e found = e ∙ ap (λ codes. 45 ∷ codes) found
 
 pub no_range_end : (text : List ℕ) → text ≡ [] → ¬ (IsRangeEnd (chars text))
-no_range_end text e = λ ends. nothing_first 45 (ends.0 ∷ ends.1) (sym (chars_empty text e) ∙ ends.2)
+no_range_end text e = λ ends. no_nil 45 (ends.0 ∷ ends.1) (sym (chars_empty text e) ∙ ends.2)
 
 pub no_mark : (text : List ℕ) → text ≡ [] → (rest : List ℕ) → chars text ≢ 33 ∷ rest
-no_mark text e rest = λ m. nothing_first 33 rest (sym (chars_empty text e) ∙ m)
+no_mark text e rest = λ m. no_nil 33 rest (sym (chars_empty text e) ∙ m)
 
 -- a list that has a `]` has a first one
 first_closing : (before after : List ℕ) → (others : List ℕ) × (rest : List ℕ) × (before ++ 93 ∷ after ≡ others ++ 93 ∷ rest) × All (λ code. code ≢ 93) others

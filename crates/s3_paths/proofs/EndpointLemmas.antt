@@ -4,25 +4,24 @@ use Rattle.std.specs.List.{position_or_len, after_first}
 use Rattle.std.specs.Str.Parse.{digits_value}
 use Rattle.std.proofs.lemmas.Bool.{cases_lt, and_parts, ltb-true, ltb-false, lt-ltb, le-ltb, cond-true, cond-false, not-false, eqb-true}
 use Rattle.std.proofs.lemmas.Bool.Decides.{Decides-eqb}
-use Rattle.std.proofs.lemmas.List.{append_assoc, nil_from_length}
+use Rattle.std.proofs.lemmas.List.{append_assoc}
 use Rattle.std.proofs.lemmas.List.Sums.{AllPass-from_list_all}
 use Rattle.std.proofs.lemmas.Slice.Eq.{starts_is}
+use Rattle.std.proofs.lemmas.Option.{cond_some}
 use Rattle.s3_paths.specs.Uris.{is_slash}
 use Rattle.s3_paths.specs.Endpoints.{is_colon, is_host_byte, is_host, host_of, port_number, port_of, authority_in, path_in, endpoint_fault, IsDecimal, IsEndpoint}
-use Rattle.s3_paths.proofs.FirstPlace.{list_any-position, before-after, before_none}
+use Rattle.s3_paths.proofs.FirstPlace.{before-after, before_none}
+use Rattle.shared_lemmas.proofs.Places.{list_any-position}
+use Rattle.shared_lemmas.proofs.Lists.{none_from_most}
 
 guarded : {T : Type 0} (b : Bool) (o : Option T) (x : T) → cond b (Some x) o ≡ None → (b ≡ false) × (o ≡ None)
 guarded true o x e = absurd cc
 guarded false o x e = (refl, e)
 
-chosen : {T : Type 0} (b : Bool) (x y : T) → cond b (Some x) None ≡ Some y → (b ≡ true) × (x ≡ y)
-chosen true x y e = (refl, cc)
-chosen false x y e = absurd cc
-
 -- a port's digits write its number
 port_written : (digits : List ℕ) (port : ℕ) → Some port ≡ port_number digits → IsDecimal digits port × (1 ≤ port) × (port ≤ 65535)
 port_written digits port e =
-    let read = chosen _ _ _ (sym e) in
+    let read = cond_some _ _ _ (sym e) in
     let outer = and_parts _ _ read.0 in
     let inner = and_parts _ _ outer.0 in
     let some : 0 < digits_value 10 digits = ltb-true _ _ inner.1 in
@@ -49,9 +48,6 @@ authority_parts authority port e =
           (inl (sym none.0, eighty), omega arith, omega arith)
     ]
 
-nil_from_most : (xs : List ℕ) → length xs ≤ 0 → xs ≡ []
-nil_from_most xs h = nil_from_length xs (omega arith)
-
 no_fault : (text : List ℕ) → endpoint_fault text ≡ None → (text ≡ codes "http://" ++ drop 7 text) × (path_in text ≡ []) × (is_host (host_of (authority_in text)) ≡ true)
 no_fault text e =
     let tls = guarded _ _ _ e in
@@ -59,7 +55,7 @@ no_fault text e =
     let path = guarded _ _ _ http.1 in
     let host = guarded _ _ _ path.1 in
     let empty : length (path_in text) ≤ 0 = ltb-false _ _ path.0 in
-    ((starts_is Decides-eqb text (codes "http://") _ refl).0 (not-false _ http.0), nil_from_most _ empty, not-false _ host.0)
+    ((starts_is Decides-eqb text (codes "http://") _ refl).0 (not-false _ http.0), none_from_most _ empty, not-false _ host.0)
 
 whole_text : (text : List ℕ) → text ≡ codes "http://" ++ drop 7 text → path_in text ≡ [] → (text ≡ codes "http://" ++ authority_in text) ⊎ (text ≡ codes "http://" ++ authority_in text ++ codes "/")
 whole_text text e p =

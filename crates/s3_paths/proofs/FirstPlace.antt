@@ -1,26 +1,17 @@
 -- Where the first element stands that passes a test, and what the list is around it.
-use Rattle.std.proofs.Common.{◌≡◌, ◌<◌, ◌≤◌, ◌+◌, ℕ, suc, Bool, true, false, not, ◌||◌, cond, ltb, List, [], ◌∷◌, ◌++◌, length, get_or, take, refl, sym, ap, ◌∙◌, None, Some, arith}
-use Rattle.std.specs.List.{All, list_any, position, position_or_len, before_first, after_first}
+use Rattle.std.proofs.Common.{◌≡◌, ◌<◌, ◌≤◌, Bool, true, false, ltb, List, [], ◌∷◌, ◌++◌, length, get_or, take, sym, ap, ◌∙◌, None, Some, arith}
+use Rattle.std.specs.List.{All, position, position_or_len, before_first, after_first}
 use Rattle.std.proofs.lemmas.Bool.{cond-true, lt-ltb, le-ltb, false_from_ne_true, both_ways}
-use Rattle.std.proofs.lemmas.Bool.Decides.{nat_tests}
 use Rattle.std.proofs.lemmas.List.{take-append-drop, take_all, drop_all, drop_more}
 use Rattle.std.proofs.lemmas.List.Folds.{list_any_at}
 use Rattle.std.proofs.lemmas.List.Quantifiers.{position-Some}
-
-one_more : (passes found : Bool) (place len : ℕ) → found ≡ ltb place len → (passes || found) ≡ ltb (cond (not passes) (1 + place) 0) (suc len)
-one_more true found place len e = grind (arith, nat_tests)
-one_more false found place len e = grind (arith, nat_tests)
+use Rattle.shared_lemmas.proofs.Places.{list_any-position}
 
 module _ {X : Type 0} (p : X → Bool) where
-  -- some element passes where the first place that does is one of the list
-  pub list_any-position : (xs : List X) → list_any p xs ≡ ltb (position_or_len p xs) (length xs)
-  list_any-position [] = refl
-  list_any-position (x ∷ xs) = one_more (p x) (list_any p xs) (position_or_len p xs) (length xs) (list_any-position xs)
-
   -- where no place is the first, no element passes
   pub All-none : (xs : List X) → length xs ≤ position_or_len p xs → All (λ x. p x ≡ false) xs
   All-none xs h = λ k d l.
-      false_from_ne_true _ (λ e. both_ways _ (list_any-position xs ∙ le-ltb _ _ h) (list_any_at p xs k d l e))
+      false_from_ne_true _ (λ e. both_ways _ (list_any-position p xs ∙ le-ltb _ _ h) (list_any_at p xs k d l e))
 
   -- the element at the first place stands between what is before it and after it
   pub before-after : (d : X) (xs : List X) → position_or_len p xs < length xs → (p (get_or xs (position_or_len p xs) d) ≡ true) × (xs ≡ before_first p xs ++ get_or xs (position_or_len p xs) d ∷ after_first p xs)

@@ -1,4 +1,5 @@
 pub mod EndpointLemmas
 pub mod FirstPlace
+pub mod Numerals
 pub mod TempNames
 pub mod UriLemmas

@@ -1,18 +1,15 @@
 -- What a text is that breaks no rule of S3 URIs.
 use Rattle.std.proofs.Common.{◌≡◌, ◌<◌, ◌≤◌, ◌⊎◌, ℕ, Bool, true, false, not, cond, List, [], ◌∷◌, ◌++◌, Option, Some, None, length, get_or, drop, position, codes, nat_eq, refl, sym, ap, ◌∙◌, inl, inr, arith, option_map}
 use Rattle.std.specs.List.{AllPass, Contains, list_any, starts_with, position_or_len}
-use Rattle.std.specs.Option.{option_or}
 use Rattle.std.proofs.lemmas.Bool.{cases_lt, ltb-false, eqb-true, eq-eqb, not-false, ltb-true}
 use Rattle.std.proofs.lemmas.Bool.Decides.{Decides-eqb}
 use Rattle.std.proofs.lemmas.List.{take_all, append_assoc}
 use Rattle.std.proofs.lemmas.List.Folds.{list_any_at}
 use Rattle.std.proofs.lemmas.Slice.Eq.{starts_is}
 use Rattle.s3_paths.specs.Uris.{is_slash, bucket_in, key_in, is_bucket_byte, bad_place, bucket_fault, key_fault, uri_fault, uri_text, IsUri}
-use Rattle.s3_paths.proofs.FirstPlace.{list_any-position, All-none, before-after, before_none}
-
-or_none : {T : Type 0} (o p : Option T) → option_or o p ≡ None → (o ≡ None) × (p ≡ None)
-or_none None p e = (refl, e)
-or_none (Some x) p e = absurd cc
+use Rattle.s3_paths.proofs.FirstPlace.{All-none, before-after, before_none}
+use Rattle.shared_lemmas.proofs.Options.{neither}
+use Rattle.shared_lemmas.proofs.Places.{list_any-position}
 
 map_none : {T U : Type 0} (f : T → U) (o : Option T) → option_map f o ≡ None → o ≡ None
 map_none f None e = refl
@@ -29,7 +26,7 @@ position_none p xs e = ltb-false _ _ (cond_none _ _ e)
 
 good_place : (bucket : List ℕ) → bad_place bucket ≡ None → (length bucket ≤ 255) × AllPass is_bucket_byte bucket
 good_place bucket e =
-    let parts = or_none _ _ e in
+    let parts = neither _ _ e in
     let short : length bucket ≤ 255 = ltb-false _ _ (cond_none _ _ parts.1) in
     let front = take_all 255 bucket short in
     let none : position (λ byte. not (is_bucket_byte byte)) bucket ≡ None = sym (ap (position (λ byte. not (is_bucket_byte byte))) front) ∙ parts.0 in
@@ -50,7 +47,7 @@ first_fault false o x e = absurd cc
 no_fault : (text : List ℕ) → uri_fault text ≡ None → (text ≡ codes "s3://" ++ drop 5 text) × (bucket_fault (bucket_in text) ≡ None) × (key_fault (key_in text) ≡ None)
 no_fault text e =
     let scheme = first_fault _ _ _ e in
-    let parts = or_none _ _ scheme.1 in
+    let parts = neither _ _ scheme.1 in
     (begins text scheme.0, parts.0, parts.1)
 
 with_slash : (text : List ℕ) → text ≡ codes "s3://" ++ drop 5 text → position_or_len is_slash (drop 5 text) < length (drop 5 text) → text ≡ uri_text (bucket_in text) (key_in text)

@@ -11,6 +11,7 @@ use Rattle.s3_words.specs.Commands.{AreFilters, IsFilter}
 use Rattle.s3_words.specs.Given.{Given, filter_in, filters_in, value_in, value_of}
 use Rattle.s3_words.specs.Roles.{Role}
 use Rattle.s3_words.specs.Shown.{FiltersAfter, all_shown, shown}
+use Rattle.shared_lemmas.proofs.Options.{or_none}
 
 -- a word more, and the words left, at a place of the list
 pub shown_more : (words : List code.Role) (at : ℕ) (d : code.Role) → at < length words → all_shown (take (at + 1) words) ≡ all_shown (take at words) ++ shown (get_or words at d) ∷ []
@@ -26,10 +27,6 @@ copied_or (Some x) b = refl
 pub option_or_assoc : {X : Type 0} (a b c : Option X) → option_or (option_or a b) c ≡ option_or a (option_or b c)
 option_or_assoc None b c = refl
 option_or_assoc (Some x) b c = refl
-
-or_none : {X : Type 0} (a : Option X) → option_or a None ≡ a
-or_none None = refl
-or_none (Some x) = refl
 
 pub value_of_more : (option : OptionName) (words : List Role) (word : Role) → value_of option (words ++ word ∷ []) ≡ option_or (value_in option word) (value_of option words)
 value_of_more option [] word = sym (or_none (value_in option word))

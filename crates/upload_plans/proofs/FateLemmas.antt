@@ -1,7 +1,8 @@
 -- The file whose fate is a task, and the one that is too large.
-use Rattle.std.proofs.Common.{◌≡◌, ◌<◌, ℕ, Bool, true, false, List, Option, Some, None, refl, if◌then◌else◌, arith}
+use Rattle.std.proofs.Common.{◌≡◌, ◌<◌, ℕ, Bool, true, false, List, Option, Some, None, refl, if◌then◌else◌}
 use Rattle.std.specs.Prelude.{nat_le, nat_lt}
 use Rattle.std.specs.Str.{chars}
+use Rattle.std.proofs.lemmas.Bool.{leb-false}
 use Rattle.path_filters.specs.Filters.{is_kept}
 use Rattle.s3_model.specs.declared.faults.KeySkip.{KeySkip}
 use Rattle.s3_model.specs.declared.faults.PlanFault.{PlanFault}
@@ -43,9 +44,6 @@ skipped place why task e = cc
 same_task : (a b : Task) → fate.Upload a ≡ fate.Upload b → b ≡ a
 same_task a b e = cc
 
-below : (threshold size : ℕ) → nat_le threshold size ≡ false → size < threshold
-below threshold size e = grind arith
-
 module _ (command : Command) (threshold max_object : ℕ) (task : Task) where
   abbrev path : List ℕ
   path = source_path command
@@ -79,7 +77,7 @@ module _ (command : Command) (threshold max_object : ℕ) (task : Task) where
     size = size;
     micros = micros;
     is_file = refl;
-    small = below threshold size is;
+    small = leb-false threshold size is;
     is = of_kept size micros (is_kept command.filters (chars (last_name path))) e;
   }
 
@@ -97,9 +95,6 @@ refused_yet fault e = cc
 skipped_yet : (place : Place) (why : KeySkip) → fate.NotYet ≡ fate.Skipped place why → ⊥
 skipped_yet place why e = cc
 
-upload_yet : (task : Task) → fate.NotYet ≡ fate.Upload task → ⊥
-upload_yet task e = cc
-
 left_yet : fate.NotYet ≡ fate.LeftOut → ⊥
 left_yet e = cc
 
@@ -110,7 +105,7 @@ module _ (command : Command) (max_object : ℕ) where
   task_yet : (p b k : List ℕ) (size micros : ℕ) (large : Bool)
       → fate.NotYet ≡ (if large then fate.Refused (plan.TooLarge p size) else fate.Upload (planned_task command p b k size micros)) → ⊥
   task_yet p b k size micros true e = refused_yet _ e
-  task_yet p b k size micros false e = upload_yet _ e
+  task_yet p b k size micros false e = not_yet _ e
 
   skip_yet : (p b k : List ℕ) (size micros : ℕ) (skip : Option KeySkip) → fate.NotYet ≡ unless_skipped skip p (task_fate command p b k max_object size micros) → ⊥
   skip_yet p b k size micros (Some why) e = skipped_yet _ why e

@@ -14,20 +14,8 @@ use Rattle.s3_words.specs.Given.{is_given}
 use Rattle.s3_words.specs.Places.{is_pair, is_right_count, places_in}
 use Rattle.s3_words.specs.Roles.{roles}
 use Rattle.upload_plans.specs.Commands.{CopiesUp, IsFile, IsListed, IsObject, NamesObject, is_copy, is_listing, is_presign, is_unbuilt, is_unbuilt_copy, reads_object}
-
-some_is_none : {X : Type 0} (x : X) → Some x ≡ None → ⊥
-some_is_none x e = cc
-
-true_is_false : true ≡ false → ⊥
-true_is_false e = cc
-
-false_is_true : false ≡ true → ⊥
-false_is_true e = cc
-
--- neither of the two is a fault
-neither : {X : Type 0} (a b : Option X) → option_or a b ≡ None → (a ≡ None) × (b ≡ None)
-neither None b e = (refl, e)
-neither (Some x) b e = absurd (some_is_none x e)
+use Rattle.shared_lemmas.proofs.Clashes.{false_true, some_is_none, true_is_false}
+use Rattle.shared_lemmas.proofs.Options.{neither}
 
 holds : {X : Type 0} (b : Bool) (x : X) → (if b then None else Some x) ≡ None → b ≡ true
 holds true x e = refl
@@ -48,15 +36,15 @@ built_copy true listing copy unbuilt e other none = absurd (true_is_false other)
 two : (recursive : Bool) (a b : Place) → reads_object (Some a) ≡ false → is_pair verb.Cp recursive (a ∷ b ∷ []) ≡ true → IsFile (Some a) × IsObject (Some b)
 two recursive (place.Object bucket key) b reads pair = absurd (true_is_false reads)
 two recursive (place.File path) (place.Object bucket key) reads pair = (tt, tt)
-two recursive (place.File path) (place.File other) reads pair = absurd (false_is_true pair)
+two recursive (place.File path) (place.File other) reads pair = absurd (false_true pair)
 
 places_fit : (of_verb : Verb) (recursive : Bool) (places : List Place) → is_copy of_verb ≡ true → reads_object (first_of places) ≡ false → is_right_count of_verb (length places) ≡ true
     → is_pair of_verb recursive places ≡ true → IsFile (first_of places) × IsObject (second_of places)
-places_fit verb.Cp recursive [] copy reads count pair = absurd (false_is_true count)
-places_fit verb.Cp recursive (a ∷ []) copy reads count pair = absurd (false_is_true count)
+places_fit verb.Cp recursive [] copy reads count pair = absurd (false_true count)
+places_fit verb.Cp recursive (a ∷ []) copy reads count pair = absurd (false_true count)
 places_fit verb.Cp recursive (a ∷ b ∷ []) copy reads count pair = two recursive a b reads pair
 places_fit verb.Cp recursive (a ∷ b ∷ c ∷ rest) copy reads count pair = absurd (grind (arith, count))
-places_fit of_verb recursive places copy reads count pair = absurd (false_is_true copy)
+places_fit of_verb recursive places copy reads count pair = absurd (false_true copy)
 
 -- what is right of the paths of words without a fault
 right_paths : (word : List ℕ) (words : List (List ℕ)) (command : Command) → word_fault (word ∷ words) ≡ None → IsCommand (word ∷ words) command
@@ -85,11 +73,11 @@ copies_up (word ∷ words) command right is_command built other none =
 
 -- the one path of `presign`
 one_object : (of_verb : Verb) (recursive : Bool) (places : List Place) → is_presign of_verb ≡ true → is_right_count of_verb (length places) ≡ true → is_pair of_verb recursive places ≡ true → IsObject (first_of places)
-one_object verb.Presign recursive [] presign count pair = absurd (false_is_true count)
+one_object verb.Presign recursive [] presign count pair = absurd (false_true count)
 one_object verb.Presign recursive (place.Object bucket key ∷ []) presign count pair = tt
-one_object verb.Presign recursive (place.File path ∷ []) presign count pair = absurd (false_is_true pair)
+one_object verb.Presign recursive (place.File path ∷ []) presign count pair = absurd (false_true pair)
 one_object verb.Presign recursive (a ∷ b ∷ rest) presign count pair = absurd (grind (arith, count))
-one_object of_verb recursive places presign count pair = absurd (false_is_true presign)
+one_object of_verb recursive places presign count pair = absurd (false_true presign)
 
 pub names_object : (words : List (List ℕ)) (command : Command) → word_fault words ≡ None → IsCommand words command → is_presign command.verb ≡ true → NamesObject command
 names_object [] command right is_command presign = absurd (some_is_none _ right)
@@ -101,8 +89,8 @@ names_object (word ∷ words) command right is_command presign =
 one_listed : (of_verb : Verb) (recursive : Bool) (places : List Place) → is_listing of_verb ≡ true → is_pair of_verb recursive places ≡ true → IsListed (first_of places)
 one_listed verb.Ls recursive [] listing pair = tt
 one_listed verb.Ls recursive (place.Object bucket key ∷ rest) listing pair = tt
-one_listed verb.Ls recursive (place.File path ∷ rest) listing pair = absurd (false_is_true pair)
-one_listed of_verb recursive places listing pair = absurd (false_is_true listing)
+one_listed verb.Ls recursive (place.File path ∷ rest) listing pair = absurd (false_true pair)
+one_listed of_verb recursive places listing pair = absurd (false_true listing)
 
 pub names_listed : (words : List (List ℕ)) (command : Command) → word_fault words ≡ None → IsCommand words command → is_listing command.verb ≡ true → IsListed command.from
 names_listed [] command right is_command listing = absurd (some_is_none _ right)

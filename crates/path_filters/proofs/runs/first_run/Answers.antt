@@ -1,7 +1,8 @@
 use Rattle.std.proofs.Common.{rules}
 use Rattle.path_filters.proofs.MatchLemmas.{first_found, star_at_end, star_moves}
-use Rattle.path_filters.proofs.TextLemmas.{chars_empty, iff_chain}
+use Rattle.path_filters.proofs.TextLemmas.{chars_empty}
 use Rattle.path_filters.proofs.runs.first_run.Goals as goal
+use Rattle.shared_lemmas.proofs.Tests.{iff_chain}
 
 pub loop-left-init : goal.loop-left-init
 loop-left-init c = (search rules, (λ m. m, λ m. m))

@@ -2,8 +2,8 @@ use Rattle.std.proofs.Common.{arith, lit<, None}
 use Rattle.std.proofs.lemmas.Bool.Decides.{nat_tests}
 use Rattle.std.proofs.lemmas.Str.Pattern.{split_once_first}
 use Rattle.s3_paths.specs.Endpoints.{is_colon}
-use Rattle.s3_paths.proofs.FirstPlace.{list_any-position}
 use Rattle.s3_paths.proofs.endpoints.host_and_port.Goals as goal
+use Rattle.shared_lemmas.proofs.Places.{list_any-position}
 
 pub returns-in-None-clause-port : goal.returns-in-None-clause-port
 returns-in-None-clause-port c =

@@ -1,26 +1,20 @@
-use Rattle.std.proofs.Common.{◌≡◌, ◌≢◌, ◌<◌, ◌^◌, ℕ, Bool, true, ◌&&◌, ltb, List, [], ◌∷◌, length, get_or, Result, Ok, Err, Some, None, refl, sym, ap, ◌∙◌, inl, inr, arith, lit<}
+use Rattle.std.proofs.Common.{◌≡◌, ◌≢◌, ◌<◌, ◌^◌, ℕ, Bool, true, ◌&&◌, ltb, List, length, get_or, Result, Ok, Err, Some, None, refl, sym, ap, ◌∙◌, inl, inr, arith, lit<}
 use Rattle.std.specs.Bool.{then_some}
 use Rattle.std.specs.Result.{OkIff}
 use Rattle.std.specs.Str.{all_ascii_digits}
 use Rattle.std.specs.Str.Parse.{digits_value}
 use Rattle.std.proofs.lemmas.Bool.{cases_lt, cond_both, cond-true, cond-false, and_parts, and_from, ltb-true, lt-ltb, le-ltb, false_from_ne_true, both_ways}
-use Rattle.std.proofs.lemmas.Str.Parse.{IsNumeralModel, numerals_by_value, tells_all_ascii_digits, parse_plain}
+use Rattle.std.proofs.lemmas.Str.Parse.{parse_plain}
 use Rattle.std.proofs.lemmas.Str.Pattern.{starts_char}
 use Rattle.s3_paths.specs.Endpoints.{port_number}
 use Rattle.s3_paths.proofs.endpoints.port_number.Goals as goal
-
-own : IsNumeralModel (λ ds. all_ascii_digits ds ≡ true) (digits_value 10)
-own = numerals_by_value _ tells_all_ascii_digits
+use Rattle.s3_paths.proofs.Numerals.{by_digits, some_digit}
 
 abbrev IsShortNumber : List ℕ → Type 0
 IsShortNumber bs = (all_ascii_digits bs ≡ true) × (0 < length bs) × (digits_value 10 bs < 2 ^ 16)
 
 abbrev is_port : List ℕ → Bool
 is_port bs = all_ascii_digits bs && ltb 0 (digits_value 10 bs) && ltb (digits_value 10 bs) 65536
-
-some_digit : (bs : List ℕ) → 0 < digits_value 10 bs → 0 < length bs
-some_digit [] h = let none : 0 < 0 = h in omega arith
-some_digit (c ∷ cs) h = omega arith
 
 port_parts : (bs : List ℕ) → is_port bs ≡ true → (0 < digits_value 10 bs) × IsShortNumber bs
 port_parts bs t =
@@ -56,12 +50,12 @@ returns-in_default c =
     let bs = c.args.digits.now in
     let plus = starts_char 43 bs _ c.starts_with.ensures.cases (lit< tt) (lit< tt) in
     let unsigned : get_or bs 0 0 ≢ 43 = λ e. both_ways _ c.if-starts_with.false (plus.1 e) in
-    port_number-unread bs (refused bs c.parse.result _ c.in_default.is (parse_plain own 16 bs c.parse.result c.parse.ensures.value.0 unsigned))
+    port_number-unread bs (refused bs c.parse.result _ c.in_default.is (parse_plain by_digits 16 bs c.parse.result c.parse.ensures.value.0 unsigned))
 
 pub returns : goal.returns
 returns c =
     let bs = c.args.digits.now in
     let plus = starts_char 43 bs _ c.starts_with.ensures.cases (lit< tt) (lit< tt) in
     let unsigned : get_or bs 0 0 ≢ 43 = λ e. both_ways _ c.if-starts_with.false (plus.1 e) in
-    let read = taken bs c.parse.result _ c.in-Ok.is (parse_plain own 16 bs c.parse.result c.parse.ensures.value.0 unsigned) in
+    let read = taken bs c.parse.result _ c.in-Ok.is (parse_plain by_digits 16 bs c.parse.result c.parse.ensures.value.0 unsigned) in
     c.then_some.ensures ∙ port_number-read bs c.in-Ok.port read.0 read.1

@@ -1,9 +1,9 @@
 use Rattle.std.proofs.Common.{◌≡◌, ◌∙◌, ◌<◌, ℕ, ltb, Option, None, Some, is_some, sym, arith, lit<, MatchOption}
 use Rattle.std.proofs.lemmas.Bool.{lt-ltb, le-ltb}
 use Rattle.std.proofs.lemmas.Str.Pattern.{split_once_first}
-use Rattle.s3_paths.proofs.FirstPlace.{list_any-position}
 use Rattle.s3_words.specs.Roles.{is_equals}
 use Rattle.s3_words.proofs.roles.split_at_equals.Goals as goal
+use Rattle.shared_lemmas.proofs.Places.{list_any-position}
 
 found : {X : Type 0} (result : Option X) (place size : ℕ) (P : X → Type 0) → MatchOption result (place ≡ size) P → ((x : X) → P x → place < size) → is_some result ≡ ltb place size
 found None place size P none inside = sym (le-ltb place size (omega arith))

@@ -1,23 +1,17 @@
-use Rattle.std.proofs.Common.{◌≡◌, ◌≢◌, ◌<◌, ◌^◌, ℕ, true, ◌&&◌, ltb, List, [], ◌∷◌, length, get_or, Result, Ok, Err, Some, None, refl, arith, lit<}
+use Rattle.std.proofs.Common.{◌≡◌, ◌≢◌, ◌<◌, ◌^◌, ℕ, true, ◌&&◌, ltb, List, length, get_or, Result, Ok, Err, Some, None, refl, arith, lit<}
 use Rattle.std.specs.Result.{OkIff}
 use Rattle.std.specs.Str.{all_ascii_digits}
 use Rattle.std.specs.Str.Parse.{digits_value}
 use Rattle.std.proofs.lemmas.Bool.{cond_both, and_parts, ltb-true, both_ways}
 use Rattle.std.proofs.lemmas.Bool.Decides.{nat_tests}
-use Rattle.std.proofs.lemmas.Str.Parse.{IsNumeralModel, numerals_by_value, tells_all_ascii_digits, parse_plain}
+use Rattle.std.proofs.lemmas.Str.Parse.{parse_plain}
 use Rattle.std.proofs.lemmas.Str.Pattern.{starts_char}
 use Rattle.s3_words.specs.Values.{seconds}
 use Rattle.s3_words.proofs.values.seconds.Goals as goal
-
-own : IsNumeralModel (λ ds. all_ascii_digits ds ≡ true) (digits_value 10)
-own = numerals_by_value _ tells_all_ascii_digits
+use Rattle.s3_paths.proofs.Numerals.{by_digits, some_digit}
 
 abbrev Fitting : List ℕ → Type 0
 Fitting bs = (all_ascii_digits bs ≡ true) × (0 < length bs) × (digits_value 10 bs < 2 ^ 64)
-
-some_digit : (bs : List ℕ) → 0 < digits_value 10 bs → 0 < length bs
-some_digit [] h = let none : 0 < 0 = h in omega arith
-some_digit (c ∷ cs) h = omega arith
 
 fitting : (bs : List ℕ) → (all_ascii_digits bs && ltb 0 (digits_value 10 bs) && ltb (digits_value 10 bs) 604801) ≡ true → Fitting bs
 fitting bs t =
@@ -41,12 +35,12 @@ returns-in_default c =
     let bs = c.args.text.now in
     let plus = starts_char 43 bs _ c.starts_with.ensures.cases (lit< tt) (lit< tt) in
     let unsigned : get_or bs 0 0 ≢ 43 = λ e. both_ways _ c.if-starts_with.false (plus.1 e) in
-    unread bs (refused bs c.parse.result _ c.in_default.is (parse_plain own 64 bs c.parse.result c.parse.ensures.value.0 unsigned))
+    unread bs (refused bs c.parse.result _ c.in_default.is (parse_plain by_digits 64 bs c.parse.result c.parse.ensures.value.0 unsigned))
 
 pub returns : goal.returns
 returns c =
     let bs = c.args.text.now in
     let plus = starts_char 43 bs _ c.starts_with.ensures.cases (lit< tt) (lit< tt) in
     let unsigned : get_or bs 0 0 ≢ 43 = λ e. both_ways _ c.if-starts_with.false (plus.1 e) in
-    let read = value bs c.parse.result _ c.in-Ok.is (parse_plain own 64 bs c.parse.result c.parse.ensures.value.0 unsigned) in
+    let read = value bs c.parse.result _ c.in-Ok.is (parse_plain by_digits 64 bs c.parse.result c.parse.ensures.value.0 unsigned) in
     grind (arith, nat_tests, read.0, read.1)
