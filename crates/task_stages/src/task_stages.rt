@@ -148,21 +148,14 @@ impl TaskStages {
     pub fn first_number(&self) -> u32
         ensures { result ≡ first_number self.now.work }
     {
-        if self.work.small { 0 } else { 1 }
+        self.work.first_number()
     }
 
     /// Whether an op is that of the pieces' requests.
     pub fn is_piece_op(&self, op: Op) -> bool
         ensures { result ≡ is_op op (piece_op self.now.work.of_kind self.now.work.small) }
     {
-        match (self.work.of_kind, self.work.small) {
-            (Kind::Upload, true) => matches!(op, Op::Put),
-            (Kind::Upload, false) => matches!(op, Op::Part),
-            (Kind::Download, _) => matches!(op, Op::Get),
-            (Kind::Copy, true) => matches!(op, Op::Copy),
-            (Kind::Copy, false) => matches!(op, Op::PartCopy),
-            (Kind::RemoveObject | Kind::RemoveFile, _) => matches!(op, Op::Delete),
-        }
+        self.work.has_piece_op(op)
     }
 
     /// How far the acts of the piece of that number are; nothing was given where there is none.
