@@ -13,15 +13,15 @@ use Rattle.s3_model.specs.Validity.{IsValidConfig, IsValidLimits}
 use Rattle.run_promise.specs.Carried.{IsCarried}
 use Rattle.job_terms.specs.Dispatches.{Dispatched}
 use Rattle.run_promise.specs.Schedule.{IsSchedule}
-use Rattle.run_promise.specs.Settled.{IsSettingOf}
+use Rattle.run_promise.specs.Settled.{IsSettingOf, RunEnd, RunStart, shown_by}
 use Rattle.run_promise.specs.Truthful.{IsDoneWhereWilling, IsTruthful, Shown}
 use Rattle.world_laws.specs.Promises.{IsOrderly}
 use Rattle.world_laws.proofs.Promises.{promise_holds}
 use Rattle.s3_outside.specs.Files.{SeenFiles}
 use Rattle.answer_classes.specs.Showing.{HasStatus, Shows}
 use Rattle.attempts.specs.Attempts.{text_of}
-use Rattle.upload_promise.specs.Shown.{CallFailed, KeepsPromise, one_attempt, shown_by}
-use Rattle.upload_promise.proofs.PromiseLemmas.{one_valid, status_is}
+use Rattle.upload_promise.specs.Shown.{CallFailed, KeepsPromise, end_of, one_attempt, start_of}
+use Rattle.upload_promise.proofs.PromiseLemmas.{has_lanes, one_valid, status_is}
 use Rattle.listings.specs.Asked.{AreAsked, Asked, dispatched_from, events_from}
 use Rattle.listings.proofs.CarriedLaw.{requests_are_carried}
 use Rattle.listing_promise.specs.Listings.{AreQuestions}
@@ -30,13 +30,19 @@ use Rattle.listing_promise.proofs.ScheduleLemmas.{listing_buffers, listing_sched
 seventy : (n : ℕ) → n ≡ 70 → (n == 70) ≡ true
 seventy n is = grind arith
 
-module _ (endpoint : Endpoint) (keys : Keys) (Plans : List Dispatched → Type 0) (config : Config) (configured : IsValidConfig config) (limits : Limits) (valid : IsValidLimits limits) (status before after : ℕ)
+module _ (endpoint : Endpoint) (keys : Keys) (Plans : List Dispatched → Type 0) (config : Config) (configured : IsValidConfig config) (limits : Limits) (valid : IsValidLimits limits) (wires : ℕ) (has_wire : 1 ≤ wires) (status before after : ℕ)
     (path : List ℕ) (was now : SeenFiles) (same : now.store ≡ was.store) (asked : List Asked) (asks : AreQuestions asked) (talks : List Talk) (notes : List Note) where
   abbrev jobs : List Dispatched
   jobs = dispatched_from 0 0 asked
 
+  abbrev start : RunStart
+  start = start_of (one_attempt config) limits wires [] was
+
+  abbrev came : RunEnd
+  came = end_of status [] [] (events_from 0 asked) talks notes now
+
   abbrev shown : Shown
-  shown = shown_by (one_attempt config) limits status [] [] (events_from 0 asked) talks notes was now
+  shown = shown_by start came None
 
   abbrev Fails : ℕ → Cause → Type 0
   Fails = CallFailed path now before after []
@@ -85,15 +91,15 @@ module _ (endpoint : Endpoint) (keys : Keys) (Plans : List Dispatched → Type 0
   listing_willing : IsDoneWhereWilling Shows (text_of endpoint keys) endpoint.host endpoint.port Plans shown
   listing_willing = λ run coming scheduled carried of_shown willing certain alone buckets runs n how at_how. absurd (none_is_some how at_how)
 
-  listing_settles : IsSettingOf Shows HasStatus Plans shown [] ⊥ ⊥
+  listing_settles : IsSettingOf shown wires [] ⊥ ⊥
   listing_settles = record {
     memory = λ n. refl;
-    lanes = configured.lanes.least;
+    lanes = refl;
     planning_memory = λ e. status_is status e;
     warning_memory = λ e. status_is status e;
     left = refl;
     untimed = refl;
-    files = λ dispatched coming scheduled are n. ((λ e. absurd (false_true e)), (λ h. absurd h));
+    files = λ n. refl;
     cancelled = λ e. absurd (false_true e);
     cancels = λ n reason e. absurd (none_is_some _ e);
     dry = λ n how at_how. absurd (none_is_some how at_how);
@@ -101,8 +107,8 @@ module _ (endpoint : Endpoint) (keys : Keys) (Plans : List Dispatched → Type 0
 
   -- Requests that the planning needs, carried one after the other; memory that is wanted ran out.
   pub listing_keeps : (wanting : Bool) → (wanting ≡ true → status ≡ 70) → AreAsked endpoint keys wanting asked talks notes → Plans jobs
-      → KeepsPromise Shows HasStatus (text_of endpoint keys) endpoint.host endpoint.port Plans path before after [] [] now shown
+      → KeepsPromise Shows HasStatus (text_of endpoint keys) endpoint.host endpoint.port Plans Fails start came None ⊥ ⊥
   listing_keeps wanting wants all plans =
       let schedule = listing_schedule Shows Plans shown.setting asked asks plans in
-      let carried = requests_are_carried endpoint keys wanting shown.setting 0 asked talks notes (omega arith) refl (λ e. seventy status (wants e)) all in
+      let carried = requests_are_carried endpoint keys wanting shown.setting 0 asked talks notes (has_lanes config wires configured has_wire) refl (λ e. seventy status (wants e)) all in
       record { truthful = listing_truthful schedule carried; willing = listing_willing; settles = listing_settles }

@@ -86,8 +86,8 @@ module _ (endpoint : Endpoint) (keys : Keys) (u : Planned) (least : 1 ≤ u.conf
     shown = refl;
     comes = each (λ (d : Dispatched). (at : ℕ) × (marks : List Mark) × (d.dispatch.came_at ≡ Some at)
         × (slice_get (put_events tries) at ≡ Some (entry.Came d.dispatch.job d.dispatch.lane marks)) × (length marks ≡ length d.dispatch.attempts)) put (1, tries, refl, refl, long);
-    lanes = each (λ (d : Dispatched). d.dispatch.lane < 1) put (omega arith);
-    unused_lanes = λ lane beyond. (beyond_first talks lane beyond, beyond_first notes lane beyond);
+    lanes = each (λ (d : Dispatched). d.dispatch.lane < s.lanes) put (let some = u.has_lane in omega arith);
+    unused_lanes = λ lane beyond. let some : 1 ≤ lane = (let least = u.has_lane in omega arith) in (beyond_first talks lane some, beyond_first notes lane some);
     nothing_else = λ at lane j marks e. came_here at lane j marks e;
     in_turn = λ lane i j d before inside. absurd (let few = short lane in omega arith);
   }

@@ -29,7 +29,7 @@ use Rattle.run_promise.specs.Outcomes.{HasOutcome}
 use Rattle.run_promise.specs.Schedule.{source_bytes}
 use Rattle.run_promise.specs.Settled.{cause_of, is_memory}
 use Rattle.lane_laws.proofs.AttemptLaw.{at_place, attempts_are, attempts_of, index_below, index_last, last_index}
-use Rattle.upload_promise.specs.Shown.{tells_file_failed}
+use Rattle.run_promise.specs.Settled.{tells_file_failed}
 use Rattle.upload_promise.specs.Uploads.{is_open, upload_ask}
 use Rattle.upload_promise.proofs.JobLemmas.{Planned, put_with, setting_of, task_of}
 use Rattle.upload_promise.proofs.OutcomeLemmas as outcomes
@@ -188,8 +188,8 @@ module _ (endpoint : Endpoint) (keys : Keys) (Fails : ℕ → Cause → Type 0) 
   -- ---- the last attempt decides
 
   module _ (last : Attempt) (is_last : last_of attempts ≡ Some last) where
-    still : (how : Outcome) → u.how ≡ how → tells_file_failed (Some how) ≡ false → tells_file_failed (Some u.how) ≡ false
-    still how is e = ap (λ (x : Outcome). tells_file_failed (Some x)) is ∙ e
+    still : (how : Outcome) → u.how ≡ how → tells_file_failed (Some (task_of u)) (Some how) ≡ false → tells_file_failed (Some (task_of u)) (Some u.how) ≡ false
+    still how is e = ap (λ (x : Outcome). tells_file_failed (Some (task_of u)) (Some x)) is ∙ e
 
     abbrev ShowsLast : Class → Type 0
     ShowsLast = outcomes.ShowsLast Shows HasStatus Fails u attempts last is_last

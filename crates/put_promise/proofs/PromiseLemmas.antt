@@ -1,5 +1,5 @@
 -- A run with its one upload keeps its promise.
-use Rattle.std.proofs.Common.{◌≡◌, ◌<◌, ℕ, List, [], ◌∷◌, Option, Some, sym, ap, subst, filter_map, length}
+use Rattle.std.proofs.Common.{◌≡◌, ◌<◌, ◌≤◌, ℕ, List, [], ◌∷◌, Option, Some, None, sym, ap, subst, length}
 use Rattle.std.specs.FinMap.{get}
 use Rattle.s3_model.specs.declared.outcomes.Event.{Event}
 use Rattle.s3_model.specs.declared.outcomes.Outcome.{Outcome}
@@ -7,6 +7,7 @@ use Rattle.s3_model.specs.declared.places.Endpoint.{Endpoint}
 use Rattle.s3_model.specs.declared.settings.Config.{Config}
 use Rattle.s3_model.specs.declared.settings.Keys.{Keys}
 use Rattle.s3_model.specs.declared.settings.Limits.{Limits}
+use Rattle.s3_model.specs.declared.tasks.Task.{Task}
 use Rattle.s3_model.specs.declared.tasks.Warning.{Warning}
 use Rattle.s3_model.specs.Files.{HeldFile}
 use Rattle.s3_model.specs.Talks.{Talk, Note}
@@ -17,8 +18,7 @@ use Rattle.answer_classes.specs.Showing.{HasStatus, Shows}
 use Rattle.attempts.specs.Attempts.{text_of}
 use Rattle.job_terms.specs.Dispatches.{Dispatched}
 use Rattle.run_promise.specs.Schedule.{bytes_of, source_bytes}
-use Rattle.run_promise.specs.Settled.{left_by, untimed_by}
-use Rattle.upload_promise.specs.Shown.{CallFailed, KeepsPromise, shown_by}
+use Rattle.upload_promise.specs.Shown.{CallFailed, KeepsPromise, end_of, start_of}
 use Rattle.upload_promise.specs.Uploads.{upload_ask, upload_task}
 use Rattle.upload_promise.proofs.JobLemmas.{Planned}
 use Rattle.upload_promise.proofs.PromiseLemmas as promise
@@ -27,13 +27,19 @@ use Rattle.put_promise.proofs.CarriedLemmas.{attempts, put_carried, tries}
 use Rattle.put_promise.proofs.OutcomeLemmas.{put_outcome}
 
 module _ (endpoint : Endpoint) (keys : Keys) (Plans : List Dispatched → Type 0) (plans_none : Plans []) (config : Config) (configured : IsValidConfig config) (limits : Limits) (valid : IsValidLimits limits)
-    (status before after : ℕ) (path : List ℕ) (was now : SeenFiles) (same : now.store ≡ was.store) (warnings : List Warning) (no_left : filter_map left_by warnings ≡ [])
-    (no_untimed : filter_map untimed_by warnings ≡ []) where
+    (wires : ℕ) (has_wire : 1 ≤ wires) (status before after : ℕ) (path : List ℕ) (was now : SeenFiles) (same : now.store ≡ was.store) (warnings : List Warning) where
+  abbrev KeepsUpload : Task → Outcome → List Event → List Talk → List Note → Type 0
+  KeepsUpload task how journal talks notes =
+      KeepsPromise Shows HasStatus (text_of endpoint keys) endpoint.host endpoint.port Plans (CallFailed path now before after (task ∷ [])) (start_of config limits wires (task ∷ []) was)
+      (end_of status (how ∷ []) warnings journal talks notes now) None ⊥ ⊥
+
   module _ (bucket key : List ℕ) (content : Option (List ℕ)) (size micros : ℕ) (is_below : size < config.threshold) (file : HeldFile) (held : get was.store.held path ≡ Some file) (long : length file.bytes ≡ size) where
     abbrev upload : Outcome → Planned
     upload how = record {
       config = config;
       limits = limits;
+      wires = wires;
+      has_lane = promise.has_lanes config wires configured has_wire;
       status = status;
       bucket = bucket;
       key = key;
@@ -47,7 +53,7 @@ module _ (endpoint : Endpoint) (keys : Keys) (Plans : List Dispatched → Type 0
     }
 
     abbrev IsKept : Outcome → List Event → List Talk → List Note → Type 0
-    IsKept = promise.IsKept Shows HasStatus (text_of endpoint keys) endpoint.host endpoint.port Plans plans_none config configured limits valid status before after path was now same warnings no_left no_untimed bucket key content size micros is_below file held long
+    IsKept = promise.IsKept Shows HasStatus (text_of endpoint keys) endpoint.host endpoint.port Plans plans_none config configured limits valid wires has_wire status before after path was now same warnings bucket key content size micros is_below file held long
 
     kept : (how : Outcome) (journal : List Event) (talks : List Talk) (notes : List Note) → IsPutCarried endpoint keys config.attempts (upload_ask bucket key content) file.bytes journal how talks notes
         → IsKept how journal talks notes
@@ -66,17 +72,15 @@ module _ (endpoint : Endpoint) (keys : Keys) (Plans : List Dispatched → Type 0
 
     keeps : (journal : List Event) (how : Outcome) (talks : List Talk) (notes : List Note)
         → Uploads endpoint keys config.attempts (upload_ask bucket key content) (Some now) path size before after journal how talks notes
-        → KeepsPromise Shows HasStatus (text_of endpoint keys) endpoint.host endpoint.port Plans path before after (upload_task path bucket key content size micros ∷ []) warnings now
-        (shown_by config limits status (upload_task path bucket key content size micros ∷ []) (how ∷ []) journal talks notes was now)
+        → KeepsUpload (upload_task path bucket key content size micros) how journal talks notes
     keeps =
-        promise.upload_keeps Shows HasStatus (text_of endpoint keys) endpoint.host endpoint.port Plans plans_none config configured limits valid status before after path was now same warnings no_left no_untimed bucket key content size micros is_below file held long (IsPutCarried endpoint keys config.attempts) kept
+        promise.upload_keeps Shows HasStatus (text_of endpoint keys) endpoint.host endpoint.port Plans plans_none config configured limits valid wires has_wire status before after path was now same warnings bucket key content size micros is_below file held long (IsPutCarried endpoint keys config.attempts) kept
 
   -- an upload whose file stood there, with the size that was planned
   pub uploaded : (bucket key : List ℕ) (content : Option (List ℕ)) (size micros : ℕ) → size < config.threshold → shape_at was.store path ≡ shape.File size micros
       → (journal : List Event) (how : Outcome) (talks : List Talk) (notes : List Note)
       → Uploads endpoint keys config.attempts (upload_ask bucket key content) (Some now) path size before after journal how talks notes
-      → KeepsPromise Shows HasStatus (text_of endpoint keys) endpoint.host endpoint.port Plans path before after (upload_task path bucket key content size micros ∷ []) warnings now
-      (shown_by config limits status (upload_task path bucket key content size micros ∷ []) (how ∷ []) journal talks notes was now)
+      → KeepsUpload (upload_task path bucket key content size micros) how journal talks notes
   uploaded bucket key content size micros is_below stands journal how talks notes =
       let found = promise.shape_file was.store path (get was.store.held path) size micros stands in
       keeps bucket key content size micros is_below found.0 found.1 found.2 journal how talks notes

@@ -1,1 +1,3 @@
 pub mod OutputLemmas
+pub mod PrintLemmas
+pub mod TextLemmas

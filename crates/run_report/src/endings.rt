@@ -1,15 +1,24 @@
 //! Runs without a task.
 
-ghost use Rattle.std.specs.Prelude.{◌≡◌, [], ◌∷◌, None, Some, IfOk, map, string_bytes};
+ghost use Rattle.std.specs.Prelude.{◌≡◌, [], ◌∷◌, None, Some, IfOk, IfSome, map, string_bytes};
+ghost use Rattle.std.specs.List.{All};
 ghost use Rattle.result_lines.specs.Warnings.{IsShown};
-ghost use Rattle.run_report.specs.Taskless.{HasNoTask};
-ghost use Rattle.run_report.specs.Texts.{HasLine, HasTexts, IsLineOf, err_part, out_part, warning_lines};
+ghost use Rattle.run_report.specs.Taskless.{ArePlanning, HasNoTask};
+ghost use Rattle.run_report.specs.Texts.{
+  HasLine,
+  HasTexts,
+  IsTextOf,
+  MatchesFatal,
+  ending_line,
+  mode_in,
+  opening_text,
+};
 
 use crate::lists::list_of;
+use crate::printout::{Printout, opening_text};
 use crate::run::{Fatal, Run};
 use crate::texts::ending_line;
 use crate::worked::Executed;
-use result_lines::{Line, warning_of};
 use s3_model::{
     Journal, KeySkip, Mode, OutOfMemory, Outcomes, Place, Plan, Tasks, Text, Warning, Warnings,
 };
@@ -32,83 +41,122 @@ fn idle_run(alloc: Global, fatal: Option<Fatal>, skips: Warnings, warnings: Warn
     }
 }
 
+/// What a run without a task prints.
+fn idle_text(
+    alloc: Global,
+    words: &[String],
+    mode: Mode,
+    warnings: &Warnings,
+    fatal: &Option<Fatal>,
+) -> Result<Printout, OutOfMemory>
+    requires mode { mode ≡ mode_in (map string_bytes words.now) }
+    requires shown { All IsShown warnings.now.items }
+    requires line { IfSome fatal.now HasLine }
+    ensures text { HasTexts [] (opening_text (map string_bytes words.now) warnings.now.items fatal.now) result }
+    ensures memory { MatchesFatal fatal.now result }
+{
+    let text = opening_text(alloc, words, mode, warnings, fatal)?;
+    Ok(Printout::of_err(alloc, text))
+}
+
+/// Ends a run without a task: its warnings are to be printed, and behind them why it ended early, if it did. `skips`
+/// are those of its plan, with which `warnings` end.
+pub fn end_idle(
+    alloc: Global,
+    words: &[String],
+    mode: Mode,
+    fatal: Option<Fatal>,
+    skips: Warnings,
+    warnings: Warnings,
+) -> Executed
+    requires mode { mode ≡ mode_in (map string_bytes words.now) }
+    requires shown { All IsShown warnings.items }
+    requires line { IfSome fatal HasLine }
+    requires planning { ArePlanning skips.items warnings.items }
+    ensures text { IsTextOf (map string_bytes words.now) [] result.run result.text }
+    ensures run { HasNoTask fatal skips.items warnings.items result.run }
+{
+    let text = idle_text(alloc, words, mode, &warnings, &fatal);
+    Executed {
+        run: idle_run(alloc, fatal, skips, warnings),
+        text,
+    }
+}
+
+/// What a run without a warning prints that ended early.
+pub fn ending_text(alloc: Global, words: &[String], fatal: &Fatal) -> Result<Printout, OutOfMemory>
+    requires { HasLine fatal.now }
+    ensures text { HasTexts [] (ending_line (map string_bytes words.now) fatal.now) result }
+    ensures memory { MatchesFatal (Some fatal.now) result }
+{
+    let line = ending_line(alloc, words, fatal)?;
+    Ok(Printout::of_err(alloc, line))
+}
+
 /// Ends a run before its plan.
 pub fn end_early(alloc: Global, words: &[String], fatal: Fatal) -> Executed
     requires { HasLine fatal }
-    ensures line { IsLineOf (map string_bytes words.now) [] result.run result.line }
+    ensures text { IsTextOf (map string_bytes words.now) [] result.run result.text }
     ensures run { HasNoTask (Some fatal) [] [] result.run }
 {
-    let line = match ending_line(alloc, words, &fatal) {
-        Ok(text) => Ok(Some(Line { to_err: true, text })),
-        Err(memory) => Err(memory),
-    };
+    let text = ending_text(alloc, words, &fatal);
     let skips = Warnings::make(alloc);
     Executed {
         run: idle_run(alloc, Some(fatal), skips, Warnings::make(alloc)),
-        line,
+        text,
     }
 }
 
-/// A run whose plan is empty, without a warning.
-pub fn end_idle(alloc: Global) -> Executed
-    ensures line { HasTexts [] [] result.line }
+/// A run that shows this text on standard output, and nothing else.
+pub fn end_with_text(alloc: Global, out: Text) -> Executed
+    ensures text { HasTexts out [] result.text }
     ensures run { HasNoTask None [] [] result.run }
 {
     let skips = Warnings::make(alloc);
     Executed {
         run: idle_run(alloc, None, skips, Warnings::make(alloc)),
-        line: Ok(None),
+        text: Ok(Printout::of_out(alloc, out)),
     }
 }
 
-/// A run that shows one line.
-pub fn end_with_line(alloc: Global, line: Line) -> Executed
-    ensures line { HasTexts (out_part (Some line)) (err_part (Some line)) result.line }
+/// A run whose file is left out.
+pub fn end_left_out(alloc: Global, words: &[String], mode: Mode) -> Executed
+    requires { mode ≡ mode_in (map string_bytes words.now) }
+    ensures text { IsTextOf (map string_bytes words.now) [] result.run result.text }
     ensures run { HasNoTask None [] [] result.run }
 {
     let skips = Warnings::make(alloc);
-    Executed {
-        run: idle_run(alloc, None, skips, Warnings::make(alloc)),
-        line: Ok(Some(line)),
-    }
-}
-
-fn warning_line(alloc: Global, warning: &Warning, mode: Mode) -> Result<Option<Line>, OutOfMemory>
-    requires { IsShown warning.now }
-    ensures { HasTexts [] (warning_lines mode (warning.now ∷ [])) result }
-{
-    if mode.quiet {
-        return Ok(None);
-    }
-    let text = warning_of(alloc, warning)?;
-    Ok(Some(Line { to_err: true, text }))
+    end_idle(alloc, words, mode, None, skips, Warnings::make(alloc))
 }
 
 /// A run whose file is none.
-pub fn end_not_a_file(alloc: Global, path: Text, mode: Mode) -> Result<Executed, OutOfMemory>
-    ensures line { IfOk result (λ done. HasTexts [] (warning_lines mode (Warning.NotAFile path ∷ [])) done.line) }
+pub fn end_not_a_file(
+    alloc: Global,
+    words: &[String],
+    mode: Mode,
+    path: Text,
+) -> Result<Executed, OutOfMemory>
+    requires { mode ≡ mode_in (map string_bytes words.now) }
+    ensures text { IfOk result (λ done. IsTextOf (map string_bytes words.now) [] done.run done.text) }
     ensures run { IfOk result (λ done. HasNoTask None [] (Warning.NotAFile path ∷ []) done.run) }
 {
     let mut warnings = list_of(alloc, 1)?;
-    let warning = Warning::NotAFile(path);
-    let line = warning_line(alloc, &warning, mode);
-    warnings.push(warning);
+    warnings.push(Warning::NotAFile(path));
     let skips = Warnings::make(alloc);
-    Ok(Executed {
-        run: idle_run(alloc, None, skips, warnings),
-        line,
-    })
+    Ok(end_idle(alloc, words, mode, None, skips, warnings))
 }
 
 /// A run whose file is skipped.
 pub fn end_skipped(
     alloc: Global,
+    words: &[String],
+    mode: Mode,
     place: Place,
     why: KeySkip,
-    mode: Mode,
 ) -> Result<Executed, OutOfMemory>
-    requires { IsShown (Warning.Skipped place why) }
-    ensures line { IfOk result (λ done. HasTexts [] (warning_lines mode (Warning.Skipped place why ∷ [])) done.line) }
+    requires mode { mode ≡ mode_in (map string_bytes words.now) }
+    requires shown { IsShown (Warning.Skipped place why) }
+    ensures text { IfOk result (λ done. IsTextOf (map string_bytes words.now) [] done.run done.text) }
     ensures run { IfOk result (λ done. HasNoTask None (Warning.Skipped place why ∷ []) (Warning.Skipped place why ∷ [])
         done.run) }
 {
@@ -118,11 +166,6 @@ pub fn end_skipped(
         place: place.copy()?,
         why,
     });
-    let warning = Warning::Skipped { place, why };
-    let line = warning_line(alloc, &warning, mode);
-    warnings.push(warning);
-    Ok(Executed {
-        run: idle_run(alloc, None, skips, warnings),
-        line,
-    })
+    warnings.push(Warning::Skipped { place, why });
+    Ok(end_idle(alloc, words, mode, None, skips, warnings))
 }

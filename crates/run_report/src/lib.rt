@@ -4,14 +4,17 @@
 mod endings;
 mod lists;
 mod output;
+mod printout;
 mod reports;
 mod run;
 mod texts;
 mod worked;
 
-pub use endings::{end_early, end_idle, end_not_a_file, end_skipped, end_with_line};
+pub use endings::{
+    end_early, end_idle, end_left_out, end_not_a_file, end_skipped, end_with_text, ending_text,
+};
 pub use lists::list_of;
+pub use printout::{Printout, opening_text, task_text};
 pub use reports::report;
 pub use run::{Fatal, Run};
-pub use texts::ending_line;
 pub use worked::{Executed, Worked};

@@ -11,7 +11,11 @@ use s3_model::{OutOfMemory, Text};
 use std::alloc::Global;
 
 /// The line of a run that ended early; where memory ran out it is not made.
-pub fn ending_line(alloc: Global, words: &[String], fatal: &Fatal) -> Result<Text, OutOfMemory>
+pub(crate) fn ending_line(
+    alloc: Global,
+    words: &[String],
+    fatal: &Fatal,
+) -> Result<Text, OutOfMemory>
     requires { HasLine fatal.now }
     ensures text { IfOk result (λ text. text ≡ ending_line (map string_bytes words.now) fatal.now) }
     ensures memory { OnOk result (fatal.now ≢ Fatal.Memory) }

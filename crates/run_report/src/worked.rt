@@ -1,14 +1,14 @@
 //! A run before it is printed.
 
+use crate::printout::Printout;
 use crate::run::Run;
-use result_lines::Line;
 use s3_model::OutOfMemory;
 
-/// A run before anything is printed, and the line that is to be, if there is one.
+/// A run before anything is printed, and the text that is to be.
 #[derive(Drop)]
 pub struct Executed {
     pub run: Run,
-    pub line: Result<Option<Line>, OutOfMemory>,
+    pub text: Result<Printout, OutOfMemory>,
 }
 
 /// What a command came to, and whether it is a listing, of a key below which nothing was found.

@@ -7,7 +7,6 @@ use Rattle.listings.specs.declared.fault.ListingFault.{ListingFault}
 use Rattle.listings.specs.declared.fault.ListingFault.TheVariants as fault
 use Rattle.result_lines.specs.Causes.{IsShown}
 use Rattle.result_lines.specs.Faults.{IsListingFault}
-use Rattle.result_lines.specs.declared.tasks.Line.{Line}
 use Rattle.s3_model.specs.declared.faults.BadListing.TheVariants as bad
 use Rattle.s3_model.specs.declared.list.OutOfMemory.{OutOfMemory}
 use Rattle.s3_model.specs.declared.settings.Settings.{Settings}
@@ -16,8 +15,9 @@ use Rattle.s3_words.specs.declared.commands.Command.{Command}
 use Rattle.job_terms.specs.Gains.{Gains}
 use Rattle.run_report.specs.declared.run.Fatal.{Fatal}
 use Rattle.run_report.specs.declared.run.Fatal.TheVariants as fatal
+use Rattle.run_report.specs.declared.printout.Printout.{Printout}
 use Rattle.run_report.specs.declared.run.Run.{Run}
-use Rattle.run_report.specs.Texts.{HasTexts, IsLineOf}
+use Rattle.run_report.specs.Texts.{HasTexts, IsTextOf}
 
 -- how a listing that has no end ends the run; where memory ran out nothing else is said
 abbrev pub fatal_for : ListingFault → Fatal
@@ -46,19 +46,19 @@ pub record HasListed (why : Option Fatal) (run : Run) : Type 0 where
   pub nothing : HasNoOutcome run
 
 -- what was listed is to be printed, or the line of its end
-abbrev pub IsMade : (words : List (List ℕ)) → Result Shown ListingFault → Run → Result (Option Line) OutOfMemory
+abbrev pub IsMade : (words : List (List ℕ)) → Result Shown ListingFault → Run → Result Printout OutOfMemory
     → (missed : Bool) → Type 0
-IsMade words (Ok shown) run line missed =
-    HasListed None run × HasTexts shown.text [] line × (missed ≡ shown.missed)
-IsMade words (Err ends) run line missed =
-    HasListed (Some (fatal_for ends)) run × IsLineOf words [] run line
+IsMade words (Ok shown) run text missed =
+    HasListed None run × HasTexts shown.text [] text × (missed ≡ shown.missed)
+IsMade words (Err ends) run text missed =
+    HasListed (Some (fatal_for ends)) run × IsTextOf words [] run text
 
 -- the listing of a command, before it is printed
 pub record Lists (words : List (List ℕ)) (command : Command) (settings : Settings) (before after : Option WireLog)
-    (run : Run) (line : Result (Option Line) OutOfMemory) (missed : Bool) : Type 0 where
+    (run : Run) (text : Result Printout OutOfMemory) (missed : Bool) : Type 0 where
   pub result : Result Shown ListingFault
   pub gained : Gains before after
       (ShowsListing command.endpoint settings.keys command.from command.recursive [] run.journal.items result)
   pub some : OfSomeTalks
       (ShowsListing command.endpoint settings.keys command.from command.recursive [] run.journal.items result)
-  pub made : IsMade words result run line missed
+  pub made : IsMade words result run text missed

@@ -6,14 +6,13 @@ ghost use Rattle.listings.specs.Asked.{OfSomeTalks};
 ghost use Rattle.listings.specs.Faults.{IsNoCancel};
 ghost use Rattle.upload_plans.specs.Commands.{IsListed};
 ghost use Rattle.job_terms.specs.Gains.{Gains};
-ghost use Rattle.run_report.specs.Texts.{HasLine, IsLineOf};
+ghost use Rattle.run_report.specs.Texts.{HasLine, IsTextOf};
 ghost use Rattle.run_show.specs.Listings.{HasListed, IsMade, Lists, MayEndListing, fatal_for};
 
 use attempts::Client;
 use listing_commands::{Shown, show_listing};
 use listings::ListingFault;
-use result_lines::Line;
-use run_report::{Executed, Fatal, Run, Worked, ending_line};
+use run_report::{Executed, Fatal, Printout, Run, Worked, ending_text};
 use run_start::{Service, Start, service_of};
 use s3_model::{BadListing, Endpoint, Journal, Keys, Outcomes, Place, Plan, Tasks, Warnings};
 use s3_outside::Wire;
@@ -55,17 +54,14 @@ fn listing_run(alloc: Global, fatal: Option<Fatal>, journal: Journal) -> Run
 /// Ends a run whose listing has no end.
 fn end_unlisted(alloc: Global, words: &[String], fatal: Fatal, journal: Journal) -> Executed
     requires { HasLine fatal }
-    ensures line { IsLineOf (map string_bytes words.now) [] result.run result.line }
+    ensures text { IsTextOf (map string_bytes words.now) [] result.run result.text }
     ensures listed { HasListed (Some fatal) result.run }
     ensures journal { result.run.journal ≡ journal }
 {
-    let line = match ending_line(alloc, words, &fatal) {
-        Ok(text) => Ok(Some(Line { to_err: true, text })),
-        Err(memory) => Err(memory),
-    };
+    let text = ending_text(alloc, words, &fatal);
     Executed {
         run: listing_run(alloc, Some(fatal), journal),
-        line,
+        text,
     }
 }
 
@@ -77,7 +73,7 @@ fn end_listing(
     journal: Journal,
 ) -> Worked
     requires { IfErr listed IsNoCancel }
-    ensures made { IsMade (map string_bytes words.now) listed result.executed.run result.executed.line result.missed }
+    ensures made { IsMade (map string_bytes words.now) listed result.executed.run result.executed.text result.missed }
     ensures stops { IfSome result.executed.run.fatal MayEndListing }
     ensures lists { result.lists ≡ true }
     ensures journal { result.executed.run.journal ≡ journal }
@@ -86,10 +82,7 @@ fn end_listing(
         Ok(Shown { text, missed }) => Worked {
             executed: Executed {
                 run: listing_run(alloc, None, journal),
-                line: Ok(Some(Line {
-                    to_err: false,
-                    text,
-                })),
+                text: Ok(Printout::of_out(alloc, text)),
             },
             lists: true,
             missed,
@@ -135,7 +128,7 @@ pub fn execute_listing<W: Wire>(
 ) -> Worked
     requires { IsListed start.command.from }
     ensures listed { Lists (map string_bytes words.now) start.command start.settings (W.seen wire.old) (W.seen wire.new)
-        result.executed.run result.executed.line result.missed }
+        result.executed.run result.executed.text result.missed }
     ensures stops { IfSome result.executed.run.fatal MayEndListing }
     ensures lists { result.lists ≡ true }
     ensures later { W.faults wire.old ≤ W.faults wire.new }

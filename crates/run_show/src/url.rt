@@ -6,8 +6,7 @@ ghost use Rattle.job_terms.specs.Gains.{Gains};
 ghost use Rattle.run_show.specs.Urls.{IsMoment, MakesLine, url_line};
 
 use presigned_urls::{PresignFault, presign};
-use result_lines::Line;
-use run_report::{Executed, Fatal, end_early, end_with_line};
+use run_report::{Executed, Fatal, end_early, end_with_text};
 use run_start::Start;
 use s3_model::{OutOfMemory, Place, Text};
 use s3_outside::Wire;
@@ -71,18 +70,12 @@ pub fn execute_presign<W: Wire>(
     requires least { 1 ≤ start.command.expires }
     requires most { start.command.expires ≤ 604800 }
     ensures made { MakesLine (map string_bytes words.now) start.command start.settings (W.seen wire.old)
-        (W.seen wire.new) result.run result.line }
+        (W.seen wire.new) result.run result.text }
     ensures later { W.faults wire.old ≤ W.faults wire.new }
 {
     let moment = moment_of(wire);
     match url_line(alloc, start, moment) {
-        Ok(text) => {
-            let line = Line {
-                to_err: false,
-                text,
-            };
-            end_with_line(alloc, line)
-        }
+        Ok(line) => end_with_text(alloc, line),
         Err(_) => end_early(alloc, words, Fatal::Memory),
     }
 }

@@ -6,13 +6,12 @@ ghost use Rattle.s3_model.specs.Validity.{IsWithin};
 ghost use Rattle.result_lines.specs.Tasks.{HasShownCause, HasSource};
 ghost use Rattle.job_terms.specs.Gains.{Gains};
 ghost use Rattle.upload_promise.specs.Sources.{LooksAt};
-ghost use Rattle.run_report.specs.Texts.{HasTexts, IsLineOf, err_lines, mode_in, out_lines};
+ghost use Rattle.run_report.specs.Texts.{HasTexts, IsTextOf, err_lines, mode_in, out_lines};
 ghost use Rattle.run_task.specs.Rooms.{HasRoom};
 ghost use Rattle.run_task.specs.Uploaded.{HasOneOutcome, HasUploaded, IsUpload, MayUpload, MayWant, path_of};
 
 use lane_jobs::Carrier;
-use result_lines::line_of;
-use run_report::{Executed, Fatal, Run, end_early, list_of};
+use run_report::{Executed, Fatal, Run, end_early, list_of, task_text};
 use run_start::Service;
 use s3_model::{Journal, Mode, OutOfMemory, Outcome, Outcomes, Place, Plan, Task, Tasks, Warnings};
 use s3_outside::{Files, Wire};
@@ -154,8 +153,8 @@ fn do_task<F: Files, W: Wire>(
     requires upload { IsUpload task }
     requires shared { arc_value prepared.shared ≡ task }
     requires source { HasSource task }
-    ensures line { HasTexts (out_lines mode result.run.plan.tasks.items result.run.outcomes.items)
-        (err_lines mode result.run.plan.tasks.items result.run.outcomes.items) result.line }
+    ensures text { HasTexts (out_lines mode result.run.plan.tasks.items result.run.outcomes.items)
+        (err_lines mode result.run.plan.tasks.items result.run.outcomes.items ([] ∷ [])) result.text }
     ensures fatal { result.run.fatal ≡ None }
     ensures tasks { result.run.plan.tasks.items ≡ task ∷ [] }
     ensures went { Gains (W.seen wire.old) (W.seen wire.new) (HasUploaded prepared.carrier.endpoint
@@ -184,9 +183,10 @@ fn do_task<F: Files, W: Wire>(
         &mut lists.journal,
     );
     mem::drop(carrier);
-    let line = line_of(alloc, &task, &outcome, mode);
+    let own = Warnings::make(alloc);
+    let text = task_text(alloc, &task, &outcome, &own, mode);
     let run = run_of(alloc, lists, task, outcome);
-    Executed { run, line }
+    Executed { run, text }
 }
 
 /// Uploads the file of a command.
@@ -205,7 +205,7 @@ pub fn execute_upload<W: Wire, F: Files>(
     requires attempts { IsWithin 1 service.attempts 10 }
     ensures went { Gains (W.seen wire.old) (W.seen wire.new) (MayUpload service.endpoint service.keys service.attempts
         task (F.seen files.new) (F.faults files.old) (F.faults files.new) result.run) }
-    ensures line { IsLineOf (map string_bytes words.now) [] result.run result.line }
+    ensures text { IsTextOf (map string_bytes words.now) [] result.run result.text }
     ensures does { MayWant task (F.faults files.old) (F.faults files.new) result.run }
     ensures files { LooksAt (path_of task) (F.seen files.old) (F.seen files.new) }
     ensures files_later { F.faults files.old ≤ F.faults files.new }

@@ -13,7 +13,7 @@ use Rattle.listing_commands.specs.declared.show.Shown.{Shown}
 use Rattle.listings.specs.Faults.{IsCauseOf}
 use Rattle.listings.specs.declared.fault.ListingFault.{ListingFault}
 use Rattle.listings.specs.declared.fault.ListingFault.TheVariants as unlisted
-use Rattle.result_lines.specs.declared.tasks.Line.{Line}
+use Rattle.run_report.specs.declared.printout.Printout.{Printout}
 use Rattle.s3_model.specs.declared.list.OutOfMemory.{OutOfMemory}
 use Rattle.s3_model.specs.declared.outcomes.Cause.{Cause}
 use Rattle.s3_model.specs.declared.faults.BadListing.{BadListing}
@@ -39,7 +39,7 @@ use Rattle.run_report.specs.declared.run.Fatal.TheVariants as fatal
 use Rattle.run_report.specs.declared.run.Run.{Run}
 use Rattle.run_start.specs.Begun.{IsBegun}
 use Rattle.s3_main.specs.Asked.{lists_in}
-use Rattle.s3_main.specs.Executed.{HasLineOf, HasStatusOf}
+use Rattle.s3_main.specs.Executed.{HasTextOf, HasStatusOf}
 use Rattle.run_show.specs.Listings.{HasNoOutcome, IsMade, Lists, MayEndListing, fatal_for}
 use Rattle.s3_main.specs.Listings.{EndsListing, IsListing}
 use Rattle.s3_main.specs.Own.{IsRows, Own}
@@ -114,13 +114,16 @@ unasked_status a b (Some why) h = unasked_one a b why h
 
 -- ---- the run
 
-module _ (words : List (List ℕ)) (run : Run) (line : Result (Option Line) OutOfMemory) (missed : Bool) where
+module _ (words : List (List ℕ)) (run : Run) (line : Result Printout OutOfMemory) (missed : Bool) where
   made_nothing : (result : Result Shown ListingFault) → IsMade words result run line missed → HasNoOutcome run
   made_nothing (Ok shown) made = made.0.nothing
   made_nothing (Err ends) made = made.0.nothing
 
+  made_may_end : (shown : Shown) → IsMade words (Ok shown) run line missed → MayEnd run.fatal
+  made_may_end shown made = subst (λ (f : Option Fatal). MayEnd f) (sym made.0.fatal) tt
+
   made_ends : (result : Result Shown ListingFault) → IsMade words result run line missed → EndsListing result run.fatal
-  made_ends (Ok shown) made = subst (λ (f : Option Fatal). MayEnd f) (sym made.0.fatal) tt
+  made_ends (Ok shown) made = made_may_end shown made
   made_ends (Err ends) made = inl made.0.fatal
 
   module _ (env : Option SeenEnv) (command : Command) (settings : Settings) (begun : IsBegun words env command settings) (listing : is_listing command.verb ≡ true) (before after : Option WireLog) where
@@ -133,12 +136,13 @@ module _ (words : List (List ℕ)) (run : Run) (line : Result (Option Line) OutO
     unseen : IsBegun words None command settings
     unseen = record { rest = begun.rest; settled = tt; valid = begun.valid }
 
-    own_line : (result : Result Shown ListingFault) → Gains before after (Asks result) → OfSomeTalks (Asks result) → IsMade words result run line missed → HasLineOf words env before after run line missed
+    own_line : (result : Result Shown ListingFault) → Gains before after (Asks result) → OfSomeTalks (Asks result) → IsMade words result run line missed → HasTextOf words env before after run line missed
     own_line (Ok shown) gained some (has, texts, is) =
         let own : Own = record { text = shown.text; missed = missed } in (
           own,
           inr (inr (inl (
             lists_true,
+            made_may_end shown (has, texts, is),
             gains_as (Asks (Ok shown)) (IsRows words env run own)
                 (λ talks notes shows. record { command = command; settings = settings; begun = begun; listing = listing; shown = shown; shows = shows; text = refl; missed = is })
                 before after gained,
@@ -146,14 +150,10 @@ module _ (words : List (List ℕ)) (run : Run) (line : Result (Option Line) OutO
                 (λ talks notes shows. record { command = command; settings = settings; begun = unseen; listing = listing; shown = shown; shows = shows; text = refl; missed = is })
                 some,
           ))),
-          record {
-            texts = url_texts (mode_in words) words shown.text run.fatal run.plan.tasks.items run.outcomes.items run.warnings.items line has.fatal has.nothing.no_task has.nothing.no_outcome
-                has.nothing.no_warning texts;
-            no_memory = no_memory run.fatal line has.fatal;
-          },
+          silent_text words shown.text run line has.nothing.no_task None has.nothing.no_skip has.nothing.no_warning has.fatal texts (no_memory None line refl),
           refl,
         )
-    own_line (Err ends) gained some (has, h) = (record { text = []; missed = missed }, inr (inr (inr (ap is_some has.fatal))), h, refl)
+    own_line (Err ends) gained some (has, h) = (record { text = []; missed = missed }, inr (inr (inr (ap is_some has.fatal, refl))), h, refl)
 
     module _ (made : Lists words command settings before after run line missed) where
       pub listing_goes : Gains before after (IsListing words env run)
@@ -166,7 +166,7 @@ module _ (words : List (List ℕ)) (run : Run) (line : Result (Option Line) OutO
           (λ talks notes shows. record { command = command; settings = settings; begun = unseen; listing = listing; nothing = made_nothing made.result made.made; result = made.result; shows = shows; ends = made_ends made.result made.made })
           made.some
 
-      pub listing_line_is : HasLineOf words env before after run line missed
+      pub listing_line_is : HasTextOf words env before after run line missed
       listing_line_is = own_line made.result made.gained made.some made.made
 
     -- an answer that ended it

@@ -1,6 +1,6 @@
 -- A run keeps its promise: it planned an upload and carried it out, or it has no task.
-use Rattle.std.proofs.Common.{◌≡◌, ◌∙◌, ◌≤◌, ◌^◌, ℕ, Bool, true, false, List, [], ◌∷◌, Option, Some, None, Result, Ok, Err, if◌then◌else◌, refl, sym, ap, subst, inl, inr, arith, filter_map}
-use Rattle.run_promise.specs.Settled.{left_by, untimed_by}
+use Rattle.std.proofs.Common.{◌≡◌, ◌∙◌, ◌≤◌, ◌^◌, ℕ, Bool, true, false, List, [], ◌∷◌, Option, Some, None, Result, Ok, Err, if◌then◌else◌, refl, sym, ap, subst, inl, inr, arith}
+use Rattle.job_terms.specs.Attempts.{in_first}
 use Rattle.s3_model.specs.declared.outcomes.Event.{Event}
 use Rattle.s3_model.specs.declared.outcomes.Outcome.{Outcome}
 use Rattle.s3_model.specs.declared.places.Endpoint.{Endpoint}
@@ -51,7 +51,7 @@ use Rattle.upload_plans.specs.Plans.{content_for, planned_key, planned_task}
 use Rattle.upload_plans.specs.declared.plan.Fate.{Fate}
 use Rattle.upload_plans.specs.declared.plan.Fate.TheVariants as fate
 use Rattle.upload_plans.proofs.FateLemmas.{task_of}
-use Rattle.upload_promise.specs.Shown.{KeepsPromise, one_attempt, shown_by}
+use Rattle.upload_promise.specs.Shown.{CallFailed, KeepsPromise, end_of, one_attempt, start_of}
 use Rattle.upload_promise.specs.Sources.{LooksAt}
 use Rattle.upload_promise.proofs.PromiseLemmas as promise
 use Rattle.upload_promise.proofs.PromiseLemmas.{one_valid}
@@ -62,7 +62,7 @@ use Rattle.run_start.proofs.RestLemmas.{from_is, recursive_is}
 use Rattle.s3_main.specs.Asked.{lists_in, needs_in, path_in}
 use Rattle.run_task.specs.Uploaded.{HasUploaded, path_of}
 use Rattle.s3_main.specs.Plans.{HasPlan, IsFate, IsIdle, Works, warnings_of}
-use Rattle.s3_main.specs.Runs.{GoesAs, IfSeen, IsTrue, IsUnasked, IsUnplanned, PlansBy, config_for}
+use Rattle.s3_main.specs.Runs.{GoesAs, IfSeen, IsTrue, IsUnasked, IsUnplanned, PlansBy, config_for, files_over}
 use Rattle.s3_main.proofs.BeginLemmas.{source_is}
 use Rattle.s3_main.proofs.UrlLemmas.{lists, presign_is_no_listing}
 
@@ -96,22 +96,6 @@ valid_for : (lists_it : Bool) (config : Config) → IsValidConfig config → IsV
 valid_for true config v = one_valid config v
 valid_for false config v = v
 
-no_left : (comes : Fate) → filter_map left_by (warnings_of comes) ≡ []
-no_left fate.NotYet = refl
-no_left (fate.Refused fault) = refl
-no_left (fate.NotAFile path) = refl
-no_left (fate.Skipped place why) = refl
-no_left fate.LeftOut = refl
-no_left (fate.Upload task) = refl
-
-no_untimed : (comes : Fate) → filter_map untimed_by (warnings_of comes) ≡ []
-no_untimed fate.NotYet = refl
-no_untimed (fate.Refused fault) = refl
-no_untimed (fate.NotAFile path) = refl
-no_untimed (fate.Skipped place why) = refl
-no_untimed fate.LeftOut = refl
-no_untimed (fate.Upload task) = refl
-
 moment_is_no_talk : (moment : ℕ) → Moment moment ≡ Began → ⊥
 moment_is_no_talk moment e = cc
 
@@ -139,25 +123,29 @@ memory_ends Shows (Err unlisted.Memory) (Ok told) why e shown ends = absurd show
 memory_ends Shows (Err unlisted.Memory) (Err same) why e shown ends =
     elim (subst (λ (f : ListingFault). EndsListing (Err f) why) shown ends) [ inl is ↦ is | inr is ↦ is ]
 
-module _ (words : List (List ℕ)) (env : Option SeenEnv) (limits : Limits) (valid : IsValidLimits limits) (before after : ℕ) (run : Run) (talks : List Talk) (notes : List Note)
+module _ (words : List (List ℕ)) (env : Option SeenEnv) (limits : Limits) (valid : IsValidLimits limits) (wires : ℕ) (has_wire : 1 ≤ wires) (before after : ℕ) (run : Run) (talks : List Talk) (notes : List Note)
     (was now : SeenFiles) (same : now.store ≡ was.store) (memory : run.fatal ≡ Some fatal.Memory → run.status ≡ 70) where
   abbrev path : List ℕ
   path = path_in words
 
+  -- what the run promises
+  abbrev Told : Type 0
+  Told = IsTrue words env limits wires (files_over was now before after) run (in_first talks) (in_first notes)
+
   -- what is to be shown, of these lists
   abbrev Keeps : Endpoint → Settings → List Task → List Outcome → List Event → List Warning → List Talk → List Note → Type 0
   Keeps endpoint settings tasks outcomes journal warnings of_talks of_notes =
-      KeepsPromise Shows HasStatus (text_of endpoint settings.keys) endpoint.host endpoint.port (PlansBy words run.fatal) path before after tasks warnings now
-      (shown_by (config_for words settings.config) limits run.status tasks outcomes journal of_talks of_notes was now)
+      KeepsPromise Shows HasStatus (text_of endpoint settings.keys) endpoint.host endpoint.port (PlansBy words run.fatal) (CallFailed path now before after tasks)
+      (start_of (config_for words settings.config) limits wires tasks was) (end_of run.status outcomes warnings journal of_talks of_notes now) None ⊥ ⊥
 
   abbrev PlansNone : Type 0
   PlansNone = PlansBy words run.fatal []
 
-  nothing : (endpoint : Endpoint) (settings : Settings) → IsValidConfig settings.config → PlansNone → (warnings : List Warning) → filter_map left_by warnings ≡ [] → filter_map untimed_by warnings ≡ []
+  nothing : (endpoint : Endpoint) (settings : Settings) → IsValidConfig settings.config → PlansNone → (warnings : List Warning)
       → (of_notes : List Note) → AreIdle of_notes → Keeps endpoint settings [] [] [] warnings [] of_notes
-  nothing endpoint settings configured none warnings left untimed of_notes idle =
+  nothing endpoint settings configured none warnings of_notes idle =
       promise.unplanned Shows HasStatus (text_of endpoint settings.keys) endpoint.host endpoint.port (PlansBy words run.fatal) none (config_for words settings.config)
-      (valid_for (lists_in words) settings.config configured) limits valid run.status before after path was now same warnings left untimed of_notes idle
+      (valid_for (lists_in words) settings.config configured) limits valid wires has_wire run.status before after path was now same warnings of_notes idle
 
   -- the lists of the run are these
   of_run : (endpoint : Endpoint) (settings : Settings) (tasks : List Task) (outcomes : List Outcome) (journal : List Event) (warnings : List Warning) (of_talks : List Talk) (of_notes : List Note)
@@ -172,22 +160,24 @@ module _ (words : List (List ℕ)) (env : Option SeenEnv) (limits : Limits) (val
       (subst (λ (all : List Talk). Keeps endpoint settings tasks outcomes journal warnings all notes) (sym ts)
       (subst (λ (all : List Note). Keeps endpoint settings tasks outcomes journal warnings of_talks all) (sym ns) keeps)))))
 
-  unplanned_true : IsUnplanned run talks notes → IsTrue words env limits before after run talks notes was now
+  unplanned_true : IsUnplanned run talks notes → Told
   unplanned_true u = record {
     endpoint = nowhere;
     settings = some_settings;
+    cancelled_at = None;
     begun = λ some. absurd (some u.nothing.no_job);
     keeps = of_run nowhere some_settings [] [] [] [] [] [] u.nothing.no_task u.nothing.no_outcome u.nothing.no_job u.nothing.no_warning u.no_talk u.no_note
-        (nothing nowhere some_settings some_valid (inr (inl (refl, u.nothing.stopped))) [] refl refl [] none_idle);
+        (nothing nowhere some_settings some_valid (inr (inl (refl, u.nothing.stopped))) [] [] none_idle);
   }
 
-  url_true : IsPresigned words env run talks notes → IsTrue words env limits before after run talks notes was now
+  url_true : IsPresigned words env run talks notes → Told
   url_true u = record {
     endpoint = nowhere;
     settings = some_settings;
+    cancelled_at = None;
     begun = λ some. absurd (some u.taskless.no_job);
     keeps = of_run nowhere some_settings [] [] [] [] [] (Moment u.moment ∷ []) u.taskless.no_task u.taskless.no_outcome u.taskless.no_job u.taskless.no_warning u.no_talk u.noted
-        (nothing nowhere some_settings some_valid (inl (no_needs words u.command u.begun.rest (presign_is_no_listing u.command.verb u.presign))) [] refl refl (Moment u.moment ∷ []) (moment_idle u.moment));
+        (nothing nowhere some_settings some_valid (inl (no_needs words u.command u.begun.rest (presign_is_no_listing u.command.verb u.presign))) [] (Moment u.moment ∷ []) (moment_idle u.moment));
   }
 
   module _ (command : Command) (settings : Settings) (begun : IsBegun words env command settings) where
@@ -201,21 +191,21 @@ module _ (words : List (List ℕ)) (env : Option SeenEnv) (limits : Limits) (val
     config_is : (lists_it : Bool) → is_listing command.verb ≡ lists_it → config_for words settings.config ≡ (if lists_it then one_attempt settings.config else settings.config)
     config_is lists_it is = ap (λ (b : Bool). if b then one_attempt settings.config else settings.config) (lists words command begun.rest ∙ is)
 
-    true_by : KeepsBoth run.plan.tasks.items run.outcomes.items run.journal.items run.warnings.items talks notes → IsTrue words env limits before after run talks notes was now
-    true_by keeps = record { endpoint = endpoint; settings = settings; begun = λ some. (command, begun, refl); keeps = keeps }
+    true_by : KeepsBoth run.plan.tasks.items run.outcomes.items run.journal.items run.warnings.items talks notes → Told
+    true_by keeps = record { endpoint = endpoint; settings = settings; cancelled_at = None; begun = λ some. (command, begun, refl); keeps = keeps }
 
     none_planned : is_listing command.verb ≡ false → PlansNone
     none_planned none = inl (no_needs words command begun.rest none)
 
     -- a plan without a task
-    idle_true : is_listing command.verb ≡ false → (comes : Fate) → run.plan.tasks.items ≡ [] → run.warnings.items ≡ warnings_of comes → IsIdle run talks notes → IsTrue words env limits before after run talks notes was now
+    idle_true : is_listing command.verb ≡ false → (comes : Fate) → run.plan.tasks.items ≡ [] → run.warnings.items ≡ warnings_of comes → IsIdle run talks notes → Told
     idle_true none comes tasks warnings idle =
         true_by (of_run endpoint settings [] [] [] (warnings_of comes) [] [] tasks idle.no_outcome idle.no_job warnings idle.no_talk idle.no_note
-        (nothing endpoint settings begun.valid (none_planned none) (warnings_of comes) (no_left comes) (no_untimed comes) [] none_idle))
+        (nothing endpoint settings begun.valid (none_planned none) (warnings_of comes) [] none_idle))
 
     -- a plan with its upload
     upload_true : is_listing command.verb ≡ false → (task : Task) → IsFate command settings limits (Some was) (fate.Upload task) → run.plan.tasks.items ≡ task ∷ [] → run.warnings.items ≡ []
-        → HasUploaded endpoint settings.keys settings.config.attempts task (Some now) before after run talks notes → IsTrue words env limits before after run talks notes was now
+        → HasUploaded endpoint settings.keys settings.config.attempts task (Some now) before after run talks notes → Told
     upload_true none task fated tasks warnings (how, one, uploads) =
         let of_file = task_of command settings.config.threshold limits.max_object task fated.stands (sym fated.is) in
         let key = planned_key (source_path command) (key_of command) in
@@ -223,18 +213,18 @@ module _ (words : List (List ℕ)) (env : Option SeenEnv) (limits : Limits) (val
         let sent = subst (λ (t : Task). Uploads endpoint settings.keys settings.config.attempts (put_ask t) (Some now) (path_of t) t.size before after run.journal.items how talks notes) of_file.is uploads in
         let stands : shape_at was.store (source_path command) ≡ shape.File of_file.size of_file.micros = fated.seen ∙ of_file.is_file in
         let keeps =
-        uploaded endpoint settings.keys (PlansBy words run.fatal) (none_planned none) settings.config begun.valid limits valid run.status before after (source_path command) was now same [] refl refl
+        uploaded endpoint settings.keys (PlansBy words run.fatal) (none_planned none) settings.config begun.valid limits valid wires has_wire run.status before after (source_path command) was now same []
         (bucket_of command) key (content_for command (source_path command)) of_file.size of_file.micros of_file.small stands run.journal.items how talks notes sent in
         let here : KeepsBoth (of_task ∷ []) (how ∷ []) run.journal.items [] talks notes =
-        subst (λ (config : Config). KeepsPromise Shows HasStatus (text_of endpoint settings.keys) endpoint.host endpoint.port (PlansBy words run.fatal) path before after (of_task ∷ []) [] now
-        (shown_by config limits run.status (of_task ∷ []) (how ∷ []) run.journal.items talks notes was now)) (sym (config_is false none))
-        (subst (λ (at : List ℕ). KeepsPromise Shows HasStatus (text_of endpoint settings.keys) endpoint.host endpoint.port (PlansBy words run.fatal) at before after (of_task ∷ []) [] now
-        (shown_by settings.config limits run.status (of_task ∷ []) (how ∷ []) run.journal.items talks notes was now)) (source_is words command begun.rest) keeps) in
+        subst (λ (config : Config). KeepsPromise Shows HasStatus (text_of endpoint settings.keys) endpoint.host endpoint.port (PlansBy words run.fatal) (CallFailed path now before after (of_task ∷ []))
+        (start_of config limits wires (of_task ∷ []) was) (end_of run.status (how ∷ []) [] run.journal.items talks notes now) None ⊥ ⊥) (sym (config_is false none))
+        (subst (λ (at : List ℕ). KeepsPromise Shows HasStatus (text_of endpoint settings.keys) endpoint.host endpoint.port (PlansBy words run.fatal) (CallFailed at now before after (of_task ∷ []))
+        (start_of settings.config limits wires (of_task ∷ []) was) (end_of run.status (how ∷ []) [] run.journal.items talks notes now) None ⊥ ⊥) (source_is words command begun.rest) keeps) in
         true_by (of_run endpoint settings (of_task ∷ []) (how ∷ []) run.journal.items [] talks notes
         (tasks ∙ ap (λ (t : Task). t ∷ []) of_file.is) one refl warnings refl refl here)
 
     planned_true : is_listing command.verb ≡ false → (comes : Fate) → IsFate command settings limits (Some was) comes → HasPlan comes run → Works comes endpoint settings.keys settings.config.attempts (Some now) before after run talks notes
-        → IsTrue words env limits before after run talks notes was now
+        → Told
     planned_true none fate.NotYet fated plan works = absurd plan.plan
     planned_true none (fate.Refused fault) fated plan works = absurd plan.plan
     planned_true none (fate.NotAFile at) fated plan works = idle_true none (fate.NotAFile at) plan.tasks plan.warnings works
@@ -245,19 +235,19 @@ module _ (words : List (List ℕ)) (env : Option SeenEnv) (limits : Limits) (val
     -- a listing: its requests are those that planning needs
     listed_true : is_listing command.verb ≡ true → HasNoOutcome run → (asked : List Asked) (wanting : Bool) → run.journal.items ≡ events_from 0 asked → AreAsked endpoint settings.keys wanting asked talks notes
         → (wanting ≡ true → run.fatal ≡ Some fatal.Memory) → (needs : List Need) → needs_in words ≡ needs → AskQuestions needs → Plans wanting (dispatched_from 0 0 asked) needs [] None
-        → IsTrue words env limits before after run talks notes was now
+        → Told
     listed_true listing none asked wanting events gained wants needs needed ask plans =
         let questions = all_questions Shows IsRefusedPage ⊥ (wanting ≡ true) asked 0 0 needs [] None ask plans in
         let more = asked_more Shows IsRefusedPage ⊥ (IsUnasked run.fatal) (wanting ≡ true) (run.fatal ≡ Some fatal.Memory) (λ h. absurd h) wants (dispatched_from 0 0 asked) needs [] None plans in
         let planned = subst (λ (all : List Need). PlansFor Shows IsRefusedPage (IsUnasked run.fatal) (run.fatal ≡ Some fatal.Memory) all (dispatched_from 0 0 asked)) (sym needed) more in
         true_by (of_run endpoint settings [] [] (events_from 0 asked) [] talks notes none.no_task none.no_outcome events none.no_warning refl refl
-        (subst (λ (config : Config). KeepsPromise Shows HasStatus (text_of endpoint settings.keys) endpoint.host endpoint.port (PlansBy words run.fatal) path before after [] [] now
-        (shown_by config limits run.status [] [] (events_from 0 asked) talks notes was now)) (sym (config_is true listing))
-        (listing_keeps endpoint settings.keys (PlansBy words run.fatal) settings.config begun.valid limits valid run.status before after path was now same asked questions talks notes wanting
+        (subst (λ (config : Config). KeepsPromise Shows HasStatus (text_of endpoint settings.keys) endpoint.host endpoint.port (PlansBy words run.fatal) (CallFailed path now before after [])
+        (start_of config limits wires [] was) (end_of run.status [] [] (events_from 0 asked) talks notes now) None ⊥ ⊥) (sym (config_is true listing))
+        (listing_keeps endpoint settings.keys (PlansBy words run.fatal) settings.config begun.valid limits valid wires has_wire run.status before after path was now same asked questions talks notes wanting
         (λ e. memory (wants e)) gained planned)))
 
     shown_true : is_listing command.verb ≡ true → HasNoOutcome run → (at : Option Place) (recursive : Bool) → needs_in words ≡ needs_of at recursive → (result : Result Shown ListingFault)
-        → ShowsListing endpoint settings.keys at recursive [] run.journal.items result talks notes → EndsListing result run.fatal → IsTrue words env limits before after run talks notes was now
+        → ShowsListing endpoint settings.keys at recursive [] run.journal.items result talks notes → EndsListing result run.fatal → Told
     shown_true listing none None recursive needed result shows ends =
         listed_true listing none shows.lists.asked (is_memory shows.listed) shows.lists.events shows.lists.gained
         (λ e. memory_ends IsShownBuckets shows.listed result run.fatal e shows.shown ends) (needs_of None recursive) needed (tt, tt) (shows.lists.plans 0)
@@ -267,15 +257,17 @@ module _ (words : List (List ℕ)) (env : Option SeenEnv) (limits : Limits) (val
     shown_true listing none (Some (place.File at)) recursive needed result shows ends = absurd shows
 
 -- in either case, where the files are seen
-pub all_true : (limits : Limits) → IsValidLimits limits → (run : Run) (talks : List Talk) (notes : List Note) (words : List (List ℕ)) (env : Option SeenEnv) (was now : Option SeenFiles) (before after : ℕ)
+pub all_true : (limits : Limits) → IsValidLimits limits → (wires : ℕ) → 1 ≤ wires → (run : Run) (talks : List Talk) (notes : List Note) (words : List (List ℕ)) (env : Option SeenEnv) (was now : Option SeenFiles) (before after : ℕ)
     → (run.fatal ≡ Some fatal.Memory → run.status ≡ 70) → LooksAt (path_in words) was now → GoesAs words env limits was now before after run talks notes
-    → IfSeen was now (IsTrue words env limits before after run talks notes)
-all_true limits valid run talks notes words env was None before after memory looks goes = tt
-all_true limits valid run talks notes words env None (Some now) before after memory looks goes = tt
-all_true limits valid run talks notes words env (Some was) (Some now) before after memory looks (inl u) = unplanned_true words env limits valid before after run talks notes was now looks.0 memory u
-all_true limits valid run talks notes words env (Some was) (Some now) before after memory looks (inr (inr (inl u))) = url_true words env limits valid before after run talks notes was now looks.0 memory u
-all_true limits valid run talks notes words env (Some was) (Some now) before after memory looks (inr (inl p)) =
-    planned_true words env limits valid before after run talks notes was now looks.0 memory p.command p.settings p.begun p.no_listing p.comes p.fated p.plan p.works
-all_true limits valid run talks notes words env (Some was) (Some now) before after memory looks (inr (inr (inr l))) =
-    shown_true words env limits valid before after run talks notes was now looks.0 memory l.command l.settings l.begun l.listing l.nothing l.command.from l.command.recursive
+    → IfSeen was now (λ w n. IsTrue words env limits wires (files_over w n before after) run (in_first talks) (in_first notes))
+all_true limits valid wires some run talks notes words env was None before after memory looks goes = tt
+all_true limits valid wires some run talks notes words env None (Some now) before after memory looks goes = tt
+all_true limits valid wires some run talks notes words env (Some was) (Some now) before after memory looks (inl u) =
+    unplanned_true words env limits valid wires some before after run talks notes was now looks.0 memory u
+all_true limits valid wires some run talks notes words env (Some was) (Some now) before after memory looks (inr (inr (inl u))) =
+    url_true words env limits valid wires some before after run talks notes was now looks.0 memory u
+all_true limits valid wires some run talks notes words env (Some was) (Some now) before after memory looks (inr (inl p)) =
+    planned_true words env limits valid wires some before after run talks notes was now looks.0 memory p.command p.settings p.begun p.no_listing p.comes p.fated p.plan p.works
+all_true limits valid wires some run talks notes words env (Some was) (Some now) before after memory looks (inr (inr (inr l))) =
+    shown_true words env limits valid wires some before after run talks notes was now looks.0 memory l.command l.settings l.begun l.listing l.nothing l.command.from l.command.recursive
     (has_needs words l.command l.begun.rest l.listing) l.result l.shows l.ends

@@ -1,6 +1,6 @@
 -- The first wire of a run, and a run that was reported.
-use Rattle.std.proofs.Common.{Bool, false, ◌≡◌, ◌≤◌, ◌∙◌, ℕ, List, [], ◌∷◌, Option, Some, None, Result, Ok, Err, IfSome, OnErr, refl, sym, ap, subst, inl, inr, arith, length, get_or, slice_set, is_some}
-use Rattle.result_lines.specs.declared.tasks.Line.{Line}
+use Rattle.std.proofs.Common.{Bool, false, ◌≡◌, ◌≤◌, ◌∙◌, ◌++◌, flat_map, ℕ, List, [], ◌∷◌, Option, Some, None, Result, Ok, Err, IfSome, OnErr, refl, sym, ap, subst, inl, inr, arith, length, get_or, slice_set, is_some}
+use Rattle.run_report.specs.declared.printout.Printout.{Printout}
 use Rattle.s3_model.specs.declared.list.OutOfMemory.{OutOfMemory}
 use Rattle.s3_model.specs.declared.outcomes.Event.{Event}
 use Rattle.s3_model.specs.declared.places.Endpoint.{Endpoint}
@@ -24,7 +24,7 @@ use Rattle.job_terms.proofs.GainLemmas.{gains_as}
 use Rattle.s3_model.specs.declared.outcomes.Outcome.{Outcome}
 use Rattle.s3_model.specs.declared.tasks.Warning.{Warning}
 use Rattle.s3_main.specs.Asked.{lists_in}
-use Rattle.s3_main.specs.Executed.{HasLineOf, HasStatusOf}
+use Rattle.s3_main.specs.Executed.{HasTextOf, HasStatusOf}
 use Rattle.run_show.specs.Listings.{HasNoOutcome}
 use Rattle.s3_main.specs.Listings.{EndsListing, IsListing}
 use Rattle.s3_main.specs.Own.{IsOwn, IsRows, Own, nothing_own}
@@ -32,15 +32,50 @@ use Rattle.s3_main.specs.Urls.{IsTaskless}
 use Rattle.run_report.specs.Taskless.{MayEnd}
 use Rattle.run_task.specs.Uploaded.{path_of}
 use Rattle.s3_main.specs.Plans.{HasPlan, IsIdle, Wants, Works}
-use Rattle.s3_main.specs.Runs.{EndsAsShown, GoesAs, IsNothingPlanned, IsPrinted, IsUnasked, OnFirst, StopsFor, Undertakes}
-use Rattle.run_report.specs.Texts.{err_by, err_of, err_text, fatal_after, mode_in, out_by, out_of, out_text}
+use Rattle.s3_main.specs.Runs.{EndsAsShown, GoesAs, IsNothingPlanned, IsPrinted, IsUnasked, StopsFor, Undertakes}
+use Rattle.s3_main.specs.Wires.{AllGain, OnEach, OnFirst, OnWires}
+use Rattle.job_terms.specs.Attempts.{in_first}
+use Rattle.job_terms.specs.Gains.{Gains}
+use Rattle.upload_promise.proofs.WireLemmas.{beyond_first}
+use Rattle.run_report.specs.Texts.{AreOfTasks, HasWarned, Warned, err_lines, err_of, err_text, fatal_after, mode_in, opening_text, out_lines, out_of, out_text}
+use Rattle.run_report.proofs.PrintLemmas.{only_memory}
 use Rattle.run_report.specs.Statuses.{EndsWith, run_status, status_by}
-use Rattle.run_report.specs.Printed.{IsPrintedAs}
+use Rattle.run_report.specs.Printed.{IsPrintedAs, Output}
 
 -- what holds of the first of a list before and after it was written
 pub on_first : {W : Type 0} (xs : List W) (before after : W) (P : W → W → Type 0) → 1 ≤ length xs → before ≡ get_or xs 0 before → P before after → OnFirst xs (slice_set xs 0 after) P
 on_first [] before after P some is holds = absurd (omega (arith, some))
-on_first (x ∷ xs) before after P some is holds = (subst (λ w. P w after) is holds, refl)
+on_first (x ∷ xs) before after P some is holds = subst (λ w. P w after) is holds
+
+-- and of each, where it holds of all that stay
+each_same : {W : Type 0} (P : W → W → Type 0) → ((w : W) → P w w) → (xs : List W) → OnEach xs xs P
+each_same P same [] = tt
+each_same P same (x ∷ xs) = (same x, each_same P same xs)
+
+pub on_each : {W : Type 0} (xs : List W) (before after : W) (P : W → W → Type 0) → ((w : W) → P w w) → 1 ≤ length xs → before ≡ get_or xs 0 before → P before after → OnEach xs (slice_set xs 0 after) P
+on_each [] before after P same some is holds = absurd (omega (arith, some))
+on_each (x ∷ xs) before after P same some is holds = (subst (λ w. P w after) is holds, each_same P same xs)
+
+-- what the one wire gained that was used
+all_gain : (was now : Option WireLog) (Q : (ℕ → List Talk) → (ℕ → List Note) → Type 0) → Gains was now (λ talks notes. Q (in_first talks) (in_first notes)) → AllGain (was ∷ []) (now ∷ []) Q
+all_gain was None Q gained = tt
+all_gain None (Some now) Q gained = absurd gained
+all_gain (Some was) (Some now) Q (talks, notes, of_talks, of_notes, holds) = (
+  in_first talks,
+  in_first notes,
+  ((talks, notes, of_talks, of_notes, (refl, refl)), λ lane beyond. (beyond_first talks lane beyond, beyond_first notes lane beyond)),
+  holds,
+)
+
+pub on_used : {W : Type 0} (words : List (List ℕ)) (env : Option SeenEnv) (seen : W → Option WireLog) (xs : List W) (before after : W) (P : List Talk → List Note → Type 0)
+    (Q : (ℕ → List Talk) → (ℕ → List Note) → Type 0) → ((talks : List Talk) (notes : List Note) → P talks notes → Q (in_first talks) (in_first notes)) → 1 ≤ length xs → before ≡ get_or xs 0 before
+    → Gains (seen before) (seen after) P → OnWires words env seen xs (slice_set xs 0 after) Q
+on_used words env seen [] before after P Q so some is gained = absurd (omega (arith, some))
+on_used words env seen (x ∷ xs) before after P Q so some is gained = (
+  1,
+  inl (omega arith),
+  (all_gain (seen x) (seen after) Q (gains_as P (λ talks notes. Q (in_first talks) (in_first notes)) so (seen x) (seen after) (subst (λ w. Gains (seen w) (seen after) P) is gained)), refl),
+)
 
 -- ---- statuses
 
@@ -66,28 +101,28 @@ memory_status OutputFailed a missed run (inr failed) memory = absurd (failed.2 m
 
 -- ---- a run that was reported
 
-stays_stopped : (line : Result (Option Line) OutOfMemory) (why : Option Fatal) → IsUnasked why → IsUnasked (fatal_after line why)
+stays_stopped : (line : Result Printout OutOfMemory) (why : Option Fatal) → IsUnasked why → IsUnasked (fatal_after line why)
 stays_stopped (Ok line) why is = is
 stays_stopped (Err memory) why is = tt
 
-still_ends : (line : Result (Option Line) OutOfMemory) (why : Option Fatal) → MayEnd why → MayEnd (fatal_after line why)
+still_ends : (line : Result Printout OutOfMemory) (why : Option Fatal) → MayEnd why → MayEnd (fatal_after line why)
 still_ends (Ok line) why h = h
 still_ends (Err memory) why h = tt
 
-still_listed : (line : Result (Option Line) OutOfMemory) (result : Result Shown ListingFault) (why : Option Fatal) → EndsListing result why → EndsListing result (fatal_after line why)
+still_listed : (line : Result Printout OutOfMemory) (result : Result Shown ListingFault) (why : Option Fatal) → EndsListing result why → EndsListing result (fatal_after line why)
 still_listed (Ok line) result why h = h
 still_listed (Err memory) (Ok shown) why h = tt
 still_listed (Err memory) (Err ends) why h = inr refl
 
 -- it has the plan, the outcomes, the journal and the warnings of the run that worked
-pub record IsReported (work run : Run) (line : Result (Option Line) OutOfMemory) : Type 0 where
+pub record IsReported (work run : Run) (line : Result Printout OutOfMemory) : Type 0 where
   pub plan : run.plan ≡ work.plan
   pub outcomes : run.outcomes ≡ work.outcomes
   pub journal : run.journal ≡ work.journal
   pub warnings : run.warnings ≡ work.warnings
   pub fatal : run.fatal ≡ fatal_after line work.fatal
 
-module _ (work run : Run) (line : Result (Option Line) OutOfMemory) (r : IsReported work run line) where
+module _ (work run : Run) (line : Result Printout OutOfMemory) (r : IsReported work run line) where
   nothing : IsNothingPlanned work → IsNothingPlanned run
   nothing n = record {
     stopped = subst (λ (f : Option Fatal). IsUnasked f) (sym r.fatal) (stays_stopped line work.fatal n.stopped);
@@ -218,7 +253,7 @@ module _ (work run : Run) (line : Result (Option Line) OutOfMemory) (r : IsRepor
     abbrev Stops : Fatal → Type 0
     Stops = StopsFor words env env_before env_after limits was before after
 
-    stops_after : (of_line : Result (Option Line) OutOfMemory) (why : Option Fatal) → IfSome why Stops → IfSome (fatal_after of_line why) Stops
+    stops_after : (of_line : Result Printout OutOfMemory) (why : Option Fatal) → IfSome why Stops → IfSome (fatal_after of_line why) Stops
     stops_after (Ok of_line) why h = h
     stops_after (Err memory) why h = inl tt
 
@@ -227,26 +262,26 @@ module _ (work run : Run) (line : Result (Option Line) OutOfMemory) (r : IsRepor
 
   -- ---- what was printed
 
-  module _ (words : List (List ℕ)) (env : Option SeenEnv) (before after : Option WireLog) (out_before out_after err_before err_after : Option (List ℕ)) where
-    out_is : (own : List ℕ) → out_text words own work ≡ out_by (mode_in words) own work.fatal run.plan.tasks.items run.outcomes.items
-    out_is own = subst (λ p. out_by (mode_in words) own work.fatal work.plan.tasks.items work.outcomes.items ≡ out_by (mode_in words) own work.fatal p.tasks.items run.outcomes.items) (sym r.plan)
-        (subst (λ o. out_by (mode_in words) own work.fatal work.plan.tasks.items work.outcomes.items ≡ out_by (mode_in words) own work.fatal work.plan.tasks.items o.items) (sym r.outcomes) refl)
+  out_text_is : (words : List (List ℕ)) (own : List ℕ) → out_text words own work ≡ out_text words own run
+  out_text_is words own = subst (λ p. out_text words own work ≡ own ++ out_lines (mode_in words) p.tasks.items run.outcomes.items) (sym r.plan)
+      (subst (λ o. out_text words own work ≡ own ++ out_lines (mode_in words) work.plan.tasks.items o.items) (sym r.outcomes) refl)
 
-    err_is : err_text words work ≡ err_by words (mode_in words) work.fatal run.plan.tasks.items run.outcomes.items run.warnings.items
-    err_is = subst (λ p. err_text words work ≡ err_by words (mode_in words) work.fatal p.tasks.items run.outcomes.items run.warnings.items) (sym r.plan)
-        (subst (λ o. err_text words work ≡ err_by words (mode_in words) work.fatal work.plan.tasks.items o.items run.warnings.items) (sym r.outcomes)
-        (subst (λ w. err_text words work ≡ err_by words (mode_in words) work.fatal work.plan.tasks.items work.outcomes.items w.items) (sym r.warnings) refl))
+  err_text_is : (words : List (List ℕ)) (warned : Warned) → run.fatal ≡ work.fatal → err_text words warned work ≡ err_text words warned run
+  err_text_is words warned same =
+      subst (λ p. err_text words warned work ≡ opening_text words (warned.looked ++ p.warnings.items) run.fatal ++ err_lines (mode_in words) p.tasks.items run.outcomes.items warned.own) (sym r.plan)
+      (subst (λ o. err_text words warned work ≡ opening_text words (warned.looked ++ work.plan.warnings.items) run.fatal ++ err_lines (mode_in words) work.plan.tasks.items o.items warned.own) (sym r.outcomes)
+      (subst (λ (f : Option Fatal). err_text words warned work ≡ opening_text words (warned.looked ++ work.plan.warnings.items) f ++ err_lines (mode_in words) work.plan.tasks.items work.outcomes.items warned.own) (sym same) refl))
 
+  warns : (warned : Warned) → HasWarned work warned → HasWarned run warned
+  warns warned h = record {
+    all = ap (λ w. w.items) r.warnings ∙ (h.all ∙ ap (λ p. (warned.looked ++ p.warnings.items) ++ flat_map (λ own. own) warned.own) (sym r.plan));
+    looked = h.looked;
+    own = subst (λ p. AreOfTasks p.tasks.items warned.own) (sym r.plan) h.own;
+  }
+
+  module _ (words : List (List ℕ)) (env : Option SeenEnv) (before after : Option WireLog) (to_out to_err : Output) where
     abbrev Shows : List ℕ → List ℕ → Type 0
-    Shows out err = IsPrintedAs run.status out err out_before out_after err_before err_after
-
-    -- where memory ran out for the line, the status says so, and nothing else is said
-    forgotten : (out err of_out of_err : List ℕ) → run.status ≡ 70 → Shows of_out of_err → Shows out err
-    forgotten out err of_out of_err is h = record {
-      whole = λ other. absurd (other is);
-      front = λ other. absurd (other is);
-      memory = h.memory;
-    }
+    Shows out err = IsPrintedAs run.status out err to_out to_err
 
     rows_on : (seen : Option SeenEnv) (own : Own) (talks : List Talk) (notes : List Note) → IsRows words seen work own talks notes → IsRows words seen run own talks notes
     rows_on seen own talks notes h = record {
@@ -262,38 +297,40 @@ module _ (work run : Run) (line : Result (Option Line) OutOfMemory) (r : IsRepor
 
     owns : (own : Own) → run.fatal ≡ work.fatal → IsOwn words env before after work own → IsOwn words env before after run own
     owns own same (inl nothing_shown) = inl nothing_shown
-    owns own same (inr (inl url)) = inr (inl url)
+    owns own same (inr (inl url)) = inr (inl (url.0, ends url.1, url.2, url.3))
     owns own same (inr (inr (inl rows))) = inr (inr (inl (
       rows.0,
-      gains_as (IsRows words env work own) (IsRows words env run own) (rows_on env own) before after rows.1,
-      some_as (IsRows words None work own) (IsRows words None run own) (rows_on None own) rows.2,
+      ends rows.1,
+      gains_as (IsRows words env work own) (IsRows words env run own) (rows_on env own) before after rows.2,
+      some_as (IsRows words None work own) (IsRows words None run own) (rows_on None own) rows.3,
     )))
-    owns own same (inr (inr (inr stopped))) = inr (inr (inr (ap is_some same ∙ stopped)))
+    owns own same (inr (inr (inr stopped))) = inr (inr (inr (ap is_some same ∙ stopped.0, stopped.1)))
 
     -- nothing is shown of a run that ended early
     ended_owns : (memory : Fatal) → run.fatal ≡ Some memory → IsOwn words env before after run nothing_own
-    ended_owns memory is = inr (inr (inr (ap is_some is)))
+    ended_owns memory is = inr (inr (inr (ap is_some is, refl)))
 
-    printed_as : (missed : Bool) (of_line : Result (Option Line) OutOfMemory) → HasLineOf words env before after work of_line missed → run.fatal ≡ fatal_after of_line work.fatal → OnErr of_line (run.status ≡ 70)
-        → Shows (out_of of_line) (err_of of_line) → IsPrinted words env before after run out_before out_after err_before err_after
-    printed_as missed (Err memory) (own, of_own, h, is) same ends shown = (nothing_own, ended_owns fatal.Memory same, forgotten (out_text words [] run) (err_text words run) [] [] ends shown)
-    printed_as missed (Ok of_line) (own, of_own, h, is) same ends shown =
-        let out = h.texts.0 ∙ (out_is own.text ∙ ap (λ (f : Option Fatal). out_by (mode_in words) own.text f run.plan.tasks.items run.outcomes.items) (sym same)) in
-        let err = h.texts.1 ∙ (err_is ∙ ap (λ (f : Option Fatal). err_by words (mode_in words) f run.plan.tasks.items run.outcomes.items run.warnings.items) (sym same)) in
-        (own, owns own same of_own, subst (λ (text : List ℕ). Shows text (err_text words run)) out (subst (λ (text : List ℕ). Shows (out_of (Ok of_line)) text) err shown))
+    printed_as : (missed : Bool) (of_text : Result Printout OutOfMemory) → HasTextOf words env before after work of_text missed → run.fatal ≡ fatal_after of_text work.fatal → OnErr of_text (run.status ≡ 70)
+        → Shows (out_of of_text) (err_of of_text) → IsPrinted words env before after run to_out to_err
+    printed_as missed (Err memory) (own, of_own, h, is) same ends shown =
+        (nothing_own, h.warned, ended_owns fatal.Memory same, warns h.warned h.warnings, only_memory run.status (out_text words [] run) (err_text words h.warned run) to_out to_err ends shown)
+    printed_as missed (Ok said) (own, of_own, h, is) same ends shown =
+        let out : said.out ≡ out_text words own.text run = h.texts.0 ∙ out_text_is words own.text in
+        let err : said.err ≡ err_text words h.warned run = h.texts.1 ∙ err_text_is words h.warned same in
+        (own, h.warned, owns own same of_own, warns h.warned h.warnings, subst (λ (text : List ℕ). Shows text (err_text words h.warned run)) out (subst (λ (text : List ℕ). Shows said.out text) err shown))
 
-    pub printed : (missed : Bool) → HasLineOf words env before after work line missed → OnErr line (run.status ≡ 70) → Shows (out_of line) (err_of line) → IsPrinted words env before after run out_before out_after err_before err_after
+    pub printed : (missed : Bool) → HasTextOf words env before after work line missed → OnErr line (run.status ≡ 70) → Shows (out_of line) (err_of line) → IsPrinted words env before after run to_out to_err
     printed missed h ends shown = printed_as missed line h r.fatal ends shown
 
     -- ---- the status
 
-    ends_by : (OutputFailed : Type 0) (lists missed : Bool) (of_line : Result (Option Line) OutOfMemory) → HasLineOf words env before after work of_line missed → HasStatusOf (lists_in words) lists work.fatal
+    ends_by : (OutputFailed : Type 0) (lists missed : Bool) (of_line : Result Printout OutOfMemory) → HasTextOf words env before after work of_line missed → HasStatusOf (lists_in words) lists work.fatal
         → run.fatal ≡ fatal_after of_line work.fatal → EndsWith lists missed run OutputFailed → EndsAsShown words env before after run OutputFailed
     ends_by OutputFailed lists missed (Err memory) h status same ends = (nothing_own, ended_owns fatal.Memory same, memory_ends OutputFailed lists (lists_in words) missed false run same ends)
     ends_by OutputFailed lists missed (Ok of_line) (own, of_own, h, is) status same ends =
         let with_missed = subst (λ (m : Bool). EndsWith lists m run OutputFailed) (sym is) ends in
         (own, owns own same of_own, ends_alike OutputFailed lists (lists_in words) own.missed run (subst (λ (f : Option Fatal). HasStatusOf (lists_in words) lists f) (sym same) status) with_missed)
 
-    pub ends_as : (OutputFailed : Type 0) (lists missed : Bool) → HasLineOf words env before after work line missed → HasStatusOf (lists_in words) lists work.fatal → EndsWith lists missed run OutputFailed
+    pub ends_as : (OutputFailed : Type 0) (lists missed : Bool) → HasTextOf words env before after work line missed → HasStatusOf (lists_in words) lists work.fatal → EndsWith lists missed run OutputFailed
         → EndsAsShown words env before after run OutputFailed
     ends_as OutputFailed lists missed h status ends = ends_by OutputFailed lists missed line h status r.fatal ends

@@ -1,7 +1,7 @@
 -- A run that makes a URL.
 use Rattle.std.proofs.Common.{◌≡◌, ◌≤◌, ◌∙◌, ◌&&◌, ◌++◌, flat_map, ℕ, Bool, true, false, List, [], ◌∷◌, Option, Some, None, Result, Ok, Err, refl, sym, ap, subst, inl, inr, arith, append-nil, is_some, if◌then◌else◌}
 use Rattle.std.specs.Prelude.{IfSome}
-use Rattle.result_lines.specs.declared.tasks.Line.{Line}
+use Rattle.run_report.specs.declared.printout.Printout.{Printout}
 use Rattle.s3_model.specs.declared.list.OutOfMemory.{OutOfMemory}
 use Rattle.s3_model.specs.declared.settings.Settings.{Settings}
 use Rattle.s3_model.specs.Talks.{WireLog}
@@ -25,10 +25,11 @@ use Rattle.run_start.specs.Begun.{IsBegun, IsRestOf}
 use Rattle.run_start.proofs.RestLemmas.{verb_is}
 use Rattle.s3_main.specs.Asked.{lists_by, lists_in, presigns, shows_url}
 use Rattle.s3_main.specs.Own.{IsOwn, Own, nothing_own, only_text}
-use Rattle.s3_main.specs.Executed.{HasLineOf}
+use Rattle.s3_main.specs.Executed.{HasTextOf}
 use Rattle.s3_main.specs.Runs.{MakesUrl}
 use Rattle.run_report.specs.Taskless.{HasNoTask, MayEnd}
-use Rattle.run_report.specs.Texts.{HasTexts, IsLineOf, MatchesFatal, err_by, err_lines, mode_in, out_by, out_lines, warning_lines}
+use Rattle.run_report.specs.Texts.{HasTexts, IsTextOf}
+use Rattle.run_report.proofs.TextLemmas.{no_memory, silent_text}
 use Rattle.run_show.specs.Urls.{IsMoment, MakesLine, url_line}
 use Rattle.s3_main.specs.Urls.{IsPresigned, IsTaskless, IsUrl}
 
@@ -55,52 +56,27 @@ pub copy_owns : (words : List (List ℕ)) (env : Option SeenEnv) (before after :
     → is_listing command.verb ≡ false → IsOwn words env before after run nothing_own
 copy_owns words env before after run command is copies none = inl (shows words command is ∙ copies, lists words command is ∙ none, refl)
 
-pub stopped_owns : (words : List (List ℕ)) (env : Option SeenEnv) (before after : Option WireLog) (run : Run) (own : Own) → is_some run.fatal ≡ true → IsOwn words env before after run own
-stopped_owns words env before after run own stopped = inr (inr (inr stopped))
+pub stopped_owns : (words : List (List ℕ)) (env : Option SeenEnv) (before after : Option WireLog) (run : Run) (own : Own) → is_some run.fatal ≡ true → own.text ≡ [] → IsOwn words env before after run own
+stopped_owns words env before after run own stopped none = inr (inr (inr (stopped, none)))
 
 -- a command that is no listing has the line that it has without anything of its own
-pub copy_line : (words : List (List ℕ)) (env : Option SeenEnv) (before after : Option WireLog) (run : Run) (line : Result (Option Line) OutOfMemory) (command : Command) → IsRestOf words command
-    → is_presign command.verb ≡ false → is_listing command.verb ≡ false → IsLineOf words [] run line → HasLineOf words env before after run line false
+pub copy_line : (words : List (List ℕ)) (env : Option SeenEnv) (before after : Option WireLog) (run : Run) (line : Result Printout OutOfMemory) (command : Command) → IsRestOf words command
+    → is_presign command.verb ≡ false → is_listing command.verb ≡ false → IsTextOf words [] run line → HasTextOf words env before after run line false
 copy_line words env before after run line command is copies none h = (nothing_own, copy_owns words env before after run command is copies none, h, refl)
 
-pub stopped_line : (words : List (List ℕ)) (env : Option SeenEnv) (before after : Option WireLog) (run : Run) (line : Result (Option Line) OutOfMemory) → is_some run.fatal ≡ true
-    → IsLineOf words [] run line → HasLineOf words env before after run line false
-stopped_line words env before after run line stopped h = (nothing_own, stopped_owns words env before after run nothing_own stopped, h, refl)
+pub stopped_line : (words : List (List ℕ)) (env : Option SeenEnv) (before after : Option WireLog) (run : Run) (line : Result Printout OutOfMemory) → is_some run.fatal ≡ true
+    → IsTextOf words [] run line → HasTextOf words env before after run line false
+stopped_line words env before after run line stopped h = (nothing_own, stopped_owns words env before after run nothing_own stopped refl, h, refl)
 
 -- ---- the line
 
-pub no_memory : (why : Option Fatal) (line : Result (Option Line) OutOfMemory) → why ≡ None → MatchesFatal why line
-no_memory why (Ok line) is = λ memory. none_some fatal.Memory (sym is ∙ memory)
-  where
-    none_some : (f : Fatal) → ◌≡◌ {A = Option Fatal} None (Some f) → ⊥
-    none_some f e = cc
-no_memory why (Err memory) is = tt
-
-no_warnings : (mode : Mode) → [] ≡ warning_lines mode [] ++ []
-no_warnings mode = by_quiet mode.quiet
-  where
-    by_quiet : (quiet : Bool) → [] ≡ (if quiet then [] else flat_map warning_line []) ++ []
-    by_quiet true = refl
-    by_quiet false = refl
-
-pub url_texts : (mode : Mode) (words : List (List ℕ)) (own : List ℕ) (why : Option Fatal) (tasks : List Task) (outcomes : List Outcome) (warnings : List Warning) (line : Result (Option Line) OutOfMemory)
-    → why ≡ None → tasks ≡ [] → outcomes ≡ [] → warnings ≡ [] → HasTexts own [] line → HasTexts (out_by mode own why tasks outcomes) (err_by words mode why tasks outcomes warnings) line
-url_texts mode words own why tasks outcomes warnings line w t o ws h =
-    subst (λ (f : Option Fatal). HasTexts (out_by mode own f tasks outcomes) (err_by words mode f tasks outcomes warnings) line) (sym w)
-    (subst (λ (all : List Task). HasTexts (own ++ out_lines mode all outcomes) (warning_lines mode warnings ++ err_lines mode all outcomes) line) (sym t)
-    (subst (λ (all : List Warning). HasTexts (own ++ []) (warning_lines mode all ++ []) line) (sym ws)
-    (subst (λ (text : List ℕ). HasTexts text (warning_lines mode [] ++ []) line) (sym (append-nil own)) (subst (λ (text : List ℕ). HasTexts own text line) (no_warnings mode) h))))
-
-url_line_of : (words : List (List ℕ)) (own : List ℕ) (run : Run) (line : Result (Option Line) OutOfMemory) → HasNoTask None [] [] run → HasTexts own [] line → IsLineOf words own run line
-url_line_of words own run line h texts = record {
-  texts = url_texts (mode_in words) words own run.fatal run.plan.tasks.items run.outcomes.items run.warnings.items line h.fatal h.no_task h.no_outcome h.warnings_are texts;
-  no_memory = no_memory run.fatal line h.fatal;
-}
+url_line_of : (words : List (List ℕ)) (own : List ℕ) (run : Run) (line : Result Printout OutOfMemory) → HasNoTask None [] [] run → HasTexts own [] line → IsTextOf words own run line
+url_line_of words own run line h texts = silent_text words own run line h.no_task None h.skips_are h.warnings_are h.fatal texts (no_memory None line refl)
 
 -- ---- all that a run with a URL shows
 
 module _ (words : List (List ℕ)) (env : Option SeenEnv) (command : Command) (settings : Settings) (begun : IsBegun words env command settings) (presign : is_presign command.verb ≡ true)
-    (before after : Option WireLog) (run : Run) (line : Result (Option Line) OutOfMemory) (makes : MakesLine words command settings before after run line) where
+    (before after : Option WireLog) (run : Run) (line : Result Printout OutOfMemory) (makes : MakesLine words command settings before after run line) where
   of_run : IsTaskless run
   of_run = elim makes.made [ inl h ↦ stopped_taskless run h.0 | inr h ↦ taskless run h.0 ]
 
@@ -111,13 +87,14 @@ module _ (words : List (List ℕ)) (env : Option SeenEnv) (command : Command) (s
   pub url_does : MakesUrl words run
   url_does = record { command = command; rest = begun.rest; presign = presign; taskless = of_run }
 
-  pub url_line_is : HasLineOf words env before after run line false
+  pub url_line_is : HasTextOf words env before after run line false
   url_line_is = elim makes.made [
-    | inl h ↦ (nothing_own, stopped_owns words env before after run nothing_own (ap is_some h.0.fatal), h.1, refl)
+    | inl h ↦ (nothing_own, stopped_owns words env before after run nothing_own (ap is_some h.0.fatal) refl, h.1, refl)
     | inr h ↦ (
       only_text (url_line command settings makes.moment),
       inr (inl (
         shows words command begun.rest ∙ presign,
+        of_run.ends,
         refl,
         gains_as (IsMoment makes.moment) (IsUrl words env (url_line command settings makes.moment))
             (λ talks notes m. record { command = command; settings = settings; begun = begun; moment = makes.moment; noted = m.1; is = refl }) before after makes.noted,

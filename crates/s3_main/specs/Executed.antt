@@ -5,13 +5,13 @@ use Rattle.s3_model.specs.declared.list.OutOfMemory.{OutOfMemory}
 use Rattle.s3_model.specs.declared.settings.Limits.{Limits}
 use Rattle.s3_model.specs.declared.settings.Settings.{Settings}
 use Rattle.s3_model.specs.Counts.{Rose}
-use Rattle.result_lines.specs.declared.tasks.Line.{Line}
 use Rattle.s3_model.specs.Talks.{Talk, Note, WireLog}
 use Rattle.s3_outside.specs.Env.{SeenEnv}
 use Rattle.s3_outside.specs.Files.{SeenFiles}
 use Rattle.s3_words.specs.declared.commands.Command.{Command}
 use Rattle.upload_plans.specs.declared.plan.Fate.{Fate}
 use Rattle.upload_plans.specs.declared.plan.Fate.TheVariants as fate
+use Rattle.run_report.specs.declared.printout.Printout.{Printout}
 use Rattle.run_report.specs.declared.worked.Executed.{Executed}
 use Rattle.run_report.specs.declared.run.Fatal.{Fatal}
 use Rattle.run_report.specs.declared.run.Fatal.TheVariants as fatal
@@ -19,7 +19,7 @@ use Rattle.run_report.specs.declared.run.Run.{Run}
 use Rattle.s3_main.specs.Plans.{HasPlan, IsFate, Wants, Works, skips_of, warnings_of}
 use Rattle.s3_main.specs.Own.{IsOwn, Own}
 use Rattle.s3_main.specs.Runs.{IsNothingPlanned, IsUnplanned}
-use Rattle.run_report.specs.Texts.{IsLineOf}
+use Rattle.run_report.specs.Texts.{IsTextOf}
 use Rattle.run_report.specs.Taskless.{EndsForMemory, HasNoTask}
 use Rattle.run_report.specs.Statuses.{fatal_status}
 
@@ -61,13 +61,13 @@ DoesOn command settings limits before after run =
     IsNothingPlanned run
     ⊎ ((comes : Fate) × IsFate command settings limits None comes × HasPlan comes run × Wants comes before after run)
 
--- ---- the line
+-- ---- the text
 
--- the line that is due, with what the command is there to show
-abbrev pub HasLineOf : (words : List (List ℕ)) → Option SeenEnv → (before after : Option WireLog) → Run → Result
-    (Option Line) OutOfMemory → (missed : Bool) → Type 0
-HasLineOf words env before after run line missed = (own : Own) × IsOwn words env before after run own
-    × IsLineOf words own.text run line × (own.missed ≡ missed)
+-- the text that is due, with what the command is there to show
+abbrev pub HasTextOf : (words : List (List ℕ)) → Option SeenEnv → (before after : Option WireLog) → Run
+    → Result Printout OutOfMemory → (missed : Bool) → Type 0
+HasTextOf words env before after run text missed = (own : Own) × IsOwn words env before after run own
+    × IsTextOf words own.text run text × (own.missed ≡ missed)
 
 -- the same status, whether or not the command is taken for a listing
 abbrev pub HasStatusOf : (lists same : Bool) → Option Fatal → Type 0

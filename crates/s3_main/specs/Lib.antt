@@ -5,3 +5,4 @@ pub mod Own
 pub mod Plans
 pub mod Runs
 pub mod Urls
+pub mod Wires

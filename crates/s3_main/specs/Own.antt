@@ -13,6 +13,7 @@ use Rattle.run_start.specs.Begun.{IsBegun}
 use Rattle.s3_main.specs.Asked.{lists_in, shows_url}
 use Rattle.s3_main.specs.Urls.{IsUrl}
 use Rattle.run_report.specs.declared.run.Run.{Run}
+use Rattle.run_report.specs.Taskless.{MayEnd}
 
 -- its text, and whether a key was given and nothing found
 pub record Own : Type 0 where
@@ -39,11 +40,13 @@ pub record IsRows (words : List (List ℕ)) (env : Option SeenEnv) (run : Run) (
   pub missed : own.missed ≡ shown.missed
 
 -- The URL, where the words ask for one; the rows, where they ask for a listing, and they are those of some talks also
--- where the wire shows none; else nothing. Of a run that ended early nothing is shown.
+-- where the wire shows none; else nothing. A run that ended early shows nothing, and one that shows something was
+-- ended by nothing but want of memory.
 abbrev pub IsOwn : (words : List (List ℕ)) → Option SeenEnv → (before after : Option WireLog) → Run → Own → Type 0
 IsOwn words env before after run own =
     ((shows_url words ≡ false) × (lists_in words ≡ false) × (own ≡ nothing_own))
-    ⊎ ((shows_url words ≡ true) × (own.missed ≡ false) × Gains before after (IsUrl words env own.text))
-    ⊎ ((lists_in words ≡ true) × Gains before after (IsRows words env run own)
+    ⊎ ((shows_url words ≡ true) × MayEnd run.fatal × (own.missed ≡ false)
+    × Gains before after (IsUrl words env own.text))
+    ⊎ ((lists_in words ≡ true) × MayEnd run.fatal × Gains before after (IsRows words env run own)
     × OfSomeTalks (IsRows words None run own))
-    ⊎ (is_some run.fatal ≡ true)
+    ⊎ ((is_some run.fatal ≡ true) × (own.text ≡ []))

@@ -27,16 +27,17 @@ use Rattle.upload_plans.specs.Commands.{is_listing, is_presign, source_path}
 use Rattle.upload_plans.specs.Plans.{is_large}
 use Rattle.upload_plans.specs.declared.plan.Fate.{Fate}
 use Rattle.upload_plans.specs.declared.plan.Fate.TheVariants as fate
-use Rattle.upload_promise.specs.Shown.{KeepsPromise, one_attempt, shown_by}
+use Rattle.run_promise.specs.Settled.{RunEnd}
+use Rattle.upload_promise.specs.Shown.{CallFailed, KeepsPromise, one_attempt, start_of}
 use Rattle.run_report.specs.declared.run.Fatal.{Fatal}
 use Rattle.run_report.specs.declared.run.Fatal.TheVariants as fatal
 use Rattle.run_report.specs.declared.run.Run.{Run}
 use Rattle.run_start.specs.Begun.{IsBegun, IsRestOf, StopsInSettings, StopsInWords}
 use Rattle.s3_main.specs.Asked.{lists_in, needs_in, path_in}
 use Rattle.s3_main.specs.Plans.{HasPlan, IsFate, Wants, Works}
-use Rattle.run_report.specs.Printed.{IsPrintedAs}
+use Rattle.run_report.specs.Printed.{IsPrintedAs, Output}
 use Rattle.run_report.specs.Statuses.{EndsWith}
-use Rattle.run_report.specs.Texts.{err_text, out_text}
+use Rattle.run_report.specs.Texts.{HasWarned, Warned, err_text, out_text}
 use Rattle.s3_main.specs.Listings.{IsListing}
 use Rattle.s3_main.specs.Own.{IsOwn, Own}
 use Rattle.s3_main.specs.Urls.{IsPresigned, IsTaskless}
@@ -51,13 +52,12 @@ EndsAsShown words env before after run OutputFailed =
 
 -- ---- the lines
 
--- with what the command is there to show
+-- with what the command is there to show, and the warnings of the run where they belong
 abbrev pub IsPrinted : (words : List (List ℕ)) → Option SeenEnv → (before after : Option WireLog) → Run
-    → (out_before out_after err_before err_after : Option (List ℕ)) → Type 0
-IsPrinted words env before after run out_before out_after err_before err_after =
-    (own : Own) × IsOwn words env before after run own
-    × IsPrintedAs run.status (out_text words own.text run) (err_text words run) out_before out_after err_before
-    err_after
+    → (to_out to_err : Output) → Type 0
+IsPrinted words env before after run to_out to_err =
+    (own : Own) × (warned : Warned) × IsOwn words env before after run own × HasWarned run warned
+    × IsPrintedAs run.status (out_text words own.text run) (err_text words warned run) to_out to_err
 
 -- ---- why a run ended before its task
 
@@ -192,27 +192,51 @@ PlansBy words why =
 abbrev pub config_for : (words : List (List ℕ)) → Config → Config
 config_for words config = if lists_in words then one_attempt config else config
 
+-- the files before and after, with their counts of faults
+pub record FilesOver : Type 0 where
+  pub was : SeenFiles
+  pub now : SeenFiles
+  pub faults_before : ℕ
+  pub faults_after : ℕ
+
+abbrev pub files_over : (was now : SeenFiles) → (faults_before faults_after : ℕ) → FilesOver
+files_over was now faults_before faults_after = record {
+  was = was;
+  now = now;
+  faults_before = faults_before;
+  faults_after = faults_after;
+}
+
+-- what the run came to, by its record, with what the wires gained
+abbrev pub end_for : Run → (logs : ℕ → List Talk) → (notes : ℕ → List Note) → (now : SeenFiles) → RunEnd
+end_for run logs notes now = record {
+  status = run.status;
+  outcomes = run.outcomes.items;
+  warnings = run.warnings.items;
+  journal = run.journal.items;
+  logs = logs;
+  notes = notes;
+  files = now.store;
+}
+
 -- Over every honest service the outcomes are true, and over a willing one the task is done. The endpoint is the
--- command's and the settings are those of the variables and files, where a request was sent.
-pub record IsTrue (words : List (List ℕ)) (env : Option SeenEnv) (limits : Limits) (faults_before faults_after : ℕ)
-    (run : Run) (talks : List Talk) (notes : List Note) (was now : SeenFiles) : Type 0 where
+-- command's and the settings are those of the variables and files, where a request was sent. Somewhere in its journal
+-- the run was cancelled, or nowhere.
+pub record IsTrue (words : List (List ℕ)) (env : Option SeenEnv) (limits : Limits) (wires : ℕ) (over : FilesOver)
+    (run : Run) (logs : ℕ → List Talk) (notes : ℕ → List Note) : Type 0 where
   pub endpoint : Endpoint
   pub settings : Settings
+  pub cancelled_at : Option ℕ
   pub begun : run.journal.items ≢ [] → (command : Command) × IsBegun words env command settings
       × (command.endpoint ≡ endpoint)
   pub keeps : KeepsPromise Shows HasStatus (text_of endpoint settings.keys) endpoint.host endpoint.port
-      (PlansBy words run.fatal) (path_in words) faults_before faults_after
-      run.plan.tasks.items run.warnings.items now
-      (shown_by (config_for words settings.config) limits run.status run.plan.tasks.items run.outcomes.items
-      run.journal.items talks notes was now)
+      (PlansBy words run.fatal)
+      (CallFailed (path_in words) over.now over.faults_before over.faults_after run.plan.tasks.items)
+      (start_of (config_for words settings.config) limits wires run.plan.tasks.items over.was)
+      (end_for run logs notes over.now) cancelled_at ⊥ ⊥
 
 -- where the files are seen before and after
 abbrev pub IfSeen : (was now : Option SeenFiles) → (SeenFiles → SeenFiles → Type 0) → Type 0
 IfSeen was None P = Unit {0}
 IfSeen None (Some now) P = Unit {0}
 IfSeen (Some was) (Some now) P = P was now
-
--- the first of two lists, which are the same behind it
-abbrev pub OnFirst : {W : Type 0} → List W → List W → (W → W → Type 0) → Type 0
-OnFirst (before ∷ others) (after ∷ rest) P = P before after × (rest ≡ others)
-OnFirst before after P = ⊥

@@ -11,18 +11,18 @@ ghost use Rattle.s3_main.specs.Executed.{
   DoesOn,
   EndsAs,
   GoesOn,
-  HasLineOf,
   HasNoUpload,
   HasStatusOf,
+  HasTextOf,
   IsUnseen,
   OrMemory,
 };
 ghost use Rattle.s3_main.specs.Plans.{IsFate};
 ghost use Rattle.s3_main.specs.Runs.{GoesAs, StopsFor, StopsPlanning, Undertakes};
 ghost use Rattle.run_start.specs.Settings.{AsksOnly};
-ghost use Rattle.run_report.specs.Texts.{IsLineOf, mode_in};
+ghost use Rattle.run_report.specs.Texts.{IsTextOf, mode_in};
 
-use run_report::{Executed, Fatal, Worked, end_early, end_idle, end_not_a_file, end_skipped};
+use run_report::{Executed, Fatal, Worked, end_early, end_left_out, end_not_a_file, end_skipped};
 use run_show::{execute_listing, execute_presign};
 use run_start::{Start, read_start, service_of};
 use run_task::execute_upload;
@@ -61,7 +61,7 @@ fn find_fate<F: Files>(
 
 fn or_memory(alloc: Global, words: &[String], ended: Result<Executed, OutOfMemory>) -> Executed
     ensures ended { OrMemory ended result }
-    ensures line { IfErr ended (λ _. IsLineOf (map string_bytes words.now) [] result.run result.line) }
+    ensures text { IfErr ended (λ _. IsTextOf (map string_bytes words.now) [] result.run result.text) }
 {
     match ended {
         Ok(ended) => ended,
@@ -76,15 +76,15 @@ fn end_with(alloc: Global, words: &[String], mode: Mode, fate: Fate) -> Executed
     requires mode { mode ≡ mode_in (map string_bytes words.now) }
     ensures no_task { HasNoUpload fate }
     ensures ended { EndsAs fate result.run }
-    ensures line { IsLineOf (map string_bytes words.now) [] result.run result.line }
+    ensures text { IsTextOf (map string_bytes words.now) [] result.run result.text }
 {
     match fate {
         Fate::NotYet => end_early(alloc, words, Fatal::NotYet),
         Fate::Refused(fault) => end_early(alloc, words, Fatal::Plan(fault)),
-        Fate::LeftOut => end_idle(alloc),
-        Fate::NotAFile(path) => or_memory(alloc, words, end_not_a_file(alloc, path, mode)),
+        Fate::LeftOut => end_left_out(alloc, words, mode),
+        Fate::NotAFile(path) => or_memory(alloc, words, end_not_a_file(alloc, words, mode, path)),
         Fate::Skipped { place, why } => {
-            or_memory(alloc, words, end_skipped(alloc, place, why, mode))
+            or_memory(alloc, words, end_skipped(alloc, words, mode, place, why))
         }
         Fate::Upload(_) => unreachable!(),
     }
@@ -104,7 +104,7 @@ fn execute_command<W: Wire, F: Files>(
     requires attempts { IsWithin 1 start.settings.config.attempts 10 }
     ensures went { Gains (W.seen wire.old) (W.seen wire.new) (GoesOn start.command start.settings limits.now
         (F.seen files.old) (F.seen files.new) (F.faults files.old) (F.faults files.new) result.run) }
-    ensures line { IsLineOf (map string_bytes words.now) [] result.run result.line }
+    ensures text { IsTextOf (map string_bytes words.now) [] result.run result.text }
     ensures stops { IfSome result.run.fatal (StopsPlanning start.command start.settings limits.now (F.seen files.old)
         (F.faults files.old) (F.faults files.new)) }
     ensures does { DoesOn start.command start.settings limits.now (F.faults files.old) (F.faults files.new)
@@ -140,8 +140,8 @@ pub(crate) fn execute<W: Wire, F: Files, E: Env>(
     ensures went { Gains (W.seen wire.old) (W.seen wire.new) (GoesAs (map string_bytes words.now) (E.seen env.new)
         (E.allows env.old) (F.seen files.old) (F.seen files.new) (F.faults files.old) (F.faults files.new)
         result.executed.run) }
-    ensures line { HasLineOf (map string_bytes words.now) (E.seen env.new) (W.seen wire.old) (W.seen wire.new)
-        result.executed.run result.executed.line result.missed }
+    ensures text { HasTextOf (map string_bytes words.now) (E.seen env.new) (W.seen wire.old) (W.seen wire.new)
+        result.executed.run result.executed.text result.missed }
     ensures lists { HasStatusOf (lists_in (map string_bytes words.now)) result.lists result.executed.run.fatal }
     ensures stops { IfSome result.executed.run.fatal (StopsFor (map string_bytes words.now) (E.seen env.new)
         (E.faults env.old) (E.faults env.new) (E.allows env.old) (F.seen files.old) (F.faults files.old)

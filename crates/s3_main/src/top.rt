@@ -2,11 +2,21 @@
 
 ghost use Rattle.std.specs.Prelude.{◌≤◌, ◌⊎◌, map, string_bytes, vec_len, IfSome};
 ghost use Rattle.s3_model.specs.Counts.{Rose};
-ghost use Rattle.job_terms.specs.Gains.{Gains};
 ghost use Rattle.upload_promise.specs.Sources.{LooksAt};
 ghost use Rattle.s3_main.specs.Asked.{path_in};
+ghost use Rattle.run_report.specs.Printed.{output_of};
 ghost use Rattle.run_start.specs.Settings.{AsksOnly};
-ghost use Rattle.s3_main.specs.Runs.{EndsAsShown, GoesAs, IfSeen, IsPrinted, IsTrue, OnFirst, StopsFor, Undertakes};
+ghost use Rattle.s3_main.specs.Runs.{
+  EndsAsShown,
+  GoesAs,
+  IfSeen,
+  IsPrinted,
+  IsTrue,
+  StopsFor,
+  Undertakes,
+  files_over,
+};
+ghost use Rattle.s3_main.specs.Wires.{OnEach, OnFirst, OnWires};
 
 use crate::execution::execute;
 use run_report::{Run, report};
@@ -48,16 +58,16 @@ where
     requires some { 1 ≤ vec_len wires.old }
     requires most { vec_len wires.old ≤ 65535 }
 
-    // What was planned, what became of it and what the first wire gained for it, and that the other wires stay.
-    ensures went { OnFirst wires.old.items wires.new.items (λ before after. Gains (W.seen before) (W.seen after)
-        (GoesAs (map string_bytes words.now) (E.seen env.new) (E.allows env.old) (F.seen files.old) (F.seen files.new)
-        (F.faults files.old) (F.faults files.new) result)) }
+    // What was planned, what became of it and what the wires gained for it, and that the wires that were not used stay.
+    ensures went { OnWires (map string_bytes words.now) (E.seen env.new) (λ wire. W.seen wire) wires.old.items
+        wires.new.items (λ logs notes. GoesAs (map string_bytes words.now) (E.seen env.new) (E.allows env.old)
+        (F.seen files.old) (F.seen files.new) (F.faults files.old) (F.faults files.new) result (logs 0) (notes 0)) }
 
     // Over every honest service, and whatever is lost, refused or late, the outcomes are true.
-    ensures truthful { OnFirst wires.old.items wires.new.items (λ before after.
-        Gains (W.seen before) (W.seen after) (λ talks notes. IfSeen (F.seen files.old) (F.seen files.new)
-        (IsTrue (map string_bytes words.now) (E.seen env.new) (E.allows env.old)
-        (F.faults files.old) (F.faults files.new) result talks notes))) }
+    ensures truthful { OnWires (map string_bytes words.now) (E.seen env.new) (λ wire. W.seen wire) wires.old.items
+        wires.new.items (λ logs notes. IfSeen (F.seen files.old) (F.seen files.new) (λ was now.
+        IsTrue (map string_bytes words.now) (E.seen env.new) (E.allows env.old) (vec_len wires.old)
+        (files_over was now (F.faults files.old) (F.faults files.new)) result logs notes)) }
 
     ensures stops { IfSome result.fatal (StopsFor (map string_bytes words.now) (E.seen env.new) (E.faults env.old)
         (E.faults env.new) (E.allows env.old) (F.seen files.old) (F.faults files.old) (F.faults files.new)) }
@@ -66,7 +76,8 @@ where
         (Rose (O.faults out.old) (O.faults out.new) ⊎ Rose (X.faults err.old) (X.faults err.new))) }
     ensures printed { OnFirst wires.old.items wires.new.items (λ before after.
         IsPrinted (map string_bytes words.now) (E.seen env.new) (W.seen before) (W.seen after) result
-        (O.seen out.old) (O.seen out.new) (X.seen err.old) (X.seen err.new)) }
+        (output_of (O.seen out.old) (O.seen out.new) (O.faults out.old) (O.faults out.new))
+        (output_of (X.seen err.old) (X.seen err.new) (X.faults err.old) (X.faults err.new))) }
 
     // What needs no look at wires, files and variables: the plan and its warnings as the words say, the outcome and the
     // jobs that it wants.
@@ -82,7 +93,7 @@ where
     // No count of faults falls.
     ensures env_later { E.faults env.old ≤ E.faults env.new }
     ensures files_later { F.faults files.old ≤ F.faults files.new }
-    ensures wires_later { OnFirst wires.old.items wires.new.items (λ before after. W.faults before ≤ W.faults after) }
+    ensures wires_later { OnEach wires.old.items wires.new.items (λ before after. W.faults before ≤ W.faults after) }
     ensures out_later { O.faults out.old ≤ O.faults out.new }
     ensures err_later { X.faults err.old ≤ X.faults err.new }
 {

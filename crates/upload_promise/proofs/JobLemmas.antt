@@ -27,7 +27,8 @@ use Rattle.shared_lemmas.proofs.Clashes.{none_is_some, some_is}
 use Rattle.shared_lemmas.proofs.Lists.{head_is, no_cons, tail_is}
 use Rattle.shared_lemmas.proofs.Members.{contains_of, Has, has}
 use Rattle.upload_promise.specs.Puts.{put_job}
-use Rattle.upload_promise.specs.Shown.{setting_by}
+use Rattle.run_promise.specs.Settled.{lanes_of, setting_by}
+use Rattle.upload_promise.specs.Shown.{end_of, start_of}
 use Rattle.upload_promise.specs.Uploads.{put_events, upload_ask, upload_task}
 
 -- ---- lists of one
@@ -91,6 +92,8 @@ dispatched_is d e p q a b l m x y s t u v w = cc
 pub record Planned : Type 0 where
   pub config : Config
   pub limits : Limits
+  pub wires : ℕ
+  pub has_lane : 1 ≤ lanes_of config wires
   pub status : ℕ
   pub bucket : List ℕ
   pub key : List ℕ
@@ -106,7 +109,7 @@ abbrev pub task_of : Planned → Task
 task_of u = upload_task u.path u.bucket u.key u.content u.size u.micros
 
 abbrev pub setting_of : Planned → Setting
-setting_of u = setting_by u.config u.limits u.status (task_of u ∷ []) (u.how ∷ []) u.was
+setting_of u = setting_by (start_of u.config u.limits u.wires (task_of u ∷ []) u.was) (end_of u.status (u.how ∷ []) [] [] [] [] u.was) None
 
 -- the job's dispatch, with its attempts
 abbrev pub put_dispatch : List Attempt → Dispatch

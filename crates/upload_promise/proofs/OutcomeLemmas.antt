@@ -21,21 +21,22 @@ use Rattle.run_promise.specs.Schedule.{Setting, IsFailed, IsStopped, most_body}
 use Rattle.job_terms.specs.Jobs.{job_of}
 use Rattle.run_promise.specs.Outcomes.{HasOutcome, HasDeciding, HasMark, IsCauseOf, IsDecidingJob, IsFailureOf, IsLastCause}
 use Rattle.job_terms.specs.Ops.{deciding}
-use Rattle.run_promise.specs.Settled.{cause_of, is_memory}
+use Rattle.run_promise.specs.Settled.{cause_of, is_memory, is_upload, tells_file_failed}
+use Rattle.s3_model.specs.declared.tasks.Task.{Task}
 use Rattle.s3_outside.specs.Files.{SeenFiles}
 use Rattle.shared_lemmas.proofs.Clashes.{none_is_some}
 use Rattle.shared_lemmas.proofs.Members.{contains_of, Has, has_middle}
 use Rattle.upload_promise.specs.Puts.{put_job}
-use Rattle.upload_promise.specs.Shown.{tells_file_failed}
 use Rattle.upload_promise.specs.Uploads.{IsReadCause, upload_ask}
 use Rattle.upload_promise.proofs.JobLemmas.{Planned, below, in_none, in_one, only, put_with, setting_of, task_of}
 
 -- the outcome of a task whose bytes did not come says that a file call failed
-pub tells : (seen : SeenFiles) (path : List ℕ) (size before after : ℕ) (why : Cause) → IsReadCause (Some seen) path size before after why → tells_file_failed (Some (outcome.Failed why)) ≡ true
-tells seen path size before after cause.Memory h = refl
-tells seen path size before after (cause.Files call.Read) h = refl
-tells seen path size before after cause.Changed h = refl
-tells seen path size before after why h = absurd h
+pub tells : (of_task : Option Task) → is_upload of_task ≡ true → (seen : SeenFiles) (path : List ℕ) (size before after : ℕ) (why : Cause) → IsReadCause (Some seen) path size before after why
+    → tells_file_failed of_task (Some (outcome.Failed why)) ≡ true
+tells of_task uploads seen path size before after cause.Memory h = refl
+tells of_task uploads seen path size before after (cause.Files call.Read) h = refl
+tells of_task uploads seen path size before after cause.Changed h = uploads
+tells of_task uploads seen path size before after why h = absurd h
 
 false_is_true : false ≡ true → ⊥
 false_is_true e = cc
@@ -123,7 +124,7 @@ module _ (Shows : Ask → ℕ → Talk → Class → List ℕ → Type 0) (HasSt
 
       -- ---- it failed: nothing cut it short, since nothing else stopped its task
 
-      module _ (still : tells_file_failed (Some u.how) ≡ false) (no_success : HasNo mark.Success) where
+      module _ (still : tells_file_failed (Some (task_of u)) (Some u.how) ≡ false) (no_success : HasNo mark.Success) where
         not_stopped : IsStopped s (Some 0) ⊎ IsFailing Shows s.config.attempts (Some 0) (IsStopped s (Some 0)) [] → ⊥
         not_stopped (inl stopped) = false_is_true (sym still ∙ stopped)
         not_stopped (inr failing) = failing

@@ -1,5 +1,5 @@
 -- A run of at most one small upload keeps its promise: its task was planned and carried, or none was.
-use Rattle.std.proofs.Common.{◌≡◌, ◌∙◌, ◌==◌, ◌<◌, ◌≤◌, ℕ, Bool, true, false, List, [], ◌∷◌, Option, Some, None, refl, sym, ap, subst, inl, inr, Contains, length, slice_get, filter_map, if◌then◌else◌, arith}
+use Rattle.std.proofs.Common.{◌≡◌, ◌∙◌, ◌==◌, ◌<◌, ◌≤◌, ℕ, Bool, true, false, List, [], ◌∷◌, Option, Some, None, refl, sym, ap, subst, inl, inr, Contains, length, slice_get, if◌then◌else◌, arith}
 use Rattle.std.specs.FinMap.{get}
 use Rattle.std.proofs.lemmas.List.{take_all}
 use Rattle.s3_model.specs.declared.requests.Ask.{Ask}
@@ -26,9 +26,9 @@ use Rattle.job_terms.specs.Buffers.{KeepsBuffers}
 use Rattle.run_promise.specs.Carried.{IsCarried}
 use Rattle.job_terms.specs.Attempts.{in_first}
 use Rattle.job_terms.specs.Dispatches.{Attempt, Dispatched}
-use Rattle.run_promise.specs.Outcomes.{HasOutcome, ReadsSource}
+use Rattle.run_promise.specs.Outcomes.{HasOutcome}
 use Rattle.run_promise.specs.Schedule.{IsSchedule, is_small}
-use Rattle.run_promise.specs.Settled.{HasFileFailed, IsSettingOf, NoneSaysChanged, cause_of, is_dry, left_by, untimed_by}
+use Rattle.run_promise.specs.Settled.{IsSettingOf, cause_of, is_dry, is_upload, lanes_of, shown_by, tells_file_failed}
 use Rattle.run_promise.specs.Truthful.{Shown}
 use Rattle.world_laws.specs.Promises.{IsByRequests}
 use Rattle.world_laws.specs.Tasks.{HasSource, HasSourceFile}
@@ -38,7 +38,7 @@ use Rattle.s3_outside.specs.declared.files.Shape.TheVariants as shape
 use Rattle.upload_promise.specs.Puts.{AreIdle}
 use Rattle.upload_promise.specs.Sources.{AreFirstBytes}
 use Rattle.upload_promise.specs.Uploads.{IsReadCause, Uploads, put_events, upload_ask, upload_task}
-use Rattle.upload_promise.specs.Shown.{CallFailed, KeepsPromise, one_attempt, shown_by, tells_file_failed}
+use Rattle.upload_promise.specs.Shown.{CallFailed, KeepsPromise, end_of, one_attempt, start_of}
 use Rattle.upload_promise.proofs.JobLemmas.{Planned, each, first_only, in_none, no_buffers, no_jobs, no_schedule, put_alone, put_buffers, put_schedule, put_with, setting_of}
 use Rattle.upload_promise.proofs.LawLemmas.{AreAlone, IsOrdered, done_where_willing, truthful}
 use Rattle.upload_promise.proofs.OutcomeLemmas.{tells, unread_for}
@@ -119,21 +119,15 @@ memory_ordinary = ((λ reason. other_cause cause.Memory reason (λ e. cc)), refl
 pub status_is : (n : ℕ) → (n == 70) ≡ true → n ≡ 70
 status_is n e = grind arith
 
--- the outcomes alone say whose file calls failed, since no job reads an object
-module _ (Shows : Ask → ℕ → Talk → Class → List ℕ → Type 0) (HasStatus : Ask → ℕ → Talk → ℕ → Type 0) (Plans : List Dispatched → Type 0) where
-  told : (dispatched : List Dispatched) (n : ℕ) → NoneSaysChanged Shows HasStatus Plans dispatched n → (how : Option Outcome)
-      → (tells_file_failed how ≡ true → HasFileFailed Shows HasStatus Plans dispatched n how) × (HasFileFailed Shows HasStatus Plans dispatched n how → tells_file_failed how ≡ true)
-  told dispatched n none (Some (outcome.Failed (cause.Files of_call))) = ((λ e. tt), (λ h. refl))
-  told dispatched n none (Some (outcome.Failed (cause.Blocked length))) = ((λ e. tt), (λ h. refl))
-  told dispatched n none (Some (outcome.Failed cause.Memory)) = ((λ e. tt), (λ h. refl))
-  told dispatched n none (Some (outcome.Failed cause.Changed)) = ((λ e. none), (λ h. refl))
-  told dispatched n none how = ((λ e. absurd (false_is_true e)), (λ h. absurd h))
-
 upload_is_no_copy : kind.Upload ≡ kind.Copy → ⊥
 upload_is_no_copy e = cc
 
 within : (low value high : ℕ) → low ≤ value → value ≤ high → IsWithin low value high
 within low value high least most = record { least = least; most = most }
+
+-- a run whose settings are valid, over some wires, has a lane
+pub has_lanes : (config : Config) (wires : ℕ) → IsValidConfig config → 1 ≤ wires → 1 ≤ lanes_of config wires
+has_lanes config wires configured some = let least = configured.lanes.least in omega arith
 
 pub one_valid : (config : Config) → IsValidConfig config → IsValidConfig (one_attempt config)
 one_valid config v = record {
@@ -146,19 +140,19 @@ one_valid config v = record {
 }
 
 module _ (Shows : Ask → ℕ → Talk → Class → List ℕ → Type 0) (HasStatus : Ask → ℕ → Talk → ℕ → Type 0) (request_text : Ask → List ℕ → ℕ → List ℕ) (host : List ℕ) (port : ℕ)
-    (Plans : List Dispatched → Type 0) (plans_none : Plans []) (config : Config) (configured : IsValidConfig config) (limits : Limits) (valid : IsValidLimits limits) (status before after : ℕ) (path : List ℕ)
-    (was now : SeenFiles) (same : now.store ≡ was.store) (warnings : List Warning) (no_left : filter_map left_by warnings ≡ []) (no_untimed : filter_map untimed_by warnings ≡ []) where
+    (Plans : List Dispatched → Type 0) (plans_none : Plans []) (config : Config) (configured : IsValidConfig config) (limits : Limits) (valid : IsValidLimits limits) (wires : ℕ) (has_wire : 1 ≤ wires)
+    (status before after : ℕ) (path : List ℕ) (was now : SeenFiles) (same : now.store ≡ was.store) (warnings : List Warning) where
   abbrev Fails : List Task → ℕ → Cause → Type 0
   Fails tasks = CallFailed path now before after tasks
 
   -- what is to be shown of a run
   abbrev Keeps : List Task → List Outcome → List Event → List Talk → List Note → Type 0
   Keeps tasks outcomes journal talks notes =
-      KeepsPromise Shows HasStatus request_text host port Plans path before after tasks warnings now (shown_by config limits status tasks outcomes journal talks notes was now)
+      KeepsPromise Shows HasStatus request_text host port Plans (Fails tasks) (start_of config limits wires tasks was) (end_of status outcomes warnings journal talks notes now) None ⊥ ⊥
 
   module _ (tasks : List Task) (outcomes : List Outcome) (journal : List Event) (talks : List Talk) (notes : List Note) (jobs : List Dispatched) where
     abbrev shown : Shown
-    shown = shown_by config limits status tasks outcomes journal talks notes was now
+    shown = shown_by (start_of config limits wires tasks was) (end_of status outcomes warnings journal talks notes now) None
 
     abbrev Alone : Type 0
     Alone = AreAlone Shows HasStatus request_text host port Plans (Fails tasks) shown jobs
@@ -166,19 +160,15 @@ module _ (Shows : Ask → ℕ → Talk → Class → List ℕ → Type 0) (HasSt
     abbrev Ordered : Type 0
     Ordered = IsOrdered Shows HasStatus request_text host port Plans (Fails tasks) shown jobs
 
-    abbrev ReadNothing : Type 0
-    ReadNothing = (c : Dispatched) → Contains jobs c → ReadsSource c.dispatch.job.op → ⊥
-
-    settles : Alone → ReadNothing → ((n : ℕ) (how : Outcome) → slice_get outcomes n ≡ Some how → IsOrdinary how) → IsSettingOf Shows HasStatus Plans shown warnings ⊥ ⊥
-    settles alone reads ordinary = record {
+    settles : ((n : ℕ) (how : Outcome) → slice_get outcomes n ≡ Some how → IsOrdinary how) → IsSettingOf shown wires warnings ⊥ ⊥
+    settles ordinary = record {
       memory = λ n. refl;
-      lanes = configured.lanes.least;
       planning_memory = λ e. status_is status e;
       warning_memory = λ e. status_is status e;
-      left = sym no_left;
-      untimed = sym no_untimed;
-      files = λ dispatched coming scheduled are n.
-          told Shows HasStatus Plans dispatched n (λ c place attempt known of_task slot says. reads c (subst (λ (all : List Dispatched). Contains all c) (alone dispatched coming scheduled are).0 known) says.0) (slice_get outcomes n);
+      lanes = refl;
+      left = refl;
+      untimed = refl;
+      files = λ n. refl;
       cancelled = λ e. absurd (false_is_true e);
       cancels = λ n reason e. absurd (none_cancelled (slice_get outcomes n) (ordinary n) reason e);
       dry = λ n how at_n. (ordinary n how at_n).1;
@@ -188,16 +178,19 @@ module _ (Shows : Ask → ℕ → Talk → Class → List ℕ → Type 0) (HasSt
         none_cancelled None is reason e = none_is_some (cause.Cancelled reason) e
         none_cancelled (Some how) is reason e = (is how refl).0 reason e
 
-    keeps : Ordered → ReadNothing → ((n : ℕ) (how : Outcome) → slice_get outcomes n ≡ Some how → IsOrdinary how) → Keeps tasks outcomes journal talks notes
-    keeps o reads ordinary = record {
+    keeps : Ordered → ((n : ℕ) (how : Outcome) → slice_get outcomes n ≡ Some how → IsOrdinary how) → Keeps tasks outcomes journal talks notes
+    keeps o ordinary = record {
       truthful = truthful Shows HasStatus request_text host port Plans (Fails tasks) shown jobs o;
       willing = done_where_willing Shows HasStatus request_text host port Plans (Fails tasks) shown jobs o;
-      settles = settles o.alone reads ordinary;
+      settles = settles ordinary;
     }
 
     -- a failed call is told by the outcome
-    counted : (n : ℕ) (of_cause : Cause) → slice_get outcomes n ≡ Some (outcome.Failed of_cause) → Fails tasks n of_cause → tells_file_failed (slice_get outcomes n) ≡ true
-    counted n of_cause at_n fails = ap tells_file_failed at_n ∙ tells now path fails.0.size before after of_cause fails.2
+    counted : ((n : ℕ) (task : Task) → slice_get tasks n ≡ Some task → is_upload (Some task) ≡ true) → (n : ℕ) (of_cause : Cause) → slice_get outcomes n ≡ Some (outcome.Failed of_cause) → Fails tasks n of_cause
+        → tells_file_failed (slice_get tasks n) (slice_get outcomes n) ≡ true
+    counted uploads n of_cause at_n fails =
+        ap (tells_file_failed (slice_get tasks n)) at_n
+        ∙ tells (slice_get tasks n) (ap is_upload fails.1 ∙ uploads n fails.0 fails.1) now path fails.0.size before after of_cause fails.2
 
   stay : (any : List ℕ) → get now.store.held any ≡ get was.store.held any
   stay any = ap (λ (s : FileStore). get s.held any) same
@@ -209,7 +202,7 @@ module _ (Shows : Ask → ℕ → Talk → Class → List ℕ → Type 0) (HasSt
       keeps [] [] [] [] notes []
       (record {
         schedule = no_schedule Shows Plans (shown [] [] [] [] notes []).setting plans_none;
-        carried = none_carried Shows request_text host port (shown [] [] [] [] notes []).setting notes idle (omega arith);
+        carried = none_carried Shows request_text host port (shown [] [] [] [] notes []).setting notes idle (has_lanes config wires configured has_wire);
         alone = no_jobs Shows Plans (shown [] [] [] [] notes []).setting;
         buffers = no_buffers config.buffers;
         as_many = refl;
@@ -227,11 +220,11 @@ module _ (Shows : Ask → ℕ → Talk → Class → List ℕ → Type 0) (HasSt
         left = λ n task how at at_task at_how moves from. absurd (none_is_some task at_task);
         stay = stay;
         replaces = λ n task at_task is_fresh. none_is_some task at_task;
-        counted = counted [] [] [] [] notes [];
+        counted = counted [] [] [] [] notes [] (λ n task at_task. absurd (none_is_some task at_task));
         config = configured;
         limits = valid;
       })
-      (λ c known reads. in_none c known) (λ n how at_n. absurd (none_is_some how at_n))
+      (λ n how at_n. absurd (none_is_some how at_n))
 
   -- ---- a run that was planned
 
@@ -240,6 +233,8 @@ module _ (Shows : Ask → ℕ → Talk → Class → List ℕ → Type 0) (HasSt
     upload how = record {
       config = config;
       limits = limits;
+      wires = wires;
+      has_lane = has_lanes config wires configured has_wire;
       status = status;
       bucket = bucket;
       key = key;
@@ -283,9 +278,9 @@ module _ (Shows : Ask → ℕ → Talk → Class → List ℕ → Type 0) (HasSt
 
       planned : IsSchedule Shows shows.setting Plans jobs jobs → IsCarried Shows request_text host port shows.setting journal (in_first talks) (in_first notes) jobs jobs
           → Alone (task ∷ []) (how ∷ []) journal talks notes jobs → KeepsBuffers config.buffers journal → HasOutcome Shows HasStatus (Fails (task ∷ [])) shows.setting jobs jobs 0 task how
-          → ((c : Dispatched) → Contains jobs c → c.dispatch.job.task ≡ None → ⊥) → ReadNothing (task ∷ []) (how ∷ []) journal talks notes jobs → IsOrdinary how
+          → ((c : Dispatched) → Contains jobs c → c.dispatch.job.task ≡ None → ⊥) → IsOrdinary how
           → Keeps (task ∷ []) (how ∷ []) journal talks notes
-      planned schedule carried alone buffers has of_task reads ordinary =
+      planned schedule carried alone buffers has of_task ordinary =
           keeps (task ∷ []) (how ∷ []) journal talks notes jobs
           (record {
             schedule = schedule;
@@ -313,19 +308,19 @@ module _ (Shows : Ask → ℕ → Talk → Class → List ℕ → Type 0) (HasSt
             left = λ n t of_how at at_task at_how moves from. absurd (keeps_source n t at_task moves);
             stay = stay;
             replaces = of_each (λ (t : Task). t.fresh ≡ true → ⊥) false_is_true;
-            counted = counted (task ∷ []) (how ∷ []) journal talks notes jobs;
+            counted = counted (task ∷ []) (how ∷ []) journal talks notes jobs (of_each (λ (t : Task). is_upload (Some t) ≡ true) refl);
             config = configured;
             limits = valid;
           })
-          reads (λ n of_how at_n. subst IsOrdinary (first_only how n of_how at_n).1 ordinary)
+          (λ n of_how at_n. subst IsOrdinary (first_only how n of_how at_n).1 ordinary)
 
     -- the bytes of the file did not come
     unread_run : (of_cause : Cause) → IsReadCause (Some now) path size before after of_cause → Keeps (task ∷ []) (outcome.Failed of_cause ∷ []) [] [] []
     unread_run of_cause h =
         let how = outcome.Failed of_cause in
         planned how [] [] [] [] (no_schedule Shows Plans (shows how [] [] [] []).setting plans_none)
-        (none_carried Shows request_text host port (shows how [] [] [] []).setting [] none_idle (omega arith)) (no_jobs Shows Plans (shows how [] [] [] []).setting) (no_buffers config.buffers)
-        (unread_for Shows HasStatus (Fails (task ∷ [])) (upload how) now before after of_cause (λ reason. (task, refl, reason)) refl h) (λ c known of_none. in_none c known) (λ c known reads. in_none c known)
+        (none_carried Shows request_text host port (shows how [] [] [] []).setting [] none_idle (has_lanes config wires configured has_wire)) (no_jobs Shows Plans (shows how [] [] [] []).setting) (no_buffers config.buffers)
+        (unread_for Shows HasStatus (Fails (task ∷ [])) (upload how) now before after of_cause (λ reason. (task, refl, reason)) refl h) (λ c known of_none. in_none c known)
         (read_ordinary (Some now) path size before after of_cause h)
 
     -- the job was given: with these attempts, marks, talks and notes
@@ -337,7 +332,7 @@ module _ (Shows : Ask → ℕ → Talk → Class → List ℕ → Type 0) (HasSt
         let put : Dispatched = put_with (upload how) attempts in
         planned how (put_events tries) talks notes (put ∷ []) (put_schedule Shows Plans (upload how) plans_none attempts) carried
         (λ dispatched coming scheduled are. put_alone Shows Plans (upload how) dispatched coming attempts scheduled (are ∙ sym carried.shown)) (put_buffers config.buffers tries configured.buffers.least) has
-        (each (λ (c : Dispatched). c.dispatch.job.task ≡ None → ⊥) put (λ e. none_is_some 0 (sym e))) (each (λ (c : Dispatched). ReadsSource c.dispatch.job.op → ⊥) put (λ reads. reads)) ordinary
+        (each (λ (c : Dispatched). c.dispatch.job.task ≡ None → ⊥) put (λ e. none_is_some 0 (sym e))) ordinary
 
     -- the job of the Put of the file's bytes, and that the outcome is what its attempts show
     pub record IsKept (how : Outcome) (journal : List Event) (talks : List Talk) (notes : List Note) : Type 0 where

@@ -20,18 +20,18 @@ returns-in-Ok-clause-went g c =
     let run = c.execute_presign.result.run in
     gains_as (IsPresigned words (g.E.Env.seen c.read_start.new.env) run) (GoesAs words (g.E.Env.seen c.read_start.new.env) (g.E.Env.allows c.args.env.now) (g.F.Files.seen c.args.files.now)
     (g.F.Files.seen c.args.files.now) (g.F.Files.faults c.args.files.now) (g.F.Files.faults c.args.files.now) run) (λ talks notes url. inr (inr (inl url))) _ _
-    (url_goes words _ c.in-Ok.start.command c.in-Ok.start.settings c.in-Ok.ensures.begun (sym c.is_presign.ensures ∙ c.if-is_presign.true) _ _ run c.execute_presign.result.line c.execute_presign.ensures.made)
+    (url_goes words _ c.in-Ok.start.command c.in-Ok.start.settings c.in-Ok.ensures.begun (sym c.is_presign.ensures ∙ c.if-is_presign.true) _ _ run c.execute_presign.result.text c.execute_presign.ensures.made)
 
 pub returns-in-Ok-clause-does : goal.returns-in-Ok-clause-does
 returns-in-Ok-clause-does g c =
     let words = map (string_bytes {Z = Global}) c.args.words.now in
-    inr (inr (inl (url_does words _ c.in-Ok.start.command c.in-Ok.start.settings c.in-Ok.ensures.begun (sym c.is_presign.ensures ∙ c.if-is_presign.true) _ _ c.execute_presign.result.run c.execute_presign.result.line
+    inr (inr (inl (url_does words _ c.in-Ok.start.command c.in-Ok.start.settings c.in-Ok.ensures.begun (sym c.is_presign.ensures ∙ c.if-is_presign.true) _ _ c.execute_presign.result.run c.execute_presign.result.text
     c.execute_presign.ensures.made)))
 
-pub returns-in-Ok-clause-line : goal.returns-in-Ok-clause-line
-returns-in-Ok-clause-line g c =
+pub returns-in-Ok-clause-text : goal.returns-in-Ok-clause-text
+returns-in-Ok-clause-text g c =
     let words = map (string_bytes {Z = Global}) c.args.words.now in
-    url_line_is words _ c.in-Ok.start.command c.in-Ok.start.settings c.in-Ok.ensures.begun (sym c.is_presign.ensures ∙ c.if-is_presign.true) _ _ c.execute_presign.result.run c.execute_presign.result.line
+    url_line_is words _ c.in-Ok.start.command c.in-Ok.start.settings c.in-Ok.ensures.begun (sym c.is_presign.ensures ∙ c.if-is_presign.true) _ _ c.execute_presign.result.run c.execute_presign.result.text
     c.execute_presign.ensures.made
 
 pub returns-in-Ok-clause-lists : goal.returns-in-Ok-clause-lists
@@ -45,13 +45,13 @@ returns-in-Ok-2-clause-went g c =
     let run = c.execute_listing.result.executed.run in
     gains_as (IsListing words (g.E.Env.seen c.read_start.new.env) run) (GoesAs words (g.E.Env.seen c.read_start.new.env) (g.E.Env.allows c.args.env.now) (g.F.Files.seen c.args.files.now)
     (g.F.Files.seen c.args.files.now) (g.F.Files.faults c.args.files.now) (g.F.Files.faults c.args.files.now) run) (λ talks notes listed. inr (inr (inr listed))) _ _
-    (listing_goes words run c.execute_listing.result.executed.line c.execute_listing.result.missed _ c.in-Ok.start.command c.in-Ok.start.settings c.in-Ok.ensures.begun
+    (listing_goes words run c.execute_listing.result.executed.text c.execute_listing.result.missed _ c.in-Ok.start.command c.in-Ok.start.settings c.in-Ok.ensures.begun
     (sym c.is_listing.ensures ∙ c.if-is_listing.true) _ _ c.execute_listing.ensures.listed)
 
-pub returns-in-Ok-2-clause-line : goal.returns-in-Ok-2-clause-line
-returns-in-Ok-2-clause-line g c =
+pub returns-in-Ok-2-clause-text : goal.returns-in-Ok-2-clause-text
+returns-in-Ok-2-clause-text g c =
     let words = map (string_bytes {Z = Global}) c.args.words.now in
-    listing_line_is words c.execute_listing.result.executed.run c.execute_listing.result.executed.line c.execute_listing.result.missed _ c.in-Ok.start.command c.in-Ok.start.settings c.in-Ok.ensures.begun
+    listing_line_is words c.execute_listing.result.executed.run c.execute_listing.result.executed.text c.execute_listing.result.missed _ c.in-Ok.start.command c.in-Ok.start.settings c.in-Ok.ensures.begun
     (sym c.is_listing.ensures ∙ c.if-is_listing.true) _ _ c.execute_listing.ensures.listed
 
 pub returns-in-Ok-2-clause-lists : goal.returns-in-Ok-2-clause-lists
@@ -62,13 +62,13 @@ returns-in-Ok-2-clause-lists g c =
 pub returns-in-Ok-2-clause-stops : goal.returns-in-Ok-2-clause-stops
 returns-in-Ok-2-clause-stops g c =
     let words = map (string_bytes {Z = Global}) c.args.words.now in
-    listing_stops words c.execute_listing.result.executed.run c.execute_listing.result.executed.line c.execute_listing.result.missed _ c.in-Ok.start.command c.in-Ok.start.settings c.in-Ok.ensures.begun
+    listing_stops words c.execute_listing.result.executed.run c.execute_listing.result.executed.text c.execute_listing.result.missed _ c.in-Ok.start.command c.in-Ok.start.settings c.in-Ok.ensures.begun
     (sym c.is_listing.ensures ∙ c.if-is_listing.true) _ _ c.execute_listing.ensures.listed _ _ _ _ _ _ _ refl c.execute_listing.ensures.stops
 
 pub returns-in-Ok-2-clause-does : goal.returns-in-Ok-2-clause-does
 returns-in-Ok-2-clause-does g c =
     let words = map (string_bytes {Z = Global}) c.args.words.now in
-    inr (inr (inr (listing_does words c.execute_listing.result.executed.run c.execute_listing.result.executed.line c.execute_listing.result.missed _ c.in-Ok.start.command c.in-Ok.start.settings c.in-Ok.ensures.begun
+    inr (inr (inr (listing_does words c.execute_listing.result.executed.run c.execute_listing.result.executed.text c.execute_listing.result.missed _ c.in-Ok.start.command c.in-Ok.start.settings c.in-Ok.ensures.begun
     (sym c.is_listing.ensures ∙ c.if-is_listing.true) _ _ c.execute_listing.ensures.listed)))
 
 pub returns-in-Ok-3-clause-went : goal.returns-in-Ok-3-clause-went
@@ -79,11 +79,11 @@ returns-in-Ok-3-clause-went g c =
     (lemma.begun_goes words _ 0 0 _ _ _ _ _ c.execute_command.result.run c.in-Ok.start.command c.in-Ok.start.settings c.in-Ok.ensures.begun (sym c.is_presign.ensures ∙ c.if-is_presign.false)
     (sym c.is_listing.ensures ∙ c.if-is_listing.false) _ _ c.execute_command.ensures.went)
 
-pub returns-in-Ok-3-clause-line : goal.returns-in-Ok-3-clause-line
-returns-in-Ok-3-clause-line g c =
+pub returns-in-Ok-3-clause-text : goal.returns-in-Ok-3-clause-text
+returns-in-Ok-3-clause-text g c =
     let words = map (string_bytes {Z = Global}) c.args.words.now in
-    copy_line words _ _ _ c.execute_command.result.run c.execute_command.result.line c.in-Ok.start.command c.in-Ok.ensures.begun.rest (sym c.is_presign.ensures ∙ c.if-is_presign.false)
-    (sym c.is_listing.ensures ∙ c.if-is_listing.false) c.execute_command.ensures.line
+    copy_line words _ _ _ c.execute_command.result.run c.execute_command.result.text c.in-Ok.start.command c.in-Ok.ensures.begun.rest (sym c.is_presign.ensures ∙ c.if-is_presign.false)
+    (sym c.is_listing.ensures ∙ c.if-is_listing.false) c.execute_command.ensures.text
 
 pub returns-in-Ok-3-clause-lists : goal.returns-in-Ok-3-clause-lists
 returns-in-Ok-3-clause-lists g c =
@@ -102,9 +102,9 @@ pub returns-in-Err-clause-went : goal.returns-in-Err-clause-went
 returns-in-Err-clause-went g c =
     lemma.early_goes (map (string_bytes {Z = Global}) c.args.words.now) _ _ _ _ _ _ _ _ c.end_early.result.run _ c.in-Err.fatal c.end_early.ensures.run c.in-Err.ensures.stops
 
-pub returns-in-Err-clause-line : goal.returns-in-Err-clause-line
-returns-in-Err-clause-line g c =
-    stopped_line (map (string_bytes {Z = Global}) c.args.words.now) _ _ _ c.end_early.result.run c.end_early.result.line (ap is_some c.end_early.ensures.run.fatal) c.end_early.ensures.line
+pub returns-in-Err-clause-text : goal.returns-in-Err-clause-text
+returns-in-Err-clause-text g c =
+    stopped_line (map (string_bytes {Z = Global}) c.args.words.now) _ _ _ c.end_early.result.run c.end_early.result.text (ap is_some c.end_early.ensures.run.fatal) c.end_early.ensures.text
 
 pub returns-in-Ok-clause-valid : goal.returns-in-Ok-clause-valid
 returns-in-Ok-clause-valid g c = subst IsValidLimits c.limits-limits.ensures.value c.limits-limits.ensures.valid

@@ -46,7 +46,7 @@ returns-in-Ok g c =
     let ended = c.end_with.ensures.ended in
     record {
       went = lemma.ended_goes c.args.start.command c.args.start.settings c.args.limits.now was now before after after c.end_with.result.run (g.W.Wire.seen c.args.wire.now) c.in-Ok.fate none fated ended;
-      line = c.end_with.ensures.line;
+      text = c.end_with.ensures.text;
       stops = lemma.ended_stops c.args.start.command c.args.start.settings c.args.limits.now was now before after after c.end_with.result.run c.in-Ok.fate none fated ended;
       does = lemma.ended_does c.args.start.command c.args.start.settings c.args.limits.now was now before after after c.end_with.result.run c.in-Ok.fate none fated ended;
       files = c.in-Ok.ensures.files;
@@ -64,8 +64,8 @@ execute_upload-requires-clause-source g c =
     let fated = subst (λ (f : Fate). IsFate c.args.start.command c.args.start.settings c.args.limits.now (g.F.Files.seen c.args.files.now) f) c.in-Ok-Upload.field-0-is c.in-Ok-Upload.ensures.fate in
     (lemma.is_upload c.args.start.command c.args.start.settings c.args.limits.now (g.F.Files.seen c.args.files.now) c.in-Ok-Upload.task fated).1
 
-pub returns-in-Ok-Upload-clause-line : goal.returns-in-Ok-Upload-clause-line
-returns-in-Ok-Upload-clause-line g c = c.execute_upload.ensures.line
+pub returns-in-Ok-Upload-clause-text : goal.returns-in-Ok-Upload-clause-text
+returns-in-Ok-Upload-clause-text g c = c.execute_upload.ensures.text
 
 pub returns-in-Ok-Upload-clause-stops : goal.returns-in-Ok-Upload-clause-stops
 returns-in-Ok-Upload-clause-stops g c =
