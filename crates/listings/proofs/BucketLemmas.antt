@@ -44,7 +44,7 @@ module _ (endpoint : Endpoint) (keys : Keys) (number : ℕ) (before after : List
   only wanting a is = (talks, [], notes, [], sym (append-nil talks), sym (append-nil notes), is, (refl, refl))
 
   nothing_given : IsGiven endpoint keys ask.Buckets number before after None talks notes → Listed None
-  nothing_given (inl h) = record { asked = []; events = h.0 ∙ sym (append-nil before); gained = (h.1, h.2); plans = λ place. inr (inr refl); ends = tt }
+  nothing_given (inl h) = record { asked = []; events = h.0 ∙ sym (append-nil before); gained = (h.1, h.2); plans = λ place. inr refl; ends = tt }
   nothing_given (inr h) = record {
     asked = silent_of ask.Buckets ∷ [];
     events = h.0;

@@ -264,7 +264,7 @@ module _ (l : Listing) (walk : Walk) (number : ℕ) (before middle : List Event)
         → Plans true (dispatched_at c n taken ∷ []) (need_of l ∷ []) u.pages walk.token
     memory_behind c n (Some bad) is_more e m = (u.asks walk.token, inl (page, has_reply c n, inl (refused_last bad e, refl)))
     memory_behind c n None true e m =
-        (u.asks walk.token, inl (page, has_reply c n, inr (inl (not_refused l.prefix u.pages page (refusal_here page None e), m, inr (inr refl)))))
+        (u.asks walk.token, inl (page, has_reply c n, inr (inl (not_refused l.prefix u.pages page (refusal_here page None e), m, inr refl))))
     memory_behind c n None false e m =
         (u.asks walk.token, inl (page, has_reply c n, inr (inr (not_refused l.prefix u.pages page (refusal_here page None e), m, inl refl))))
 
@@ -291,7 +291,7 @@ module _ (l : Listing) (walk : Walk) (number : ℕ) (before middle : List Event)
         subst (λ (all : List Talk). AreAsked l.endpoint l.keys true u.asked all (notes ++ [])) (sym (append-nil talks))
         (subst (λ (all : List Note). AreAsked l.endpoint l.keys true u.asked talks all) (sym (append-nil notes)) (may_want l.endpoint l.keys true u.asked talks notes u.gained));
     plans = λ at.
-        subst (λ (all : List Dispatched). Plans true all (need_of l ∷ []) [] None) (append-nil (dispatched_from at l.first u.asked)) (u.goes_on true at [] (inr (inr refl)));
+        subst (λ (all : List Dispatched). Plans true all (need_of l ∷ []) [] None) (append-nil (dispatched_from at l.first u.asked)) (u.goes_on true at [] (inr refl));
     ends = tt;
   }
 

@@ -42,7 +42,7 @@ is_memory result = false
 
 -- the requests of a planning that may have run out of memory, as a command with these needs has to make them
 abbrev pub Plans : Bool → List Dispatched → List Need → (pages : List Listed) → (token : Option (List ℕ)) → Type 0
-Plans wanting = planning.AreAsked Shows IsRefusedPage ⊥ (wanting ≡ true)
+Plans wanting = planning.AreAsked Shows IsRefusedPage (wanting ≡ true)
 
 -- ---- pages
 

@@ -218,7 +218,7 @@ module _ (limits : Limits) (spare : ℕ) where
   -- ---- its jobs
 
   abbrev Plans : List Dispatched → Type 0
-  Plans = PlansFor Shows (λ prefix pages. ⊥) ⊥ ⊥ (Listing bucket [] false ∷ [])
+  Plans = PlansFor Shows (λ prefix pages. ⊥) ⊥ (Listing bucket [] false ∷ [])
 
   planned : Plans jobs
   planned = (

@@ -11,16 +11,17 @@ use Rattle.s3_model.specs.Talks.{Talk}
 use Rattle.job_terms.specs.Dispatches.{Dispatched, last_of}
 use Rattle.run_promise.specs.Schedule.{HasReply}
 
--- what a command needs to know: the answer to one request, or all pages of a listing
+-- What a command needs to know: the answer to one request, or all pages of a listing. Where planning ends by what no
+-- request shows (the words, the settings, the local files), its needs are those before that: nothing is asked behind it.
 pub data Need : Type 0 where
   One : (asked : Ask) → Need
   Listing : (bucket prefix : List ℕ) → (delimited : Bool) → Need
 
 -- `Shows ask limit talk class bytes`: the talk has that class for the ask, and its answer that body.
 -- `IsRefusedPage prefix pages`: of these pages of the listing of that prefix the last is refused by name.
--- `HasFault`: a fault that no request shows ended the planning. `MemoryRanOut`: memory ran out in it.
+-- `MemoryRanOut`: memory ran out in the planning.
 module _ (Shows : Ask → ℕ → Talk → Class → List ℕ → Type 0)
-    (IsRefusedPage : (prefix : List ℕ) → List Listed → Type 0) (HasFault MemoryRanOut : Type 0) where
+    (IsRefusedPage : (prefix : List ℕ) → List Listed → Type 0) (MemoryRanOut : Type 0) where
   abbrev pub IsAnsweredBy : Dispatched → Reply → Type 0
   IsAnsweredBy c answered = HasReply Shows c (last_of c.dispatch.attempts) answered
 
@@ -30,7 +31,7 @@ module _ (Shows : Ask → ℕ → Talk → Class → List ℕ → Type 0)
   -- The planning jobs, in order, ask for the needs, and nothing behind their first fault. A listing goes on at `token`,
   -- behind these pages of it.
   abbrev pub AreAsked : List Dispatched → List Need → (pages : List Listed) → (token : Option (List ℕ)) → Type 0
-  AreAsked [] needs pages token = (needs ≡ []) ⊎ ((pages ≡ []) × HasFault) ⊎ MemoryRanOut
+  AreAsked [] needs pages token = (needs ≡ []) ⊎ MemoryRanOut
   AreAsked (c ∷ later) [] pages token = ⊥
   AreAsked (c ∷ later) (One asked ∷ needs) pages token =
       (c.ask ≡ asked) × (((answered : Reply) × IsAnsweredBy c answered × AreAsked later needs [] None)

@@ -104,14 +104,49 @@ moment_idle moment = record { no_talk = λ h. moment_is_no_talk moment (only (Mo
 
 -- ---- what planning needs
 
-no_needs : (words : List (List ℕ)) (command : Command) → IsRestOf words command → is_listing command.verb ≡ false → needs_in words ≡ []
-no_needs words command is none =
-    ap (λ (lists : Bool). if lists then needs_of (first_of (places_in (arguments_of words))) (is_given Recursive (arguments_of words)) else []) (lists words command is ∙ none)
+abbrev needs_where : (words : List (List ℕ)) → Bool → List Need
+needs_where words lists_it = if lists_it then needs_of (first_of (places_in (arguments_of words))) (is_given Recursive (arguments_of words)) else []
 
-has_needs : (words : List (List ℕ)) (command : Command) → IsRestOf words command → is_listing command.verb ≡ true → needs_in words ≡ needs_of command.from command.recursive
-has_needs words command is listing =
-    ap (λ (lists : Bool). if lists then needs_of (first_of (places_in (arguments_of words))) (is_given Recursive (arguments_of words)) else []) (lists words command is ∙ listing)
+no_needs : (words : List (List ℕ)) (command : Command) (why : Option Fatal) → IsRestOf words command → is_listing command.verb ≡ false → needs_in words why ≡ []
+no_needs words command why is none = ap (λ (lists : Bool). needs_where words (lists && not (ends_here why))) (lists words command is ∙ none)
+
+has_needs : (words : List (List ℕ)) (command : Command) (why : Option Fatal) → IsRestOf words command → is_listing command.verb ≡ true → ends_here why ≡ false → needs_in words why ≡ needs_of command.from command.recursive
+has_needs words command why is listing goes_on =
+    ap (λ (lists : Bool). needs_where words (lists && not (ends_here why))) (lists words command is ∙ listing)
+    ∙ ap (λ (ends : Bool). needs_where words (not ends)) goes_on
     ∙ ap (λ (at : Option Place). needs_of at (is_given Recursive (arguments_of words))) (sym (from_is words command is)) ∙ ap (λ (recursive : Bool). needs_of command.from recursive) (sym (recursive_is words command is))
+
+-- a run that ended by what no request shows asks nothing, unless memory ran out
+asks_none : (words : List (List ℕ)) (why : Option Fatal) → IsUnasked why → PlansBy words why []
+asks_none words why unasked = elim (ends_so why unasked) [
+  | inl memory ↦ inr memory
+  | inr ends ↦ inl (nothing (lists_in words) (ends_here why) ends)
+]
+  where
+    ends_so : (end : Option Fatal) → IsUnasked end → (end ≡ Some fatal.Memory) ⊎ (ends_here end ≡ true)
+    ends_so None h = absurd h
+    ends_so (Some (fatal.Listing fault)) h = absurd h
+    ends_so (Some (fatal.Answer reason)) h = absurd h
+    ends_so (Some fatal.Memory) h = inl refl
+    ends_so (Some end) h = inr refl
+
+    nothing : (lists_it ends : Bool) → ends ≡ true → needs_where words (lists_it && not ends) ≡ []
+    nothing false ends e = refl
+    nothing true true e = refl
+    nothing true false e = absurd (false_true e)
+
+-- a listing does not end by what no request shows
+listing_goes_on : (result : Result Shown ListingFault) (why : Option Fatal) → EndsListing result why → ends_here why ≡ false
+listing_goes_on (Ok told) None ends = refl
+listing_goes_on (Ok told) (Some fatal.Memory) ends = refl
+listing_goes_on (Ok told) (Some end) ends = absurd ends
+listing_goes_on (Err fault) why ends = elim ends [ inl is ↦ ap ends_here is ∙ by fault | inr is ↦ ap ends_here is ]
+  where
+    by : (f : ListingFault) → ends_here (Some (fatal_for f)) ≡ false
+    by (unlisted.Listing bad.Memory) = refl
+    by (unlisted.Listing refused) = refl
+    by (unlisted.Answer reason) = refl
+    by unlisted.Memory = refl
 
 -- memory that ran out for a listing ends the run
 memory_ends : {T : Type 0} (Shows : T → Shown → Type 0) (listed : Result T ListingFault) (result : Result Shown ListingFault) (why : Option Fatal) → is_memory listed ≡ true → IsShownBy Shows listed result
@@ -167,7 +202,7 @@ module _ (words : List (List ℕ)) (env : Option SeenEnv) (limits : Limits) (val
     cancelled_at = None;
     begun = λ some. absurd (some u.nothing.no_job);
     keeps = of_run nowhere some_settings [] [] [] [] [] [] u.nothing.no_task u.nothing.no_outcome u.nothing.no_job u.nothing.no_warning u.no_talk u.no_note
-        (nothing nowhere some_settings some_valid (inr (inl (refl, u.nothing.stopped))) [] [] none_idle);
+        (nothing nowhere some_settings some_valid (asks_none words run.fatal u.nothing.stopped) [] [] none_idle);
   }
 
   url_true : IsPresigned words env run talks notes → Told
@@ -177,7 +212,7 @@ module _ (words : List (List ℕ)) (env : Option SeenEnv) (limits : Limits) (val
     cancelled_at = None;
     begun = λ some. absurd (some u.taskless.no_job);
     keeps = of_run nowhere some_settings [] [] [] [] [] (Moment u.moment ∷ []) u.taskless.no_task u.taskless.no_outcome u.taskless.no_job u.taskless.no_warning u.no_talk u.noted
-        (nothing nowhere some_settings some_valid (inl (no_needs words u.command u.begun.rest (presign_is_no_listing u.command.verb u.presign))) [] (Moment u.moment ∷ []) (moment_idle u.moment));
+        (nothing nowhere some_settings some_valid (inl (no_needs words u.command run.fatal u.begun.rest (presign_is_no_listing u.command.verb u.presign))) [] (Moment u.moment ∷ []) (moment_idle u.moment));
   }
 
   module _ (command : Command) (settings : Settings) (begun : IsBegun words env command settings) where
@@ -195,7 +230,7 @@ module _ (words : List (List ℕ)) (env : Option SeenEnv) (limits : Limits) (val
     true_by keeps = record { endpoint = endpoint; settings = settings; cancelled_at = None; begun = λ some. (command, begun, refl); keeps = keeps }
 
     none_planned : is_listing command.verb ≡ false → PlansNone
-    none_planned none = inl (no_needs words command begun.rest none)
+    none_planned none = inl (no_needs words command run.fatal begun.rest none)
 
     -- a plan without a task
     idle_true : is_listing command.verb ≡ false → (comes : Fate) → run.plan.tasks.items ≡ [] → run.warnings.items ≡ warnings_of comes → IsIdle run talks notes → Told
@@ -234,19 +269,19 @@ module _ (words : List (List ℕ)) (env : Option SeenEnv) (limits : Limits) (val
 
     -- a listing: its requests are those that planning needs
     listed_true : is_listing command.verb ≡ true → HasNoOutcome run → (asked : List Asked) (wanting : Bool) → run.journal.items ≡ events_from 0 asked → AreAsked endpoint settings.keys wanting asked talks notes
-        → (wanting ≡ true → run.fatal ≡ Some fatal.Memory) → (needs : List Need) → needs_in words ≡ needs → AskQuestions needs → Plans wanting (dispatched_from 0 0 asked) needs [] None
+        → (wanting ≡ true → run.fatal ≡ Some fatal.Memory) → (needs : List Need) → needs_in words run.fatal ≡ needs → AskQuestions needs → Plans wanting (dispatched_from 0 0 asked) needs [] None
         → Told
     listed_true listing none asked wanting events gained wants needs needed ask plans =
-        let questions = all_questions Shows IsRefusedPage ⊥ (wanting ≡ true) asked 0 0 needs [] None ask plans in
-        let more = asked_more Shows IsRefusedPage ⊥ (IsUnasked run.fatal) (wanting ≡ true) (run.fatal ≡ Some fatal.Memory) (λ h. absurd h) wants (dispatched_from 0 0 asked) needs [] None plans in
-        let planned = subst (λ (all : List Need). PlansFor Shows IsRefusedPage (IsUnasked run.fatal) (run.fatal ≡ Some fatal.Memory) all (dispatched_from 0 0 asked)) (sym needed) more in
+        let questions = all_questions Shows IsRefusedPage (wanting ≡ true) asked 0 0 needs [] None ask plans in
+        let more = asked_more Shows IsRefusedPage (wanting ≡ true) (run.fatal ≡ Some fatal.Memory) wants (dispatched_from 0 0 asked) needs [] None plans in
+        let planned = subst (λ (all : List Need). PlansFor Shows IsRefusedPage (run.fatal ≡ Some fatal.Memory) all (dispatched_from 0 0 asked)) (sym needed) more in
         true_by (of_run endpoint settings [] [] (events_from 0 asked) [] talks notes none.no_task none.no_outcome events none.no_warning refl refl
         (subst (λ (config : Config). KeepsPromise Shows HasStatus (text_of endpoint settings.keys) endpoint.host endpoint.port (PlansBy words run.fatal) (CallFailed path now before after [])
         (start_of config limits wires [] was) (end_of run.status [] [] (events_from 0 asked) talks notes now) None ⊥ ⊥) (sym (config_is true listing))
         (listing_keeps endpoint settings.keys (PlansBy words run.fatal) settings.config begun.valid limits valid wires has_wire run.status before after path was now same asked questions talks notes wanting
         (λ e. memory (wants e)) gained planned)))
 
-    shown_true : is_listing command.verb ≡ true → HasNoOutcome run → (at : Option Place) (recursive : Bool) → needs_in words ≡ needs_of at recursive → (result : Result Shown ListingFault)
+    shown_true : is_listing command.verb ≡ true → HasNoOutcome run → (at : Option Place) (recursive : Bool) → needs_in words run.fatal ≡ needs_of at recursive → (result : Result Shown ListingFault)
         → ShowsListing endpoint settings.keys at recursive [] run.journal.items result talks notes → EndsListing result run.fatal → Told
     shown_true listing none None recursive needed result shows ends =
         listed_true listing none shows.lists.asked (is_memory shows.listed) shows.lists.events shows.lists.gained
@@ -270,4 +305,4 @@ all_true limits valid wires some run talks notes words env (Some was) (Some now)
     planned_true words env limits valid wires some before after run talks notes was now looks.0 memory p.command p.settings p.begun p.no_listing p.comes p.fated p.plan p.works
 all_true limits valid wires some run talks notes words env (Some was) (Some now) before after memory looks (inr (inr (inr l))) =
     shown_true words env limits valid wires some before after run talks notes was now looks.0 memory l.command l.settings l.begun l.listing l.nothing l.command.from l.command.recursive
-    (has_needs words l.command l.begun.rest l.listing) l.result l.shows l.ends
+    (has_needs words l.command run.fatal l.begun.rest l.listing (listing_goes_on l.result run.fatal l.ends)) l.result l.shows l.ends

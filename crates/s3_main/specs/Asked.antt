@@ -1,5 +1,5 @@
 -- What the words ask for.
-use Rattle.std.specs.Prelude.{ℕ, Bool, false, List, [], Option, Some, None, if◌then◌else◌}
+use Rattle.std.specs.Prelude.{◌&&◌, ℕ, Bool, true, false, not, List, [], Option, Some, None, if◌then◌else◌}
 use Rattle.s3_words.specs.declared.commands.Verb.{Verb}
 use Rattle.s3_words.specs.Commands.{arguments_of, first_of, verb_of}
 use Rattle.s3_words.specs.Places.{places_in}
@@ -7,6 +7,8 @@ use Rattle.listing_commands.specs.Commands.{needs_of}
 use Rattle.run_promise.specs.Planning.{Need}
 use Rattle.s3_words.specs.declared.options.OptionName.TheVariants.{Recursive}
 use Rattle.s3_words.specs.Given.{is_given}
+use Rattle.run_report.specs.declared.run.Fatal.{Fatal}
+use Rattle.run_report.specs.declared.run.Fatal.TheVariants as fatal
 use Rattle.upload_plans.specs.Commands.{is_listing, is_presign, path_at}
 
 -- the first path of the words, where it is a local one
@@ -29,8 +31,17 @@ lists_by (Some of_verb) = is_listing of_verb
 abbrev pub lists_in : (words : List (List ℕ)) → Bool
 lists_in words = lists_by (verb_of words)
 
--- what the planning of the words has to ask
-abbrev pub needs_in : (words : List (List ℕ)) → List Need
-needs_in words =
-    if lists_in words
+-- a fault of the words, of the settings, or of what is here ended the run
+abbrev pub ends_here : Option Fatal → Bool
+ends_here None = false
+ends_here (Some (fatal.Listing fault)) = false
+ends_here (Some (fatal.Answer why)) = false
+ends_here (Some fatal.Memory) = false
+ends_here (Some why) = true
+
+-- What the planning of the words has to ask, by what ended the run early, if anything did: nothing behind a fault that
+-- no request shows.
+abbrev pub needs_in : (words : List (List ℕ)) → Option Fatal → List Need
+needs_in words why =
+    if lists_in words && not (ends_here why)
     then needs_of (first_of (places_in (arguments_of words))) (is_given Recursive (arguments_of words)) else []

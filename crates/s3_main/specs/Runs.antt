@@ -183,10 +183,10 @@ Undertakes words limits before after run =
 
 -- ---- the promise
 
--- The planning of the run asks what its words need, unless it ended by what no request shows, or memory ran out.
+-- The planning of the run asks what its words need, unless memory ran out; and nothing where the run ended by what no
+-- request shows.
 abbrev pub PlansBy : (words : List (List ℕ)) → Option Fatal → List Dispatched → Type 0
-PlansBy words why =
-    PlansFor Shows IsRefusedPage (IsUnasked why) (why ≡ Some fatal.Memory) (needs_in words)
+PlansBy words why = PlansFor Shows IsRefusedPage (why ≡ Some fatal.Memory) (needs_in words why)
 
 -- a listing tries each request once
 abbrev pub config_for : (words : List (List ℕ)) → Config → Config
