@@ -297,7 +297,7 @@ module _ (Shows : Ask → ℕ → Talk → Class → List ℕ → Type 0) (HasSt
           range = range_for (is_small s task) task.size own.piece c.dispatch.job.number
 
           sound : is_small s task ≡ false → (1 ≤ own.piece) × (own.count ≡ piece_count task.size own.piece) × (1 ≤ task.size)
-          sound large = are_sound s task own.piece own.count scheduled.config scheduled.limits load own.pieces large
+          sound large = are_sound s task own.piece own.count scheduled.threshold scheduled.limits load own.pieces large
 
           inside : IsInside range first.0.bytes
           inside = by_size (is_small s task) refl is_number

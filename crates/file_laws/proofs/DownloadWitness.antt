@@ -25,7 +25,6 @@ use Rattle.s3_model.specs.declared.tries.Mark.TheVariants as mark
 use Rattle.s3_model.specs.Files.{HeldFile}
 use Rattle.s3_model.specs.Maps.{MapOf}
 use Rattle.s3_model.specs.Parts.{HasPieces, piece_range}
-use Rattle.s3_model.specs.Validity.{IsValidConfig}
 use Rattle.s3_service.specs.ServiceState.{State, with_object}
 use Rattle.s3_service.specs.Serves.{IsThere, LiesWithin}
 use Rattle.run_promise.specs.Dispatches.{FitsAsk, IsCompletedWell, IsCut}
@@ -92,16 +91,6 @@ is_temp = (λ e. let level : ◌≡◌ {A = ℕ} 17 1 = ap length e in absurd (o
 
 abbrev config : Config
 config = record { threshold = 2; chunk = 1; lanes = 1; queue = 1; buffers = 1; attempts = 1 }
-
-config_is_valid : IsValidConfig config
-config_is_valid = record {
-  threshold = record { least = omega arith; most = omega arith };
-  chunk = record { least = omega arith; most = omega arith };
-  lanes = record { least = omega arith; most = omega arith };
-  queue = record { least = omega arith; most = omega arith };
-  buffers = record { least = omega arith; most = omega arith };
-  attempts = record { least = omega arith; most = omega arith };
-}
 
 two_pieces : HasPieces config the_limits kind.Download 2 1 2
 two_pieces = inr (omega arith, (1, record { doublings = 0; is_multiple = refl; fits = omega arith; first = λ k below. absurd (omega arith) }, refl, refl))
@@ -279,7 +268,7 @@ module _ (bucket key : List ℕ) (a b : ℕ) where
         destinations = λ i j x y bk k is_x is_y here there. (one_task task i x is_x).0 ∙ sym (one_task task j y is_y).0;
         sources = λ i j x y bk k is_x is_y moves is_source is_dest. stays i x is_x moves;
       };
-      config = config_is_valid;
+      threshold = omega arith;
       limits = limits_are_valid;
     }
 

@@ -288,7 +288,7 @@ module _ (Shows : Ask → ℕ → Talk → Class → List ℕ → Type 0) (s : S
           pieces = all_written.pieces
 
           sound : AreSound (is_small s task) task.size all_written.piece all_written.count
-          sound = are_sound s task all_written.piece all_written.count r.config r.limits load pieces
+          sound = are_sound s task all_written.piece all_written.count r.threshold r.limits load pieces
 
           made : IsMade front c.task temp
           made = a.keep.made front c temp (back, is) (subst (λ (x : Call). UsesTemp x temp) (sym e) refl)

@@ -107,7 +107,7 @@ module _ (Shows : Ask → ℕ → Talk → Class → List ℕ → Type 0) (HasSt
         let split = split_of calls re.0 (has calls re.0 re.1) in
         let at_own : slice_get s.tasks re.0.task ≡ Some task = ap (slice_get s.tasks) re.2 ∙ is_task in
         let written = a.keep.renames split.front re.0 task re.3 re.4 None (split.back, split.is) at_own re.5 in
-        let sound = are_sound s task written.piece written.count r.config r.limits load written.pieces in
+        let sound = are_sound s task written.piece written.count r.threshold r.limits load written.pieces in
         let last = last_range (is_small s task) task.size written.piece written.count sound in
         let w = written.each last.0 last.1 last.2 last.3 in
         let of : w.0.task ≡ n = w.2 ∙ re.2 in

@@ -19,7 +19,7 @@ use Rattle.local_files.specs.Calls.{Remove}
 use Rattle.world_laws.specs.Promises.{IsCarriedOut}
 use Rattle.world_laws.specs.Tasks.{MayBeNew}
 use Rattle.world_laws.specs.Rounds.{AreNone, Told, ToldStatus, no_text}
-use Rattle.world_laws.proofs.ScheduleWitness.{config_is_valid, limits_are_valid, none_created, one_task, rounds_schedule}
+use Rattle.world_laws.proofs.ScheduleWitness.{limits_are_valid, none_created, one_task, rounds_schedule}
 use Rattle.shared_lemmas.proofs.Maps.{get-insert_same, text_exact}
 use Rattle.shared_lemmas.proofs.Members.{Has, has}
 use Rattle.file_laws.specs.FileEnds.{HasFailedAct, HasFailedCall, IsByFiles, IsDestChanged, IsShownByCalls}
@@ -131,7 +131,7 @@ module _ (path : List ℕ) where
       sources = λ m n a b bucket key is_a is_b moves is_source is_dest. true_false (sym moves ∙ ap (λ (t : Task). t.moves) (one_task task m a is_a).1);
     };
     one_class = λ n of_task is_task fresh. absurd (true_false (sym fresh ∙ ap (λ (t : Task). t.fresh) (one_task task n of_task is_task).1));
-    config = config_is_valid;
+    threshold = omega arith;
     limits = limits_are_valid;
   }
 

@@ -6,7 +6,7 @@ use Rattle.s3_model.specs.declared.tasks.Kind.TheVariants as kind
 use Rattle.s3_model.specs.declared.tasks.Kind.{Kind}
 use Rattle.s3_model.specs.declared.tasks.Task.{Task}
 use Rattle.s3_model.specs.Parts.{HasPieces, piece_count}
-use Rattle.s3_model.specs.Validity.{IsValidConfig, IsValidLimits}
+use Rattle.s3_model.specs.Validity.{IsValidLimits}
 use Rattle.run_promise.specs.Schedule.{Setting, is_small}
 use Rattle.job_terms.proofs.PieceCounts.{in_parts, pieces_are_one, begins_inside, some_pieces}
 use Rattle.file_laws.specs.FileTasks.{IsRange, IsRangeIn}
@@ -97,11 +97,10 @@ last_range false size piece count sound = (count, (count - 1) * piece, min piece
         omega arith
 
 -- the pieces of a download are sound
-pub are_sound : (s : Setting) (task : Task) (piece count : ℕ) → IsValidConfig s.config → IsValidLimits s.limits → task.kind ≡ kind.Download
+pub are_sound : (s : Setting) (task : Task) (piece count : ℕ) → 1 ≤ s.config.threshold → IsValidLimits s.limits → task.kind ≡ kind.Download
     → HasPieces s.config s.limits task.kind task.size piece count → AreSound (is_small s task) task.size piece count
-are_sound s task piece count config limits load has large =
+are_sound s task piece count least limits load has large =
     let is = in_parts s.config s.limits task.size piece count limits large (subst (λ (k : Kind). HasPieces s.config s.limits k task.size piece count) load has) in
-    let least = config.threshold.least in
     (is.0, is.1, (let up = is.2 in omega arith))
 
 -- a range of the task is one of these pieces

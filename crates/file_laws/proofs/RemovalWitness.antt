@@ -32,7 +32,7 @@ use Rattle.world_laws.proofs.Faithful.{bare, bare_is_faithful, rounds_fitting, r
 use Rattle.shared_lemmas.proofs.Maps.{get-insert_same, text_exact}
 use Rattle.shared_lemmas.proofs.Members.{contains_of, Has, has, has_middle}
 use Rattle.world_laws.proofs.Rounds.{rounds_given}
-use Rattle.world_laws.proofs.ScheduleWitness.{config_is_valid, limits_are_valid, none_created, one_task, rounds_schedule, setting_of, the_limits}
+use Rattle.world_laws.proofs.ScheduleWitness.{limits_are_valid, none_created, one_task, rounds_schedule, setting_of, the_limits}
 use Rattle.file_laws.specs.FileEnds.{HasFailedAct, HasFailedCall, IsShownByCalls}
 use Rattle.file_laws.specs.FileTasks.{AreFileCalls, AreFilesApart, IsRemoved, TaskCall, steps_of}
 use Rattle.file_laws.specs.FileWitnesses.{FailedRemovalIsMet, IsFileTaskMet, IsMovedFileMet, MovedFileIsMet, RemovalIsMet, file_removal, moved_upload}
@@ -89,7 +89,7 @@ module _ (path : List ℕ) where
       destinations = λ m n a b bucket key is_a is_b here there. (one_task task m a is_a).0 ∙ sym (one_task task n b is_b).0;
       sources = λ m n a b bucket key is_a is_b moves is_source is_dest. true_false (sym moves ∙ ap (λ (t : Task). t.moves) (one_task task m a is_a).1);
     };
-    config = config_is_valid;
+    threshold = omega arith;
     limits = limits_are_valid;
   }
 

@@ -107,7 +107,7 @@ module _ (Shows : Ask → ℕ → Talk → Class → List ℕ → Type 0) (s : S
   small = is_small s task
 
   sound : AreSound small task.size piece count
-  sound = are_sound s task piece count r.config r.limits load has
+  sound = are_sound s task piece count r.threshold r.limits load has
 
   fitting : IsFitting Shows s.limits (record { start = start; trace = trace; journal = journal; dispatched = dispatched }) IsNoPlace
   fitting = record {

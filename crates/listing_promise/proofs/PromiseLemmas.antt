@@ -71,7 +71,7 @@ module _ (endpoint : Endpoint) (keys : Keys) (Plans : List Dispatched → Type 0
     sources = λ run same of_shown n task how at_task at_how may. absurd (none_is_some task at_task);
     files = λ n task how at at_task at_how moves from. absurd (none_is_some task at_task);
     one_class = λ n task at_task is_fresh. absurd (none_is_some task at_task);
-    config = one_valid config configured;
+    threshold = configured.threshold.least;
     limits = valid;
   }
 

@@ -49,7 +49,7 @@ use Rattle.file_laws.proofs.Keeping.{removal_downloads, upload_downloads, upload
 use Rattle.promise_examples.specs.BothKinds.{BothKindsAreMet, IsMetByBoth, bucket, stored_key, first_key, second_key, source_path, first_path, first_temp, second_path, second_temp, removed_path, bytes, content, upload, first_load, second_load, limits, put_job, get_job, put, first_get, second_get, denied, put_talk, first_talk, second_talk, journal, with_bytes, removes, makes_first, writes_first, renames_first, stamps_first, makes_second, drops_second, calls, shown, start, stored, trace}
 use Rattle.promise_examples.specs.Reading.{Reads, HasNoStatus, signed_body}
 use Rattle.promise_examples.specs.Services.{object_of, one_bucket}
-use Rattle.promise_examples.proofs.BothPlan.{s, last_task, no_task, object_is_no_file, task_numbers, of_plan, still, config_is_valid, upload_pieces, first_pieces, second_pieces, to_upload, from_first, from_second, source_is, body_is, dests_apart, files_apart, other_length, call_run}
+use Rattle.promise_examples.proofs.BothPlan.{s, last_task, no_task, object_is_no_file, task_numbers, of_plan, still, upload_pieces, first_pieces, second_pieces, to_upload, from_first, from_second, source_is, body_is, dests_apart, files_apart, other_length, call_run}
 use Rattle.promise_examples.proofs.Carrying as carrying
 use Rattle.promise_examples.proofs.Concrete.{Each, at, each, some_is}
 use Rattle.promise_examples.proofs.Fitting as fitting
@@ -445,7 +445,7 @@ module _ (page_of : List ℕ → Listed) where
     questions = λ c known none. absurd (each (λ (d : Dispatched). d.dispatch.job.task ≡ None → ⊥) jobs (no_task, (no_task, (no_task, tt))) c known none);
     apart = record { destinations = dests_apart; sources = λ m n a b of_bucket of_key is_a is_b moves is_source is_dest. still m a is_a moves };
     one_class = λ n task is_task fresh. absurd (of_plan (λ k t. t.fresh ≡ true → ⊥) never never never never n task is_task fresh);
-    config = config_is_valid;
+    threshold = omega arith;
     limits = limits_are_valid;
   }
 

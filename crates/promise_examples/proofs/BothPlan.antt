@@ -11,7 +11,6 @@ use Rattle.s3_model.specs.Files.{HeldFile}
 use Rattle.s3_model.specs.Maps.{MapOf}
 use Rattle.s3_model.specs.Parts.{HasPieces}
 use Rattle.s3_model.specs.TempNames.{is_temp_name}
-use Rattle.s3_model.specs.Validity.{IsValidConfig}
 use Rattle.run_promise.specs.Schedule.{Setting, bytes_of}
 use Rattle.job_terms.specs.Jobs.{IsObject, Origin, Target}
 use Rattle.local_files.specs.Calls.{IsCallRun, IsTempFor}
@@ -56,16 +55,6 @@ of_plan P a b c d n task is = slot P s.tasks (a, (b, (c, (d, tt)))) n task is
 
 pub still : OfPlan (λ n task. task.moves ≡ true → ⊥)
 still = of_plan (λ n task. task.moves ≡ true → ⊥) never never never never
-
-pub config_is_valid : IsValidConfig config
-config_is_valid = record {
-  threshold = record { least = omega arith; most = omega arith };
-  chunk = record { least = omega arith; most = omega arith };
-  lanes = record { least = omega arith; most = omega arith };
-  queue = record { least = omega arith; most = omega arith };
-  buffers = record { least = omega arith; most = omega arith };
-  attempts = record { least = omega arith; most = omega arith };
-}
 
 pub upload_pieces : HasPieces config limits kind.Upload 2 2 1
 upload_pieces = inl (omega arith, refl, refl)

@@ -12,7 +12,7 @@ use Rattle.world_laws.specs.Premises.{AllRefused, IsPlace}
 use Rattle.world_laws.specs.Rounds.{Round, Told, dispatch_at, journal_of, steps_from}
 use Rattle.world_laws.specs.Tasks.{AreQuestions, IsScheduled}
 use Rattle.world_laws.proofs.Faithful.{IsFaithful, bare_is_faithful, rounds_fitting, run_by}
-use Rattle.world_laws.proofs.ScheduleWitness.{config_is_valid, delete_create, limits_are_valid, one_apart, one_fitting, one_schedule, removal_is_plain, removes, setting_of, the_limits, the_round}
+use Rattle.world_laws.proofs.ScheduleWitness.{delete_create, limits_are_valid, one_apart, one_fitting, one_schedule, removal_is_plain, removes, setting_of, the_limits, the_round}
 use Rattle.world_laws.proofs.Rounds.{rounds_come, rounds_given}
 use Rattle.world_laws.proofs.Witnesses.{alone, is_refused, one_bucket, refused_delete}
 use Rattle.promise_examples.specs.MadeRequests.{RefusalWasMade, RefusedTaskWasMade}
@@ -61,7 +61,7 @@ module _ (bucket key : List ℕ) where
     given = rounds_given (r ∷ []) start (alone r);
     come = λ c known. rounds_come (r ∷ []) start (alone r) c (has (request ∷ []) c known);
     apart = one_apart removed refl r (removal_is_plain bucket key) start faithful ((refl, tt), tt) refl (removes bucket key) refl delete_create;
-    config = config_is_valid;
+    threshold = omega arith;
     limits = limits_are_valid;
   }
 

@@ -1,6 +1,6 @@
 -- What makes a run truthful, and done where the service is willing, by the laws of whole runs over objects. The run's jobs can be
 -- read from its journal in one way only, and no task is one that is not to replace.
-use Rattle.std.proofs.Common.{◌≡◌, ℕ, true, List, Some, None, sym, subst, inl, inr, map, Contains, length, slice_get}
+use Rattle.std.proofs.Common.{◌≡◌, ◌≤◌, ℕ, true, List, Some, None, sym, subst, inl, inr, map, Contains, length, slice_get}
 use Rattle.std.specs.FinMap.{get}
 use Rattle.s3_model.specs.declared.requests.Ask.{Ask}
 use Rattle.s3_model.specs.declared.answers.Class.{Class}
@@ -8,7 +8,7 @@ use Rattle.s3_model.specs.declared.outcomes.Cause.{Cause}
 use Rattle.s3_model.specs.declared.outcomes.Outcome.{Outcome}
 use Rattle.s3_model.specs.declared.tasks.Task.{Task}
 use Rattle.s3_model.specs.Talks.{Talk}
-use Rattle.s3_model.specs.Validity.{IsValidConfig, IsValidLimits}
+use Rattle.s3_model.specs.Validity.{IsValidLimits}
 use Rattle.s3_service.specs.ServiceState.{State}
 use Rattle.job_terms.specs.Buffers.{KeepsBuffers}
 use Rattle.run_promise.specs.Carried.{IsCarried}
@@ -48,7 +48,7 @@ module _ (Shows : Ask → ℕ → Talk → Class → List ℕ → Type 0) (HasSt
     pub stay : (path : List ℕ) → get shown.held_after path ≡ get shown.setting.held path
     pub replaces : (n : ℕ) (task : Task) → slice_get shown.setting.tasks n ≡ Some task → task.fresh ≡ true → ⊥
     pub counted : AreCallsCounted Shows HasStatus Plans CallFailed shown
-    pub config : IsValidConfig shown.setting.config
+    pub threshold : 1 ≤ shown.setting.config.threshold
     pub limits : IsValidLimits shown.setting.limits
 
   module _ (o : IsOrdered) where
@@ -70,7 +70,7 @@ module _ (Shows : Ask → ℕ → Talk → Class → List ℕ → Type 0) (HasSt
           sources = λ run same of_shown n task how at_task at_how may. o.sources (moments run) n task at_task;
           files = o.left;
           one_class = λ n task at_task is_fresh. absurd (o.replaces n task at_task is_fresh);
-          config = o.config;
+          threshold = o.threshold;
           limits = o.limits;
         }
 

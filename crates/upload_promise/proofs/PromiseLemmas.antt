@@ -221,7 +221,7 @@ module _ (Shows : Ask → ℕ → Talk → Class → List ℕ → Type 0) (HasSt
         stay = stay;
         replaces = λ n task at_task is_fresh. none_is_some task at_task;
         counted = counted [] [] [] [] notes [] (λ n task at_task. absurd (none_is_some task at_task));
-        config = configured;
+        threshold = configured.threshold.least;
         limits = valid;
       })
       (λ n how at_n. absurd (none_is_some how at_n))
@@ -309,7 +309,7 @@ module _ (Shows : Ask → ℕ → Talk → Class → List ℕ → Type 0) (HasSt
             stay = stay;
             replaces = of_each (λ (t : Task). t.fresh ≡ true → ⊥) false_is_true;
             counted = counted (task ∷ []) (how ∷ []) journal talks notes jobs (of_each (λ (t : Task). is_upload (Some t) ≡ true) refl);
-            config = configured;
+            threshold = configured.threshold.least;
             limits = valid;
           })
           (λ n of_how at_n. subst IsOrdinary (first_only how n of_how at_n).1 ordinary)

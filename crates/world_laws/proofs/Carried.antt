@@ -1,5 +1,5 @@
 -- What the clauses on carried jobs give to the laws over traces.
-use Rattle.std.proofs.Common.{◌≡◌, ◌∙◌, ℕ, List, Some, sym, ap, Contains, slice_get}
+use Rattle.std.proofs.Common.{◌≡◌, ◌∙◌, ◌≤◌, ℕ, List, Some, sym, ap, Contains, slice_get}
 use Rattle.s3_model.specs.declared.requests.Ask.{Ask}
 use Rattle.s3_model.specs.declared.answers.Class.{Class}
 use Rattle.s3_model.specs.declared.outcomes.JobId.{JobId}
@@ -8,7 +8,7 @@ use Rattle.s3_model.specs.declared.outcomes.Event.TheVariants as entry
 use Rattle.s3_model.specs.declared.tries.Mark.{Mark}
 use Rattle.s3_model.specs.Talks.{Talk, Note}
 use Rattle.job_terms.specs.Dispatches.{Dispatched}
-use Rattle.s3_model.specs.Validity.{IsValidConfig, IsValidLimits}
+use Rattle.s3_model.specs.Validity.{IsValidLimits}
 use Rattle.run_promise.specs.Schedule.{Setting, IsSchedule, planning_of}
 use Rattle.run_promise.specs.Carried.{IsCarried}
 use Rattle.shared_lemmas.proofs.Clashes.{some_is}
@@ -38,8 +38,8 @@ module _ (Shows : Ask → ℕ → Talk → Class → List ℕ → Type 0) (reque
 
   -- with the clauses on given jobs they are what the laws on tasks take
   pub is_scheduled : (Plans : List Dispatched → Type 0) → IsSchedule Shows setting Plans dispatched coming → AreQuestions (planning_of dispatched)
-      → AreApart setting.tasks → IsValidConfig setting.config → IsValidLimits setting.limits → IsScheduled Shows setting journal dispatched coming
-  is_scheduled Plans schedule questions apart config limits = record {
+      → AreApart setting.tasks → 1 ≤ setting.config.threshold → IsValidLimits setting.limits → IsScheduled Shows setting journal dispatched coming
+  is_scheduled Plans schedule questions apart threshold limits = record {
     schedule = record {
       is_coming = schedule.is_coming;
       in_order = schedule.in_order;
@@ -60,6 +60,6 @@ module _ (Shows : Ask → ℕ → Talk → Class → List ℕ → Type 0) (reque
     given = are_given;
     come = has_come;
     apart = apart;
-    config = config;
+    threshold = threshold;
     limits = limits;
   }

@@ -47,7 +47,7 @@ use Rattle.world_laws.proofs.Faithful.{nobody_writes, IsFaithful, bare, bare_is_
 use Rattle.world_laws.proofs.Objects.{object_at-with_object}
 use Rattle.world_laws.proofs.Rounds.{AreApart as AreOtherJobs, first_attempt, round_of, same_reply}
 use Rattle.world_laws.proofs.ScheduleWitness as sched
-use Rattle.world_laws.proofs.ScheduleWitness.{AllPlain, AsksOf, IsPlainRound, setting_of, setting_with, config_is_valid, limits_are_valid, one_task, the_limits}
+use Rattle.world_laws.proofs.ScheduleWitness.{AllPlain, AsksOf, IsPlainRound, setting_of, setting_with, limits_are_valid, one_task, the_limits}
 use Rattle.world_laws.proofs.Witnesses.{alone, bucket_is_there, one_bucket, source_is_there, with_source}
 
 -- ---- one reading
@@ -106,7 +106,7 @@ module _ (held : MapOf HeldFile) (task : Task) (how : Outcome) (rounds : List Ro
         let one = one_task task n other is_task in
         absurd (no_file path (ap (λ (t : Task). t.moves) (sym one.1) ∙ moves) (ap (λ (t : Task). t.source) (sym one.1) ∙ is_source));
     one_class = λ n other is_task fresh. told_one_class;
-    config = config_is_valid;
+    threshold = omega arith;
     limits = limits_are_valid;
   }
     where

@@ -103,7 +103,7 @@ module _ (Shows : Ask → ℕ → Talk → Class → List ℕ → Type 0) (HasSt
       o.questions c (contains_of dispatched c (kept is_planning dispatched c among)) (planned_none c.dispatch.job.task (passes is_planning dispatched c among))
 
   pub scheduled : IsScheduled Shows s shown.journal dispatched coming
-  scheduled = is_scheduled Shows request_text host port s shown.journal shown.logs shown.notes dispatched coming o.carried Plans o.schedule questions o.apart o.config o.limits
+  scheduled = is_scheduled Shows request_text host port s shown.journal shown.logs shown.notes dispatched coming o.carried Plans o.schedule questions o.apart o.threshold o.limits
 
   -- ---- one task
 
@@ -372,7 +372,7 @@ module _ (Shows : Ask → ℕ → Talk → Class → List ℕ → Type 0) (HasSt
     questions = o.questions;
     apart = o.apart;
     one_class = o.one_class;
-    config = o.config;
+    threshold = o.threshold;
     limits = o.limits;
   }
 

@@ -502,7 +502,7 @@ module _ (Shows : Ask → ℕ → Talk → Class → List ℕ → Type 0) (HasSt
           in_pieces : (piece pieces : ℕ) → HasPieces s.config s.limits task.kind task.size piece pieces → (1 ≤ piece) × (count ≡ piece_count task.size piece) × (1 ≤ task.size) × (s.limits.min_part ≤ piece)
           in_pieces piece pieces has =
               let large = in_parts s.config s.limits task.size piece pieces scheduled.limits is_size (transfer piece pieces has) in
-              let least = scheduled.config.threshold.least in
+              let least = scheduled.threshold in
               let reaches = large.2 in (
                 large.0,
                 level_count (joins c known is_job).0.piece piece (joins c known is_job).0.count pieces (joins c known is_job).0.pieces has ∙ large.1,
@@ -645,7 +645,7 @@ module _ (Shows : Ask → ℕ → Talk → Class → List ℕ → Type 0) (HasSt
             let open_here = open_now (subst UsesUpload (sym is_op) tt) (never_ended (λ e known_e before answered bytes after served ends. never_joined e known_e ends (inr is_part)) (inl (λ aborts. copied_is_no_abort (sym is_op ∙ aborts)))) row.2 row.3 in
             let source = source_stays (never_decided_in_parts is_size is_kind is_part) is_kind from.bucket from.key from.is_source there.front (there.step ∷ there.back) there.is in
             let large = in_parts s.config s.limits task.size own.piece own.count scheduled.limits is_size (subst (λ (k : Kind). HasPieces s.config s.limits k task.size own.piece own.count) is_kind own.pieces) in
-            let least = scheduled.config.threshold.least in
+            let least = scheduled.threshold in
             let reaches = large.2 in
             let sized : 1 ≤ length source.0.bytes = subst (λ (k : ℕ). 1 ≤ k) (sym source.2) (omega arith) in
             let high : c.dispatch.job.number ≤ piece_count (length source.0.bytes) own.piece = subst (λ (k : ℕ). c.dispatch.job.number ≤ piece_count k own.piece) (sym source.2) (subst (λ (k : ℕ). c.dispatch.job.number ≤ k) large.1 row.4.1) in

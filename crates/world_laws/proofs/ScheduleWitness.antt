@@ -23,7 +23,7 @@ use Rattle.run_promise.specs.Fits.{request_at}
 use Rattle.run_promise.specs.Traces.{states}
 use Rattle.s3_service.specs.ServiceState.{State}
 use Rattle.run_promise.specs.Truthful.{IsDest}
-use Rattle.s3_model.specs.Validity.{IsValidConfig, IsValidLimits}
+use Rattle.s3_model.specs.Validity.{IsValidLimits}
 use Rattle.run_promise.specs.Schedule.{IsUpload, Setting, limit_of, IsSchedule, IsTaskAsk, IsBefore, IsBeforeAny, IsDecided, IsFailed, gained_before, is_planning, planning_of, is_small, source_bytes}
 use Rattle.job_terms.specs.Jobs.{Target, Origin, IsObject, IsSource, job_of}
 use Rattle.s3_model.specs.Maps.{MapOf}
@@ -203,16 +203,6 @@ setting_with held task = record {
 abbrev pub setting_of : Task → Setting
 setting_of task = setting_with empty task
 
-pub config_is_valid : IsValidConfig the_config
-config_is_valid = record {
-  threshold = record { least = omega arith; most = omega arith };
-  chunk = record { least = omega arith; most = omega arith };
-  lanes = record { least = omega arith; most = omega arith };
-  queue = record { least = omega arith; most = omega arith };
-  buffers = record { least = omega arith; most = omega arith };
-  attempts = record { least = omega arith; most = omega arith };
-}
-
 pub limits_are_valid : IsValidLimits the_limits
 limits_are_valid = record {
   min_part = omega arith;
@@ -356,7 +346,7 @@ module _ (bucket key from_bucket from_key etag : List ℕ) (apart : (from_bucket
     given = rounds_given rounds (with_source the_limits bucket key from_bucket from_key etag) other_jobs;
     come = λ c known. rounds_come rounds (with_source the_limits bucket key from_bucket from_key etag) other_jobs c (has dispatched c known);
     apart = tasks_apart;
-    config = config_is_valid;
+    threshold = omega arith;
     limits = limits_are_valid;
   }
 
@@ -445,7 +435,7 @@ module _ (task : Task) (stays : task.moves ≡ false) (r : Round) (plain : IsPla
     given = rounds_given (r ∷ []) start (alone r);
     come = λ c known. rounds_come (r ∷ []) start (alone r) c (has (request ∷ []) c known);
     apart = one_apart;
-    config = config_is_valid;
+    threshold = omega arith;
     limits = limits_are_valid;
   }
 

@@ -95,7 +95,7 @@ module _ (Shows : Ask → ℕ → Talk → Class → List ℕ → Type 0) (s : S
           → (1 ≤ piece) × (count ≡ piece_count task.size piece) × (1 ≤ task.size)
       large of_kind is_kind is_transfer is_size =
           let all = in_parts s.config s.limits task.size piece count r.limits is_size (is_transfer (subst (λ (k : Kind). HasPieces s.config s.limits k task.size piece count) is_kind pieces)) in
-          let least = r.config.threshold.least in
+          let least = r.threshold in
           let reached = all.2 in
           (all.0, all.1, omega arith)
 

@@ -1,5 +1,5 @@
 -- Runs whose jobs keep to their schedule and are carried: what they promise holds over every honest service.
-use Rattle.std.specs.Prelude.{◌≡◌, ℕ, true, false, List, Some, None, slice_get, Contains}
+use Rattle.std.specs.Prelude.{◌≡◌, ◌≤◌, ℕ, true, false, List, Some, None, slice_get, Contains}
 use Rattle.std.specs.FinMap.{get}
 use Rattle.s3_model.specs.declared.requests.Ask.{Ask}
 use Rattle.s3_model.specs.declared.answers.Class.{Class}
@@ -12,7 +12,7 @@ use Rattle.s3_model.specs.declared.tasks.Kind.TheVariants as kind
 use Rattle.s3_model.specs.declared.tasks.Task.{Task}
 use Rattle.s3_model.specs.Replies.{IsSameClass}
 use Rattle.s3_model.specs.Talks.{Talk, Note}
-use Rattle.s3_model.specs.Validity.{IsValidConfig, IsValidLimits}
+use Rattle.s3_model.specs.Validity.{IsValidLimits}
 use Rattle.run_promise.specs.Carried.{IsCarried}
 use Rattle.job_terms.specs.Dispatches.{Dispatched}
 use Rattle.run_promise.specs.Outcomes.{HasOutcome, IsDecidedByRequest}
@@ -92,7 +92,7 @@ module _ (Shows : Ask → ℕ → Talk → Class → List ℕ → Type 0) where
       -- needed only where a task is not to replace
       pub one_class : (n : ℕ) (task : Task) → slice_get shown.setting.tasks n ≡ Some task → task.fresh ≡ true
           → ShowsOneClass
-      pub config : IsValidConfig shown.setting.config
+      pub threshold : 1 ≤ shown.setting.config.threshold
       pub limits : IsValidLimits shown.setting.limits
 
     -- Such a run of a plan whose tasks requests decide, with their sources as planned.
@@ -114,7 +114,7 @@ module _ (Shows : Ask → ℕ → Talk → Class → List ℕ → Type 0) where
       -- needed only where a task is not to replace
       pub one_class : (n : ℕ) (task : Task) → slice_get shown.setting.tasks n ≡ Some task → task.fresh ≡ true
           → ShowsOneClass
-      pub config : IsValidConfig shown.setting.config
+      pub threshold : 1 ≤ shown.setting.config.threshold
       pub limits : IsValidLimits shown.setting.limits
 
     -- What such a run shows is true, over every honest service and whatever is lost, refused or late.

@@ -1,5 +1,5 @@
 -- What a run that keeps to the clauses on given and carried jobs leaves of each task whose destination is an object.
-use Rattle.std.specs.Prelude.{◌≡◌, ◌≢◌, ◌++◌, ◌⊎◌, ℕ, Bool, true, false, List, ◌∷◌, Option, Some, None, Contains}
+use Rattle.std.specs.Prelude.{◌≡◌, ◌≤◌, ◌≢◌, ◌++◌, ◌⊎◌, ℕ, Bool, true, false, List, ◌∷◌, Option, Some, None, Contains}
 use Rattle.std.specs.Prelude.{length, slice_get}
 use Rattle.std.specs.Bool.{OnTrue}
 use Rattle.std.specs.FinMap.{get}
@@ -17,7 +17,7 @@ use Rattle.s3_model.specs.declared.tasks.Kind.TheVariants as kind
 use Rattle.s3_model.specs.declared.tasks.Task.{Task}
 use Rattle.s3_model.specs.Maps.{MapOf}
 use Rattle.s3_model.specs.Talks.{Talk}
-use Rattle.s3_model.specs.Validity.{IsValidConfig, IsValidLimits}
+use Rattle.s3_model.specs.Validity.{IsValidLimits}
 use Rattle.s3_model.specs.Files.{HeldFile, is_listed}
 use Rattle.s3_service.specs.ServiceState.{State}
 use Rattle.s3_service.specs.Serves.{taken_codes}
@@ -114,7 +114,7 @@ module _ (Shows : Ask → ℕ → Talk → Class → List ℕ → Type 0) where
     pub given : AreGiven journal dispatched
     pub come : (c : Dispatched) → Contains dispatched c → HasCome journal c
     pub apart : AreApart s.tasks
-    pub config : IsValidConfig s.config
+    pub threshold : 1 ≤ s.config.threshold
     pub limits : IsValidLimits s.limits
 
   -- an honest trace that fits, in which nobody else writes a destination
