@@ -615,6 +615,7 @@ module _ (bucket key : List ℕ) (a b : ℕ) where
         λ decided. decided.2.0,
         λ left_open. left_open.0.2.0,
         ((refused_get, first_failure, (refl, (denied, (refl, refl)), not_changed)), λ skipped. upload_downloads (sym skipped.1)),
+        λ fresh. absurd (true_false (sym fresh)),
       )
           (none_renamed, no_act_failed),
       refl,

@@ -114,7 +114,7 @@ module _ (path : List ℕ) where
       none_there e = cc
 
   caused : HasOutcome Told ToldStatus (HasFailedCall calls) setting [] [] 0 task (outcome.Failed (cause.Files call.Remove))
-  caused = (λ decided. no_dispatched decided.0 decided.1, λ left_open. no_dispatched left_open.0.0 left_open.0.1, (tt, (removal, (0, omega arith, refl), refl, tt)))
+  caused = (λ decided. no_dispatched decided.0 decided.1, λ left_open. no_dispatched left_open.0.0 left_open.0.1, (tt, (removal, (0, omega arith, refl), refl, tt)), λ fresh. absurd (true_false (sym fresh)))
 
   shows : IsShownByCalls (outcome.Failed (cause.Files call.Remove)) (IsRemoved calls 0) (HasFailedAct calls 0)
   shows = (λ removed. failed_or_fine path removed.3 (ap (λ (c : TaskCall). c.step.call) (only removed.0 removed.1) ∙ removed.4), tt)

@@ -146,7 +146,7 @@ module _ (path : List ℕ) where
 
   failed_met : IsFileTaskMet task (outcome.Failed (cause.Files call.Remove))
   failed_met = met false held (outcome.Failed (cause.Files call.Remove)) (refl, tt)
-      (λ decided. no_dispatched decided.0 decided.1, λ left_open. no_dispatched left_open.0.0 left_open.0.1, (tt, (removal false held, (0, omega arith, refl), refl, tt)))
+      (λ decided. no_dispatched decided.0 decided.1, λ left_open. no_dispatched left_open.0.0 left_open.0.1, (tt, (removal false held, (0, omega arith, refl), refl, tt)), λ fresh. absurd (true_false (sym fresh)))
       (λ removed. failed_or_fine path removed.3 (ap (λ (c : TaskCall). c.step.call) (only false held removed.0 removed.1) ∙ removed.4), tt)
 
 -- ---- a file that is moved

@@ -433,6 +433,7 @@ module _ (page_of : List ℕ → Listed) where
         (λ decided. decided.2.0),
         (λ left_open. left_open.0.2.0),
         ((second_sent, first_failure, (refl, (denied, (refl, refl)), not_changed)), (λ skipped. upload_downloads (sym skipped.1))),
+        (λ fresh. absurd (never fresh)),
       )
       ((λ c failing. no_failure 3 (λ e. omega arith) c failing), tt, (λ moves. absurd (never moves)), (λ fresh. absurd (never fresh)))
 

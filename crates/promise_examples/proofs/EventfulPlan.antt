@@ -235,6 +235,8 @@ module _ (page_of : List ℕ → Listed) where
     (copy_sent, at jobs 1 copy_sent refl, (tt, refl), (0, well copy_answered, refl, refl)),
     (λ deleted. not_deleted deleted.1.0 deleted.0 deleted.1.1 deleted.1.2 deleted.1.3),
     (delete_sent, first_failure, (refl, not_memory, [], (refl, refl))),
+    (λ other failing. sym (ap (λ (c : Dispatched). c.dispatch.job) (failure other failing.0))),
+    (λ fresh. absurd (never fresh)),
   )
 
   abbrev Caused : ℕ → Task → Outcome → Type 0

@@ -356,7 +356,7 @@ module _ (page_of : List ℕ → Listed) where
   )
 
   has_failed : HasOutcome Shows HasNoStatus NeverFailed e.setting jobs jobs 0 upload (outcome.Failed (cause.Service op.Part denied []))
-  has_failed = (none_decides mark.Success, (λ open_ended. none_decides mark.Uncertain open_ended.0), ((first_sent, is_first, (refl, ([], (refl, refl)), (λ changed. changed.0))), (λ skipped. never skipped.0)))
+  has_failed = (none_decides mark.Success, (λ open_ended. none_decides mark.Uncertain open_ended.0), ((first_sent, is_first, (refl, ([], (refl, refl)), (λ changed. changed.0))), (λ skipped. never skipped.0)), (λ fresh. absurd (never fresh)))
 
   causes : (n : ℕ) (task : Task) (how : Outcome) → slice_get e.setting.tasks n ≡ Some task → slice_get e.outcomes n ≡ Some how → HasOutcome Shows HasNoStatus NeverFailed e.setting jobs jobs n task how
   causes zero task how at_task at_how =

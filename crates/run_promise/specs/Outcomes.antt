@@ -210,11 +210,27 @@ module _ (Shows : Ask → ℕ → Talk → Class → List ℕ → Type 0) (HasSt
     abbrev pub IsSourceDeleted : ℕ → Task → Type 0
     IsSourceDeleted n task = (answered : Reply) × came_with (job_of n op.Delete 0) answered
 
+    -- no job of the task was given
+    abbrev pub HasNoJob : ℕ → Type 0
+    HasNoJob n = (c : Dispatched) → Contains dispatched c → c.dispatch.job.task ≢ Some n
+
     -- its file was there at the start, and no Get was sent
     abbrev pub IsSkippedByFile : ℕ → Task → Type 0
     IsSkippedByFile n task =
-        (task.fresh ≡ true) × (task.kind ≡ kind.Download) × StoodAt s.held s.others task.dest
-        × ((c : Dispatched) → Contains dispatched c → c.dispatch.job.task ≢ Some n)
+        (task.fresh ≡ true) × (task.kind ≡ kind.Download) × StoodAt s.held s.others task.dest × HasNoJob n
+
+    -- at the place of a download that is not to replace nothing stood
+    abbrev pub HasFreePlace : Task → Type 0
+    HasFreePlace task = task.fresh ≡ true → task.kind ≡ kind.Download → ¬ (StoodAt s.held s.others task.dest)
+
+    -- or something did, and no Get was sent
+    abbrev pub IsFreeOrIdle : ℕ → Task → Type 0
+    IsFreeOrIdle n task =
+        task.fresh ≡ true → task.kind ≡ kind.Download → StoodAt s.held s.others task.dest → HasNoJob n
+
+    -- no job of the task failed but the Delete of its source
+    abbrev pub OnlyDeleteFailed : ℕ → Type 0
+    OnlyDeleteFailed n = (c : Dispatched) → IsFailureOf n c → c.dispatch.job ≡ job_of n op.Delete 0
 
     -- ---- outcomes
 
@@ -222,11 +238,12 @@ module _ (Shows : Ask → ℕ → Talk → Class → List ℕ → Type 0) (HasSt
     HasOutcome n task outcome.Done =
         HasNoFailure n × IsDecidedAt n task task.kind
         × (task.moves ≡ true → IsObjectPlace task.source → IsSourceDeleted n task)
-        × (task.fresh ≡ true → task.kind ≡ kind.Download → ¬ (StoodAt s.held s.others task.dest))
+        × HasFreePlace task
     HasOutcome n task (outcome.Copied why) =
         (task.moves ≡ true) × IsDecidedAt n task task.kind × ¬ (IsSourceDeleted n task) × StaysFor n task why
+        × OnlyDeleteFailed n × HasFreePlace task
     HasOutcome n task (outcome.Unknown why) = IsLeftOpen n task × IsOpenFor n task why
     HasOutcome n task (outcome.Failed why) =
-        ¬ (HasDeciding n task mark.Success) × ¬ (IsLeftOpen n task) × FailsFor n task why
+        ¬ (HasDeciding n task mark.Success) × ¬ (IsLeftOpen n task) × FailsFor n task why × IsFreeOrIdle n task
     HasOutcome n task outcome.Dry = s.dryrun ≡ true
     HasOutcome n task outcome.Skipped = (s.dryrun ≡ false) × (IsSkippedByRequest n task ⊎ IsSkippedByFile n task)

@@ -6,7 +6,7 @@ use Rattle.jobs.specs.declared.ending.Ending.TheVariants as ending
 use Rattle.manager_moves.specs.Runs.{Events, Sent, Shared, lacks_memory, made_count, outcome_in, share, with_taken}
 use Rattle.run_progress.proofs.Waiting.{is_waiting, memory_waits}
 use Rattle.job_terms.specs.Dispatches.{Dispatched}
-use Rattle.run_promise.specs.Outcomes.{HasDeciding, HasOutcome, IsDecidedAt, IsFilePlace, IsObjectPlace, IsSourceDeleted, came_with}
+use Rattle.run_promise.specs.Outcomes.{HasDeciding, HasOutcome, IsDecidedAt, IsFilePlace, IsObjectPlace, IsSourceDeleted, OnlyDeleteFailed, came_with}
 use Rattle.job_terms.specs.Ops.{deciding}
 use Rattle.run_promise.specs.Schedule.{IsDecidedBy, Setting, is_small}
 use Rattle.job_terms.specs.Jobs.{job_of}
@@ -53,11 +53,12 @@ use Rattle.task_progress.proofs.Endings.{no}
 use Rattle.task_progress.proofs.Progress.{IsCounted}
 use Rattle.task_progress.proofs.Tags.{came_fine}
 use Rattle.task_schedule.specs.Asks.{gained_in}
-use Rattle.task_schedule.specs.Journals.{IsRunOf, ShowOne}
+use Rattle.task_schedule.specs.Journals.{IsBack, IsRunOf, ShowOne}
 use Rattle.task_schedule.specs.Outcomes.{HasDecidingMark, HasGone, HasHappened, IsShownBy}
-use Rattle.task_schedule.proofs.Deciders.{call_failed, gets_done, job_failed}
+use Rattle.task_schedule.proofs.Deciders.{call_failed, decided_then, decider_of, gets_done, job_failed}
 use Rattle.task_schedule.proofs.Deciding.{marks_are_of_dispatches}
 use Rattle.task_schedule.proofs.Failing.{counted_call}
+use Rattle.task_schedule.proofs.Failures.{failed_stage}
 use Rattle.task_schedule.proofs.Growth.{decided_grows}
 use Rattle.task_schedule.proofs.Joined.{came_in_all, given_at_is, of_its_task, sent_as, shown_gained, success_shown}
 use Rattle.task_schedule.proofs.Returned.{has_come_back}
@@ -71,7 +72,7 @@ use Rattle.job_terms.proofs.SameJobs.{job_is}
 use Rattle.job_terms.proofs.PieceCounts.{pieces_are_one}
 use Rattle.task_outcomes.specs.Causes.{HaveOneStatus, IsTold, MovesSource, OutcomesHaveCauses}
 use Rattle.task_outcomes.proofs.Acts.{failed_removal, removes_moved}
-use Rattle.task_outcomes.proofs.FirstFailures.{none_failed}
+use Rattle.task_outcomes.proofs.FirstFailures.{failed_at, failed_back, failed_known, none_failed}
 use Rattle.task_outcomes.proofs.Reasons.{IsBy, fails, holds, is_by, is_open_for, piece, stays, work}
 use Rattle.task_outcomes.proofs.Settling.{Ended, FailsFirst, ended_at, failure_then, fails_first}
 
@@ -105,6 +106,9 @@ ends_so w g how e = by (is_decided_in w g) refl w.moves refl (has_done (stage w 
     by false d moves m gone g_is true (Some why) o stop s f = subst (EndsSo w g) (some_is (outcome.Unknown why) how f) o
     by false d moves m gone g_is false unsure_why o None s f = absurd (none_is how f)
     by false d moves m gone g_is false unsure_why o (Some why) s f = subst (EndsSo w g) (some_is (outcome.Failed why) how f) (d, s)
+
+send_is_no_removal : (c : SeenCarried) → sent c ≡ act.Remove → ⊥
+send_is_no_removal c e = cc
 
 file_or_object : (p : Option Place) → IsFilePlace p → IsObjectPlace p → ⊥
 file_or_object None f o = f
@@ -230,6 +234,44 @@ module _ (Shows : Ask → ℕ → Talk → Class → List ℕ → Type 0) (HasSt
     then_holds : IsHistory w ends.then_
     then_holds = earlier w ends.later ends.then_ (subst (IsHistory w) ends.is is)
 
+    -- ---- what of a task can fail that was decided
+
+    -- what failed in the whole history has failed by its end
+    decided_in_all : is_decided_in w ends.then_ ≡ true → is_decided_in w (share w n events) ≡ true
+    decided_in_all decided = by w.of_kind (decided_then w (share w n events) is ends.later ends.then_ ends.is (is_stopped w ends.then_) decided)
+      where
+        by : (k : Kind) → has_done (stage w (share w n events) (decider_of w k)) ≡ true → is_decided_by w (stage w (share w n events)) (is_stopped w (share w n events)) k ≡ true
+        by kind.Upload d = d
+        by kind.Download d = d
+        by kind.Copy d = d
+        by kind.RemoveObject d = d
+        by kind.RemoveFile d = d
+
+    only_delete : is_decided_in w ends.then_ ≡ true → task.moves ≡ true → OnlyDeleteFailed Shows HasStatus CallFailed setting dispatched coming n
+    only_delete decided moves c failure = job_is c.dispatch.job (job_of n op.Delete 0) failure.1 (deletes.0) (deletes.1)
+      where
+        back : IsBack Shows planned (failed_at Shows HasStatus CallFailed s setting planned events dispatched coming r one n w of_plan c failure.0 failure.1).later _ c
+        back = failed_back Shows HasStatus CallFailed s setting planned events dispatched coming r one n w of_plan c failure.0 failure.1
+
+        is_removal : sent back.carried ≡ removal w.of_kind
+        is_removal = failed_removal w (share w n events) is (decided_in_all decided) has_piece (sent back.carried) tt
+            (failed_stage Shows s setting planned events dispatched coming r one n w of_plan c.dispatch.job.op c.dispatch.job.number c
+            (failed_known Shows HasStatus CallFailed s setting planned events dispatched coming r one n w of_plan c failure.0 failure.1)
+            (failed_at Shows HasStatus CallFailed s setting planned events dispatched coming r one n w of_plan c failure.0 failure.1) back failure.0)
+
+        by_kind : (k : Kind) → sent back.carried ≡ removal k → sent back.carried ≡ act.Send op.Delete 0
+        by_kind kind.Upload e = absurd (send_is_no_removal back.carried e)
+        by_kind kind.RemoveFile e = absurd (send_is_no_removal back.carried e)
+        by_kind kind.Download e = e
+        by_kind kind.Copy e = e
+        by_kind kind.RemoveObject e = e
+
+        of_job : back.carried.job.id ≡ c.dispatch.job
+        of_job = back.of_job
+
+        deletes : (c.dispatch.job.op ≡ op.Delete) × (c.dispatch.job.number ≡ 0)
+        deletes = subst (λ (j : JobId). (j.op ≡ op.Delete) × (j.number ≡ 0)) of_job (sends_so back.carried (by_kind w.of_kind is_removal))
+
     -- what is done has no failure
     no_failure : is_decided_in w ends.then_ ≡ true → (w.moves ≡ true → has_done (stage w ends.then_ (removal w.of_kind)) ≡ true) → first_failure w ends.then_ ≡ None
     no_failure decided gone = by (first_failure w ends.then_) refl
@@ -291,6 +333,8 @@ module _ (Shows : Ask → ℕ → Talk → Class → List ℕ → Type 0) (HasSt
           decided_at its.0,
           not_deleted moves w.of_kind refl its.0 its.2,
           stays Shows HasStatus CallFailed s setting planned events dispatched coming one status_one r told n w task of_plan is_task how ends why (forgot why (ap (λ (x : Outcome). cause_of (Some x)) same)) so.0 moves so.2,
+          only_delete so.0 moves,
+          λ fresh down. no (sym of_task.replaces ∙ fresh),
         )
 
     unknown_is : (why : Cause) → how ≡ outcome.Unknown why → Outcome_is (outcome.Unknown why)
@@ -315,6 +359,7 @@ module _ (Shows : Ask → ℕ → Talk → Class → List ℕ → Type 0) (HasSt
           λ d. its.0 (success_happens w.of_kind refl ((mark_told mark.Success).1 d)),
           λ left. its.1 ((mark_told mark.Uncertain).1 left.0),
           fails Shows HasStatus CallFailed s setting planned events dispatched coming one status_one r told n w task of_plan is_task how ends why (forgot why (ap (λ (x : Outcome). cause_of (Some x)) same)) so.0 so.1,
+          λ fresh. no (sym of_task.replaces ∙ fresh),
         )
 
     is_its_outcome : (x : Outcome) → how ≡ x → IsShownBy w (share w n events) x → Outcome_is x
@@ -336,7 +381,7 @@ module _ (Shows : Ask → ℕ → Talk → Class → List ℕ → Type 0) (HasSt
       no (waits_not (stage w (share w n events) (act.Send o k)) (sent_begun events n k a.lane w o there) (memory_waits s n w of_plan (act.Send o k) events r.run lacks))
 
   not_made : lacks_memory n events ≡ true → setting.wanted_memory (Some n) ≡ true → Outcome_is (outcome.Failed cause.Memory)
-  not_made lacks wanted = (λ d. no_job lacks _ 0 d.0 d.1 d.2.1, λ left. no_job lacks _ 0 left.0.0 left.0.1 left.0.2.1, wanted)
+  not_made lacks wanted = (λ d. no_job lacks _ 0 d.0 d.1 d.2.1, λ left. no_job lacks _ 0 left.0.0 left.0.1 left.0.2.1, wanted, λ fresh. no (sym of_task.replaces ∙ fresh))
 
   memory_is : (why : Cause) → why ≡ cause.Memory → (how : Outcome) → cause_of (Some how) ≡ Some why → promised.is_memory (cause_of (Some how)) ≡ true
   memory_is why m how e = ap promised.is_memory (e ∙ ap Some m)

@@ -312,7 +312,7 @@ module _ (w : Work) where
 
   -- what follows that act, and does not tidy up, was given when it had done what it was to do
   module _ (h : History) (is : IsHistory w h) where
-    decided_then : (later before : History) → h ≡ later ++ before → (stopped : Bool) → is_decided w (stage w before) stopped ≡ true → has_done (stage w h (decider w)) ≡ true
+    pub decided_then : (later before : History) → h ≡ later ++ before → (stopped : Bool) → is_decided w (stage w before) stopped ≡ true → has_done (stage w h (decider w)) ≡ true
     decided_then later before at stopped e = subst (λ (x : History). has_done (stage w x (decider w)) ≡ true) (sym at) (done_stays w later before (decider w) (subst (IsHistory w) at is) (by w.of_kind e))
       where
         by : (k : Kind) → is_decided_by w (stage w before) stopped k ≡ true → has_done (stage w before (decider_of w k)) ≡ true
@@ -377,13 +377,17 @@ module _ (w : Work) where
   now_failed : (later before : History) (a : Act) → IsHistory w (later ++ before) → stage w before a ≡ at.Failed → stage w (later ++ before) a ≡ at.Failed
   now_failed later before a is e = ended_stays w later before a is (subst (λ (how : Stage). has_ended how ≡ true) (sym e) refl) ∙ e
 
+  -- a job that came back so
+  pub came_failed : (h later before : History) (c : SeenCarried) → IsHistory w h → h ≡ later ++ Came c ∷ before → carried_stage w (is_stopped w before) c ≡ at.Failed → stage w h (sent c) ≡ at.Failed
+  came_failed h later before c is whole e =
+      subst (λ (x : History). stage w x (sent c) ≡ at.Failed) (sym whole) (now_failed later (Came c ∷ before) (sent c) (subst (IsHistory w) whole is)
+      (chosen (is_act (sent c) (sent c)) (carried_stage w (is_stopped w before) c) (stage w before (sent c)) (act_itself c.job.id.op c.job.id.number) ∙ e))
+
   -- a job that failed
   pub job_failed : (h : History) → IsHistory w h → (c : SeenCarried) → Has h (Came c) → is_cut_short w c ≡ false → is_some (carried_cause w c) ≡ true → stage w h (sent c) ≡ at.Failed
   job_failed h is c known not_cut cause =
       let split = split_of h (Came c) known in
-      subst (λ (x : History). stage w x (sent c) ≡ at.Failed) (sym split.is) (now_failed split.front (Came c ∷ split.back) (sent c) (subst (IsHistory w) split.is is)
-      (chosen (is_act (sent c) (sent c)) (carried_stage w (is_stopped w split.back) c) (stage w split.back (sent c)) (act_itself c.job.id.op c.job.id.number)
-      ∙ fails_so (is_cut_short w c) (is_stopped w split.back) (is_some (carried_cause w c)) not_cut cause))
+      came_failed h split.front split.back c is split.is (fails_so (is_cut_short w c) (is_stopped w split.back) (is_some (carried_cause w c)) not_cut cause)
 
   not_fine : (a : Act) (r : FileCame) → is_some (file_cause a r) ≡ true → file_stage r ≡ at.Failed
   not_fine act.Stamp file.Fine e = no e

@@ -2,7 +2,7 @@
 use Rattle.std.proofs.Common.{◌≡◌, ◌≢◌, ◌∙◌, ◌||◌, ◌⊎◌, ◌++◌, ◌<◌, ℕ, Bool, true, false, List, [], ◌∷◌, Option, Some, None, Contains, AllPairs, refl, sym, subst, ap, inl, inr, arith, get_or, slice_get}
 use Rattle.std.proofs.lemmas.Bool.{ltb-true}
 use Rattle.std.proofs.lemmas.Option.{slice_get-get_or}
-use Rattle.std.specs.Prelude.{is_some, nat_lt, IsSome}
+use Rattle.std.specs.Prelude.{is_some, nat_lt, IsSome, if◌then◌else◌}
 use Rattle.run_promise.specs.Dispatches.{IsSuccessLast}
 use Rattle.job_terms.specs.Dispatches.{Attempt, Dispatched, last_of}
 use Rattle.run_promise.specs.Schedule.{IsBefore, IsBeforeAny, IsFailed, IsStopped, Setting}
@@ -16,7 +16,9 @@ use Rattle.s3_model.specs.declared.requests.Op.{Op}
 use Rattle.s3_model.specs.declared.requests.Op.TheVariants as op
 use Rattle.task_acts.specs.declared.work.Work.{Work}
 use Rattle.task_acts.specs.Failures.{carried_cause, first_failure, first_reason, is_cut_short, is_stopped}
-use Rattle.task_acts.specs.Histories.{Came, History}
+use Rattle.task_acts.specs.Histories.{Came, History, sent}
+use Rattle.task_acts.specs.Stages.{stage}
+use Rattle.task_acts.specs.declared.acts.Stage.TheVariants as at
 use Rattle.shared_lemmas.proofs.Clashes.{false_true}
 use Rattle.shared_lemmas.proofs.Lists.{tail_is}
 use Rattle.shared_lemmas.proofs.Members.{Has, contains_of, found_or_not, has-append_right, has_at, has_middle}
@@ -25,10 +27,11 @@ use Rattle.manager_moves.specs.Runs.{Back, Events, Sent, Shared, Stopped, share}
 use Rattle.task_schedule.specs.Journals.{IsBack, IsFirstCancel, IsRunOf, KeepsSchedule, SharesKeepSchedule, ShowOne, place_after}
 use Rattle.task_schedule.proofs.Cancels.{after_cancel}
 use Rattle.task_schedule.proofs.Cutting.{cut_first, cut_no_abort, cut_unfinished}
+use Rattle.task_schedule.proofs.Deciders.{came_failed}
 use Rattle.task_schedule.proofs.EventStops.{ahead_goes_on}
 use Rattle.task_schedule.proofs.Failing.{in_dispatched, is_cut_in}
 use Rattle.task_schedule.proofs.Givings.{cut_gained}
-use Rattle.task_schedule.proofs.Joined.{aborts_last, all_ask, back_at, back_of, completed_stay, has_work, in_turn, is_ended, its_id, its_last, its_task, move_last, none_thrice, task_of, uploads_end}
+use Rattle.task_schedule.proofs.Joined.{aborts_last, all_ask, all_holds, back_at, back_of, completed_stay, has_work, in_turn, is_ended, its_id, its_last, its_task, move_last, none_thrice, task_of, uploads_end}
 use Rattle.task_schedule.proofs.Marks.{gained_by}
 use Rattle.task_schedule.proofs.Places.{ends, entry_fills, filled, fills, happened_before}
 use Rattle.task_schedule.proofs.SentJobs.{IsAt, IsTwice, at_of, stopped_sends, twice}
@@ -94,6 +97,25 @@ module _ (Shows : Ask → ℕ → Talk → Class → List ℕ → Type 0) (s : S
           by true e true c false had false g = absurd (failed.3 (is_cut_in Shows s setting planned events dispatched coming r one n w of_plan o k f a back c (ap (λ (b : Bool). b || is_some (first_reason (share w n rest))) had ∙ g) failed.0 failed.1 failed.2))
           by true e false c false had stops g = failure_there w (Came back.carried ∷ share w n rest) (Came back.carried) (inl refl)
               (ap (λ (x : Option Cause). is_some x) (skipped (is_cut_short w back.carried) None (carried_cause w back.carried) c) ∙ e)
+
+      -- its act has failed
+      pub failed_stage : stage w (share w n events) (sent back.carried) ≡ at.Failed
+      failed_stage = came_failed w (share w n events) (since w n back.newer (Back back.lane back.carried ∷ rest)) (share w n rest) back.carried
+          (all_holds Shows s setting planned events dispatched coming r n w of_plan) whole
+          (by (is_cut_short w back.carried) refl (is_stopped w (share w n rest)) refl (is_some (carried_cause w back.carried)) refl)
+        where
+          whole : share w n events ≡ since w n back.newer (Back back.lane back.carried ∷ rest) ++ Came back.carried ∷ share w n rest
+          whole = ap (share w n) (back_at Shows s setting planned events dispatched coming r n w of_plan o k f a back) ∙ since_is w n back.newer (Back back.lane back.carried ∷ rest)
+              ∙ ap (λ (h : History). since w n back.newer (Back back.lane back.carried ∷ rest) ++ h) came_is
+
+          by : (cut : Bool) → is_cut_short w back.carried ≡ cut → (halted : Bool) → is_stopped w (share w n rest) ≡ halted → (cause : Bool) → is_some (carried_cause w back.carried) ≡ cause
+              → (if is_cut_short w back.carried then (if is_stopped w (share w n rest) then at.Failed else at.Kept) else if is_some (carried_cause w back.carried) then at.Failed else at.Fine) ≡ at.Failed
+          by true c false h cause e = absurd (failed.3 (is_cut_in Shows s setting planned events dispatched coming r one n w of_plan o k f a back c h failed.0 failed.1 failed.2))
+          by true c true h cause e = ap (λ (b : Bool). if b then (if is_stopped w (share w n rest) then at.Failed else at.Kept) else if is_some (carried_cause w back.carried) then at.Failed else at.Fine) c
+              ∙ ap (λ (b : Bool). if b then at.Failed else at.Kept) h
+          by false c halted h true e = ap (λ (b : Bool). if b then (if is_stopped w (share w n rest) then at.Failed else at.Kept) else if is_some (carried_cause w back.carried) then at.Failed else at.Fine) c
+              ∙ ap (λ (b : Bool). if b then at.Failed else at.Fine) e
+          by false c halted h false e = absurd (failed.4 (well Shows s setting planned events dispatched coming r n w of_plan o k f known a back one e))
 
       -- so it stops its task
       pub failed_stops : is_stopped w (share w n (Back back.lane back.carried ∷ rest)) ≡ true

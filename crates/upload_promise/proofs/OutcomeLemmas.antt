@@ -19,7 +19,7 @@ use Rattle.run_promise.specs.Dispatches.{FitsLast, IsCompletedWell, IsCut, IsFai
 use Rattle.job_terms.specs.Dispatches.{Attempt, Dispatched, last_of}
 use Rattle.run_promise.specs.Schedule.{Setting, IsFailed, IsStopped, most_body}
 use Rattle.job_terms.specs.Jobs.{job_of}
-use Rattle.run_promise.specs.Outcomes.{HasOutcome, HasDeciding, HasMark, IsCauseOf, IsDecidingJob, IsFailureOf, IsLastCause}
+use Rattle.run_promise.specs.Outcomes.{HasOutcome, HasDeciding, HasMark, IsCauseOf, IsDecidingJob, IsFailureOf, IsFreeOrIdle, IsLastCause}
 use Rattle.job_terms.specs.Ops.{deciding}
 use Rattle.run_promise.specs.Settled.{cause_of, is_memory, is_upload, tells_file_failed}
 use Rattle.s3_model.specs.declared.tasks.Task.{Task}
@@ -58,12 +58,16 @@ module _ (Shows : Ask → ℕ → Talk → Class → List ℕ → Type 0) (HasSt
   no_deciding : (of_mark : Mark) → HasDeciding Shows HasStatus Fails s [] [] 0 (task_of u) of_mark → ⊥
   no_deciding of_mark h = in_none h.0 h.1
 
+  -- the task is one that may replace what is there
+  replaces : (jobs : List Dispatched) → IsFreeOrIdle Shows HasStatus Fails s jobs jobs 0 (task_of u)
+  replaces jobs is_fresh = absurd (false_is_true is_fresh)
+
   pub unread_for : (seen : SeenFiles) (before after : ℕ) (why : Cause) → (IsReadCause (Some seen) u.path u.size before after why → Fails 0 why)
       → u.how ≡ outcome.Failed why → IsReadCause (Some seen) u.path u.size before after why → HasHow [] (outcome.Failed why)
   unread_for seen before after cause.Memory fails is h =
-      (no_deciding mark.Success, (λ open_. no_deciding mark.Uncertain open_.0), ap (λ (how : Outcome). is_memory (cause_of (Some how))) is)
-  unread_for seen before after (cause.Files call.Read) fails is h = (no_deciding mark.Success, (λ open_. no_deciding mark.Uncertain open_.0), (tt, fails h))
-  unread_for seen before after cause.Changed fails is h = (no_deciding mark.Success, (λ open_. no_deciding mark.Uncertain open_.0), inl (refl, fails h))
+      (no_deciding mark.Success, (λ open_. no_deciding mark.Uncertain open_.0), ap (λ (how : Outcome). is_memory (cause_of (Some how))) is, replaces [])
+  unread_for seen before after (cause.Files call.Read) fails is h = (no_deciding mark.Success, (λ open_. no_deciding mark.Uncertain open_.0), (tt, fails h), replaces [])
+  unread_for seen before after cause.Changed fails is h = (no_deciding mark.Success, (λ open_. no_deciding mark.Uncertain open_.0), inl (refl, fails h), replaces [])
   unread_for seen before after why fails is h = absurd h
 
   -- ---- the Put
@@ -97,7 +101,7 @@ module _ (Shows : Ask → ℕ → Talk → Class → List ℕ → Type 0) (HasSt
     -- ---- memory ran out
 
     pub wanting_for : HasNo mark.Success → HasNo mark.Uncertain → s.wanted_memory (Some 0) ≡ true → HasHow (put ∷ []) (outcome.Failed cause.Memory)
-    wanting_for no_success certain wanting = (no_mark mark.Success no_success, (λ h. no_mark mark.Uncertain certain h.0), wanting)
+    wanting_for no_success certain wanting = (no_mark mark.Success no_success, (λ h. no_mark mark.Uncertain certain h.0), wanting, replaces (put ∷ []))
 
     pub wanting_open : HasNo mark.Success → HasSome mark.Uncertain → s.wanted_memory (Some 0) ≡ true → HasHow (put ∷ []) (outcome.Unknown cause.Memory)
     wanting_open no_success open_ wanting = ((has_mark mark.Uncertain open_, no_mark mark.Success no_success), wanting)
@@ -156,6 +160,7 @@ module _ (Shows : Ask → ℕ → Talk → Class → List ℕ → Type 0) (HasSt
             ),
             λ skipped. false_is_true skipped.0,
           ),
+          replaces (put ∷ []),
         )
 
         pub refused_open : HasSome mark.Uncertain → (code message : List ℕ) → ShowsLast (class.Refusal code message) → HasHow (put ∷ []) (outcome.Unknown (cause.Service op.Put code message))

@@ -320,6 +320,7 @@ module _ (bucket key : List ℕ) where
           ),
           λ skipped. absurd (false_true skipped.0),
         ),
+        λ fresh. absurd (false_true fresh),
       )
       (record { bucket = bucket; key = key; is_dest = refl; decided = tt; keeps = λ removes. refl }) (λ may. may)
     where
