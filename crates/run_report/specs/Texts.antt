@@ -6,6 +6,7 @@ use Rattle.local_files.specs.Calls.{IsTempFor}
 use Rattle.s3_model.specs.declared.list.OutOfMemory.{OutOfMemory}
 use Rattle.s3_model.specs.declared.outcomes.Outcome.{Outcome}
 use Rattle.s3_model.specs.declared.tasks.Mode.{Mode}
+use Rattle.s3_model.specs.declared.tasks.Kind.TheVariants as kind
 use Rattle.s3_model.specs.declared.tasks.Task.{Task}
 use Rattle.s3_model.specs.declared.tasks.Warning.{Warning}
 use Rattle.s3_model.specs.declared.tasks.Warning.TheVariants as warning
@@ -88,11 +89,11 @@ IsOfLooking (warning.Unnamed count) = Unit {0}
 IsOfLooking (warning.NotAFile path) = Unit {0}
 IsOfLooking other = ⊥
 
--- of a task's transfer: its file's time could not be set, or a temporary file for it could not be removed
+-- of a download: its file's time could not be set, or a temporary file for it could not be removed
 abbrev pub IsOfTask : Task → Warning → Type 0
-IsOfTask task (warning.TimeNotSet path) = task.dest ≡ place.File path
+IsOfTask task (warning.TimeNotSet path) = (task.kind ≡ kind.Download) × (task.dest ≡ place.File path)
 IsOfTask task (warning.TempLeft path) =
-    (dest : List ℕ) × (task.dest ≡ place.File dest) × IsTempFor dest path
+    (task.kind ≡ kind.Download) × (dest : List ℕ) × (task.dest ≡ place.File dest) × IsTempFor dest path
 IsOfTask task other = ⊥
 
 abbrev pub AreOfTasks : List Task → List (List Warning) → Type 0

@@ -40,11 +40,15 @@ MayUse words env wires used =
     (used ≤ 1) ⊎ ((command : Command) × (settings : Settings) × IsBegun words env command settings
     × (used ≤ lanes_of settings.config wires))
 
--- the wires of a run: as many are used as may be
+-- the wires of a run: no more are used than may be
 abbrev pub OnWires : {W : Type 0} → (words : List (List ℕ)) → Option SeenEnv → (seen : W → Option WireLog)
     → (before after : List W) → ((ℕ → List Talk) → (ℕ → List Note) → Type 0) → Type 0
 OnWires words env seen before after P =
     (used : ℕ) × MayUse words env (length before) used × OnUsed seen used before after P
+
+-- no wire behind the first gained anything
+abbrev pub OnlyFirstGains : (logs : ℕ → List Talk) → (notes : ℕ → List Note) → Type 0
+OnlyFirstGains logs notes = (lane : ℕ) → 1 ≤ lane → (logs lane ≡ []) × (notes lane ≡ [])
 
 -- the first of two lists
 abbrev pub OnFirst : {W : Type 0} → List W → List W → (W → W → Type 0) → Type 0

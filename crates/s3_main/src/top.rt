@@ -16,7 +16,7 @@ ghost use Rattle.s3_main.specs.Runs.{
   Undertakes,
   files_over,
 };
-ghost use Rattle.s3_main.specs.Wires.{OnEach, OnFirst, OnWires};
+ghost use Rattle.s3_main.specs.Wires.{OnEach, OnFirst, OnlyFirstGains, OnWires};
 
 use crate::execution::execute;
 use run_report::{Run, report};
@@ -58,9 +58,10 @@ where
     requires some { 1 ≤ vec_len wires.old }
     requires most { vec_len wires.old ≤ 65535 }
 
-    // What was planned, what became of it and what the wires gained for it, and that the wires that were not used stay.
+    // What was planned, what became of it and what the first wire gained for it, and that the other wires stay.
     ensures went { OnWires (map string_bytes words.now) (E.seen env.new) (λ wire. W.seen wire) wires.old.items
-        wires.new.items (λ logs notes. GoesAs (map string_bytes words.now) (E.seen env.new) (E.allows env.old)
+        wires.new.items (λ logs notes. OnlyFirstGains logs notes
+        × GoesAs (map string_bytes words.now) (E.seen env.new) (E.allows env.old)
         (F.seen files.old) (F.seen files.new) (F.faults files.old) (F.faults files.new) result (logs 0) (notes 0)) }
 
     // Over every honest service, and whatever is lost, refused or late, the outcomes are true.
