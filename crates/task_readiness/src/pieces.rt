@@ -10,23 +10,9 @@ ghost use Rattle.task_stages.specs.Stages.{reads_first};
 ghost use Rattle.task_readiness.specs.Readiness.{is_download, is_upload, may_send, may_send_by, numbered};
 
 use piece_stages::has_done;
-use s3_model::{Kind, Op};
+use s3_model::Kind;
 use task_acts::Act;
 use task_stages::TaskStages;
-
-/// The request of a piece.
-fn piece_op(kind: Kind, small: bool) -> Op
-    ensures { result ≡ piece_op kind small }
-{
-    match (kind, small) {
-        (Kind::Upload, true) => Op::Put,
-        (Kind::Upload, false) => Op::Part,
-        (Kind::Download, _) => Op::Get,
-        (Kind::Copy, true) => Op::Copy,
-        (Kind::Copy, false) => Op::PartCopy,
-        (Kind::RemoveObject | Kind::RemoveFile, _) => Op::Delete,
-    }
-}
 
 /// Whether what comes before the requests of all pieces has happened.
 fn may_send(stages: &TaskStages) -> bool
@@ -67,7 +53,7 @@ pub(crate) fn first_send(stages: &TaskStages, stopped: bool) -> Option<Act>
     let work = stages.work();
     let index = stages.first_send()?;
     Some(Act::Send {
-        op: piece_op(work.of_kind, work.small),
+        op: work.piece_op(),
         number: stages.first_number() + index,
     })
 }
