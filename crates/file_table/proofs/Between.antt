@@ -1,9 +1,9 @@
 -- The paths below a folder, as the keys of a map between two texts.
 use Rattle.file_table.proofs.Fronts.{ends_slash, ends_split}
 use Rattle.file_table.proofs.Keys.{decided}
-use Rattle.file_table.proofs.TextMaps.{keys-text_map}
+use Rattle.text_maps.proofs.TextMaps.{keys-text_map}
 use Rattle.file_table.specs.Below.{AreEnds}
-use Rattle.file_table.specs.TextMap.{text_map}
+use Rattle.text_maps.specs.TextMap.{text_map}
 use Rattle.s3_model.specs.Files.{ends_in_slash, folder_path, is_below}
 use Rattle.std.proofs.Common.{◌≡◌, ◌∙◌, ◌++◌, ◌&&◌, ◌||◌, ◌<◌, ℕ, Bool, true, false, not, cond, List, [], ◌∷◌, Option, Some, None, MatchOption, String, string_bytes, map, filter, nat_eq, if◌then◌else◌, refl, sym, ap, inl, inr, arith}
 use Rattle.std.specs.BTreeMap as tree

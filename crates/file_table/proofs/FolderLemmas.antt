@@ -8,7 +8,7 @@ use Rattle.std.proofs.lemmas.List.{length-append}
 use Rattle.std.proofs.lemmas.Slice.Eq.{bytes_eq-Decides}
 use Rattle.s3_model.specs.Files.{is_below, is_listed}
 use Rattle.s3_model.specs.Maps.{MapOf}
-use Rattle.file_table.proofs.TextMaps.{same_test}
+use Rattle.text_maps.proofs.TextMaps.{same_test}
 use Rattle.file_table.specs.Folders.{AddsFolders, IsIndex}
 use Rattle.std.proofs.lemmas.List.Folds.{list_any-append}
 use Rattle.std.specs.Cmp.Lexicographic.{slice_cmp, nat_list_cmp_total}

@@ -7,4 +7,3 @@ pub mod NameLemmas
 pub mod Pasted
 pub mod ShownLemmas
 pub mod Stores
-pub mod TextMaps

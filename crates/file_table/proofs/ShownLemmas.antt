@@ -112,15 +112,7 @@ module _ (Shows : List ℕ → Type 0) (name : List ℕ) where
       → IsSome (get next name) ↔ (IsSome (get first name) ⊎ Shown Shows grown)
   shown_grown first now next keys grown key is had adds = subst (λ (ks : List (List ℕ)). IsSome (get next name) ↔ (IsSome (get first name) ⊎ Shown Shows ks)) (sym is) (shown_more first now next keys key had adds)
 
--- the texts of the keys that an iterator over a map has yielded, alone or with their values
-pub texts_of : {Y : Type 0} (xs : List (Bor (String Y))) → map (λ k. string_bytes k.now) xs ≡ map string_bytes (map (λ k. k.now) xs)
-texts_of [] = refl
-texts_of (x ∷ xs) = ap (λ (ks : List (List ℕ)). string_bytes x.now ∷ ks) (texts_of xs)
-
-pub texts_grown : {Y : Type 0} (xs : List (Bor (String Y))) (x : Bor (String Y)) → map (λ k. string_bytes k.now) (xs ++ x ∷ []) ≡ map (λ k. string_bytes k.now) xs ++ string_bytes x.now ∷ []
-texts_grown [] x = refl
-texts_grown (y ∷ xs) x = ap (λ (ks : List (List ℕ)). string_bytes y.now ∷ ks) (texts_grown xs x)
-
+-- the texts of the keys that an iterator over a map has yielded with their values
 abbrev pub text_in : {Y V : Type 0} → Bor (String Y) × Bor V → List ℕ
 text_in x = string_bytes x.0.now
 

@@ -3,4 +3,3 @@ pub mod Folders
 pub mod Names
 pub mod StoreCode
 pub mod Table
-pub mod TextMap

@@ -4,11 +4,10 @@
 mod ends;
 mod file;
 mod folders;
+mod keys_below;
 mod names;
 mod path_list;
 mod table;
-mod text_map;
 
 pub use file::MemFile;
 pub use table::{FileTable, TableFault};
-pub use text_map::TextMap;

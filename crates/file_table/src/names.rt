@@ -6,9 +6,9 @@ ghost use Rattle.s3_model.specs.Files.{ends_in_slash as ends_slash, folder_path}
 ghost use Rattle.file_table.specs.Names.{IsFirst, IsNamedIn};
 ghost use Rattle.local_files.specs.Names.{IsName};
 
-use crate::text_map::TextMap;
 use s3_model::OutOfMemory;
 use std::alloc::Global;
+use text_maps::TextMap;
 
 /// A set of names.
 pub(crate) type NameSet = TextMap<()>;

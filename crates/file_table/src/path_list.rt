@@ -5,11 +5,12 @@ ghost use Rattle.std.specs.FinMap.{get};
 ghost use Rattle.local_files.specs.Names.{IsName};
 ghost use Rattle.s3_model.specs.Files.{folder_path, is_listed as listed};
 
+use crate::keys_below::add_direct;
 use crate::names::NameSet;
-use crate::text_map::TextMap;
 use s3_model::{OutOfMemory, Text};
 use std::alloc::Global;
 use std::marker::Model;
+use text_maps::TextMap;
 
 /// Paths in the order in which they were added, and the set of them.
 #[derive(Drop)]
@@ -76,6 +77,6 @@ impl PathList {
         ensures added { OnOk result ((name : List ℕ) → IsSome (get found.new name) ↔ (IsSome (get found.old name) ⊎
             (IsName name × (listed self.now (folder_path folder.now ++ name) ≡ true)))) }
     {
-        self.index.add_direct(alloc, folder, found)
+        add_direct(&self.index, alloc, folder, found)
     }
 }

@@ -35,11 +35,12 @@ ghost use Rattle.local_files.specs.Changes.{Changes, IsFileAbove, IsFree, IsInTh
 
 use crate::file::MemFile;
 use crate::folders::add_folders;
+use crate::keys_below::{add_names, has_below};
 use crate::path_list::PathList;
-use crate::text_map::TextMap;
 use s3_model::{OutOfMemory, Texts};
 use std::alloc::Global;
 use std::marker::Model;
+use text_maps::TextMap;
 
 /// Why files in memory were not changed.
 #[derive(Clone, Copy)]
@@ -97,7 +98,7 @@ impl FileTable {
     pub fn is_folder(&self, path: &str) -> bool
         ensures { result ≡ is_folder self.now path.now }
     {
-        self.empty_folders.has(path) || self.held.has_below(self.alloc, path)
+        self.empty_folders.has(path) || has_below(&self.held, self.alloc, path)
     }
 
     /// Whether something that is neither file nor folder is listed at the path.
@@ -112,7 +113,7 @@ impl FileTable {
         ensures { IfOk result (λ names. AreNames self.now folder.now names.items) }
     {
         let mut found = TextMap::make(alloc);
-        self.held.add_names(alloc, folder, &mut found)?;
+        add_names(&self.held, alloc, folder, &mut found)?;
         self.empty_folders.add_direct(alloc, folder, &mut found)?;
         self.others.add_direct(alloc, folder, &mut found)?;
         found.texts(alloc)

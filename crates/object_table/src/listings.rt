@@ -12,9 +12,9 @@ ghost use Rattle.s3_service.specs.ServiceState.{HasBucket};
 use crate::fault::{Refusal, TableFault};
 use crate::object::MemObject;
 use crate::table::ObjectTable;
-use file_table::TextMap;
 use s3_model::{Entries, Entry, Listed, OutOfMemory, Text, Texts};
 use std::alloc::Global;
+use text_maps::TextMap;
 
 /// What a listing is of: the names under a prefix, by components where it is delimited.
 #[derive(Clone, Copy)]

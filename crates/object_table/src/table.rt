@@ -36,11 +36,11 @@ ghost use Rattle.s3_service.specs.Serves.{
 use crate::fault::{Refusal, TableFault};
 use crate::object::MemObject;
 use crate::upload::{MemEnding, MemUpload};
-use file_table::TextMap;
 use s3_model::{OutOfMemory, Text};
 use std::alloc::Global;
 use std::marker::Model;
 use std::mem;
+use text_maps::TextMap;
 
 /// Buckets with their objects, uploads in parts, and tokens of listings, as an S3 service holds them. Each object and
 /// each part has an entity tag of its own.

@@ -55,10 +55,10 @@ use crate::fault::{Refusal, TableFault};
 use crate::object::{MemObject, MemPart};
 use crate::table::{ObjectTable, Source, put_object};
 use crate::upload::{MemEnding, MemUpload};
-use file_table::TextMap;
 use s3_model::{Limits, OutOfMemory, Text};
 use std::alloc::Global;
 use std::mem;
+use text_maps::TextMap;
 
 // Puts a part into an upload that is there.
 fn put_part(

@@ -10,7 +10,7 @@ mod table_calls;
 mod table_changes;
 mod talk_log;
 
-pub use file_table::{FileTable, MemFile, TextMap};
+pub use file_table::{FileTable, MemFile};
 pub use mem_env::MemEnv;
 pub use mem_files::MemFiles;
 pub use mem_sink::MemSink;

@@ -7,11 +7,11 @@ ghost use Rattle.s3_model.specs.Validity.{IsValidLimits};
 ghost use Rattle.s3_outside.specs.Env.{sets, puts, asks};
 ghost use Rattle.s3_outside.specs.Seen.{IsSeenAfter};
 
-use file_table::TextMap;
 use s3_model::{Limits, OutOfMemory, Text};
 use s3_outside::{Content, Env, EnvFault, MOST_FILE_BYTES, count_fault};
 use std::alloc::Global;
 use std::marker::Model;
+use text_maps::TextMap;
 
 /// An environment in memory. The calls of `file` whose numbers `failing` lists, counted from 0, fail.
 #[derive(Drop)]

@@ -16,8 +16,8 @@ use Rattle.s3_outside.specs.declared.files.Shape.TheVariants as shape
 use Rattle.tree_walk.specs.Finding.{Adds, Grows, IsFound, IsOver, IsPartway, IsSound, Recorded}
 use Rattle.tree_walk.specs.Trees.{IsRefused, child, depth, path_at}
 use Rattle.tree_walk.specs.declared.found.Found.{Found}
-use Rattle.tree_walk.specs.declared.walks.WalkFault.{WalkFault}
-use Rattle.tree_walk.specs.declared.walks.WalkFault.TheVariants as fault
+use Rattle.s3_model.specs.declared.faults.WalkFault.{WalkFault}
+use Rattle.s3_model.specs.declared.faults.WalkFault.TheVariants as fault
 use Rattle.tree_walk.proofs.OrderLemmas.{in_tree, is_key, keys_ascend, no_more, tree_ascends}
 use Rattle.tree_walk.proofs.PathLemmas.{child_ends, child_some, place_below}
 

@@ -15,7 +15,7 @@ use Rattle.s3_outside.specs.declared.files.Shape.TheVariants as shape
 use Rattle.tree_walk.specs.Finding.{Adds, IsComplete, IsOnTheWay, IsOver, IsPartway, IsSound, Visits}
 use Rattle.tree_walk.specs.Trees.{IsRefused, OnlyLooks, child, path_at, place_of}
 use Rattle.tree_walk.specs.declared.found.Found.{Found}
-use Rattle.tree_walk.specs.declared.walks.WalkFault.{WalkFault}
+use Rattle.s3_model.specs.declared.faults.WalkFault.{WalkFault}
 use Rattle.tree_walk.proofs.FoundLemmas.{looked, looked_over, partway_more}
 use Rattle.tree_walk.proofs.WalkLemmas.{are_named, arrived, in_the_end, on_the_way, visited}
 

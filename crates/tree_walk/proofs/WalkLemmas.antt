@@ -31,8 +31,8 @@ use Rattle.tree_walk.specs.Trees.{Describes, IsFolderIn, IsLook, IsOrderly, IsRe
 use Rattle.tree_walk.specs.declared.found.Found.{Found}
 use Rattle.tree_walk.specs.declared.found.Look.{Look}
 use Rattle.tree_walk.specs.declared.walks.Walked.{Walked}
-use Rattle.tree_walk.specs.declared.walks.WalkFault.{WalkFault}
-use Rattle.tree_walk.specs.declared.walks.WalkFault.TheVariants as fault
+use Rattle.s3_model.specs.declared.faults.WalkFault.{WalkFault}
+use Rattle.s3_model.specs.declared.faults.WalkFault.TheVariants as fault
 use Rattle.tree_walk.proofs.FoundLemmas.{at_other, at_same, in_folders, is_some_of, same_folders, same_get, same_some, still_some}
 use Rattle.tree_walk.proofs.OrderLemmas.{in_tree, is_key, key_is, keys_ascend, of_tree, same_names, tree_ascends}
 use Rattle.tree_walk.proofs.PathLemmas.{child_longer, place_child}

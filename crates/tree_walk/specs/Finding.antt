@@ -14,8 +14,8 @@ use Rattle.s3_outside.specs.declared.files.Shape.TheVariants as shape
 use Rattle.tree_walk.specs.Trees.{child, depth, path_at, place_of}
 use Rattle.tree_walk.specs.declared.found.Found.{Found}
 use Rattle.tree_walk.specs.declared.found.Look.{Look}
-use Rattle.tree_walk.specs.declared.walks.WalkFault.{WalkFault}
-use Rattle.tree_walk.specs.declared.walks.WalkFault.TheVariants as fault
+use Rattle.s3_model.specs.declared.faults.WalkFault.{WalkFault}
+use Rattle.s3_model.specs.declared.faults.WalkFault.TheVariants as fault
 
 -- a path was found with that shape
 abbrev pub IsFound : Found → List ℕ → Shape → Type 0

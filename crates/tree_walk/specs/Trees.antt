@@ -16,8 +16,8 @@ use Rattle.s3_outside.specs.declared.files.FileNote.TheVariants as note
 use Rattle.s3_outside.specs.declared.files.Shape.{Shape}
 use Rattle.s3_outside.specs.declared.files.Shape.TheVariants as shape
 use Rattle.s3_outside.specs.declared.wire.Failed.{Failed}
-use Rattle.tree_walk.specs.declared.walks.WalkFault.{WalkFault}
-use Rattle.tree_walk.specs.declared.walks.WalkFault.TheVariants as fault
+use Rattle.s3_model.specs.declared.faults.WalkFault.{WalkFault}
+use Rattle.s3_model.specs.declared.faults.WalkFault.TheVariants as fault
 
 -- ---- paths below a root
 

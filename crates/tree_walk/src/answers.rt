@@ -7,10 +7,10 @@ ghost use Rattle.std.specs.Option.{unwrap_or};
 ghost use Rattle.tree_walk.specs.Finding.{entry_in};
 
 use crate::found::{Found, Look};
-use crate::walks::{WalkFault, Walked};
-use file_table::TextMap;
-use s3_model::{Entries, Entry, OutOfMemory, Text};
+use crate::walks::Walked;
+use s3_model::{Entries, Entry, OutOfMemory, Text, WalkFault};
 use std::alloc::Global;
+use text_maps::TextMap;
 
 /// What was found, in order.
 pub(crate) fn gather(alloc: Global, found: &Found) -> Result<Walked, WalkFault>
@@ -21,13 +21,9 @@ pub(crate) fn gather(alloc: Global, found: &Found) -> Result<Walked, WalkFault>
         min (sum_by (λ folder. unwrap_or (get found.now.unnamed folder) 0) (keys found.now.unnamed)) (2 ^ 64 - 1)) }
     ensures memory { IfErr result (λ fault. fault ≡ WalkFault.Memory) }
 {
-    let (Ok(entries), Ok(others), Ok(unnamed)) = (
-        entries_of(alloc, &found.files),
-        found.others.texts(alloc),
-        sum_of(alloc, &found.unnamed),
-    ) else {
-        return Err(WalkFault::Memory);
-    };
+    let unnamed = sum_of(alloc, &found.unnamed)?;
+    let others = found.others.texts(alloc)?;
+    let entries = entries_of(alloc, &found.files)?;
     Ok(Walked {
         entries,
         others,

@@ -5,12 +5,11 @@ ghost use Rattle.std.specs.FinMap.{empty, insert};
 ghost use Rattle.tree_walk.specs.Finding.{Adds, IsFew, IsOver};
 
 use crate::paths::depth;
-use crate::walks::WalkFault;
-use file_table::TextMap;
-use s3_model::Text;
+use s3_model::{Text, WalkFault};
 use s3_outside::Shape;
 use std::alloc::Global;
 use std::mem;
+use text_maps::TextMap;
 
 /// How many files a tree may have.
 const MOST_FILES: usize = 1_000_000;
@@ -89,9 +88,7 @@ impl Found {
         ensures few { OnOk result (IsFew self.new) }
         ensures over { IfErr result (IsOver path.now (Shape.File look.size look.micros) self.old self.new) }
     {
-        if self.files.insert(alloc, path, look).is_err() {
-            return Err(WalkFault::Memory);
-        }
+        self.files.insert(alloc, path, look)?;
         let count = self.files.len();
         if MOST_FILES < count {
             return Err(WalkFault::TooMany);
@@ -103,10 +100,7 @@ impl Found {
         ensures added { OnOk result (Adds path.now Shape.Other self.old self.new) }
         ensures memory { IfErr result (λ fault. fault ≡ WalkFault.Memory) }
     {
-        match self.others.insert(alloc, path, ()) {
-            Ok(()) => Ok(()),
-            Err(_) => Err(WalkFault::Memory),
-        }
+        Ok(self.others.insert(alloc, path, ())?)
     }
 
     /// Sets how many names of a folder are no text.
@@ -122,10 +116,7 @@ impl Found {
         ensures counted { OnOk result (self.new.unnamed ≡ insert self.old.unnamed folder.now unnamed) }
         ensures memory { IfErr result (λ fault. fault ≡ WalkFault.Memory) }
     {
-        match self.unnamed.insert(alloc, folder, unnamed) {
-            Ok(()) => Ok(()),
-            Err(_) => Err(WalkFault::Memory),
-        }
+        Ok(self.unnamed.insert(alloc, folder, unnamed)?)
     }
 
     #[tactic(auto, using(crate::proofs::FoundLemmas::over_memory))]
@@ -147,9 +138,7 @@ impl Found {
         ensures folders { OnOk result (self.new.folders.items ≡ self.old.folders.items ++ path.now ∷ []) }
         ensures memory { IfErr result (λ fault. fault ≡ WalkFault.Memory) }
     {
-        let Ok(path) = Text::of(alloc, path) else {
-            return Err(WalkFault::Memory);
-        };
+        let path = Text::of(alloc, path)?;
         match self.folders.push(path) {
             Ok(()) => Ok(()),
             Err(_) => Err(WalkFault::Memory),

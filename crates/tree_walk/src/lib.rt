@@ -6,4 +6,5 @@ mod found;
 mod paths;
 mod walks;
 
-pub use walks::{WalkFault, Walked, walk};
+pub use s3_model::WalkFault;
+pub use walks::{Walked, walk};

@@ -1,10 +1,10 @@
 //! Paths of a tree.
 
 ghost use Rattle.std.specs.Prelude.{◌≡◌, IfOk};
-ghost use Rattle.s3_model.specs.Files.{ends_in_slash as ends_slash};
-ghost use Rattle.tree_walk.specs.Trees.{bare as bare_of, child as child_of, depth as depth_of, path_at as path_of, place_of as place_at};
+ghost use Rattle.tree_walk.specs.Trees.{bare as bare_of, child as child_of, depth as depth_of, place_of as place_at};
 
-use s3_model::{OutOfMemory, Text};
+use s3_model::{OutOfMemory, Text, ends_in_slash};
+use s3_paths::joined;
 use std::alloc::Global;
 
 /// The path of a name in a folder of the tree.
@@ -17,16 +17,6 @@ pub(crate) fn child(alloc: Global, folder: &str, name: &str) -> Result<Text, Out
     Text::joined(alloc, &[folder, "/", name])
 }
 
-/// The path of what stands below a root.
-pub(crate) fn path_at(alloc: Global, root: &str, below: &str) -> Result<Text, OutOfMemory>
-    ensures { IfOk result (λ path. path ≡ path_of root.now below.now) }
-{
-    if ends_in_slash(root.as_bytes()) {
-        return Text::joined(alloc, &[root, below]);
-    }
-    Text::joined(alloc, &[root, "/", below])
-}
-
 /// The root as a folder is looked up: without its final `/`, unless nothing or another `/` stands before that.
 pub(crate) fn bare(root: &str) -> &str
     ensures { result.now ≡ bare_of root.now }
@@ -34,7 +24,7 @@ pub(crate) fn bare(root: &str) -> &str
     let Some(front) = root.strip_suffix('/') else {
         return root;
     };
-    if front.is_empty() || ends_in_slash(front.as_bytes()) {
+    if front.is_empty() || ends_in_slash(front) {
         return root;
     }
     front
@@ -47,7 +37,7 @@ pub(crate) fn place_of(alloc: Global, root: &str, folder: &str) -> Result<Text, 
     if folder.is_empty() {
         return Text::of(alloc, bare(root));
     }
-    path_at(alloc, root, folder)
+    joined(alloc, root, folder)
 }
 
 /// How many names a path has.
@@ -55,13 +45,4 @@ pub(crate) fn depth(path: &str) -> usize
     ensures { result ≡ depth_of path.now }
 {
     path.as_bytes().iter().filter(|byte| **byte == b'/').count() + 1
-}
-
-fn ends_in_slash(path: &[u8]) -> bool
-    ensures { result ≡ ends_slash path.now }
-{
-    match path {
-        [.., last] => *last == b'/',
-        [] => false,
-    }
 }

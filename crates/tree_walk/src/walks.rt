@@ -22,9 +22,10 @@ ghost use Rattle.s3_outside.specs.Seen.{IsSeenAfter};
 
 use crate::answers::gather;
 use crate::found::Found;
-use crate::paths::{bare, child, path_at, place_of};
-use s3_model::{Entries, Text, Texts};
+use crate::paths::{bare, child, place_of};
+use s3_model::{Entries, Text, Texts, WalkFault};
 use s3_outside::{Failed, FileFault, Files, Names, Shape};
+use s3_paths::joined;
 use std::alloc::Global;
 use std::mem;
 
@@ -37,18 +38,9 @@ pub struct Walked {
     pub unnamed: u64,
 }
 
-/// Why a tree was not walked: a call on files failed, a folder is more than 128 names below the root, there are more
-/// than 1,000,000 files, or memory ran out.
-#[derive(Clone, Copy, Debug)]
-pub enum WalkFault {
-    Files,
-    TooDeep,
-    TooMany,
-    Memory,
-}
-
 /// The tree below a root. A root that is absent or no folder is an empty tree. What vanishes while the tree is walked
-/// is left out.
+/// is left out. Files where a call on files failed, TooDeep where a folder is more than 128 names below the root,
+/// TooMany where there are more than 1,000,000 files.
 #[tactic(auto, using(crate::proofs::WalkLemmas::walked, crate::proofs::WalkLemmas::untold_seen))]
 pub fn walk<F: Files>(alloc: Global, files: &mut F, root: &str) -> Result<Walked, WalkFault>
     ensures ascending { IfOk result (λ walked. IsAscending (keys_of walked.entries.items)) }
@@ -138,9 +130,7 @@ fn names_of<F: Files>(
     ensures failed { result ≡ Err WalkFault.Files → Rose (F.faults files.old) (F.faults files.new) }
     ensures later { F.faults files.old ≤ F.faults files.new }
 {
-    let Ok(place) = place_of(alloc, root, folder) else {
-        return Err(WalkFault::Memory);
-    };
+    let place = place_of(alloc, root, folder)?;
     match files.names(alloc, place.as_str()) {
         Ok(names) => Ok(names),
         Err(FileFault::Memory) => Err(WalkFault::Memory),
@@ -165,16 +155,13 @@ fn visit_all<F: Files>(
     ensures failed { result ≡ Err WalkFault.Files → Rose (F.faults files.old) (F.faults files.new) }
     ensures later { F.faults files.old ≤ F.faults files.new }
 {
-    for place in 0..usize::MAX {
-        let Some(folder) = found.folders.get(place) else {
-            return Ok(());
-        };
-        let Ok(folder) = folder.copy() else {
-            return Err(WalkFault::Memory);
-        };
+    let mut place = 0;
+    'folders: while let Some(folder) = found.folders.get(place) {
+        let folder = folder.copy()?;
         visit(alloc, files, root, folder.as_str(), found)?;
+        place += 1;
     }
-    Err(WalkFault::Memory)
+    Ok(())
 }
 
 // Finds what stands in a folder.
@@ -246,12 +233,8 @@ fn look_at<F: Files>(
     ensures failed { result ≡ Err WalkFault.Files → Rose (F.faults files.old) (F.faults files.new) }
     ensures later { F.faults files.old ≤ F.faults files.new }
 {
-    let Ok(path) = child(alloc, folder, name) else {
-        return Err(WalkFault::Memory);
-    };
-    let Ok(full) = path_at(alloc, root, path.as_str()) else {
-        return Err(WalkFault::Memory);
-    };
+    let path = child(alloc, folder, name)?;
+    let full = joined(alloc, root, path.as_str())?;
     match shape_of(files, full.as_str()) {
         Ok(shape) => found.add(alloc, path.as_str(), shape),
         Err(Failed) => Err(WalkFault::Files),

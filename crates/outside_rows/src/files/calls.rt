@@ -4,11 +4,11 @@ use crate::files::assemblies::{drop_first, fill, finish, make, place};
 use crate::files::trees::{add_counts, add_list};
 use crate::lines::{number, word_and_rest};
 use crate::rows::{add, add_came, add_shown};
-use file_table::TextMap;
 use s3_model::{OutOfMemory, Texts};
 use s3_outside::{Failed, Files, Names, Shape};
 use std::alloc::Global;
 use temp_files::Assembly;
+use text_maps::TextMap;
 
 /// Adds what stands at a path, without its time.
 fn add_size<F: Files>(files: &mut F, row: &mut String, path: &str) {

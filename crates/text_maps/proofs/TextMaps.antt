@@ -1,5 +1,5 @@
 -- What is found in a map from texts, and what an insertion makes of it.
-use Rattle.std.proofs.Common.{◌≡◌, ◌∙◌, ℕ, Bool, true, false, not, cond, ◌&&◌, ◌||◌, List, [], ◌∷◌, Option, Some, None, refl, sym, ap, arith, length, map, filter, String, string_bytes}
+use Rattle.std.proofs.Common.{◌≡◌, ◌∙◌, ℕ, Bool, true, false, not, cond, ◌&&◌, ◌||◌, List, [], ◌∷◌, ◌++◌, Bor, Option, Some, None, refl, sym, ap, arith, length, map, filter, String, string_bytes}
 use Rattle.std.specs.String.{string_cmp}
 use Rattle.std.specs.Ordering.{nat_cmp, eq_by_cmp, is_eq}
 use Rattle.std.specs.Cmp.{eq_by_cmp_equiv}
@@ -16,7 +16,7 @@ use Rattle.std.specs.FinMap.Entries.{put, by_order}
 use Rattle.std.specs.FinMap.{empty, len-empty, len-entries, keys, entries, from_entries, entries-insert, get, insert, remove, find, get-from_entries, get-insert, get-remove, same_map, slice_cmp-IsAntisymmetric, nat_cmp-IsAntisymmetric}
 use Rattle.std.proofs.lemmas.List.{length-map}
 use Rattle.std.proofs.lemmas.Map.Text.{btree_map_updates_text, is_eq-slice_cmp}
-use Rattle.file_table.specs.TextMap.{is_from, text_entries, text_map}
+use Rattle.text_maps.specs.TextMap.{is_from, text_entries, text_map}
 
 find_entries : {Y V : Type 0} (es : List (String Y × V)) (q : List ℕ) → find (slice_cmp nat_cmp) q (text_entries es) ≡ lookup (λ k. is_eq (slice_cmp nat_cmp q (string_bytes k))) es
 find_entries [] q = refl
@@ -127,3 +127,12 @@ entries_from_text {Y} {V} m start rest ordered is =
     ap text_entries is
     ∙ kept_texts (λ k. range_contains string_cmp (Included start) Unbounded k) (is_from (string_bytes start)) (λ k. open_end (is_from (string_bytes start) (string_bytes k))) m.entries
     ∙ sym (ap (filter (λ (e : List ℕ × V). is_from (string_bytes start) e.0)) (entries-from_sorted_entries (text_entries m.entries) (texts_sorted m.entries ordered)))
+
+-- the texts of the keys that an iterator over a map has yielded
+pub texts_of : {Y : Type 0} (xs : List (Bor (String Y))) → map (λ k. string_bytes k.now) xs ≡ map string_bytes (map (λ k. k.now) xs)
+texts_of [] = refl
+texts_of (x ∷ xs) = ap (λ (ks : List (List ℕ)). string_bytes x.now ∷ ks) (texts_of xs)
+
+pub texts_grown : {Y : Type 0} (xs : List (Bor (String Y))) (x : Bor (String Y)) → map (λ k. string_bytes k.now) (xs ++ x ∷ []) ≡ map (λ k. string_bytes k.now) xs ++ string_bytes x.now ∷ []
+texts_grown [] x = refl
+texts_grown (y ∷ xs) x = ap (λ (ks : List (List ℕ)). string_bytes y.now ∷ ks) (texts_grown xs x)

@@ -1,5 +1,5 @@
 use Rattle.std.proofs.Common.{◌≡◌, map, string_bytes}
-use Rattle.file_table.proofs.text_map.TextMap.texts.Given as goal
+use Rattle.text_maps.proofs.text_map.TextMap.texts.Given as goal
 
 -- the keys so far were copied
 abbrev pub invariant-loop-key : goal.invariant-loop-key

@@ -1,7 +1,7 @@
 use Rattle.std.proofs.Common.{◌↔◌, ◌⊎◌, ◌≡◌, ◌++◌, ℕ, List, IsSome, map}
 use Rattle.std.specs.FinMap.{get}
 use Rattle.file_table.proofs.ShownLemmas.{Shown, text_in}
-use Rattle.file_table.proofs.text_map.TextMap.add_direct.Given as goal
+use Rattle.file_table.proofs.keys_below.add_direct.Given as goal
 use Rattle.local_files.specs.Names.{IsName}
 use Rattle.s3_model.specs.Files.{folder_path}
 

@@ -1,7 +1,7 @@
 use Rattle.std.proofs.Common.{string_bytes, ap, ◌∙◌}
 use Rattle.std.specs.FinMap.{insert}
-use Rattle.file_table.proofs.TextMaps.{text_map-insert}
-use Rattle.file_table.proofs.text_map.TextMap.insert.Goals as goal
+use Rattle.text_maps.proofs.TextMaps.{text_map-insert}
+use Rattle.text_maps.proofs.text_map.TextMap.insert.Goals as goal
 
 pub returns-in-Ok-insert-clause-put : goal.returns-in-Ok-insert-clause-put
 returns-in-Ok-insert-clause-put g c =

@@ -2,9 +2,8 @@ use Rattle.std.proofs.Common.{◌∙◌, ◌++◌, ◌∷◌, [], ℕ, List, sym
 use Rattle.std.specs.BTreeMap as tree
 use Rattle.std.specs.FinMap.{keys}
 use Rattle.std.proofs.lemmas.Iterator.Consumers.{YieldsList-at, YieldsList-end, YieldsList-from_rest}
-use Rattle.file_table.proofs.ShownLemmas.{texts_grown, texts_of}
-use Rattle.file_table.proofs.TextMaps.{keys-text_map}
-use Rattle.file_table.proofs.text_map.TextMap.texts.Goals as goal
+use Rattle.text_maps.proofs.TextMaps.{keys-text_map, texts_grown, texts_of}
+use Rattle.text_maps.proofs.text_map.TextMap.texts.Goals as goal
 
 pub loop-key-init : goal.loop-key-init
 loop-key-init g c = c.make-texts.ensures

@@ -1,7 +1,7 @@
 use Rattle.std.proofs.Common.{◌↔◌, ◌⊎◌, ℕ, List, IsSome, map}
 use Rattle.std.specs.FinMap.{get}
 use Rattle.file_table.proofs.ShownLemmas.{Shown, text_in}
-use Rattle.file_table.proofs.text_map.TextMap.add_names.Given as goal
+use Rattle.file_table.proofs.keys_below.add_names.Given as goal
 use Rattle.file_table.specs.Names.{IsNamedIn}
 
 -- the names that the keys so far show were added

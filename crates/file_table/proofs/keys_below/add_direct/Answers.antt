@@ -6,7 +6,7 @@ use Rattle.s3_model.specs.Files.{folder_path, is_below}
 use Rattle.file_table.proofs.Between.{ends_forward, keys_between}
 use Rattle.file_table.proofs.NameLemmas.{direct_below, key_of_name}
 use Rattle.file_table.proofs.ShownLemmas.{Shown, entry_texts, entry_texts_grown, shown_all, shown_grown, shown_none, text_in}
-use Rattle.file_table.proofs.text_map.TextMap.add_direct.Goals as goal
+use Rattle.file_table.proofs.keys_below.add_direct.Goals as goal
 
 pub range-key-items-requires : goal.range-key-items-requires
 range-key-items-requires g c = ends_forward c.args.folder.now c.in_ok-ends.ends.first c.in_ok-ends.ends.last c.in_ok-ends.ensures
@@ -24,12 +24,12 @@ pub returns : goal.returns
 returns g c =
     let seen = YieldsList-end (YieldsList-at c.into_iter-key-iterator.ensures.into_iter_gives (YieldsList-from_rest _ (c.range-key-items.ensures.between tt)))
     c.loop-key.yielded _ c.loop-key.yielded_by _ _ c.in-None.is c.next.ensures.steps in
-    let all : map text_in c.loop-key.yielded ≡ filter (is_below c.args.folder.now) (keys c.args.self.now) =
+    let all : map text_in c.loop-key.yielded ≡ filter (is_below c.args.folder.now) (keys c.args.map.now) =
     entry_texts c.loop-key.yielded ∙ ap (map (λ e. string_bytes e.0)) seen.0
-    ∙ keys_between c.args.folder.now c.in_ok-ends.ends.first c.in_ok-ends.ends.last c.in_ok-ends.ensures c.self.inside.inner _ c.range-key-items.ensures.ordered refl
-    ∙ ap (λ m. filter (is_below c.args.folder.now) (keys m)) c.self.view_is in
+    ∙ keys_between c.args.folder.now c.in_ok-ends.ends.first c.in_ok-ends.ends.last c.in_ok-ends.ensures c.tree.result.now _ c.range-key-items.ensures.ordered refl
+    ∙ ap (λ m. filter (is_below c.args.folder.now) (keys m)) c.tree.ensures in
     record {
-      added = λ name. key_of_name c.args.self.now c.args.folder.now name (IsSome (get c.args.found.now name)) (IsSome (get c.loop-key.found name))
-          (shown_all (λ (key : List ℕ). IsName name × (key ≡ folder_path c.args.folder.now ++ name)) name c.args.self.now (is_below c.args.folder.now) (λ key shows. direct_below c.args.folder.now name key shows) c.args.found.now c.loop-key.found
+      added = λ name. key_of_name c.args.map.now c.args.folder.now name (IsSome (get c.args.found.now name)) (IsSome (get c.loop-key.found name))
+          (shown_all (λ (key : List ℕ). IsName name × (key ≡ folder_path c.args.folder.now ++ name)) name c.args.map.now (is_below c.args.folder.now) (λ key shows. direct_below c.args.folder.now name key shows) c.args.found.now c.loop-key.found
           (subst (λ (ks : List (List ℕ)). IsSome (get c.loop-key.found name) ↔ (IsSome (get c.args.found.now name) ⊎ Shown (λ (key : List ℕ). IsName name × (key ≡ folder_path c.args.folder.now ++ name)) ks)) all (c.loop-key.invariant name)));
     }

@@ -2,9 +2,9 @@ use Rattle.std.proofs.Common.{ap, ◌∙◌}
 use Rattle.std.specs.List.{filter}
 use Rattle.std.specs.FinMap.{entries}
 use Rattle.std.specs.Prelude.{string_bytes}
-use Rattle.file_table.specs.TextMap.{is_from}
-use Rattle.file_table.proofs.TextMaps.{entries_from_text}
-use Rattle.file_table.proofs.text_map.TextMap.range_from.Goals as goal
+use Rattle.text_maps.specs.TextMap.{is_from}
+use Rattle.text_maps.proofs.TextMaps.{entries_from_text}
+use Rattle.text_maps.proofs.text_map.TextMap.range_from.Goals as goal
 
 pub returns : goal.returns
 returns g c =

@@ -1,34 +1,11 @@
 //! Maps from texts.
 
-ghost use Rattle.std.specs.Prelude.{
-  ◌≡◌,
-  ◌<◌,
-  ◌≤◌,
-  ◌⊎◌,
-  ◌↔◌,
-  ◌++◌,
-  ℕ,
-  List,
-  IfOk,
-  IsSome,
-  OnOk,
-  OnErr,
-  OnSome,
-  IfNone,
-  Some,
-  length,
-  string_bytes,
-};
+ghost use Rattle.std.specs.Prelude.{◌≡◌, IfNone, IfOk, OnErr, OnOk, OnSome, length, string_bytes};
 ghost use Rattle.std.specs.Option.{is_some, option_copied};
-ghost use Rattle.std.specs.List.{list_any, filter};
-ghost use Rattle.std.specs.FinMap.{get, insert, remove, empty, keys, entries};
-ghost use Rattle.file_table.specs.Names.{IsNamedIn};
-ghost use Rattle.file_table.specs.TextMap.{text_map, text_entries, is_from};
-ghost use Rattle.local_files.specs.Names.{IsName};
-ghost use Rattle.s3_model.specs.Files.{folder_path, is_below};
+ghost use Rattle.std.specs.List.{filter};
+ghost use Rattle.std.specs.FinMap.{empty, entries, get, insert, keys, remove};
+ghost use Rattle.text_maps.specs.TextMap.{is_from, text_entries, text_map};
 
-use crate::ends::{Ends, any_below, has_between};
-use crate::names::{NameSet, add_last, add_name};
 use s3_model::{OutOfMemory, Text, Texts};
 use std::alloc::Global;
 use std::collections::BTreeMap;
@@ -46,7 +23,7 @@ impl<V> Model for TextMap<V> {
     ghost use Rattle.std.specs.Coded.{coded_ℕ, coded_list};
     ghost use Rattle.std.specs.FinMap.{code};
     ghost use Rattle.s3_model.specs.Maps.{MapOf};
-    ghost use Rattle.file_table.specs.TextMap.{text_map};
+    ghost use Rattle.text_maps.specs.TextMap.{text_map};
 
     ghost Value = { MapOf V };
 
@@ -112,38 +89,11 @@ impl<V: Drop> TextMap<V> {
         self.inner.remove(key)
     }
 
-    /// Adds the names that the keys show in a folder: those of files and folders in it.
-    pub(crate) fn add_names(
-        &self,
-        alloc: Global,
-        folder: &str,
-        found: &mut NameSet,
-    ) -> Result<(), OutOfMemory>
-        ensures added { OnOk result ((name : List ℕ) → IsSome (get found.new name) ↔ (IsSome (get found.old name) ⊎
-            ((key : List ℕ) × IsSome (get self.now key) × IsNamedIn folder.now name key))) }
+    /// The tree of the entries, in byte order.
+    pub fn tree(&self) -> &BTreeMap<String, V>
+        ensures { text_map result.now.entries ≡ self.now }
     {
-        let ends = Ends::of(alloc, folder)?;
-        for (key, _) in self.inner.range(&ends.first..&ends.last) {
-            add_name(alloc, folder, key.as_str(), found)?;
-        }
-        Ok(())
-    }
-
-    /// Adds the names of the keys that stand right in a folder.
-    pub(crate) fn add_direct(
-        &self,
-        alloc: Global,
-        folder: &str,
-        found: &mut NameSet,
-    ) -> Result<(), OutOfMemory>
-        ensures added { OnOk result ((name : List ℕ) → IsSome (get found.new name) ↔ (IsSome (get found.old name) ⊎
-            (IsName name × IsSome (get self.now (folder_path folder.now ++ name))))) }
-    {
-        let ends = Ends::of(alloc, folder)?;
-        for (key, _) in self.inner.range(&ends.first..&ends.last) {
-            add_last(alloc, folder, key.as_str(), found)?;
-        }
-        Ok(())
+        &self.inner
     }
 
     /// The entries whose keys are not before a text, in byte order. The first of them is looked up.
@@ -171,16 +121,6 @@ impl<V: Drop> TextMap<V> {
             texts.push(text);
         }
         Ok(texts)
-    }
-
-    /// Whether some key is a path below that folder. Where there is no memory for its path, all keys are looked at.
-    pub fn has_below(&self, alloc: Global, folder: &str) -> bool
-        ensures { result ≡ list_any (is_below folder.now) (keys self.now) }
-    {
-        match Ends::of(alloc, folder) {
-            Ok(ends) => has_between(&self.inner, folder, &ends),
-            Err(_) => any_below(&self.inner, folder),
-        }
     }
 }
 

@@ -1,7 +1,7 @@
 use Rattle.std.proofs.Common.{sym, ap, ◌∙◌}
 use Rattle.std.specs.FinMap.{get, remove}
-use Rattle.file_table.proofs.TextMaps.{get-text_map, text_map-remove}
-use Rattle.file_table.proofs.text_map.TextMap.remove.Goals as goal
+use Rattle.text_maps.proofs.TextMaps.{get-text_map, text_map-remove}
+use Rattle.text_maps.proofs.text_map.TextMap.remove.Goals as goal
 
 pub returns-clause-taken : goal.returns-clause-taken
 returns-clause-taken g c = c.remove.ensures.value ∙ sym (get-text_map c.self.inside.inner c.args.key.now) ∙ ap (λ m. get m c.args.key.now) c.self.view_is

@@ -1,7 +1,7 @@
 use Rattle.std.proofs.Common.{IsSome, Some, sym, ap, subst, refl, ◌∙◌}
 use Rattle.std.specs.FinMap.{get, insert}
-use Rattle.file_table.proofs.TextMaps.{get-text_map, text_map-put}
-use Rattle.file_table.proofs.text_map.TextMap.replace.Goals as goal
+use Rattle.text_maps.proofs.TextMaps.{get-text_map, text_map-put}
+use Rattle.text_maps.proofs.text_map.TextMap.replace.Goals as goal
 
 pub returns-clause-old : goal.returns-clause-old
 returns-clause-old g c =
