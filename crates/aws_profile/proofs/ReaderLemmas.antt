@@ -7,15 +7,12 @@ use Rattle.aws_profile.specs.Sections.{Reading, Nothing, Wrong, States, Stated, 
 use Rattle.aws_profile.specs.Slots.{Filled, Takes, filled, slot_shown, taken}
 use Rattle.aws_profile.specs.declared.slots.Slot.{Slot}
 use Rattle.aws_profile.proofs.SlotLemmas.{map_same}
+use Rattle.shared_lemmas.proofs.Options.{or_none}
 
 -- a later value stands before an earlier one
 last_or : (later : Option Stated) (stated : Stated) (before : Option Value) → option_or (option_map value_of (option_or later (Some stated))) before ≡ option_or (option_map value_of later) (Some (value_of stated))
 last_or None stated before = refl
 last_or (Some other) stated before = refl
-
-pub or_none : {X : Type 0} (o : Option X) → option_or o None ≡ o
-or_none None = refl
-or_none (Some x) = refl
 
 abbrev last_for : List ℕ → List Reading → Filled → Option Stated
 last_for section found slot = last_that (is_stated section slot.place slot.name) (stated_in found)

@@ -1,34 +1,25 @@
 -- Where the first byte stands that passes a test, and the lines that a text is cut into.
-use Rattle.std.proofs.Common.{◌≡◌, ◌<◌, ◌≤◌, ◌+◌, ◌-◌, ◌==◌, ℕ, suc, Bool, true, false, not, ◌||◌, cond, ltb, List, [], ◌∷◌, length, take, drop, refl, sym, ap, ◌∙◌, None, Some, arith}
+use Rattle.std.proofs.Common.{◌≡◌, ◌<◌, ◌≤◌, ◌-◌, ◌==◌, ℕ, Bool, true, false, ltb, List, [], ◌∷◌, length, take, drop, refl, sym, ap, ◌∙◌, None, Some, arith}
 use Rattle.std.specs.List.{All, list_any, position, position_or_len, before_first, after_first, slice_split, onto_first}
 use Rattle.std.specs.Str.Lines.{lines, lines_of_parts, strip_carriage_return}
 use Rattle.std.proofs.lemmas.Bool.{ltb-true, ltb-false, cond_both, both_ways, false_from_ne_true, ne_eqb, cond-false}
-use Rattle.std.proofs.lemmas.Bool.Decides.{nat_tests}
 use Rattle.std.proofs.lemmas.Grind.{common_steps}
 use Rattle.std.proofs.lemmas.Option.{cond_some}
 use Rattle.std.proofs.lemmas.List.Folds.{list_any_at}
 use Rattle.std.proofs.lemmas.List.Splits.{slice_split_first, slice_split_none}
-
-one_more : (passes found : Bool) (place len : ℕ) → found ≡ ltb place len → (passes || found) ≡ ltb (cond (not passes) (1 + place) 0) (suc len)
-one_more true found place len e = grind (arith, nat_tests)
-one_more false found place len e = grind (arith, nat_tests)
+use Rattle.shared_lemmas.proofs.Places.{list_any-position}
 
 module _ {X : Type 0} (p : X → Bool) where
-  -- some element passes where the first place that does is one of the list
-  pub list_any-position : (xs : List X) → list_any p xs ≡ ltb (position_or_len p xs) (length xs)
-  list_any-position [] = refl
-  list_any-position (x ∷ xs) = one_more (p x) (list_any p xs) (position_or_len p xs) (length xs) (list_any-position xs)
-
   pub position_found : (xs : List X) (at : ℕ) → position p xs ≡ Some at → (list_any p xs ≡ true) × (position_or_len p xs ≡ at) × (at < length xs)
   position_found xs at e =
       let parts = cond_some (ltb (position_or_len p xs) (length xs)) (position_or_len p xs) at e in
       let inside : position_or_len p xs < length xs = ltb-true _ _ parts.0 in
-      (list_any-position xs ∙ parts.0, parts.1, omega arith)
+      (list_any-position p xs ∙ parts.0, parts.1, omega arith)
 
   pub position_missed : (xs : List X) → position p xs ≡ None → (list_any p xs ≡ false) × (length xs ≤ position_or_len p xs)
   position_missed xs e =
       let outside : ltb (position_or_len p xs) (length xs) ≡ false = grind arith in
-      (list_any-position xs ∙ outside, ltb-false _ _ outside)
+      (list_any-position p xs ∙ outside, ltb-false _ _ outside)
 
   none_passes : (xs : List X) → list_any p xs ≡ false → All (λ x. p x ≡ false) xs
   none_passes xs h = λ k d l. false_from_ne_true _ (λ e. both_ways _ h (list_any_at p xs k d l e))

@@ -6,7 +6,7 @@ use Rattle.aws_profile.specs.Answers.{ConfigValues, KeyValues, config_values, ke
 use Rattle.aws_profile.specs.Sections.{Reading, Value}
 use Rattle.aws_profile.specs.ShownValues.{config_shown, keys_shown, value_shown}
 use Rattle.aws_profile.specs.Slots.{Filled, Fills, config_slots, filled, key_slots, slot_shown}
-use Rattle.aws_profile.proofs.ReaderLemmas.{or_none}
+use Rattle.shared_lemmas.proofs.Options.{or_none}
 
 -- what the slot of a place has, where these are the slots after all lines
 slot_at : (after : List Slot) (slots : List Filled) (k : ℕ) (d : Slot) → map slot_shown after ≡ slots → value_shown (get_or after k d).found ≡ (get_or slots k (slot_shown d)).found

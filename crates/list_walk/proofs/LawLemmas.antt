@@ -6,7 +6,7 @@ use Rattle.std.specs.List.Sorted.{IsStrictlySortedBy}
 use Rattle.std.specs.Option.{option_or, is_none}
 use Rattle.std.specs.Ordering.{is_lt, nat_cmp}
 use Rattle.std.specs.declared.cmp.Ordering.TheVariants.{Less}
-use Rattle.std.proofs.lemmas.Bool.{cond-false, cond-true, le-ltb, lt-leb}
+use Rattle.std.proofs.lemmas.Bool.{cond-false, cond-true, false≢true, le-ltb, lt-leb}
 use Rattle.std.proofs.lemmas.List.{append-nil}
 use Rattle.std.proofs.lemmas.List.Elements.{All-head, All-tail}
 use Rattle.s3_model.specs.declared.answers.Listed.{Listed}
@@ -14,8 +14,9 @@ use Rattle.s3_model.specs.declared.faults.BadListing.TheVariants.{EmptyPages, No
 use Rattle.list_walk.specs.Laws.{GathersInOrder, TakenAreSound, TakenWhereSound, WalkGathers}
 use Rattle.list_walk.specs.Pages.{AllBeginWith, Gathered, IsSound, Walk, gathered_with, last_of, names_fault, new_walk, nothing, order_fault, prefix_fault, refusal_of, total_of, whole_fault, with_page}
 use Rattle.s3_model.specs.Entries.{IsAscending, keys_of}
-use Rattle.list_walk.proofs.OrderLemmas.{last_behind, or_none}
+use Rattle.list_walk.proofs.OrderLemmas.{last_behind}
 use Rattle.list_walk.proofs.PageLemmas.{all_false, keys-append, nothing_is_sound, sound_with_page}
+use Rattle.shared_lemmas.proofs.Options.{neither}
 
 -- ---- in order
 
@@ -81,12 +82,9 @@ names_pass prefix (first ∷ second ∷ before) names ascend all =
     ap (λ (last : Option (List ℕ)). names_fault prefix last names) (last_behind first second before)
     ∙ names_pass prefix (second ∷ before) names ascend.1 (All-tail (λ (n : List ℕ). IsTrue (starts_with nat_eq n prefix)) first (second ∷ before ++ names) all)
 
-not_true : false ≡ true → ⊥
-not_true e = cc
-
 no_gap : {X : Type 0} (more : Bool) (token : Option X) → (more ≡ true → IsSome token) → (more && is_none token) ≡ false
 no_gap false token h = refl
-no_gap true None h = absurd (not_true (h refl))
+no_gap true None h = absurd (false≢true (h refl))
 no_gap true (Some x) h = refl
 
 has_token : {X : Type 0} (more : Bool) (token : Option X) → (more && is_none token) ≡ false → more ≡ true → IsSome token
@@ -110,7 +108,7 @@ taken_where prefix before page sound token =
 
 token_of : (prefix : List ℕ) (before : Gathered) (page : Listed) → refusal_of prefix before page ≡ None → page.more ≡ true → IsSome page.token
 token_of prefix before page none =
-    let whole = (or_none _ _ (or_none _ _ none).1).1 in
+    let whole = (neither _ _ (neither _ _ none).1).1 in
     has_token page.more page.token
     (all_false (page.more && is_none page.token) (nat_le 1000 (gathered_with before page).empty) (nat_lt 1000000 (total_of (gathered_with before page))) NoToken EmptyPages TooMany whole).0
 

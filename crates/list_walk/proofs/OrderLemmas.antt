@@ -5,16 +5,13 @@ use Rattle.std.specs.Cmp.Lexicographic.{slice_cmp, nat_list_cmp_total}
 use Rattle.std.specs.List.{AllByRecursion, starts_with}
 use Rattle.std.specs.List.Sorted.{IsStrictlySortedBy}
 use Rattle.std.specs.Option.{option_or}
-use Rattle.std.specs.Ordering.{is_lt, nat_cmp}
-use Rattle.std.specs.declared.cmp.Ordering.{Ordering}
-use Rattle.std.specs.declared.cmp.Ordering.TheVariants.{Less, Equal, Greater}
+use Rattle.std.specs.Ordering.{nat_cmp}
+use Rattle.std.specs.declared.cmp.Ordering.TheVariants.{Less}
 use Rattle.std.proofs.lemmas.List.Elements.{All-cons}
 use Rattle.list_walk.specs.Pages.{AllBeginWith, last_of, names_fault}
 use Rattle.s3_model.specs.Entries.{IsAscending}
-
-pub or_none : {T : Type 0} (o p : Option T) → option_or o p ≡ None → (o ≡ None) × (p ≡ None)
-or_none None p e = (refl, e)
-or_none (Some x) p e = absurd cc
+use Rattle.shared_lemmas.proofs.Options.{neither}
+use Rattle.shared_lemmas.proofs.Orders.{less_from_test}
 
 pub or_first : {T : Type 0} (o p : Option T) (x : T) → o ≡ Some x → option_or o p ≡ Some x
 or_first {T} o p x e = ap (λ (q : Option T). option_or q p) e
@@ -26,16 +23,11 @@ passes : {T : Type 0} (b : Bool) (x : T) → cond b None (Some x) ≡ None → b
 passes true x e = refl
 passes false x e = absurd cc
 
-is_less : (o : Ordering) → is_lt o ≡ true → o ≡ Less
-is_less Less e = refl
-is_less Equal e = absurd cc
-is_less Greater e = absurd cc
-
 pub names_begin : (prefix : List ℕ) (before : Option (List ℕ)) (names : List (List ℕ)) → names_fault prefix before names ≡ None → AllBeginWith prefix names
 names_begin prefix before [] e = λ k d l. absurd (omega arith)
 names_begin prefix before (name ∷ names) e =
-    let parts = or_none _ _ e in
-    All-cons (λ (n : List ℕ). IsTrue (starts_with nat_eq n prefix)) name names (passes _ _ (or_none _ _ parts.0).1) (names_begin prefix (Some name) names parts.1)
+    let parts = neither _ _ e in
+    All-cons (λ (n : List ℕ). IsTrue (starts_with nat_eq n prefix)) name names (passes _ _ (neither _ _ parts.0).1) (names_begin prefix (Some name) names parts.1)
 
 abbrev AllAbove : List ℕ → List (List ℕ) → Type 0
 AllAbove first names = AllByRecursion (λ name. slice_cmp nat_cmp first name ≡ Less) names
@@ -48,8 +40,8 @@ names_above : (prefix before : List ℕ) (names : List (List ℕ)) → names_fau
 unfolding IsStrictlySortedBy
 names_above prefix before [] e = (tt, tt)
 names_above prefix before (name ∷ names) e =
-    let parts = or_none _ _ e in
-    let less : slice_cmp nat_cmp before name ≡ Less = is_less _ (passes _ _ (or_none _ _ parts.0).0) in
+    let parts = neither _ _ e in
+    let less : slice_cmp nat_cmp before name ≡ Less = less_from_test _ (passes _ _ (neither _ _ parts.0).0) in
     let rest = names_above prefix name names parts.1 in
     ((less, all_above before name names less rest.0), rest)
 
@@ -59,7 +51,7 @@ last_behind first second before = simp unary_clauses refl
 pub names_ascend : (prefix : List ℕ) (before names : List (List ℕ)) → IsAscending before → names_fault prefix (last_of before) names ≡ None → IsAscending (before ++ names)
 unfolding IsStrictlySortedBy
 names_ascend prefix [] [] ascend e = tt
-names_ascend prefix [] (name ∷ names) ascend e = names_above prefix name names (or_none _ _ e).1
+names_ascend prefix [] (name ∷ names) ascend e = names_above prefix name names (neither _ _ e).1
 names_ascend prefix (first ∷ []) names ascend e = names_above prefix first names e
 names_ascend prefix (first ∷ second ∷ before) names ascend e =
     let rest = names_ascend prefix (second ∷ before) names ascend.1 (ap (λ (last : Option (List ℕ)). names_fault prefix last names) (sym (last_behind first second before)) ∙ e) in

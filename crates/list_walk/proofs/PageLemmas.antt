@@ -10,7 +10,8 @@ use Rattle.s3_model.specs.declared.faults.BadListing.TheVariants.{EmptyPages, No
 use Rattle.s3_model.specs.declared.places.Entry.{Entry}
 use Rattle.list_walk.specs.Pages.{AllBeginWith, Gathered, IsSound, gathered_with, nothing, refusal_of, total_of, whole_fault}
 use Rattle.s3_model.specs.Entries.{IsAscending, keys_of}
-use Rattle.list_walk.proofs.OrderLemmas.{names_ascend, names_begin, or_none}
+use Rattle.list_walk.proofs.OrderLemmas.{names_ascend, names_begin}
+use Rattle.shared_lemmas.proofs.Options.{neither}
 
 pub keys-append : (a b : List Entry) → keys_of (a ++ b) ≡ keys_of a ++ keys_of b
 keys-append [] b = refl
@@ -36,8 +37,8 @@ nothing_is_sound prefix =
 
 pub sound_with_page : (prefix : List ℕ) (before : Gathered) (page : Listed) → IsSound prefix before → refusal_of prefix before page ≡ None → IsSound prefix (gathered_with before page)
 sound_with_page prefix before page sound none =
-    let keys = or_none _ _ none in
-    let rest = or_none _ _ keys.1 in
+    let keys = neither _ _ none in
+    let rest = neither _ _ keys.1 in
     let joined = sym (keys-append before.entries page.entries.items) in
     let limits = within_limits before page rest.1 in
     record {

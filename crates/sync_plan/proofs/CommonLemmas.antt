@@ -12,9 +12,7 @@ use Rattle.shared_lemmas.proofs.Members.{Has, contains_of, has}
 use Rattle.s3_model.specs.Entries.{IsAscending}
 use Rattle.merged_names.proofs.Orders.{equal_is, less}
 use Rattle.sync_plan.specs.Fit.{IsCommon, IsLeastCommon, key_order, object_key, read_keys, written_keys}
-
-clash : (x : List ℕ) → slice_cmp nat_cmp x x ≡ Less → ⊥
-clash x below = let tied = tied_itself nat_list_cmp_total x in absurd cc
+use Rattle.shared_lemmas.proofs.Maps.{not_before_itself}
 
 at_member : {X : Type 0} (Holds : X → Type 0) (xs : List X) (x : X) → AllByRecursion Holds xs → Has xs x → Holds x
 at_member Holds [] x all h = absurd h
@@ -24,9 +22,9 @@ at_member Holds (y ∷ ys) x all (inr h) = at_member Holds ys x all.1 h
 -- a key below the first of some keys in order is none of them
 not_above : (key first : List ℕ) (keys : List (List ℕ)) → slice_cmp nat_cmp key first ≡ Less → IsAscending (first ∷ keys) → Has (first ∷ keys) key → ⊥
 unfolding IsStrictlySortedBy
-not_above key first keys below ascend (inl e) = clash key (subst (λ (k : List ℕ). slice_cmp nat_cmp key k ≡ Less) e below)
+not_above key first keys below ascend (inl e) = not_before_itself key (subst (λ (k : List ℕ). slice_cmp nat_cmp key k ≡ Less) e below)
 not_above key first keys below ascend (inr h) =
-    clash key (nat_list_cmp_total.trans key first key below (at_member (λ k. slice_cmp nat_cmp first k ≡ Less) keys key ascend.0 h))
+    not_before_itself key (nat_list_cmp_total.trans key first key below (at_member (λ k. slice_cmp nat_cmp first k ≡ Less) keys key ascend.0 h))
 
 -- of two lists in order the lesser first key is not common
 passed : (first : List ℕ) (keys : List (List ℕ)) (other : List ℕ) (others : List (List ℕ)) → slice_cmp nat_cmp first other ≡ Less → IsAscending (other ∷ others)

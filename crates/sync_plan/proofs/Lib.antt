@@ -2,7 +2,6 @@ pub mod CommonLemmas
 pub mod DraftLemmas
 pub mod FitLemmas
 pub mod JudgeLemmas
-pub mod NameLemmas
 pub mod PlanLemmas
 pub mod PrefixLemmas
 pub mod RemovalLemmas

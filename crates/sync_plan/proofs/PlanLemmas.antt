@@ -4,12 +4,9 @@ use Rattle.std.specs.Cmp.Lexicographic.{slice_cmp}
 use Rattle.std.specs.List.{AllByRecursion, cons_option}
 use Rattle.std.specs.List.Sorted.{IsStrictlySortedBy}
 use Rattle.std.specs.Map.{values_of}
-use Rattle.std.specs.Ordering.{is_eq, nat_cmp}
+use Rattle.std.specs.Ordering.{nat_cmp}
 use Rattle.std.specs.Str.{bytes_eq}
-use Rattle.std.specs.declared.cmp.Ordering.{Ordering}
-use Rattle.std.specs.declared.cmp.Ordering.TheVariants.{Less, Equal, Greater}
-use Rattle.std.proofs.lemmas.Cmp.{nat_list_cmp_total, tied_itself}
-use Rattle.std.proofs.lemmas.Map.Text.{is_eq-slice_cmp}
+use Rattle.std.specs.declared.cmp.Ordering.TheVariants.{Less}
 use Rattle.s3_model.specs.ContentTypes.{last_name}
 use Rattle.s3_model.specs.declared.faults.PlanFault.{PlanFault}
 use Rattle.s3_model.specs.declared.faults.PlanFault.TheVariants as fault
@@ -23,18 +20,16 @@ use Rattle.shared_lemmas.proofs.Clashes.{none_is_some, some_is}
 use Rattle.shared_lemmas.proofs.Members.{Has, contains_of, has, has-filter_map, has_at, has_filtered}
 use Rattle.s3_model.specs.Entries.{IsAscending}
 use Rattle.merged_names.specs.Merging.{AllAbove, Ascend}
-use Rattle.merged_names.proofs.Orders.{behind_prefix, equal_is, equal_itself}
+use Rattle.merged_names.proofs.Orders.{behind_prefix, equal_itself}
 use Rattle.sync_plan.specs.declared.errand.Errand.{Errand}
 use Rattle.sync_plan.specs.Errands.{AreEntries, TransfersBetween, dest_at, is_joined, is_one_bucket, place_at, source_at, text_of}
 use Rattle.sync_plan.specs.Fit.{IsCommon, IsFit, IsJudged, IsOfKind, IsRefused, Overlaps, object_key, read_keys, size_fault, written_keys}
 use Rattle.sync_plan.specs.Plans.{planned}
 use Rattle.sync_plan.proofs.SideLemmas.{names_ascend}
 use Rattle.sync_plan.proofs.FitLemmas.{IsItem, are_items, front_key, front_of, items as items_of, items_ascend, same_path}
+use Rattle.shared_lemmas.proofs.Maps.{not_before_itself, same_bytes}
 
 -- ---- places of a list
-
-clash : (x : List ℕ) → slice_cmp nat_cmp x x ≡ Less → ⊥
-clash x below = let tied = tied_itself nat_list_cmp_total x in absurd cc
 
 pub all_at : {X : Type 0} (Holds : X → Type 0) (xs : List X) (n : ℕ) (x : X) → AllByRecursion Holds xs → slice_get xs n ≡ Some x → Holds x
 all_at Holds [] n x all e = absurd (none_is_some x e)
@@ -50,10 +45,10 @@ pub distinct : (items : List (List ℕ × Task)) (m n : ℕ) (a b : List ℕ × 
 distinct [] m n a b ascend is_a is_b same = absurd (none_is_some a is_a)
 distinct (item ∷ items) zero zero a b ascend is_a is_b same = refl
 distinct (item ∷ items) zero (suc n) a b ascend is_a is_b same =
-    absurd (clash item.0 (subst (λ (p : List ℕ). slice_cmp nat_cmp item.0 p ≡ Less) (sym same ∙ sym (ap (λ (i : List ℕ × Task). i.0) (some_is item a is_a)))
+    absurd (not_before_itself item.0 (subst (λ (p : List ℕ). slice_cmp nat_cmp item.0 p ≡ Less) (sym same ∙ sym (ap (λ (i : List ℕ × Task). i.0) (some_is item a is_a)))
     (all_at (λ (i : List ℕ × Task). slice_cmp nat_cmp item.0 i.0 ≡ Less) items n b ascend.0 is_b)))
 distinct (item ∷ items) (suc m) zero a b ascend is_a is_b same =
-    absurd (clash item.0 (subst (λ (p : List ℕ). slice_cmp nat_cmp item.0 p ≡ Less) (same ∙ sym (ap (λ (i : List ℕ × Task). i.0) (some_is item b is_b)))
+    absurd (not_before_itself item.0 (subst (λ (p : List ℕ). slice_cmp nat_cmp item.0 p ≡ Less) (same ∙ sym (ap (λ (i : List ℕ × Task). i.0) (some_is item b is_b)))
     (all_at (λ (i : List ℕ × Task). slice_cmp nat_cmp item.0 i.0 ≡ Less) items m a ascend.0 is_a)))
 distinct (item ∷ items) (suc m) (suc n) a b ascend is_a is_b same = ap suc (distinct items m n a b ascend.1 is_a is_b same)
 
@@ -117,7 +112,7 @@ unfolding IsStrictlySortedBy
 one_key_ascends key_of base [] ascend same = tt
 one_key_ascends key_of base (item ∷ []) ascend same = elim (key_of item.1) as (λ (o : Option (List ℕ)). IsAscending (cons_option o [])) [ None ↦ tt | Some key ↦ (tt, tt) ]
 one_key_ascends key_of base (item ∷ next ∷ items) ascend same =
-    absurd (clash item.0 (subst (λ (p : List ℕ). slice_cmp nat_cmp item.0 p ≡ Less) (same.1.0 ∙ sym same.0) ascend.0.0))
+    absurd (not_before_itself item.0 (subst (λ (p : List ℕ). slice_cmp nat_cmp item.0 p ≡ Less) (same.1.0 ∙ sym same.0) ascend.0.0))
 
 not_both_files : (of_kind : Kind) (from to : Place) → TransfersBetween of_kind from (Some to) → bucket_in from ≡ None → bucket_in to ≡ None → ⊥
 unfolding bucket_in
@@ -131,14 +126,6 @@ not_both_files kind.Copy (place.File p) to between e d = between
 not_both_files kind.RemoveObject from to between e d = between
 not_both_files kind.RemoveFile from to between e d = between
 
-same_bytes : (x y : List ℕ) → bytes_eq x y ≡ true → x ≡ y
-same_bytes x y e = equal_is x y (is_equal (slice_cmp nat_cmp x y) (is_eq-slice_cmp x y ∙ e))
-  where
-    is_equal : (o : Ordering) → is_eq o ≡ true → o ≡ Equal
-    is_equal Less e = absurd cc
-    is_equal Equal e = refl
-    is_equal Greater e = absurd cc
-
 one_is : (from to : Place) → is_one_bucket from to ≡ true → bucket_in from ≡ bucket_in to
 unfolding bucket_in
 one_is (place.Object b k) (place.Object bucket key) e = ap Some (same_bytes b bucket e)
@@ -150,9 +137,6 @@ object_of : (at : Option Place) (key : List ℕ) → object_key at ≡ Some key 
 object_of None key e = absurd (none_is_some key e)
 object_of (Some (place.Object bucket k)) key e = (bucket, ap (λ (x : List ℕ). Some (place.Object bucket x)) (some_is k key e))
 object_of (Some (place.File path)) key e = absurd (none_is_some key e)
-
-place_is : (a b : Place) → Some a ≡ Some b → a ≡ b
-place_is a b e = some_is a b e
 
 member_at : (errand : Errand) (to : Place) (many : Bool) (items : List (List ℕ × Task)) (task : Task) → AllByRecursion (IsItem errand to many) items → Has (values_of items) task → (path : List ℕ) × IsItem errand to many (path, task)
 member_at errand to many [] task are h = absurd h
@@ -226,7 +210,7 @@ module _ (errand : Errand) (to : Place) (between : TransfersBetween errand.kind 
       let by = member_at errand to many items writer.0 are writer.1 in
       let source = object_of reader.0.source key reader.2 in
       let dest = object_of (Some writer.0.dest) key writer.2 in
-      let is_dest : writer.0.dest ≡ place.Object dest.0 key = place_is writer.0.dest (place.Object dest.0 key) dest.1 in
+      let is_dest : writer.0.dest ≡ place.Object dest.0 key = some_is writer.0.dest (place.Object dest.0 key) dest.1 in
       let same : dest.0 ≡ source.0 = some_is dest.0 source.0 (sym (ap bucket_in is_dest) ∙ to_bucket by.0 writer.0 by.1 ∙ sym (one_is errand.from to one) ∙ from_bucket at.0 reader.0 (place.Object source.0 key) at.1 source.1) in
       record {
         bucket = source.0;

@@ -1,10 +1,11 @@
 -- What follows a prefix in a text that begins with it.
-use Rattle.std.proofs.Common.{◌≡◌, ◌∙◌, ◌+◌, ℕ, Bool, true, false, cond, List, [], ◌++◌, None, refl, sym, ap, drop, length, nat_eq}
+use Rattle.std.proofs.Common.{◌≡◌, ◌∙◌, ◌+◌, ℕ, Bool, true, cond, List, [], ◌++◌, None, refl, sym, ap, drop, length, nat_eq}
 use Rattle.std.specs.List.{starts_with}
 use Rattle.std.specs.Str.Pattern.{FindsTextPrefix, StripsPrefix}
 use Rattle.std.proofs.lemmas.Slice.Eq.{starts_is}
 use Rattle.std.proofs.lemmas.Bool.Decides.{Decides-eqb}
 use Rattle.std.proofs.Math.Seq.{drop-append_seam}
+use Rattle.std.proofs.lemmas.Bool.{false_from_ne_true}
 use Rattle.sync_plan.specs.Errands.{behind_prefix}
 
 -- a text begins with a prefix where it is the prefix and something behind it
@@ -24,11 +25,7 @@ pub behind_found : (prefix key rest : List ℕ) → StripsPrefix (FindsTextPrefi
 behind_found prefix key rest (n, found, is_rest, fits) =
     sym (behind_of prefix key rest (found.1 ∙ ap (λ (back : List ℕ). prefix ++ back) (sym is_rest)))
 
-not_begun : (b : Bool) → (b ≡ true → ⊥) → b ≡ false
-not_begun true never = absurd (never refl)
-not_begun false never = refl
-
 pub behind_none : (prefix key : List ℕ) → FindsTextPrefix prefix key None → [] ≡ behind_prefix prefix key
 unfolding behind_prefix
 behind_none prefix key lacks =
-    sym (ap (λ (b : Bool). cond b (drop (length prefix) key) []) (not_begun (starts_with nat_eq key prefix) (λ begun. lacks (drop (length prefix) key) (split prefix key begun))))
+    sym (ap (λ (b : Bool). cond b (drop (length prefix) key) []) (false_from_ne_true (starts_with nat_eq key prefix) (λ begun. lacks (drop (length prefix) key) (split prefix key begun))))
