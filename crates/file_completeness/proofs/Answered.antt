@@ -1,5 +1,5 @@
 -- A certain answer was served, by a service that does what it may, before its dispatch came.
-use Rattle.std.proofs.Common.{append_assoc, ◌≡◌, ◌∙◌, ◌++◌, ◌≤◌, ℕ, List, [], ◌∷◌, Some, refl, sym, ap, subst, Contains, filter_map, length, slice_get, arith}
+use Rattle.std.proofs.Common.{append_assoc, ◌≡◌, ◌∙◌, ◌++◌, ◌≤◌, ℕ, List, [], ◌∷◌, Some, refl, sym, ap, subst, Contains, filter_map, length, slice_get, arith, Option}
 use Rattle.s3_model.specs.declared.answers.Class.{Class}
 use Rattle.s3_model.specs.declared.outcomes.Event.{Event}
 use Rattle.s3_model.specs.declared.outcomes.Event.TheVariants as entry
@@ -46,10 +46,10 @@ pub record IsAnsweredEarly (limits : Limits) (start : State) (trace : List Step)
   pub willing : IsWillingAt limits (state_after start front) (Serve (request_at c place) answer)
   pub early : reached front ≤ until
 
-module _ (Shows : Ask → ℕ → Talk → Class → List ℕ → Type 0) (limits : Limits) (start : State) (trace : List Step) (dispatched : List Dispatched) (journal : List Event)
-    (runs : IsTrace limits [] start trace) (fits : Fits Shows (events_of trace) journal dispatched) (willing : IsWilling limits start trace) where
+module _ {page : Option ℕ} (Shows : Ask → ℕ → Talk → Class → List ℕ → Type 0) (limits : Limits) (start : State) (trace : List Step) (dispatched : List Dispatched) (journal : List Event)
+    (runs : IsTrace limits [] start trace) (fits : Fits Shows page (events_of trace) journal dispatched) (willing : IsWilling limits start trace) where
   pub answered_early : (c : Dispatched) → Contains dispatched c → (come : HasCome journal c) → (place : ℕ) (attempt : Attempt) (shown : Class) (bytes : List ℕ)
-      → slice_get c.dispatch.attempts place ≡ Some attempt → Shows c.ask c.limit attempt.talk shown bytes → IsCertain shown → IsAnsweredEarly limits start trace c place shown bytes come.0
+      → slice_get c.dispatch.attempts place ≡ Some attempt → Shows c.ask c.limit attempt.talk shown bytes → IsCertain page c shown → IsAnsweredEarly limits start trace c place shown bytes come.0
   answered_early c known come place attempt shown bytes is_attempt shows certain =
       let came = split_at event_of (events_of trace) come.0 (entry.Came c.dispatch.job c.dispatch.lane come.1) (ap (λ (j : List Event). slice_get j come.0) fits.moves ∙ come.3) in
       let is_came : came.item ≡ Came c.dispatch.job c.dispatch.lane come.1 = came_event came.item c.dispatch.job c.dispatch.lane come.1 came.gives in

@@ -47,6 +47,7 @@ use Rattle.world_laws.specs.Completeness.{AreCallsCounted, IsOwed}
 use Rattle.world_laws.specs.Premises.{HasCome}
 use Rattle.world_laws.specs.Promises.{run_of}
 use Rattle.world_laws.specs.Tasks.{IsScheduled, IsTraceOf}
+use Rattle.world_laws.proofs.Fitting.{task_asks_no_page}
 use Rattle.world_laws.proofs.Buckets.{bucket_is_stable}
 use Rattle.world_laws.proofs.Early as early
 use Rattle.world_laws.proofs.Early.{reached}
@@ -363,7 +364,8 @@ module _ (Shows : Ask → ℕ → Talk → Class → List ℕ → Type 0) (HasSt
         -- a success
         module _ (said : Reply) (bytes : List ℕ) (shows : Shows c.ask c.limit attempt.talk (class.Success said) bytes) where
           replied : IsAnsweredEarly s.limits start trace c at_place (class.Success said) bytes (come c known).0
-          replied = answered_early Shows s.limits start trace dispatched shown.journal p.runs p.fits willing c known (come c known) at_place attempt (class.Success said) bytes at shows tt
+          replied = answered_early Shows s.limits start trace dispatched shown.journal p.runs p.fits willing c known (come c known) at_place attempt (class.Success said) bytes at shows
+              (λ page. task_asks_no_page n c of_task (page.0, page.1))
 
           abbrev before : State
           before = state_after start replied.front
@@ -525,6 +527,6 @@ module _ (Shows : Ask → ℕ → Talk → Class → List ℕ → Type 0) (HasSt
         | inl wanting ↦ inr (inr wanting)
         | inr none ↦
             owed Shows HasStatus Plans CallFailed request_text host port shown run.dispatched coming calls o certain not_cancelled run.start run.trace
-            (subst (λ (r : Run). IsTraceOf Shows shown.setting r) (promises.run_is shown run.dispatched run refl of_shown.of_journal) of_shown.fitting) willing alone
+            (subst (λ (r : Run). IsTraceOf Shows shown.setting r) (promises.run_is shown run.dispatched run refl of_shown.of_journal of_shown.of_page) of_shown.fitting) willing alone
             n task is_task by (λ wanting. true_is_false (sym wanting ∙ none)) sourced counted how at (o.over_wires.causes n task how is_task at)
       ]

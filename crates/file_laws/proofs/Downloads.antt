@@ -1,5 +1,5 @@
 -- Downloads: the destination is as before until its temporary file is renamed, and then has the content of its source.
-use Rattle.std.proofs.Common.{◌≡◌, ◌∙◌, ◌⊎◌, ◌+◌, ◌≤◌, ◌++◌, ℕ, Bool, true, false, List, [], ◌∷◌, Some, None, Ok, refl, sym, ap, subst, inl, inr, Contains, length, take, drop, slice_get, arith}
+use Rattle.std.proofs.Common.{◌≡◌, ◌∙◌, ◌⊎◌, ◌+◌, ◌≤◌, ◌++◌, ℕ, Bool, true, false, List, [], ◌∷◌, Some, None, Ok, refl, sym, ap, subst, inl, inr, Contains, length, take, drop, slice_get, arith, Option}
 use Rattle.std.proofs.lemmas.List.{append-nil}
 use Rattle.std.specs.FinMap.{get}
 use Rattle.s3_model.specs.declared.answers.Class.{Class}
@@ -256,7 +256,7 @@ module _ (Shows : Ask → ℕ → Talk → Class → List ℕ → Type 0) (s : S
             let at = same_path st.3 path (sym (only_download_stamps own.task own.task.kind st.3 st.4 false own.is_call).1 ∙ ap (λ (t : Task). t.dest) alike ∙ is_dest) in
             inr (subst (λ (q : List ℕ). HasOtherTime (run_of s excused dispatched coming calls) q) at ((st.0, st.1, st.4, e), a.keep.untimed st.0 st.3 st.4 st.1 e))
 
-    module _ (start : State) (trace : List Step) (journal : List Event) (r : IsScheduled Shows s journal dispatched coming) (traced : IsTraceOf Shows s (record { start = start; trace = trace; journal = journal; dispatched = dispatched }))
+    module _ {page : Option ℕ} (start : State) (trace : List Step) (journal : List Event) (r : IsScheduled Shows s journal dispatched coming) (traced : IsTraceOf Shows s (record { start = start; trace = trace; journal = journal; dispatched = dispatched; refused_page = page }))
         (source : HasSourceObject (states start trace) task) where
       abbrev IsContent : List ℕ → Type 0
       IsContent all = HasContent s.held (states start trace) task.etag task.source all
@@ -363,9 +363,9 @@ module _ (Shows : Ask → ℕ → Talk → Class → List ℕ → Type 0) (s : S
 
 -- a trace of a run is one of the run with the same dispatched requests
 pub traced_as : (Shows : Ask → ℕ → Talk → Class → List ℕ → Type 0) (s : Setting) (over : Run) (dispatched : List Dispatched) → over.dispatched ≡ dispatched → IsTraceOf Shows s over
-    → IsTraceOf Shows s (record { start = over.start; trace = over.trace; journal = over.journal; dispatched = dispatched })
+    → IsTraceOf Shows s (record { start = over.start; trace = over.trace; journal = over.journal; dispatched = dispatched; refused_page = over.refused_page })
 traced_as Shows s over dispatched same traced =
-    subst (λ (all : List Dispatched). IsTraceOf Shows s (record { start = over.start; trace = over.trace; journal = over.journal; dispatched = all })) same traced
+    subst (λ (all : List Dispatched). IsTraceOf Shows s (record { start = over.start; trace = over.trace; journal = over.journal; dispatched = all; refused_page = over.refused_page })) same traced
 
 module _ (Shows : Ask → ℕ → Talk → Class → List ℕ → Type 0) where
   pub file_is_kept_safe : FileIsKeptSafe Shows

@@ -45,12 +45,12 @@ use Rattle.file_laws.proofs.Requests as requests
 none_task : (n : ℕ) → ◌≡◌ {A = Option ℕ} None (Some n) → ⊥
 none_task n e = cc
 
-module _ (Shows : Ask → ℕ → Talk → Class → List ℕ → Type 0) (HasStatus : Ask → ℕ → Talk → ℕ → Type 0) (CallFailed : ℕ → Cause → Type 0) (s : Setting) (excused : Excused) (dispatched coming : List Dispatched) (calls : List TaskCall)
+module _ {page : Option ℕ} (Shows : Ask → ℕ → Talk → Class → List ℕ → Type 0) (HasStatus : Ask → ℕ → Talk → ℕ → Type 0) (CallFailed : ℕ → Cause → Type 0) (s : Setting) (excused : Excused) (dispatched coming : List Dispatched) (calls : List TaskCall)
     (start : State) (trace part : List Step) (journal : List Event) (a : AreCalls Shows (run_of s excused dispatched coming calls)) (r : IsScheduled Shows s journal dispatched coming)
-    (traced : IsTraceOf Shows s (record { start = start; trace = trace; journal = journal; dispatched = dispatched })) (whole : HasJournal journal trace part)
+    (traced : IsTraceOf Shows s (record { start = start; trace = trace; journal = journal; dispatched = dispatched; refused_page = page })) (whole : HasJournal journal trace part)
     (n : ℕ) (task : Task) (is_task : slice_get s.tasks n ≡ Some task) (path : List ℕ) (is_dest : task.dest ≡ place.File path) where
   abbrev run : Run
-  run = record { start = start; trace = trace; journal = journal; dispatched = dispatched }
+  run = record { start = start; trace = trace; journal = journal; dispatched = dispatched; refused_page = page }
 
   abbrev before : Scene
   before = record { state = start; held = s.held; others = s.others }

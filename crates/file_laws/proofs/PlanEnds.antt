@@ -53,7 +53,7 @@ module _ (Shows : Ask → ℕ → Talk → Class → List ℕ → Type 0) (HasSt
   files_left : AreFilesLeft shown
   files_left = moved_files_are_left Shows shown dispatched coming calls o.over_files o.held_after o.moved
 
-  module _ (start : State) (trace part : List Step) (runs : IsTrace shown.setting.limits [] start trace) (honest : IsHonest start trace (IsDest shown.setting.tasks)) (fits : Fits Shows (events_of trace) shown.journal dispatched)
+  module _ (start : State) (trace part : List Step) (runs : IsTrace shown.setting.limits [] start trace) (honest : IsHonest start trace (IsDest shown.setting.tasks)) (fits : Fits Shows shown.refused_page (events_of trace) shown.journal dispatched)
       (whole : HasJournal shown.journal trace part) where
     abbrev run : Run
     run = run_of shown dispatched start trace
@@ -62,7 +62,7 @@ module _ (Shows : Ask → ℕ → Talk → Class → List ℕ → Type 0) (HasSt
     of_trace = record { runs = runs; honest = honest; fits = fits }
 
     of_shown : FitsShown Shows shown run
-    of_shown = record { of_journal = refl; fitting = of_trace }
+    of_shown = record { of_journal = refl; of_page = refl; fitting = of_trace }
 
     abbrev Ends : ℕ → Task → Outcome → MapOf HeldFile → Type 0
     Ends n task how held = IsEnded shown.excused run (record { state = start; held = shown.setting.held; others = shown.setting.others })

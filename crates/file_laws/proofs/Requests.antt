@@ -58,12 +58,12 @@ module _ (Shows : Ask → ℕ → Talk → Class → List ℕ → Type 0) (s : S
       (given.0, given.1, given.2)
 
   -- the source of a moved download is gone once its Delete came with success
-  pub deleted_is_gone : (held : MapOf HeldFile) (start : State) (trace part : List Step) → IsTraceOf Shows s (record { start = start; trace = trace; journal = journal; dispatched = dispatched }) → HasJournal journal trace part
+  pub deleted_is_gone : {page : Option ℕ} (held : MapOf HeldFile) (start : State) (trace part : List Step) → IsTraceOf Shows s (record { start = start; trace = trace; journal = journal; dispatched = dispatched; refused_page = page }) → HasJournal journal trace part
       → (n : ℕ) (task : Task) (bucket key : List ℕ) → slice_get s.tasks n ≡ Some task → task.kind ≡ kind.Download → task.moves ≡ true → task.source ≡ Some (place.Object bucket key)
       → (c : Dispatched) → Contains dispatched c → c.dispatch.job ≡ job_of n op.Delete 0 → (answered : Reply) → HasReply Shows c (last_of c.dispatch.attempts) answered
       → IsGone trace (record { state = state_after start part; held = held; others = s.others }) task.source
-  deleted_is_gone held start trace part traced whole n task bucket key is_task load moves source c known is answered replies =
-      moved_source_is_gone Shows s held (record { start = start; trace = trace; journal = journal; dispatched = dispatched }) part
+  deleted_is_gone {page = page} held start trace part traced whole n task bucket key is_task load moves source c known is answered replies =
+      moved_source_is_gone Shows s held (record { start = start; trace = trace; journal = journal; dispatched = dispatched; refused_page = page }) part
       (record { coming = coming; scheduled = r; traced = traced }) whole n task bucket key is_task moves source
       (λ removal. download_removes_object (sym load ∙ removal)) (c, known, is, (replied Shows c answered replies).0)
 
@@ -94,8 +94,8 @@ part_fits : (c : Dispatched) (asked : Ask) (bucket key etag : List ℕ) (range :
     → FitsAsk c asked (class.Success (reply.Got status told size)) → status ≡ 206
 part_fits c asked bucket key etag range status size told is fits = (subst (λ (x : Ask). FitsAsk c x (class.Success (reply.Got status told size))) is fits).0
 
-module _ (Shows : Ask → ℕ → Talk → Class → List ℕ → Type 0) (s : Setting) (journal : List Event) (dispatched coming : List Dispatched) (r : IsScheduled Shows s journal dispatched coming)
-    (start : State) (trace : List Step) (traced : IsTraceOf Shows s (record { start = start; trace = trace; journal = journal; dispatched = dispatched })) (n : ℕ) (task : Task) (is_task : slice_get s.tasks n ≡ Some task) (load : task.kind ≡ kind.Download)
+module _ {page : Option ℕ} (Shows : Ask → ℕ → Talk → Class → List ℕ → Type 0) (s : Setting) (journal : List Event) (dispatched coming : List Dispatched) (r : IsScheduled Shows s journal dispatched coming)
+    (start : State) (trace : List Step) (traced : IsTraceOf Shows s (record { start = start; trace = trace; journal = journal; dispatched = dispatched; refused_page = page })) (n : ℕ) (task : Task) (is_task : slice_get s.tasks n ≡ Some task) (load : task.kind ≡ kind.Download)
     (source : HasSourceObject (states start trace) task) (piece count : ℕ) (has : HasPieces s.config s.limits task.kind task.size piece count) where
   abbrev bucket : List ℕ
   bucket = source.0
@@ -109,7 +109,7 @@ module _ (Shows : Ask → ℕ → Talk → Class → List ℕ → Type 0) (s : S
   sound : AreSound small task.size piece count
   sound = are_sound s task piece count r.threshold r.limits load has
 
-  fitting : IsFitting Shows s.limits (record { start = start; trace = trace; journal = journal; dispatched = dispatched }) IsNoPlace
+  fitting : IsFitting Shows s.limits (record { start = start; trace = trace; journal = journal; dispatched = dispatched; refused_page = page }) IsNoPlace
   fitting = record {
     runs = traced.runs;
     honest = record { one_content = traced.honest.one_content; not_written = λ b k object h kept. kept; not_removed = λ b k h kept. kept };
@@ -181,11 +181,11 @@ module _ (Shows : Ask → ℕ → Talk → Class → List ℕ → Type 0) (s : S
           let body = bodies 0 0 task.size range in
           let whole : take task.size (drop 0 all) ≡ all = take_all task.size all (omega arith) in
           subst (λ (xs : List ℕ). HadContent (states start trace) bucket key task.etag xs) whole
-          (whole_tells Shows s.limits (record { start = start; trace = trace; journal = journal; dispatched = dispatched }) bucket key task.etag (take task.size (drop 0 all)) fitting
+          (whole_tells Shows s.limits (record { start = start; trace = trace; journal = journal; dispatched = dispatched; refused_page = page }) bucket key task.etag (take task.size (drop 0 all)) fitting
           (got_by 0 0 (take task.size (drop 0 all)) body.0 body.1 (number_of 0 0 task.size range) None
           (asks_of 0 0 task.size range ∙ ap (λ (b : Bool). ask.Get bucket key task.etag (range_for b task.size piece 0)) is)))
       by false is = subst (λ (xs : List ℕ). HadContent (states start trace) bucket key task.etag xs) joined_is
-          (ranges_tell Shows s.limits (record { start = start; trace = trace; journal = journal; dispatched = dispatched }) bucket key task.etag task.size piece (piece_of all piece) fitting whole.2 whole.0 source.3 each)
+          (ranges_tell Shows s.limits (record { start = start; trace = trace; journal = journal; dispatched = dispatched; refused_page = page }) bucket key task.etag task.size piece (piece_of all piece) fitting whole.2 whole.0 source.3 each)
         where
           whole : (1 ≤ piece) × (count ≡ piece_count task.size piece) × (1 ≤ task.size)
           whole = sound is

@@ -1,7 +1,8 @@
 -- A trace that fits dispatched requests fits them too with another limit and size, where talks are read without these.
-use Rattle.std.proofs.Common.{◌≡◌, ◌∙◌, ◌+◌, ◌==◌, ◌++◌, ◌<◌, ℕ, Bool, true, false, cond, List, [], ◌∷◌, Some, refl, sym, ap, subst, Contains, filter, length, map, slice_get}
+use Rattle.std.proofs.Common.{◌≡◌, ◌∙◌, ◌+◌, ◌==◌, ◌++◌, ◌<◌, ℕ, Bool, true, false, cond, List, [], ◌∷◌, Some, refl, sym, ap, subst, Contains, filter, length, map, slice_get, Option}
 use Rattle.std.specs.Prelude.{filter_map, flat_map}
 use Rattle.s3_model.specs.declared.answers.Class.{Class}
+use Rattle.s3_model.specs.declared.answers.Class.TheVariants as class
 use Rattle.s3_model.specs.declared.outcomes.Event.{Event}
 use Rattle.s3_model.specs.declared.outcomes.Event.TheVariants as entry
 use Rattle.s3_model.specs.declared.outcomes.JobId.{JobId}
@@ -44,13 +45,19 @@ module _ (limit size : ℕ) where
           ∙ ap (λ (xs : List SentRequest). requests_from (resized c) 0 c.dispatch.attempts ++ xs) e
       by false e = e
 
-  abbrev ServedAs : List TraceEvent → Dispatched → Type 0
-  ServedAs trace c = (front back : List TraceEvent) (job : JobId) (lane : ℕ) (tries : List Mark) (place : ℕ) (attempt : Attempt) (shown : Class) (bytes : List ℕ) → trace ≡ front ++ Came job lane tries ∷ back
-      → c.dispatch.job ≡ job → c.dispatch.came_at ≡ Some (length (filter_map event_of front)) → slice_get c.dispatch.attempts place ≡ Some attempt → Told c.ask c.limit attempt.talk shown bytes → IsCertain shown
+  -- it is as certain
+  as_certain : (page : Option ℕ) (c : Dispatched) (shown : Class) → IsCertain page (resized c) shown → IsCertain page c shown
+  as_certain page c (class.Success said) certain = certain
+  as_certain page c (class.Refusal code message) certain = certain
+  as_certain page c (class.Uncertain why) certain = certain
+
+  abbrev ServedAs : Option ℕ → List TraceEvent → Dispatched → Type 0
+  ServedAs page trace c = (front back : List TraceEvent) (job : JobId) (lane : ℕ) (tries : List Mark) (place : ℕ) (attempt : Attempt) (shown : Class) (bytes : List ℕ) → trace ≡ front ++ Came job lane tries ∷ back
+      → c.dispatch.job ≡ job → c.dispatch.came_at ≡ Some (length (filter_map event_of front)) → slice_get c.dispatch.attempts place ≡ Some attempt → Told c.ask c.limit attempt.talk shown bytes → IsCertain page c shown
       → (answer : Answer) × Contains front (Serve (request_at c place) answer) × Names shown bytes answer
 
-  pub resized_fits : (trace : List TraceEvent) (journal : List Event) (dispatched : List Dispatched) → Fits Told trace journal dispatched → Fits Told trace journal (all_resized dispatched)
-  resized_fits trace journal dispatched f = record {
+  pub resized_fits : (trace : List TraceEvent) (journal : List Event) (dispatched : List Dispatched) → {page : Option ℕ} → Fits Told page trace journal dispatched → Fits Told page trace journal (all_resized dispatched)
+  resized_fits trace journal dispatched {page = page} f = record {
     moves = f.moves;
     begins = λ lane. f.begins lane ∙ same_begins lane dispatched;
     since_given = f.since_given;
@@ -58,12 +65,12 @@ module _ (limit size : ℕ) where
     once = f.once;
     answers = λ sent answer h.
         let a = f.answers sent answer h in
-        record { of = resized a.of; known = resized_known dispatched a.of a.known; place = a.place; attempt = a.attempt; is_attempt = a.is_attempt; is_sent = a.is_sent; names = a.names };
+        record { of = resized a.of; known = resized_known dispatched a.of a.known; place = a.place; attempt = a.attempt; is_attempt = a.is_attempt; is_sent = a.is_sent; names = λ shown bytes told certain. a.names shown bytes told (as_certain page a.of shown certain) };
     served = λ front back job lane tries c place attempt shown bytes is known same at slot told certain.
         let first = among dispatched c known in
-        let as_first : ServedAs trace (resized first.0) =
-        λ front back job lane tries place attempt shown bytes is same at slot told certain. f.served front back job lane tries first.0 place attempt shown bytes is first.1 same at slot told certain in
-        subst (ServedAs trace) first.2 as_first front back job lane tries place attempt shown bytes is same at slot told certain;
+        let as_first : ServedAs page trace (resized first.0) =
+        λ front back job lane tries place attempt shown bytes is same at slot told certain. f.served front back job lane tries first.0 place attempt shown bytes is first.1 same at slot told (as_certain page first.0 shown certain) in
+        subst (ServedAs page trace) first.2 as_first front back job lane tries place attempt shown bytes is same at slot told certain;
   }
 
   pub resized_given : (journal : List Event) (dispatched : List Dispatched) → AreGiven journal dispatched → AreGiven journal (all_resized dispatched)

@@ -47,10 +47,16 @@ HasStayed run temp = HasFailedDrop run.calls temp × IsLeft run.excused temp
 abbrev pub HasOtherTime : FileRun → List ℕ → Type 0
 HasOtherTime run path = HasFailedStamp run.calls path × IsUntimed run.excused path
 
--- the same run, as a trace of a service shows it
+-- the same run, as a trace of a service shows it, with no page that was refused by its content
 abbrev pub with_trace : FileRun → List Event → State → List Step → Run
 with_trace run journal start trace =
-    record { start = start; trace = trace; journal = journal; dispatched = run.dispatched }
+    record {
+      start = start;
+      trace = trace;
+      journal = journal;
+      dispatched = run.dispatched;
+      refused_page = None;
+    }
 
 -- What holds of the destination of a download, whatever its Gets brought.
 pub record IsKeptSafe (run : FileRun) (n : ℕ) (task : Task) (path : List ℕ) : Type 0 where

@@ -46,6 +46,7 @@ removal_shown counted path = record {
   notes = λ lane. [];
   held_after = one_file path;
   excused = record { left = []; untimed = []; wanted_memory = false };
+  refused_page = None;
 }
 
 abbrev pub IsRemovalCarriedOut : (counted : Bool) → List ℕ → (dispatched coming : List Dispatched) → Type 0

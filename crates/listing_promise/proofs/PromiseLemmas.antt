@@ -30,7 +30,7 @@ use Rattle.listing_promise.proofs.ScheduleLemmas.{listing_buffers, listing_sched
 seventy : (n : ℕ) → n ≡ 70 → (n == 70) ≡ true
 seventy n is = grind arith
 
-module _ (endpoint : Endpoint) (keys : Keys) (Plans : List Dispatched → Type 0) (config : Config) (configured : IsValidConfig config) (limits : Limits) (valid : IsValidLimits limits) (wires : ℕ) (has_wire : 1 ≤ wires) (status before after : ℕ)
+module _ (endpoint : Endpoint) (keys : Keys) (Plans : Option ℕ → List Dispatched → Type 0) (page : Option ℕ) (config : Config) (configured : IsValidConfig config) (limits : Limits) (valid : IsValidLimits limits) (wires : ℕ) (has_wire : 1 ≤ wires) (status before after : ℕ)
     (path : List ℕ) (was now : SeenFiles) (same : now.store ≡ was.store) (asked : List Asked) (asks : AreQuestions asked) (talks : List Talk) (notes : List Note) where
   abbrev jobs : List Dispatched
   jobs = dispatched_from 0 0 asked
@@ -39,7 +39,7 @@ module _ (endpoint : Endpoint) (keys : Keys) (Plans : List Dispatched → Type 0
   start = start_of (one_attempt config) limits wires [] was
 
   abbrev came : RunEnd
-  came = end_of status [] [] (events_from 0 asked) talks notes now
+  came = record (end_of status [] [] (events_from 0 asked) talks notes now) { refused_page = page }
 
   abbrev shown : Shown
   shown = shown_by start came None
@@ -51,18 +51,18 @@ module _ (endpoint : Endpoint) (keys : Keys) (Plans : List Dispatched → Type 0
   stay any = ap (λ (s : FileStore). get s.held any) same
 
   abbrev Scheduled : Type 0
-  Scheduled = IsSchedule Shows shown.setting Plans jobs jobs
+  Scheduled = IsSchedule Shows shown.setting (Plans page) jobs jobs
 
   abbrev Carried : Type 0
   Carried = IsCarried Shows (text_of endpoint keys) endpoint.host endpoint.port shown.setting shown.journal shown.logs shown.notes jobs jobs
 
-  orderly : Scheduled → Carried → IsOrderly Shows HasStatus Plans Fails (text_of endpoint keys) endpoint.host endpoint.port shown jobs jobs
+  orderly : Scheduled → Carried → IsOrderly Shows HasStatus (Plans page) Fails (text_of endpoint keys) endpoint.host endpoint.port shown jobs jobs
   orderly schedule carried = record {
     schedule = schedule;
     carried = carried;
     outcomes = inl refl;
     causes = λ n task how at_task at_how. absurd (none_is_some task at_task);
-    questions = λ c known of_none. questions Shows Plans shown.setting asked asks c known;
+    questions = λ c known of_none. questions Shows (Plans page) shown.setting asked asks c known;
     tasks = λ n task at_task. absurd (none_is_some task at_task);
     apart = record {
       destinations = λ m n a b bucket key at_m at_n of_a of_b. absurd (none_is_some a at_m);
@@ -85,7 +85,7 @@ module _ (endpoint : Endpoint) (keys : Keys) (Plans : List Dispatched → Type 0
     outcomes = inl refl;
     causes = λ n task how at_task at_how. absurd (none_is_some task at_task);
     files = λ any. inr (inr (stay any));
-    holds = promise_holds Shows HasStatus Plans Fails (text_of endpoint keys) endpoint.host endpoint.port shown jobs jobs (orderly schedule carried);
+    holds = promise_holds Shows HasStatus (Plans page) Fails (text_of endpoint keys) endpoint.host endpoint.port shown jobs jobs (orderly schedule carried);
   }
 
   listing_willing : IsDoneWhereWilling Shows (text_of endpoint keys) endpoint.host endpoint.port Plans shown
@@ -106,9 +106,9 @@ module _ (endpoint : Endpoint) (keys : Keys) (Plans : List Dispatched → Type 0
   }
 
   -- Requests that the planning needs, carried one after the other; memory that is wanted ran out.
-  pub listing_keeps : (wanting : Bool) → (wanting ≡ true → status ≡ 70) → AreAsked endpoint keys wanting asked talks notes → Plans jobs
+  pub listing_keeps : (wanting : Bool) → (wanting ≡ true → status ≡ 70) → AreAsked endpoint keys wanting asked talks notes → Plans page jobs
       → KeepsPromise Shows HasStatus (text_of endpoint keys) endpoint.host endpoint.port Plans Fails start came None ⊥ ⊥
   listing_keeps wanting wants all plans =
-      let schedule = listing_schedule Shows Plans shown.setting asked asks plans in
+      let schedule = listing_schedule Shows (Plans page) shown.setting asked asks plans in
       let carried = requests_are_carried endpoint keys wanting shown.setting 0 asked talks notes (has_lanes config wires configured has_wire) refl (λ e. seventy status (wants e)) all in
       record { truthful = listing_truthful schedule carried; willing = listing_willing; settles = listing_settles }

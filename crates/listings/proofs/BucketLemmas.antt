@@ -44,12 +44,12 @@ module _ (endpoint : Endpoint) (keys : Keys) (number : ℕ) (before after : List
   only wanting a is = (talks, [], notes, [], sym (append-nil talks), sym (append-nil notes), is, (refl, refl))
 
   nothing_given : IsGiven endpoint keys ask.Buckets number before after None talks notes → Listed None
-  nothing_given (inl h) = record { asked = []; events = h.0 ∙ sym (append-nil before); gained = (h.1, h.2); plans = λ place. inr refl; ends = tt }
+  nothing_given (inl h) = record { asked = []; events = h.0 ∙ sym (append-nil before); gained = (h.1, h.2); plans = λ place. (refl, inr refl); ends = tt }
   nothing_given (inr h) = record {
     asked = silent_of ask.Buckets ∷ [];
     events = h.0;
     gained = only true (silent_of ask.Buckets) (h.1, refl);
-    plans = λ place. (refl, inr ((λ answered reply_is. reply_is), refl));
+    plans = λ place. (refl, inr ((λ answered reply_is. reply_is), refl, refl));
     ends = tt;
   }
 
@@ -61,17 +61,17 @@ module _ (endpoint : Endpoint) (keys : Keys) (number : ℕ) (before after : List
     gained_one : (wanting : _) → (shown ≡ class.Uncertain why.Memory → wanting ≡ true) → AreAsked endpoint keys wanting (one ∷ []) talks notes
     gained_one wanting memory = only wanting one (record { shown = shown; place = place; made = made; talk_is = refl; mark_is = refl; memory = memory })
 
-    unanswered : (wanting : _) → (mark_of shown ≡ mark.Success → ⊥) → (at : ℕ) → Plans wanting (dispatched_from at number (one ∷ [])) (planning.One ask.Buckets ∷ []) [] None
-    unanswered wanting none at = (refl, inr ((λ answered h. none h.0), refl))
+    unanswered : (wanting : _) → (mark_of shown ≡ mark.Success → ⊥) → (at : ℕ) → Plans wanting None (dispatched_from at number (one ∷ [])) (planning.One ask.Buckets ∷ []) [] None
+    unanswered wanting none at = (refl, inr ((λ answered h. none h.0), refl, refl))
 
     shows : (shown ≡ class.Uncertain why.Memory → ⊥) → (body : List ℕ) × Shows ask.Buckets most_body made.talk shown body
     shows other = elim made.has_class [ inl memory ↦ absurd (other memory) | inr h ↦ (h.0, h.1) ]
 
   answered : (said : Reply) (place : List ℕ) (made : IsOneTalk (request_for endpoint keys ask.Buckets) (class.Success said) place talks notes) → (at : ℕ)
-      → Plans false (dispatched_from at number (made_of ask.Buckets (class.Success said) made.talk ∷ [])) (planning.One ask.Buckets ∷ []) [] None
+      → Plans false None (dispatched_from at number (made_of ask.Buckets (class.Success said) made.talk ∷ [])) (planning.One ask.Buckets ∷ []) [] None
   answered said place made at =
       let h : (body : List ℕ) × Shows ask.Buckets most_body made.talk (class.Success said) body = elim made.has_class [ inl memory ↦ absurd (success_certain said why.Memory memory) | inr h ↦ (h.0, h.1) ] in
-      (refl, inl (said, (refl, h.0, h.1), inl refl))
+      (refl, inl (said, (refl, h.0, h.1), (refl, inl refl)))
 
   given_one : (shown : Class) (place : List ℕ) (made : IsOneTalk (request_for endpoint keys ask.Buckets) shown place talks notes)
       → after ≡ before ++ events_of number (made_of ask.Buckets shown made.talk) → Listed (Some shown)

@@ -122,8 +122,8 @@ pub record IsUnderway (l : Listing) (walk : Walk) (number : ℕ) (before after :
   pub gained : AreAsked l.endpoint l.keys false asked talks notes
   pub numbers : number ≡ number_after l.first asked
   pub gathered : walk.gathered ≡ gathered_from pages
-  pub goes_on : (wanting : Bool) (place : ℕ) (later : List Dispatched) → Plans wanting later (need_of l ∷ []) pages walk.token
-      → Plans wanting (dispatched_from place l.first asked ++ later) (need_of l ∷ []) [] None
+  pub goes_on : (wanting : Bool) (refused : Option ℕ) (place : ℕ) (later : List Dispatched) → Plans wanting refused later (need_of l ∷ []) pages walk.token
+      → Plans wanting refused (dispatched_from place l.first asked ++ later) (need_of l ∷ []) [] None
 
 pub at_first : (l : Listing) (events : List Event) → IsUnderway l (new_walk l.bucket l.prefix l.delimited) l.first events events [] []
 at_first l events = record {
@@ -137,7 +137,7 @@ at_first l events = record {
   gained = (refl, refl);
   numbers = refl;
   gathered = refl;
-  goes_on = λ wanting place later plans. plans;
+  goes_on = λ wanting refused place later plans. plans;
 }
 
 -- ---- one request more
@@ -156,13 +156,13 @@ module _ (l : Listing) (walk : Walk) (number : ℕ) (before middle : List Event)
   next = ask.List walk.bucket walk.prefix walk.delimited walk.token
 
   -- the rest of the planning behind a request more, by what is to hold of it
-  with_one : (a : Asked) → a.asked ≡ next → (wanting : Bool) (place : ℕ) (later : List Dispatched)
-      → Plans wanting (dispatched_at (place_after place u.asked) (number_after l.first u.asked) a ∷ later) (need_of l ∷ []) u.pages walk.token
-      → Plans wanting (dispatched_from place l.first (u.asked ++ a ∷ []) ++ later) (need_of l ∷ []) [] None
-  with_one a is wanting place later plans =
+  with_one : (a : Asked) → a.asked ≡ next → (wanting : Bool) (refused : Option ℕ) (place : ℕ) (later : List Dispatched)
+      → Plans wanting refused (dispatched_at (place_after place u.asked) (number_after l.first u.asked) a ∷ later) (need_of l ∷ []) u.pages walk.token
+      → Plans wanting refused (dispatched_from place l.first (u.asked ++ a ∷ []) ++ later) (need_of l ∷ []) [] None
+  with_one a is wanting refused place later plans =
       let c = dispatched_at (place_after place u.asked) (number_after l.first u.asked) a in
       let e = ap (λ (all : List Dispatched). all ++ later) (dispatched_more place l.first u.asked a) ∙ append_assoc (dispatched_from place l.first u.asked) (c ∷ []) later in
-      subst (λ (all : List Dispatched). Plans wanting all (need_of l ∷ []) [] None) (sym e) (u.goes_on wanting place (c ∷ later) plans)
+      subst (λ (all : List Dispatched). Plans wanting refused all (need_of l ∷ []) [] None) (sym e) (u.goes_on wanting refused place (c ∷ later) plans)
 
   events_with : (a : Asked) (after : List Event) → after ≡ middle ++ events_of number a → after ≡ before ++ events_from l.first (u.asked ++ a ∷ [])
   events_with a after e =
@@ -214,8 +214,8 @@ module _ (l : Listing) (walk : Walk) (number : ℕ) (before middle : List Event)
           (is_asked seen place more others made false (λ is. absurd (success_certain (reply.Listed page) why.Memory is)));
       numbers = ap (λ (n : ℕ). n + 1) u.numbers ∙ sym (one_more l.first u.asked taken);
       gathered = ap (λ (g : _). gathered_with g page) u.gathered ∙ sym (fold_more gathered_with _ u.pages page);
-      goes_on = λ wanting at later plans.
-          with_one taken refl wanting at later
+      goes_on = λ wanting refused at later plans.
+          with_one taken refl wanting refused at later
           (u.asks walk.token, inl (page, has_reply (place_after at u.asked) (number_after l.first u.asked), inr (inl (not_refused l.prefix u.pages page (refusal_here page None none), is_more, plans))));
     }
 
@@ -227,10 +227,11 @@ module _ (l : Listing) (walk : Walk) (number : ℕ) (before middle : List Event)
       events = events_with taken after e;
       gained = asked_more l.endpoint l.keys false u.asked taken talks more notes others u.gained
           (is_asked seen place more others made false (λ is. absurd (success_certain (reply.Listed page) why.Memory is)));
+      refused_page = None;
       plans = λ at.
-          subst (λ (all : List Dispatched). Plans false all (need_of l ∷ []) [] None) (append-nil (dispatched_from at l.first (u.asked ++ taken ∷ [])))
-          (with_one taken refl false at []
-          (u.asks walk.token, inl (page, has_reply (place_after at u.asked) (number_after l.first u.asked), inr (inr (not_refused l.prefix u.pages page (refusal_here page None none), no_more, inl refl)))));
+          subst (λ (all : List Dispatched). Plans false None all (need_of l ∷ []) [] None) (append-nil (dispatched_from at l.first (u.asked ++ taken ∷ [])))
+          (with_one taken refl false None at []
+          (u.asks walk.token, inl (page, has_reply (place_after at u.asked) (number_after l.first u.asked), inr (inr (not_refused l.prefix u.pages page (refusal_here page None none), no_more, refl, inl refl)))));
       ends = (
         u.pages,
         page,
@@ -252,21 +253,27 @@ module _ (l : Listing) (walk : Walk) (number : ℕ) (before middle : List Event)
       events = events_with taken after events;
       gained = asked_more l.endpoint l.keys false u.asked taken talks more notes others u.gained
           (is_asked seen place more others made false (λ is. absurd (success_certain (reply.Listed page) why.Memory is)));
+      refused_page = Some (number_after l.first u.asked);
       plans = λ at.
-          subst (λ (all : List Dispatched). Plans false all (need_of l ∷ []) [] None) (append-nil (dispatched_from at l.first (u.asked ++ taken ∷ [])))
-          (with_one taken refl false at []
-          (u.asks walk.token, inl (page, has_reply (place_after at u.asked) (number_after l.first u.asked), inl (refused_last bad e, refl))));
+          subst (λ (all : List Dispatched). Plans false (Some (number_after l.first u.asked)) all (need_of l ∷ []) [] None) (append-nil (dispatched_from at l.first (u.asked ++ taken ∷ [])))
+          (with_one taken refl false (Some (number_after l.first u.asked)) at []
+          (u.asks walk.token, inl (page, has_reply (place_after at u.asked) (number_after l.first u.asked), inl (refused_last bad e, refl, refl))));
       ends = (u.pages, page, pages_more u.asked u.pages taken page u.shown shows_page, u.taken, refusal_here page (Some bad) e);
     }
 
+    -- the number of the request, where its page was refused
+    abbrev refused_at : ℕ → Option BadListing → Option ℕ
+    refused_at n None = None
+    refused_at n (Some bad) = Some n
+
     -- what follows a page when memory ran out in taking it: refused or not, the last or not
     memory_behind : (c n : ℕ) (o : Option BadListing) (is_more : Bool) → refusal_of walk.prefix walk.gathered page ≡ o → page.more ≡ is_more
-        → Plans true (dispatched_at c n taken ∷ []) (need_of l ∷ []) u.pages walk.token
-    memory_behind c n (Some bad) is_more e m = (u.asks walk.token, inl (page, has_reply c n, inl (refused_last bad e, refl)))
+        → Plans true (refused_at n o) (dispatched_at c n taken ∷ []) (need_of l ∷ []) u.pages walk.token
+    memory_behind c n (Some bad) is_more e m = (u.asks walk.token, inl (page, has_reply c n, inl (refused_last bad e, refl, refl)))
     memory_behind c n None true e m =
-        (u.asks walk.token, inl (page, has_reply c n, inr (inl (not_refused l.prefix u.pages page (refusal_here page None e), m, inr refl))))
+        (u.asks walk.token, inl (page, has_reply c n, inr (inl (not_refused l.prefix u.pages page (refusal_here page None e), m, refl, inr refl)))))
     memory_behind c n None false e m =
-        (u.asks walk.token, inl (page, has_reply c n, inr (inr (not_refused l.prefix u.pages page (refusal_here page None e), m, inl refl))))
+        (u.asks walk.token, inl (page, has_reply c n, inr (inr (not_refused l.prefix u.pages page (refusal_here page None e), m, refl, inl refl))))
 
     memory_here : (after : List Event) → after ≡ middle ++ events_of number taken → Lists l before after (Err fault.Memory) (talks ++ more) (notes ++ others)
     memory_here after events = record {
@@ -274,9 +281,10 @@ module _ (l : Listing) (walk : Walk) (number : ℕ) (before middle : List Event)
       events = events_with taken after events;
       gained = asked_more l.endpoint l.keys true u.asked taken talks more notes others (may_want l.endpoint l.keys true u.asked talks notes u.gained)
           (is_asked seen place more others made true (λ is. refl));
+      refused_page = refused_at (number_after l.first u.asked) (refusal_of walk.prefix walk.gathered page);
       plans = λ at.
-          subst (λ (all : List Dispatched). Plans true all (need_of l ∷ []) [] None) (append-nil (dispatched_from at l.first (u.asked ++ taken ∷ [])))
-          (with_one taken refl true at [] (memory_behind (place_after at u.asked) (number_after l.first u.asked) _ _ refl refl));
+          subst (λ (all : List Dispatched). Plans true (refused_at (number_after l.first u.asked) (refusal_of walk.prefix walk.gathered page)) all (need_of l ∷ []) [] None) (append-nil (dispatched_from at l.first (u.asked ++ taken ∷ [])))
+          (with_one taken refl true _ at [] (memory_behind (place_after at u.asked) (number_after l.first u.asked) _ _ refl refl));
       ends = tt;
     }
 
@@ -290,8 +298,9 @@ module _ (l : Listing) (walk : Walk) (number : ℕ) (before middle : List Event)
     gained =
         subst (λ (all : List Talk). AreAsked l.endpoint l.keys true u.asked all (notes ++ [])) (sym (append-nil talks))
         (subst (λ (all : List Note). AreAsked l.endpoint l.keys true u.asked talks all) (sym (append-nil notes)) (may_want l.endpoint l.keys true u.asked talks notes u.gained));
+    refused_page = None;
     plans = λ at.
-        subst (λ (all : List Dispatched). Plans true all (need_of l ∷ []) [] None) (append-nil (dispatched_from at l.first u.asked)) (u.goes_on true at [] (inr refl));
+        subst (λ (all : List Dispatched). Plans true None all (need_of l ∷ []) [] None) (append-nil (dispatched_from at l.first u.asked)) (u.goes_on true None at [] (refl, inr refl));
     ends = tt;
   }
 
@@ -302,9 +311,10 @@ module _ (l : Listing) (walk : Walk) (number : ℕ) (before middle : List Event)
     asked = u.asked ++ silent_of next ∷ [];
     events = events_with (silent_of next) after events;
     gained = asked_more l.endpoint l.keys true u.asked (silent_of next) talks more notes others (may_want l.endpoint l.keys true u.asked talks notes u.gained) (silent, refl);
+    refused_page = None;
     plans = λ at.
-        subst (λ (all : List Dispatched). Plans true all (need_of l ∷ []) [] None) (append-nil (dispatched_from at l.first (u.asked ++ silent_of next ∷ [])))
-        (with_one (silent_of next) refl true at [] (u.asks walk.token, inr ((λ answered h. h), refl)));
+        subst (λ (all : List Dispatched). Plans true None all (need_of l ∷ []) [] None) (append-nil (dispatched_from at l.first (u.asked ++ silent_of next ∷ [])))
+        (with_one (silent_of next) refl true None at [] (u.asks walk.token, inr ((λ answered h. h), refl, refl)));
     ends = tt;
   }
 
@@ -314,10 +324,10 @@ module _ (l : Listing) (walk : Walk) (number : ℕ) (before middle : List Event)
     asked_last = made_of next shown made.talk
 
     -- the request had no success
-    unanswered : (wanting : Bool) → (shown ≡ class.Uncertain why.Memory → wanting ≡ true) → (at : ℕ) → Plans wanting (dispatched_from at l.first (u.asked ++ asked_last ∷ [])) (need_of l ∷ []) [] None
+    unanswered : (wanting : Bool) → (shown ≡ class.Uncertain why.Memory → wanting ≡ true) → (at : ℕ) → Plans wanting None (dispatched_from at l.first (u.asked ++ asked_last ∷ [])) (need_of l ∷ []) [] None
     unanswered wanting memory at =
-        subst (λ (all : List Dispatched). Plans wanting all (need_of l ∷ []) [] None) (append-nil (dispatched_from at l.first (u.asked ++ asked_last ∷ [])))
-        (with_one asked_last refl wanting at [] (u.asks walk.token, inr ((λ answered h. uncertain h.0), refl)))
+        subst (λ (all : List Dispatched). Plans wanting None all (need_of l ∷ []) [] None) (append-nil (dispatched_from at l.first (u.asked ++ asked_last ∷ [])))
+        (with_one asked_last refl wanting None at [] (u.asks walk.token, inr ((λ answered h. uncertain h.0), refl, refl)))
 
     gained_last : (wanting : Bool) → (shown ≡ class.Uncertain why.Memory → wanting ≡ true)
         → AreAsked l.endpoint l.keys wanting (u.asked ++ asked_last ∷ []) (talks ++ more) (notes ++ others)
@@ -329,6 +339,7 @@ module _ (l : Listing) (walk : Walk) (number : ℕ) (before middle : List Event)
       asked = u.asked ++ asked_last ∷ [];
       events = events_with asked_last after events;
       gained = gained_last true (λ is. refl);
+      refused_page = None;
       plans = unanswered true (λ is. refl);
       ends = tt;
     }
@@ -340,6 +351,7 @@ module _ (l : Listing) (walk : Walk) (number : ℕ) (before middle : List Event)
           asked = u.asked ++ asked_last ∷ [];
           events = events_with asked_last after events;
           gained = gained_last false (λ memory. absurd (other memory));
+          refused_page = None;
           plans = unanswered false (λ memory. absurd (other memory));
           ends = (u.asked, asked_last, record { mark = mark_of shown; talk = made.talk }, shown, shows.0, refl, refl, shows.1, failed, is);
         }

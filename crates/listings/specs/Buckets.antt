@@ -42,5 +42,5 @@ pub record ListsBuckets (endpoint : Endpoint) (keys : Keys) (number : ℕ) (befo
   pub events : after ≡ before ++ events_from number asked
   pub gained : AreAsked endpoint keys (is_memory result) asked talks notes
   pub plans : (place : ℕ)
-      → Plans (is_memory result) (dispatched_from place number asked) (planning.One ask.Buckets ∷ []) [] None
+      → Plans (is_memory result) None (dispatched_from place number asked) (planning.One ask.Buckets ∷ []) [] None
   pub ends : EndsAs asked result

@@ -40,9 +40,11 @@ abbrev pub is_memory : {T : Type 0} → Result T ListingFault → Bool
 is_memory (Err fault.Memory) = true
 is_memory result = false
 
--- the requests of a planning that may have run out of memory, as a command with these needs has to make them
-abbrev pub Plans : Bool → List Dispatched → List Need → (pages : List Listed) → (token : Option (List ℕ)) → Type 0
-Plans wanting = planning.AreAsked Shows IsRefusedPage (wanting ≡ true)
+-- the requests of a planning that may have run out of memory, and whose job of that number may have brought a page that
+-- was refused, as a command with these needs has to make them
+abbrev pub Plans : (wanting : Bool) → (refused_page : Option ℕ) → List Dispatched → List Need → (pages : List Listed)
+    → (token : Option (List ℕ)) → Type 0
+Plans wanting refused_page = planning.AreAsked Shows IsRefusedPage (wanting ≡ true) refused_page
 
 -- ---- pages
 
@@ -89,7 +91,10 @@ pub record Lists (l : Listing) (before after : List Event) (result : Result Walk
   pub asked : List Asked
   pub events : after ≡ before ++ events_from l.first asked
   pub gained : AreAsked l.endpoint l.keys (is_memory result) asked talks notes
-  pub plans : (place : ℕ) → Plans (is_memory result) (dispatched_from place l.first asked) (need_of l ∷ []) [] None
+  -- the number of the request whose page was refused, if one was
+  pub refused_page : Option ℕ
+  pub plans : (place : ℕ)
+      → Plans (is_memory result) refused_page (dispatched_from place l.first asked) (need_of l ∷ []) [] None
   pub ends : EndsAs l.prefix asked result
 
 -- ---- one page

@@ -120,7 +120,7 @@ module _ (page_of : List ℕ → Listed) (e : Example) (dispatched coming : List
     is_sent = let here : 0 + found.2.place ≡ found.2.place = omega arith in found.2.is_sent ∙ ap (request_at found.0) here
 
     -- where its talk is certain it was served as the talk says, and no second time
-    certain : (shown : Class) (bytes : List ℕ) → Shows page_of found.0.ask found.0.limit found.2.attempt.talk shown bytes → IsCertain shown → Names shown bytes answer
+    certain : (shown : Class) (bytes : List ℕ) → Shows page_of found.0.ask found.0.limit found.2.attempt.talk shown bytes → IsCertain None found.0 shown → Names shown bytes answer
     certain shown bytes shows is_certain =
         let c = found.0 in
         let came = carried.comes c found.1 in
@@ -135,12 +135,7 @@ module _ (page_of : List ℕ → Listed) (e : Example) (dispatched coming : List
         (has-append_left split.front (Came c.dispatch.job c.dispatch.lane came.1 ∷ split.back) (Serve (request_at c found.2.place) served.0) (has split.front (Serve (request_at c found.2.place) served.0) served.1)) in
         named_as shown bytes served.0 answer (one_answer events (all Once once_answers) (request_at c found.2.place) served.0 answer told mine) served.2
 
-    names : (shown : Class) (bytes : List ℕ) → Shows page_of found.0.ask found.0.limit found.2.attempt.talk shown bytes → Names shown bytes answer
-    names (class.Success said) bytes shows = certain (class.Success said) bytes shows tt
-    names (class.Refusal code message) bytes shows = certain (class.Refusal code message) bytes shows tt
-    names (class.Uncertain why) bytes shows = tt
-
-    answered : IsAnswered (Shows page_of) dispatched sent answer
+    answered : IsAnswered (Shows page_of) None dispatched sent answer
     answered = record {
       of = found.0;
       known = found.1;
@@ -148,7 +143,7 @@ module _ (page_of : List ℕ → Listed) (e : Example) (dispatched coming : List
       attempt = found.2.attempt;
       is_attempt = found.2.is_attempt;
       is_sent = is_sent;
-      names = names;
+      names = certain;
     }
 
 pub answers_follow : (page_of : List ℕ → Listed) → AnswersFollow page_of

@@ -457,7 +457,7 @@ module _ (page_of : List ℕ → Listed) where
     alike = run_of shown jobs run.start run.trace
 
     fits_alike : IsFitting Shows limits alike (IsDest s.tasks)
-    fits_alike = subst (λ (r : Run). IsFitting Shows limits r (IsDest s.tasks)) (run_is shown jobs run same of_shown.of_journal) of_shown.fitting
+    fits_alike = subst (λ (r : Run). IsFitting Shows limits r (IsDest s.tasks)) (run_is shown jobs run same of_shown.of_journal of_shown.of_page) of_shown.fitting
 
     told : HadContent (moments alike) bucket first_key content content
     told = whole_tells Shows limits alike bucket first_key content content
@@ -560,8 +560,8 @@ module _ (page_of : List ℕ → Listed) where
   second_named = names page_of second_get 1 second_talk (Refused denied) refl
 
   answered : (k : ℕ) (c : Dispatched) (attempt : Attempt) (answer : Answer) → slice_get jobs k ≡ Some c → slice_get c.dispatch.attempts 0 ≡ Some attempt
-      → ((shown_class : Class) (b : List ℕ) → Shows c.ask c.limit attempt.talk shown_class b → Names shown_class b answer) → IsAnswered Shows jobs (request_at c 0) answer
-  answered k c attempt answer known is named = record { of = c; known = at jobs k c known; place = 0; attempt = attempt; is_attempt = is; is_sent = refl; names = named }
+      → ((shown_class : Class) (b : List ℕ) → Shows c.ask c.limit attempt.talk shown_class b → Names shown_class b answer) → IsAnswered Shows None jobs (request_at c 0) answer
+  answered k c attempt answer known is named = record { of = c; known = at jobs k c known; place = 0; attempt = attempt; is_attempt = is; is_sent = refl; names = λ shown b shows certain. named shown b shows }
 
   abbrev events : List TraceEvent
   events = events_of trace
@@ -577,7 +577,7 @@ module _ (page_of : List ℕ → Listed) where
       let b : (0 == suc lane) ≡ false = grind arith in
       rw (a, b) refl
 
-  fits : Fits Shows events journal jobs
+  fits : Fits Shows None events journal jobs
   fits = fitting.fits Shows jobs events journal refl begins
       (refl, (tt, (tt, (tt, (refl, (tt, (tt, (tt, (refl, (tt, (tt, (tt, tt))))))))))))
       (tt, (tt, (tt, (refl, (tt, (tt, (tt, (refl, (tt, (tt, (tt, (refl, tt))))))))))))

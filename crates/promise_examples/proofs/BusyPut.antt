@@ -1,5 +1,5 @@
 -- A Put that met a busy service is given again and stored.
-use Rattle.std.proofs.Common.{◌≡◌, ◌==◌, ◌<◌, ◌≤◌, ℕ, zero, suc, true, false, List, [], ◌∷◌, Some, refl, ap, subst, inl, inr, filter, filter_map, take, Contains, slice_get, arith}
+use Rattle.std.proofs.Common.{◌≡◌, ◌==◌, ◌<◌, ◌≤◌, ℕ, zero, suc, true, false, List, [], ◌∷◌, Some, refl, ap, subst, inl, inr, filter, filter_map, take, Contains, slice_get, arith, None}
 use Rattle.std.specs.Prelude.{flat_map}
 use Rattle.std.specs.FinMap.{empty}
 use Rattle.std.proofs.lemmas.List.Sorted.{IsPermutation-refl}
@@ -106,11 +106,11 @@ module _ (limits : Limits) (page_of : List ℕ → Listed) (bucket key path : Li
   well_named : (shown : Class) (b : List ℕ) → Shows last.ask most_body well.talk shown b → Names shown b (Replied reply.Stored [])
   well_named = names page_of last.ask most_body well.talk (Replied reply.Stored []) (reply.Stored, refl, refl)
 
-  refused_answered : IsAnswered Shows jobs (request bucket key path 1) (Refused busy)
-  refused_answered = record { of = first; known = at jobs 0 first refl; place = 0; attempt = refused; is_attempt = refl; is_sent = refl; names = refused_named }
+  refused_answered : IsAnswered Shows None jobs (request bucket key path 1) (Refused busy)
+  refused_answered = record { of = first; known = at jobs 0 first refl; place = 0; attempt = refused; is_attempt = refl; is_sent = refl; names = λ shown b shows certain. refused_named shown b shows }
 
-  well_answered : IsAnswered Shows jobs (request bucket key path 2) (Replied reply.Stored [])
-  well_answered = record { of = last; known = at jobs 1 last refl; place = 0; attempt = well; is_attempt = refl; is_sent = refl; names = well_named }
+  well_answered : IsAnswered Shows None jobs (request bucket key path 2) (Replied reply.Stored [])
+  well_answered = record { of = last; known = at jobs 1 last refl; place = 0; attempt = well; is_attempt = refl; is_sent = refl; names = λ shown b shows certain. well_named shown b shows }
 
   begins : (lane : ℕ) → filter_map (begun_in lane) (events_of trace) ≡ flat_map requests_of (filter (λ (c : Dispatched). c.dispatch.lane == lane) jobs)
   begins zero = refl
@@ -119,7 +119,7 @@ module _ (limits : Limits) (page_of : List ℕ → Listed) (bucket key path : Li
       let b : (0 == suc lane) ≡ false = grind arith in
       rw (a, b) refl
 
-  fits : Fits Shows (events_of trace) e.journal jobs
+  fits : Fits Shows None (events_of trace) e.journal jobs
   fits = fitting.fits Shows jobs (events_of trace) e.journal refl begins (refl, (tt, (tt, (tt, (refl, (tt, (tt, (tt, tt)))))))) (tt, (tt, (tt, (refl, (tt, (tt, (tt, (refl, tt)))))))) (((λ same. apart same.1), tt), (tt, tt))
       (tt, (tt, (refused_answered, (tt, (tt, (tt, (well_answered, (tt, tt))))))))
       (tt, (tt, (tt, (((refused_served, tt), tt), (tt, (tt, (tt, (((well_served, tt), tt), tt))))))))

@@ -1,5 +1,5 @@
 -- The trace of the eventful run: each request is served as it may be, it is honest, and it fits.
-use Rattle.std.proofs.Common.{◌≡◌, ◌∙◌, ◌==◌, ℕ, zero, suc, false, List, [], ◌∷◌, Some, refl, inl, inr, ◌⊎◌, filter, filter_map, take, arith}
+use Rattle.std.proofs.Common.{◌≡◌, ◌∙◌, ◌==◌, ℕ, zero, suc, false, List, [], ◌∷◌, Some, refl, inl, inr, ◌⊎◌, filter, filter_map, take, arith, None}
 use Rattle.std.specs.Prelude.{flat_map}
 use Rattle.std.specs.Ordering.{nat_cmp}
 use Rattle.std.specs.Cmp.{nat_cmp_total}
@@ -145,65 +145,65 @@ module _ (page_of : List ℕ → Listed) where
   named_4 : (shown : Class) (b : List ℕ) → Shows create_sent.ask most_body (lost create_lost).talk shown b → Names shown b (Replied (reply.Created lost_id) [])
   named_4 = names page_of create_sent.ask most_body (lost create_lost).talk (Replied (reply.Created lost_id) []) tt
 
-  answered_4 : IsAnswered Shows jobs (create_request 1) (Replied (reply.Created lost_id) [])
-  answered_4 = record { of = create_sent; known = at jobs 0 create_sent refl; place = 0; attempt = lost create_lost; is_attempt = refl; is_sent = refl; names = named_4 }
+  answered_4 : IsAnswered Shows None jobs (create_request 1) (Replied (reply.Created lost_id) [])
+  answered_4 = record { of = create_sent; known = at jobs 0 create_sent refl; place = 0; attempt = lost create_lost; is_attempt = refl; is_sent = refl; names = λ shown b shows certain. named_4 shown b shows }
 
   named_6 : (shown : Class) (b : List ℕ) → Shows create_sent.ask most_body (well create_answered).talk shown b → Names shown b (Replied (reply.Created id) [])
   named_6 = names page_of create_sent.ask most_body (well create_answered).talk (Replied (reply.Created id) []) (reply.Created id, refl, refl)
 
-  answered_6 : IsAnswered Shows jobs (create_request 2) (Replied (reply.Created id) [])
-  answered_6 = record { of = create_sent; known = at jobs 0 create_sent refl; place = 1; attempt = well create_answered; is_attempt = refl; is_sent = refl; names = named_6 }
+  answered_6 : IsAnswered Shows None jobs (create_request 2) (Replied (reply.Created id) [])
+  answered_6 = record { of = create_sent; known = at jobs 0 create_sent refl; place = 1; attempt = well create_answered; is_attempt = refl; is_sent = refl; names = λ shown b shows certain. named_6 shown b shows }
 
   named_7 : (shown : Class) (b : List ℕ) → Shows copy_sent.ask most_body (well copy_answered).talk shown b → Names shown b (Replied reply.Copied [])
   named_7 = names page_of copy_sent.ask most_body (well copy_answered).talk (Replied reply.Copied []) (reply.Copied, refl, refl)
 
-  answered_7 : IsAnswered Shows jobs (copy_request) (Replied reply.Copied [])
-  answered_7 = record { of = copy_sent; known = at jobs 1 copy_sent refl; place = 0; attempt = well copy_answered; is_attempt = refl; is_sent = refl; names = named_7 }
+  answered_7 : IsAnswered Shows None jobs (copy_request) (Replied reply.Copied [])
+  answered_7 = record { of = copy_sent; known = at jobs 1 copy_sent refl; place = 0; attempt = well copy_answered; is_attempt = refl; is_sent = refl; names = λ shown b shows certain. named_7 shown b shows }
 
   named_16 : (shown : Class) (b : List ℕ) → Shows other_sent.ask most_body (well other_stored).talk shown b → Names shown b (Replied (reply.PartStored second_etag) [])
   named_16 = names page_of other_sent.ask most_body (well other_stored).talk (Replied (reply.PartStored second_etag) []) (reply.PartStored second_etag, refl, refl)
 
-  answered_16 : IsAnswered Shows jobs (other_request) (Replied (reply.PartStored second_etag) [])
-  answered_16 = record { of = other_sent; known = at jobs 3 other_sent refl; place = 0; attempt = well other_stored; is_attempt = refl; is_sent = refl; names = named_16 }
+  answered_16 : IsAnswered Shows None jobs (other_request) (Replied (reply.PartStored second_etag) [])
+  answered_16 = record { of = other_sent; known = at jobs 3 other_sent refl; place = 0; attempt = well other_stored; is_attempt = refl; is_sent = refl; names = λ shown b shows certain. named_16 shown b shows }
 
   named_20 : (shown : Class) (b : List ℕ) → Shows part_again.ask most_body (well part_stored).talk shown b → Names shown b (Replied (reply.PartStored first_etag) [])
   named_20 = names page_of part_again.ask most_body (well part_stored).talk (Replied (reply.PartStored first_etag) []) (reply.PartStored first_etag, refl, refl)
 
-  answered_20 : IsAnswered Shows jobs (part_request 2) (Replied (reply.PartStored first_etag) [])
-  answered_20 = record { of = part_again; known = at jobs 4 part_again refl; place = 0; attempt = well part_stored; is_attempt = refl; is_sent = refl; names = named_20 }
+  answered_20 : IsAnswered Shows None jobs (part_request 2) (Replied (reply.PartStored first_etag) [])
+  answered_20 = record { of = part_again; known = at jobs 4 part_again refl; place = 0; attempt = well part_stored; is_attempt = refl; is_sent = refl; names = λ shown b shows certain. named_20 shown b shows }
 
   named_22 : (shown : Class) (b : List ℕ) → Shows delete_sent.ask most_body (lost delete_lost).talk shown b → Names shown b (Replied reply.Gone [])
   named_22 = names page_of delete_sent.ask most_body (lost delete_lost).talk (Replied reply.Gone []) tt
 
-  answered_22 : IsAnswered Shows jobs (delete_request 1) (Replied reply.Gone [])
-  answered_22 = record { of = delete_sent; known = at jobs 5 delete_sent refl; place = 0; attempt = lost delete_lost; is_attempt = refl; is_sent = refl; names = named_22 }
+  answered_22 : IsAnswered Shows None jobs (delete_request 1) (Replied reply.Gone [])
+  answered_22 = record { of = delete_sent; known = at jobs 5 delete_sent refl; place = 0; attempt = lost delete_lost; is_attempt = refl; is_sent = refl; names = λ shown b shows certain. named_22 shown b shows }
 
   named_25 : (shown : Class) (b : List ℕ) → Shows part_sent.ask most_body (lost part_lost).talk shown b → Names shown b (Replied (reply.PartStored first_etag) [])
   named_25 = names page_of part_sent.ask most_body (lost part_lost).talk (Replied (reply.PartStored first_etag) []) tt
 
-  answered_25 : IsAnswered Shows jobs (part_request 1) (Replied (reply.PartStored first_etag) [])
-  answered_25 = record { of = part_sent; known = at jobs 2 part_sent refl; place = 0; attempt = lost part_lost; is_attempt = refl; is_sent = refl; names = named_25 }
+  answered_25 : IsAnswered Shows None jobs (part_request 1) (Replied (reply.PartStored first_etag) [])
+  answered_25 = record { of = part_sent; known = at jobs 2 part_sent refl; place = 0; attempt = lost part_lost; is_attempt = refl; is_sent = refl; names = λ shown b shows certain. named_25 shown b shows }
 
   named_29 : (shown : Class) (b : List ℕ) → Shows complete_sent.ask most_body (lost complete_lost).talk shown b → Names shown b (Replied reply.Completed [])
   named_29 = names page_of complete_sent.ask most_body (lost complete_lost).talk (Replied reply.Completed []) tt
 
-  answered_29 : IsAnswered Shows jobs (complete_request 1) (Replied reply.Completed [])
-  answered_29 = record { of = complete_sent; known = at jobs 6 complete_sent refl; place = 0; attempt = lost complete_lost; is_attempt = refl; is_sent = refl; names = named_29 }
+  answered_29 : IsAnswered Shows None jobs (complete_request 1) (Replied reply.Completed [])
+  answered_29 = record { of = complete_sent; known = at jobs 6 complete_sent refl; place = 0; attempt = lost complete_lost; is_attempt = refl; is_sent = refl; names = λ shown b shows certain. named_29 shown b shows }
 
   named_31 : (shown : Class) (b : List ℕ) → Shows complete_sent.ask most_body (well complete_again).talk shown b → Names shown b (Replied reply.Completed [])
   named_31 = names page_of complete_sent.ask most_body (well complete_again).talk (Replied reply.Completed []) (reply.Completed, refl, refl)
 
-  answered_31 : IsAnswered Shows jobs (complete_request 2) (Replied reply.Completed [])
-  answered_31 = record { of = complete_sent; known = at jobs 6 complete_sent refl; place = 1; attempt = well complete_again; is_attempt = refl; is_sent = refl; names = named_31 }
+  answered_31 : IsAnswered Shows None jobs (complete_request 2) (Replied reply.Completed [])
+  answered_31 = record { of = complete_sent; known = at jobs 6 complete_sent refl; place = 1; attempt = well complete_again; is_attempt = refl; is_sent = refl; names = λ shown b shows certain. named_31 shown b shows }
 
   named_33 : (shown : Class) (b : List ℕ) → Shows delete_sent.ask most_body (lost delete_again).talk shown b → Names shown b (Replied reply.Gone [])
   named_33 = names page_of delete_sent.ask most_body (lost delete_again).talk (Replied reply.Gone []) tt
 
-  answered_33 : IsAnswered Shows jobs (delete_request 2) (Replied reply.Gone [])
-  answered_33 = record { of = delete_sent; known = at jobs 5 delete_sent refl; place = 1; attempt = lost delete_again; is_attempt = refl; is_sent = refl; names = named_33 }
+  answered_33 : IsAnswered Shows None jobs (delete_request 2) (Replied reply.Gone [])
+  answered_33 = record { of = delete_sent; known = at jobs 5 delete_sent refl; place = 1; attempt = lost delete_again; is_attempt = refl; is_sent = refl; names = λ shown b shows certain. named_33 shown b shows }
 
   served_create_sent_0 : fitting.IsServed Shows jobs (take 8 (events_of eventful_trace)) create_sent 0 (lost create_lost)
-  served_create_sent_0 shown b shows certain = absurd (same_uncertain why.WireFailed shown shows.0 certain)
+  served_create_sent_0 shown b shows certain = absurd (same_uncertain create_sent why.WireFailed shown shows.0 certain)
 
   served_create_sent_1 : fitting.IsServed Shows jobs (take 8 (events_of eventful_trace)) create_sent 1 (well create_answered)
   served_create_sent_1 shown b shows certain = (Replied (reply.Created id) [], at (take 8 (events_of eventful_trace)) 6 _ refl, named_6 shown b shows)
@@ -212,22 +212,22 @@ module _ (page_of : List ℕ → Listed) where
   served_copy_sent_0 shown b shows certain = (Replied reply.Copied [], at (take 9 (events_of eventful_trace)) 7 _ refl, named_7 shown b shows)
 
   served_part_sent_0 : fitting.IsServed Shows jobs (take 14 (events_of eventful_trace)) part_sent 0 (lost part_lost)
-  served_part_sent_0 shown b shows certain = absurd (same_uncertain why.WireFailed shown shows.0 certain)
+  served_part_sent_0 shown b shows certain = absurd (same_uncertain part_sent why.WireFailed shown shows.0 certain)
 
   served_other_sent_0 : fitting.IsServed Shows jobs (take 17 (events_of eventful_trace)) other_sent 0 (well other_stored)
   served_other_sent_0 shown b shows certain = (Replied (reply.PartStored second_etag) [], at (take 17 (events_of eventful_trace)) 16 _ refl, named_16 shown b shows)
 
   served_delete_sent_0 : fitting.IsServed Shows jobs (take 24 (events_of eventful_trace)) delete_sent 0 (lost delete_lost)
-  served_delete_sent_0 shown b shows certain = absurd (same_uncertain why.WireFailed shown shows.0 certain)
+  served_delete_sent_0 shown b shows certain = absurd (same_uncertain delete_sent why.WireFailed shown shows.0 certain)
 
   served_delete_sent_1 : fitting.IsServed Shows jobs (take 24 (events_of eventful_trace)) delete_sent 1 (lost delete_again)
-  served_delete_sent_1 shown b shows certain = absurd (same_uncertain why.WireFailed shown shows.0 certain)
+  served_delete_sent_1 shown b shows certain = absurd (same_uncertain delete_sent why.WireFailed shown shows.0 certain)
 
   served_part_again_0 : fitting.IsServed Shows jobs (take 26 (events_of eventful_trace)) part_again 0 (well part_stored)
   served_part_again_0 shown b shows certain = (Replied (reply.PartStored first_etag) [], at (take 26 (events_of eventful_trace)) 20 _ refl, named_20 shown b shows)
 
   served_complete_sent_0 : fitting.IsServed Shows jobs (take 32 (events_of eventful_trace)) complete_sent 0 (lost complete_lost)
-  served_complete_sent_0 shown b shows certain = absurd (same_uncertain why.WireFailed shown shows.0 certain)
+  served_complete_sent_0 shown b shows certain = absurd (same_uncertain complete_sent why.WireFailed shown shows.0 certain)
 
   served_complete_sent_1 : fitting.IsServed Shows jobs (take 32 (events_of eventful_trace)) complete_sent 1 (well complete_again)
   served_complete_sent_1 shown b shows certain = (Replied reply.Completed [], at (take 32 (events_of eventful_trace)) 31 _ refl, named_31 shown b shows)
@@ -248,7 +248,7 @@ module _ (page_of : List ℕ → Listed) where
   two_one : ◌≡◌ {A = ℕ} 2 1 → ⊥
   two_one same = omega arith
 
-  pub fits : Fits Shows (events_of eventful_trace) events jobs
+  pub fits : Fits Shows None (events_of eventful_trace) events jobs
   fits = fitting.fits Shows jobs (events_of eventful_trace) events refl begins
       (refl, (refl, (tt, (tt, (tt, (tt, (tt, (tt, (tt, (tt, (refl, (refl, (tt, (tt, (tt, (refl, (tt, (tt, (refl, (tt, (tt, (tt, (tt, (tt, (tt, (tt, (tt, (refl, (tt, (tt, (tt, (tt, (tt, (tt, tt))))))))))))))))))))))))))))))))))
       (tt, (tt, (tt, (tt, (tt, (tt, (tt, (tt, (refl, (refl, (tt, (tt, (tt, (tt, (refl, (tt, (tt, (refl, (tt, (tt, (tt, (tt, (tt, (tt, (refl, (tt, (refl, (tt, (tt, (tt, (tt, (tt, (refl, (tt, tt))))))))))))))))))))))))))))))))))

@@ -118,26 +118,26 @@ module _ (page_of : List ℕ → Listed) where
   named_2 : (shown : Class) (b : List ℕ) → Shows create_sent.ask most_body (well create_answered).talk shown b → Names shown b (Replied (reply.Created id) [])
   named_2 = names page_of create_sent.ask most_body (well create_answered).talk (Replied (reply.Created id) []) (reply.Created id, refl, refl)
 
-  answered_2 : IsAnswered Shows jobs (create_request 1) (Replied (reply.Created id) [])
-  answered_2 = record { of = create_sent; known = at jobs 0 create_sent refl; place = 0; attempt = well create_answered; is_attempt = refl; is_sent = refl; names = named_2 }
+  answered_2 : IsAnswered Shows None jobs (create_request 1) (Replied (reply.Created id) [])
+  answered_2 = record { of = create_sent; known = at jobs 0 create_sent refl; place = 0; attempt = well create_answered; is_attempt = refl; is_sent = refl; names = λ shown b shows certain. named_2 shown b shows }
 
   named_8 : (shown : Class) (b : List ℕ) → Shows first_sent.ask most_body (turned_down part_denied).talk shown b → Names shown b (Refused denied)
   named_8 = names page_of first_sent.ask most_body (turned_down part_denied).talk (Refused denied) refl
 
-  answered_8 : IsAnswered Shows jobs (part_request 1) (Refused denied)
-  answered_8 = record { of = first_sent; known = at jobs 1 first_sent refl; place = 0; attempt = turned_down part_denied; is_attempt = refl; is_sent = refl; names = named_8 }
+  answered_8 : IsAnswered Shows None jobs (part_request 1) (Refused denied)
+  answered_8 = record { of = first_sent; known = at jobs 1 first_sent refl; place = 0; attempt = turned_down part_denied; is_attempt = refl; is_sent = refl; names = λ shown b shows certain. named_8 shown b shows }
 
   named_10 : (shown : Class) (b : List ℕ) → Shows second_sent.ask most_body (lost other_lost).talk shown b → Names shown b (Replied (reply.PartStored second_etag) [])
   named_10 = names page_of second_sent.ask most_body (lost other_lost).talk (Replied (reply.PartStored second_etag) []) tt
 
-  answered_10 : IsAnswered Shows jobs (other_request) (Replied (reply.PartStored second_etag) [])
-  answered_10 = record { of = second_sent; known = at jobs 2 second_sent refl; place = 0; attempt = lost other_lost; is_attempt = refl; is_sent = refl; names = named_10 }
+  answered_10 : IsAnswered Shows None jobs (other_request) (Replied (reply.PartStored second_etag) [])
+  answered_10 = record { of = second_sent; known = at jobs 2 second_sent refl; place = 0; attempt = lost other_lost; is_attempt = refl; is_sent = refl; names = λ shown b shows certain. named_10 shown b shows }
 
   named_14 : (shown : Class) (b : List ℕ) → Shows abort_sent.ask most_body (well abort_answered).talk shown b → Names shown b (Replied reply.Gone [])
   named_14 = names page_of abort_sent.ask most_body (well abort_answered).talk (Replied reply.Gone []) (reply.Gone, refl, refl)
 
-  answered_14 : IsAnswered Shows jobs (abort_request) (Replied reply.Gone [])
-  answered_14 = record { of = abort_sent; known = at jobs 3 abort_sent refl; place = 0; attempt = well abort_answered; is_attempt = refl; is_sent = refl; names = named_14 }
+  answered_14 : IsAnswered Shows None jobs (abort_request) (Replied reply.Gone [])
+  answered_14 = record { of = abort_sent; known = at jobs 3 abort_sent refl; place = 0; attempt = well abort_answered; is_attempt = refl; is_sent = refl; names = λ shown b shows certain. named_14 shown b shows }
 
   served_create_sent : fitting.IsServed Shows jobs (take 3 (events_of failed_trace)) create_sent 0 (well create_answered)
   served_create_sent shown b shows certain = (Replied (reply.Created id) [], at (take 3 (events_of failed_trace)) 2 _ refl, named_2 shown b shows)
@@ -146,7 +146,7 @@ module _ (page_of : List ℕ → Listed) where
   served_first_sent shown b shows certain = (Refused denied, at (take 9 (events_of failed_trace)) 8 _ refl, named_8 shown b shows)
 
   served_second_sent : fitting.IsServed Shows jobs (take 11 (events_of failed_trace)) second_sent 0 (lost other_lost)
-  served_second_sent shown b shows certain = absurd (same_uncertain why.WireFailed shown shows.0 certain)
+  served_second_sent shown b shows certain = absurd (same_uncertain second_sent why.WireFailed shown shows.0 certain)
 
   served_abort_sent : fitting.IsServed Shows jobs (take 15 (events_of failed_trace)) abort_sent 0 (well abort_answered)
   served_abort_sent shown b shows certain = (Replied reply.Gone [], at (take 15 (events_of failed_trace)) 14 _ refl, named_14 shown b shows)
@@ -161,7 +161,7 @@ module _ (page_of : List ℕ → Listed) where
       let d : (1 == suc (suc lane)) ≡ false = grind arith in
       rw (a, b, c, d) refl
 
-  fits : Fits Shows (events_of failed_trace) events jobs
+  fits : Fits Shows None (events_of failed_trace) events jobs
   fits = fitting.fits Shows jobs (events_of failed_trace) events refl begins
       (refl, (tt, (tt, (tt, (refl, (refl, (tt, (tt, (tt, (tt, (tt, (tt, (refl, (tt, (tt, (tt, tt))))))))))))))))
       (tt, (tt, (tt, (refl, (tt, (tt, (tt, (tt, (tt, (refl, (tt, (refl, (tt, (tt, (tt, (refl, tt))))))))))))))))

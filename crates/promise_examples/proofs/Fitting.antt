@@ -7,9 +7,9 @@ use Rattle.s3_model.specs.declared.outcomes.Event.{Event}
 use Rattle.s3_model.specs.Talks.{Talk}
 use Rattle.s3_service.specs.Serves.{Answer}
 use Rattle.job_terms.specs.Dispatches.{Attempt, Dispatched}
-use Rattle.run_promise.specs.Fits.{Fits, IsAnswered, Names, IsCertain, request_at, requests_of}
+use Rattle.run_promise.specs.Fits.{Fits, IsAnswered, IsPageJob, Names, IsCertain, request_at, requests_of}
 use Rattle.run_promise.specs.Traces.{TraceEvent, Given, Serve, Came, IsSameAttempt, event_of, begun_in, served_in, is_begin_of, marks_come}
-use Rattle.promise_examples.proofs.Concrete.{Each, each, each_passing, Slots, slot, Pairs, pairs, Cuts, cut}
+use Rattle.promise_examples.proofs.Concrete.{Each, each, each_passing, Slots, slot, Pairs, pairs, Cuts, cut, none_is_some}
 
 -- a job that came at that place
 abbrev pub is_place : ℕ → Option ℕ → Bool
@@ -35,14 +35,18 @@ abbrev pub CameRule : List TraceEvent → TraceEvent → Type 0
 CameRule front (Came job lane tries) = count_by (is_begin_of job) front ≡ sum_by (marks_come job) front + length tries
 CameRule front event = Unit {0}
 
+-- where no page was refused by its content, none is that of a job
+pub no_page : (c : Dispatched) → IsPageJob None c → ⊥
+no_page c page = none_is_some c.dispatch.job.number page.2
+
 module _ (Shows : Ask → ℕ → Talk → Class → List ℕ → Type 0) (dispatched : List Dispatched) where
   abbrev pub AnswerRule : TraceEvent → Type 0
-  AnswerRule (Serve sent answer) = IsAnswered Shows dispatched sent answer
+  AnswerRule (Serve sent answer) = IsAnswered Shows None dispatched sent answer
   AnswerRule event = Unit {0}
 
   -- the answer of an attempt is served in front, where its talk is certain
   abbrev pub IsServed : List TraceEvent → Dispatched → ℕ → Attempt → Type 0
-  IsServed front c place attempt = (shown : Class) (bytes : List ℕ) → Shows c.ask c.limit attempt.talk shown bytes → IsCertain shown
+  IsServed front c place attempt = (shown : Class) (bytes : List ℕ) → Shows c.ask c.limit attempt.talk shown bytes → IsCertain None c shown
       → (answer : Answer) × Contains front (Serve (request_at c place) answer) × Names shown bytes answer
 
   abbrev pub ServedRule : List TraceEvent → TraceEvent → Type 0
@@ -55,7 +59,7 @@ module _ (Shows : Ask → ℕ → Talk → Class → List ℕ → Type 0) (dispa
       (given : Cuts GivenRule trace) (came : Cuts CameRule trace)
       (once : Pairs (λ a b. ¬ (IsSameAttempt a b)) (filter_map served_in trace))
       (answers : Each AnswerRule trace) (served : Cuts ServedRule trace) where
-    pub fits : Fits Shows trace journal dispatched
+    pub fits : Fits Shows None trace journal dispatched
     fits = record {
       moves = moves;
       begins = begins;

@@ -1,5 +1,5 @@
 -- The run that gave up untried, and the trace in which nothing happens.
-use Rattle.std.proofs.Common.{◌≡◌, ◌⊎◌, ℕ, true, false, List, [], ◌∷◌, refl, subst, inl, inr}
+use Rattle.std.proofs.Common.{◌≡◌, ◌⊎◌, ℕ, true, false, List, [], ◌∷◌, refl, subst, inl, inr, None}
 use Rattle.std.specs.FinMap.{empty}
 use Rattle.std.proofs.lemmas.List.Sorted.{IsPermutation-refl}
 use Rattle.s3_model.specs.declared.answers.Listed.{Listed}
@@ -79,7 +79,7 @@ module _ (page_of : List ℕ → Listed) (s : Setting) (carried_out : s.dryrun �
   })
 
 module _ (page_of : List ℕ → Listed) where
-  nothing_fits : Fits (Reads page_of) [] [] []
+  nothing_fits : Fits (Reads page_of) None [] [] []
   nothing_fits = fitting.fits (Reads page_of) [] [] [] refl (λ lane. refl) tt tt tt tt tt
 
   pub idleness : (why : Cause) → (IsFinished false (WasTaken (idle_run why) start 0) (outcome.Failed why) ⊎ (false ≡ true) ⊎ (false ≡ true)) → ⊥
@@ -91,5 +91,5 @@ pub idleness_is_refused : IdlenessIsRefused
 idleness_is_refused page_of why owed =
     idleness page_of why
     (owed (run_of (idle_run why) [] start []) [] (no_jobs page_of setting refl) (nothing_carried page_of setting refl)
-    (record { of_journal = refl; fitting = record { runs = tt; honest = honest start [] (one_bucket_is_faithful (98 ∷ []), tt) tt (IsDest setting.tasks); fits = nothing_fits page_of } }) tt
+    (record { of_journal = refl; of_page = refl; fitting = record { runs = tt; honest = honest start [] (one_bucket_is_faithful (98 ∷ []), tt) tt (IsDest setting.tasks); fits = nothing_fits page_of } }) tt
     (λ c place attempt reason bytes known slot shows. has [] c known) (λ write happened. has [] (External write) happened) buckets refl 0 (outcome.Failed why) refl)

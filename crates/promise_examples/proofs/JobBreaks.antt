@@ -376,7 +376,7 @@ module _ (limits : Limits) (spare : ℕ) where
       inr (inl (
         (λ refused. refused),
         refl,
-        (refl, inl (page_with spare [], (refl, [], reads page_of (list_after (Some token)) most_body (answer text)), inr (inr ((λ refused. refused), refl, inl refl)))),
+        (refl, inl (page_with spare [], (refl, [], reads page_of (list_after (Some token)) most_body (answer text)), inr (inr ((λ refused. refused), refl, (refl, inl refl))))),
       )),
     ),
   )

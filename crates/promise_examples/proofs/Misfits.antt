@@ -1,6 +1,6 @@
 -- Traces with one thing changed do not fit.
 use Rattle.shared_lemmas.proofs.Lists.{head_is, no_cons}
-use Rattle.std.proofs.Common.{◌≡◌, ◌++◌, ℕ, false, List, [], ◌∷◌, Some, refl, sym, ap, Contains, length, slice_get, arith}
+use Rattle.std.proofs.Common.{◌≡◌, ◌++◌, ℕ, false, List, [], ◌∷◌, Some, refl, sym, ap, Contains, length, slice_get, arith, None}
 use Rattle.std.specs.Prelude.{codes}
 use Rattle.s3_model.specs.declared.requests.Ask.{Ask}
 use Rattle.s3_model.specs.declared.answers.Class.{Class}
@@ -27,6 +27,8 @@ use Rattle.promise_examples.proofs.Concrete.{has, at, each, slot}
 use Rattle.promise_examples.proofs.Readings.{reads, shown_by}
 use Rattle.promise_examples.proofs.Shown.{made, of_shown}
 use Rattle.promise_examples.proofs.WholePut.{met}
+use Rattle.world_laws.proofs.Fitting.{names_where}
+use Rattle.promise_examples.proofs.Fitting.{no_page}
 
 given_serve : (j : JobId) (l : ℕ) (s : SentRequest) (a : Answer) → Given j l ≡ Serve s a → ⊥
 given_serve j l s a e = cc
@@ -48,10 +50,10 @@ module _ (page_of : List ℕ → Listed) where
   sent asked body limit size = made (record { job = put_job; lane = 0; given_at = 0; came_at = Some 1; earlier = 0; is_second = false; attempts = stored ∷ [] }) asked body limit size
 
   abbrev Unfit : List Step → Ask → List ℕ → ℕ → ℕ → Type 0
-  Unfit trace asked body limit size = IsTrace whole_run.setting.limits [] before trace → IsHonest before trace (IsDest whole_run.setting.tasks) → Fits Shows (events_of trace) whole_run.journal (sent asked body limit size ∷ []) → ⊥
+  Unfit trace asked body limit size = IsTrace whole_run.setting.limits [] before trace → IsHonest before trace (IsDest whole_run.setting.tasks) → Fits Shows None (events_of trace) whole_run.journal (sent asked body limit size ∷ []) → ⊥
 
   abbrev Misses : List Step → List Dispatched → Type 0
-  Misses trace xs = IsTrace whole_run.setting.limits [] before trace → IsHonest before trace (IsDest whole_run.setting.tasks) → Fits Shows (events_of trace) whole_run.journal xs → ⊥
+  Misses trace xs = IsTrace whole_run.setting.limits [] before trace → IsHonest before trace (IsDest whole_run.setting.tasks) → Fits Shows None (events_of trace) whole_run.journal xs → ⊥
 
   unfit : (trace : List Step) → ((asked : Ask) (body : List ℕ) (limit size : ℕ) → Unfit trace asked body limit size) → IsUnfit page_of trace
   unfit trace all dispatched coming schedule carried runs honest fits = of_shown (dispatches whole_run.journal whole_run.logs) (Misses trace) all dispatched carried.shown runs honest fits
@@ -68,17 +70,17 @@ module _ (page_of : List ℕ → Listed) where
   not_in_front : (s : SentRequest) (a : Answer) → Contains in_front (Serve s a) → ⊥
   not_in_front s a known = each (λ (event : TraceEvent). event ≡ Serve s a → ⊥) in_front (given_serve put_job 0 s a, (begin_serve 0 (request 1) s a, tt)) (Serve s a) known refl
 
-  unserved : (later : List TraceEvent) (asked : Ask) (body : List ℕ) (limit size : ℕ) → Fits Shows (in_front ++ Came put_job 0 (mark.Success ∷ []) ∷ later) whole_run.journal (sent asked body limit size ∷ []) → ⊥
+  unserved : (later : List TraceEvent) (asked : Ask) (body : List ℕ) (limit size : ℕ) → Fits Shows None (in_front ++ Came put_job 0 (mark.Success ∷ []) ∷ later) whole_run.journal (sent asked body limit size ∷ []) → ⊥
   unserved later asked body limit size fits =
       let served = fits.served in_front later put_job 0 (mark.Success ∷ []) (sent asked body limit size) 0 stored (shown_by page_of asked (stored_at 5)) _ refl (at (sent asked body limit size ∷ []) 0 (sent asked body limit size) refl) refl refl refl
-      (reads page_of asked limit (stored_at 5)) tt in
+      (reads page_of asked limit (stored_at 5)) (no_page (sent asked body limit size)) in
       not_in_front (request_at (sent asked body limit size) 0) served.0 served.1
 
   on_other_answer : (asked : Ask) (body : List ℕ) (limit size : ℕ) → Unfit specs.other_answer asked body limit size
   on_other_answer asked body limit size runs honest fits =
       let is = fits.answers (request 1) (Refused (codes "AccessDenied")) (at (events_of specs.other_answer) 2 (Serve (request 1) (Refused (codes "AccessDenied"))) refl) in
       each (λ (c : Dispatched). slice_get c.dispatch.attempts is.place ≡ Some is.attempt → ((shown : Class) (b : List ℕ) → Shows c.ask c.limit is.attempt.talk shown b → Names shown b (Refused (codes "AccessDenied"))) → ⊥) (sent asked body limit size ∷ [])
-      (of_place is.place is.attempt, tt) is.of is.known is.is_attempt is.names
+      (of_place is.place is.attempt, tt) is.of is.known is.is_attempt (λ shown b shows. names_where None is.of (no_page is.of) shown b (Refused (codes "AccessDenied")) (is.names shown b shows))
     where
       of_place : (place : ℕ) (attempt : Attempt) → slice_get (stored ∷ []) place ≡ Some attempt → ((shown : Class) (b : List ℕ) → Shows asked limit attempt.talk shown b → Names shown b (Refused (codes "AccessDenied"))) → ⊥
       of_place place attempt here named =

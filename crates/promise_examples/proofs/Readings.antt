@@ -1,5 +1,5 @@
 -- What the reading of the examples shows of a talk.
-use Rattle.std.proofs.Common.{◌≡◌, ◌∙◌, ℕ, List, [], refl, sym, ap, subst}
+use Rattle.std.proofs.Common.{◌≡◌, ◌∙◌, ℕ, List, [], refl, sym, ap, subst, None}
 use Rattle.std.proofs.lemmas.List.{append-nil}
 use Rattle.s3_model.specs.declared.requests.Ask.{Ask}
 use Rattle.s3_model.specs.declared.answers.Listed.{Listed}
@@ -16,6 +16,7 @@ use Rattle.s3_model.specs.declared.tries.Mark.TheVariants as mark
 use Rattle.job_terms.specs.Attempts.{mark_of, SaysAll}
 use Rattle.run_promise.specs.Fits.{Names, IsCertain}
 use Rattle.promise_examples.specs.Reading.{Reads, reply_to, class_by, body_by}
+use Rattle.job_terms.specs.Dispatches.{Dispatched}
 
 -- ---- replies that are the same
 
@@ -50,8 +51,8 @@ pub class_itself : (a : Class) → IsSameClass a a
 class_itself (class.Success a) = reply_itself a
 class_itself a = refl
 
-pub same_uncertain : (why : Why) (shown : Class) → IsSameClass (class.Uncertain why) shown → IsCertain shown → ⊥
-same_uncertain why shown h certain = subst IsCertain (sym h) certain
+pub same_uncertain : (c : Dispatched) (why : Why) (shown : Class) → IsSameClass (class.Uncertain why) shown → IsCertain None c shown → ⊥
+same_uncertain c why shown h certain = subst (IsCertain None c) (sym h) certain
 
 pub refusal_success : mark.Refusal ≡ mark.Success → ⊥
 refusal_success e = cc

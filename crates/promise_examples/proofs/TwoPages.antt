@@ -157,11 +157,11 @@ module _ (limits : Limits) (spare : ℕ) where
   last_named : (shown : Class) (bytes : List ℕ) → Shows last.ask most_body last_attempt.talk shown bytes → Names shown bytes (Replied (reply.Listed (page_with 0 [])) [])
   last_named = names (page_with spare) last.ask most_body last_attempt.talk (Replied (reply.Listed (page_with 0 [])) []) (reply.Listed (page_with 0 []), (refl, refl, refl, refl), refl)
 
-  first_answered : IsAnswered Shows jobs (request 0 None) (Replied (reply.Listed (page_with 0 token)) [])
-  first_answered = record { of = first; known = at jobs 0 first refl; place = 0; attempt = first_attempt; is_attempt = refl; is_sent = refl; names = first_named }
+  first_answered : IsAnswered Shows None jobs (request 0 None) (Replied (reply.Listed (page_with 0 token)) [])
+  first_answered = record { of = first; known = at jobs 0 first refl; place = 0; attempt = first_attempt; is_attempt = refl; is_sent = refl; names = λ shown b shows certain. first_named shown b shows }
 
-  last_answered : IsAnswered Shows jobs (request 1 (Some token)) (Replied (reply.Listed (page_with 0 [])) [])
-  last_answered = record { of = last; known = at jobs 1 last refl; place = 0; attempt = last_attempt; is_attempt = refl; is_sent = refl; names = last_named }
+  last_answered : IsAnswered Shows None jobs (request 1 (Some token)) (Replied (reply.Listed (page_with 0 [])) [])
+  last_answered = record { of = last; known = at jobs 1 last refl; place = 0; attempt = last_attempt; is_attempt = refl; is_sent = refl; names = λ shown b shows certain. last_named shown b shows }
 
   begins : (lane : ℕ) → filter_map (begun_in lane) (events_of listing_trace) ≡ flat_map requests_of (filter (λ (c : Dispatched). c.dispatch.lane == lane) jobs)
   begins zero = refl
@@ -170,7 +170,7 @@ module _ (limits : Limits) (spare : ℕ) where
       let b : (0 == suc lane) ≡ false = grind arith in
       rw (a, b) refl
 
-  fits : Fits Shows (events_of listing_trace) e.journal jobs
+  fits : Fits Shows None (events_of listing_trace) e.journal jobs
   fits = fitting.fits Shows jobs (events_of listing_trace) e.journal refl begins (refl, (tt, (tt, (tt, (refl, (tt, (tt, (tt, tt)))))))) (tt, (tt, (tt, (refl, (tt, (tt, (tt, (refl, tt)))))))) (((λ same. other_job (list_job 0) (list_job 1) refl same.0), tt), (tt, tt))
       (tt, (tt, (first_answered, (tt, (tt, (tt, (last_answered, (tt, tt))))))))
       (tt, (tt, (tt, (((first_served, tt), tt), (tt, (tt, (tt, (((last_served, tt), tt), tt))))))))
@@ -218,7 +218,7 @@ module _ (limits : Limits) (spare : ℕ) where
   -- ---- its jobs
 
   abbrev Plans : List Dispatched → Type 0
-  Plans = PlansFor Shows (λ prefix pages. ⊥) ⊥ (Listing bucket [] false ∷ [])
+  Plans = PlansFor Shows (λ prefix pages. ⊥) ⊥ None (Listing bucket [] false ∷ [])
 
   planned : Plans jobs
   planned = (
@@ -229,7 +229,7 @@ module _ (limits : Limits) (spare : ℕ) where
       inr (inl (
         (λ refused. refused),
         refl,
-        (refl, inl (page_with spare [], (refl, [], reads (page_with spare) last.ask most_body last_attempt.talk), inr (inr ((λ refused. refused), refl, inl refl)))),
+        (refl, inl (page_with spare [], (refl, [], reads (page_with spare) last.ask most_body last_attempt.talk), inr (inr ((λ refused. refused), refl, (refl, inl refl))))),
       )),
     ),
   )

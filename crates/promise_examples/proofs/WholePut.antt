@@ -1,5 +1,5 @@
 -- The small upload that the examples of what is refused are made of meets every definition.
-use Rattle.std.proofs.Common.{◌≡◌, ◌==◌, ◌<◌, ◌≤◌, ℕ, zero, suc, false, List, [], ◌∷◌, Some, refl, subst, inl, inr, filter, filter_map, take, slice_get, arith}
+use Rattle.std.proofs.Common.{◌≡◌, ◌==◌, ◌<◌, ◌≤◌, ℕ, zero, suc, false, List, [], ◌∷◌, Some, refl, subst, inl, inr, filter, filter_map, take, slice_get, arith, None}
 use Rattle.std.specs.Prelude.{flat_map}
 use Rattle.std.specs.FinMap.{empty}
 use Rattle.s3_model.specs.declared.requests.Ask.{Ask}
@@ -74,8 +74,8 @@ module _ (page_of : List ℕ → Listed) where
   pub named : (shown : Class) (b : List ℕ) → Shows sent.ask most_body well.talk shown b → Names shown b (Replied reply.Stored [])
   named = names page_of sent.ask most_body well.talk (Replied reply.Stored []) (reply.Stored, refl, refl)
 
-  pub answered : IsAnswered Shows jobs (request 1) (Replied reply.Stored [])
-  answered = record { of = sent; known = at jobs 0 sent refl; place = 0; attempt = well; is_attempt = refl; is_sent = refl; names = named }
+  pub answered : IsAnswered Shows None jobs (request 1) (Replied reply.Stored [])
+  answered = record { of = sent; known = at jobs 0 sent refl; place = 0; attempt = well; is_attempt = refl; is_sent = refl; names = λ shown b shows certain. named shown b shows }
 
   pub begins : (lane : ℕ) → filter_map (begun_in lane) (events_of whole_trace) ≡ flat_map requests_of (filter (λ (c : Dispatched). c.dispatch.lane == lane) jobs)
   begins zero = refl
@@ -84,7 +84,7 @@ module _ (page_of : List ℕ → Listed) where
       let b : (0 == suc lane) ≡ false = grind arith in
       rw (a, b) refl
 
-  fits : Fits Shows (events_of whole_trace) e.journal jobs
+  fits : Fits Shows None (events_of whole_trace) e.journal jobs
   fits = fitting.fits Shows jobs (events_of whole_trace) e.journal refl begins (refl, (tt, (tt, (tt, tt)))) (tt, (tt, (tt, (refl, tt)))) (tt, tt) (tt, (tt, (answered, (tt, tt)))) (tt, (tt, (tt, (((served, tt), tt), tt))))
     where
       served : fitting.IsServed Shows jobs (take 3 (events_of whole_trace)) sent 0 well

@@ -237,6 +237,7 @@ shown = record {
   notes = in_first notes;
   held_after = left_over;
   excused = record { left = second_temp ∷ []; untimed = []; wanted_memory = false };
+  refused_page = None;
 }
 
 -- ---- the trace

@@ -1,5 +1,5 @@
 -- A run whose memory ran out before a job of its task was given, and its neighbours.
-use Rattle.std.specs.Prelude.{◌≡◌, ◌≢◌, ℕ, false, List, [], ◌∷◌, is_some, not}
+use Rattle.std.specs.Prelude.{◌≡◌, ◌≢◌, ℕ, false, List, [], ◌∷◌, is_some, not, None}
 use Rattle.s3_model.specs.declared.answers.Listed.{Listed}
 use Rattle.run_promise.specs.Truthful.{Shown, IsTruthful}
 use Rattle.promise_examples.specs.Reading.{Reads, HasNoStatus, NeverFailed, signed_body}
@@ -17,6 +17,7 @@ without_outcome status e = record {
   notes = e.notes;
   held_after = e.setting.held;
   excused = record { left = []; untimed = []; wanted_memory = false };
+  refused_page = None;
 }
 
 -- no job was given: memory ran out, and for no task
@@ -30,7 +31,7 @@ untried = silent_run (task ∷ []) (once [])
 
 module _ (page_of : List ℕ → Listed) where
   abbrev pub Tells : Shown → Type 0
-  Tells = IsTruthful (Reads page_of) HasNoStatus signed_body [] 80 (λ planning. planning ≡ []) NeverFailed
+  Tells = IsTruthful (Reads page_of) HasNoStatus signed_body [] 80 (λ page planning. planning ≡ []) NeverFailed
 
   pub record EarlyEndsAreRefused : Type 0 where
     -- the Put was given, and stored or not tried

@@ -1,6 +1,6 @@
 -- A run that fails and never tried, though no file call failed and memory did not run out: no willing service is owed
 -- that.
-use Rattle.std.specs.Prelude.{◌≡◌, false, ℕ, List, [], ◌∷◌}
+use Rattle.std.specs.Prelude.{◌≡◌, false, ℕ, List, [], ◌∷◌, None}
 use Rattle.s3_model.specs.declared.answers.Listed.{Listed}
 use Rattle.s3_model.specs.declared.outcomes.Cause.{Cause}
 use Rattle.s3_model.specs.declared.outcomes.Outcome.TheVariants as outcome
@@ -19,8 +19,9 @@ idle_run why = record {
   notes = λ lane. [];
   held_after = setting.held;
   excused = record { left = []; untimed = []; wanted_memory = false };
+  refused_page = None;
 }
 
 abbrev pub IdlenessIsRefused : Type 0
 IdlenessIsRefused = (page_of : List ℕ → Listed) (why : Cause)
-    → ¬ (IsDoneWhereWilling (Reads page_of) signed_body [] 80 (λ planning. planning ≡ []) (idle_run why))
+    → ¬ (IsDoneWhereWilling (Reads page_of) signed_body [] 80 (λ page planning. planning ≡ []) (idle_run why))

@@ -1,5 +1,5 @@
 -- Traces with one thing changed, which do not fit a run of one small upload that was stored.
-use Rattle.std.specs.Prelude.{◌≡◌, ℕ, List, [], ◌∷◌, codes}
+use Rattle.std.specs.Prelude.{◌≡◌, ℕ, List, [], ◌∷◌, codes, None}
 use Rattle.s3_model.specs.declared.answers.Listed.{Listed}
 use Rattle.s3_model.specs.declared.answers.Reply.TheVariants as reply
 use Rattle.s3_model.specs.declared.tries.Mark.TheVariants as mark
@@ -135,7 +135,7 @@ module _ (page_of : List ℕ → Listed) where
       → IsCarried (Reads page_of) signed_body [] 80 whole_run.setting whole_run.journal whole_run.logs whole_run.notes
       dispatched coming
       → IsTrace whole_run.setting.limits [] before trace → IsHonest before trace (IsDest whole_run.setting.tasks)
-      → Fits (Reads page_of) (events_of trace) whole_run.journal dispatched → ⊥
+      → Fits (Reads page_of) None (events_of trace) whole_run.journal dispatched → ⊥
 
   pub record TracesAreRefused : Type 0 where
     pub whole : IsMet page_of (λ planning. planning ≡ []) whole_run before whole_trace

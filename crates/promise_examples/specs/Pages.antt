@@ -117,5 +117,5 @@ listing_trace =
 -- The planning needs this listing, and has it in two pages, whatever room the reader's lists have.
 abbrev pub TwoPagesAreMet : Type 0
 TwoPagesAreMet = (limits : Limits) (spare : ℕ)
-    → IsMet (page_with spare) (PlansFor (Reads (page_with spare)) (λ prefix pages. ⊥) ⊥
+    → IsMet (page_with spare) (PlansFor (Reads (page_with spare)) (λ prefix pages. ⊥) ⊥ None
     (Listing bucket [] false ∷ [])) (listing_run limits) full listing_trace

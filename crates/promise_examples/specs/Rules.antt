@@ -159,7 +159,7 @@ EachOrderBreaksAlone = (page_of : List ℕ → Listed) → OrdersBreakAlone page
 
 -- a bucket is to be listed
 abbrev pub IsListing : (spare : ℕ) → List Dispatched → Type 0
-IsListing spare = PlansFor (Reads (page_with spare)) (λ prefix pages. ⊥) ⊥ (Listing bucket [] false ∷ [])
+IsListing spare = PlansFor (Reads (page_with spare)) (λ prefix pages. ⊥) ⊥ None (Listing bucket [] false ∷ [])
 
 module _ (limits : Limits) (spare : ℕ) where
   abbrev pub PlanningBreaks : Rule → Example → Type 0

@@ -1,6 +1,6 @@
 -- A run that meets every definition: its jobs, its wires, a trace of a service that fits, and the cause of each
 -- outcome.
-use Rattle.std.specs.Prelude.{◌≡◌, ℕ, List, [], Some, slice_get}
+use Rattle.std.specs.Prelude.{◌≡◌, ℕ, List, [], Some, slice_get, None}
 use Rattle.s3_model.specs.declared.answers.Listed.{Listed}
 use Rattle.s3_model.specs.declared.outcomes.Event.{Event}
 use Rattle.s3_model.specs.declared.outcomes.Outcome.{Outcome}
@@ -36,7 +36,7 @@ module _ (page_of : List ℕ → Listed) (Plans : List Dispatched → Type 0) wh
     pub buffers : KeepsBuffers e.setting.config.buffers e.journal
     pub runs : IsTrace e.setting.limits [] start trace
     pub honest : IsHonest start trace (IsDest e.setting.tasks)
-    pub fits : Fits (Reads page_of) (events_of trace) e.journal dispatched
+    pub fits : Fits (Reads page_of) None (events_of trace) e.journal dispatched
     pub whole : HasJournal e.journal trace trace
     pub causes : (n : ℕ) (task : Task) (how : Outcome) → slice_get e.setting.tasks n ≡ Some task
         → slice_get e.outcomes n ≡ Some how

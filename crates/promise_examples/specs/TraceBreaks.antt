@@ -1,5 +1,5 @@
 -- Traces that break one clause of how a trace fits, of what a service does, or of honesty, and no other.
-use Rattle.std.specs.Prelude.{◌≡◌, ◌≢◌, ◌+◌, ◌++◌, ◌==◌, ℕ, List, [], ◌∷◌, Some, filter, filter_map, flat_map, count_by}
+use Rattle.std.specs.Prelude.{◌≡◌, ◌≢◌, ◌+◌, ◌++◌, ◌==◌, ℕ, List, [], ◌∷◌, Some, filter, filter_map, flat_map, count_by, None}
 use Rattle.std.specs.Prelude.{sum_by, length, slice_get, Contains, AllPairs}
 use Rattle.s3_model.specs.declared.answers.Class.{Class}
 use Rattle.s3_model.specs.declared.answers.Listed.{Listed}
@@ -59,13 +59,13 @@ module _ (page_of : List ℕ → Listed) where
         → count_by (is_begin_of job) front ≡ sum_by (marks_come job) front + length tries
     SaysOfTrace Once = AllPairs (λ a b. ¬ (IsSameAttempt a b)) (filter_map served_in events)
     SaysOfTrace Answers = (sent : SentRequest) (answer : Answer) → Contains events (Serve sent answer)
-        → IsAnswered Shows dispatched sent answer
+        → IsAnswered Shows None dispatched sent answer
     SaysOfTrace Served = (front back : List TraceEvent) (job : JobId) (lane : ℕ) (tries : List Mark) (c : Dispatched)
         (place : ℕ)
         (attempt : Attempt) (shown : Class) (bytes : List ℕ) → events ≡ front ++ Came job lane tries ∷ back
         → Contains dispatched c → c.dispatch.job ≡ job → c.dispatch.came_at ≡ Some (length (filter_map event_of front))
         → slice_get c.dispatch.attempts place ≡ Some attempt → Shows c.ask c.limit attempt.talk shown bytes
-        → IsCertain shown
+        → IsCertain None c shown
         → (answer : Answer) × Contains front (Serve (request_at c place) answer) × Names shown bytes answer
     SaysOfTrace Runs = IsTrace e.setting.limits [] before trace
     SaysOfTrace OneContent = (t u : State) (bucket key : List ℕ) (a b : Object) → Contains (states before trace) t
@@ -81,7 +81,7 @@ module _ (page_of : List ℕ → Listed) where
     pub record IsFit : Type 0 where
       pub runs : IsTrace e.setting.limits [] before trace
       pub honest : IsHonest before trace (IsDest e.setting.tasks)
-      pub fits : Fits Shows events e.journal dispatched
+      pub fits : Fits Shows None events e.journal dispatched
 
   -- the clauses together say that, no more and no less
   abbrev pub TraceClausesAreAll : Type 0

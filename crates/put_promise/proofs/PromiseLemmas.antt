@@ -26,7 +26,7 @@ use Rattle.small_uploads.specs.Uploading.{IsPutCarried, Uploads}
 use Rattle.put_promise.proofs.CarriedLemmas.{attempts, put_carried, tries}
 use Rattle.put_promise.proofs.OutcomeLemmas.{put_outcome}
 
-module _ (endpoint : Endpoint) (keys : Keys) (Plans : List Dispatched → Type 0) (plans_none : Plans []) (config : Config) (configured : IsValidConfig config) (limits : Limits) (valid : IsValidLimits limits)
+module _ (endpoint : Endpoint) (keys : Keys) (Plans : Option ℕ → List Dispatched → Type 0) (plans_none : Plans None []) (config : Config) (configured : IsValidConfig config) (limits : Limits) (valid : IsValidLimits limits)
     (wires : ℕ) (has_wire : 1 ≤ wires) (status before after : ℕ) (path : List ℕ) (was now : SeenFiles) (same : now.store ≡ was.store) (warnings : List Warning) where
   abbrev KeepsUpload : Task → Outcome → List Event → List Talk → List Note → Type 0
   KeepsUpload task how journal talks notes =

@@ -1,9 +1,10 @@
 -- When a trace of the service is one that the journal and the logs of a program allow.
-use Rattle.std.specs.Prelude.{◌≡◌, ◌+◌, ◌++◌, ◌==◌, ℕ, List, [], ◌∷◌, Some, filter, filter_map, flat_map, count_by}
+use Rattle.std.specs.Prelude.{◌≡◌, ◌+◌, ◌++◌, ◌==◌, ℕ, List, [], ◌∷◌, Option, Some, None, filter, filter_map, flat_map, count_by}
 use Rattle.std.specs.Prelude.{sum_by, length, slice_get, Contains, AllPairs}
 use Rattle.s3_model.specs.declared.outcomes.JobId.{JobId}
 use Rattle.s3_model.specs.declared.outcomes.Event.{Event}
 use Rattle.s3_model.specs.declared.requests.Ask.{Ask}
+use Rattle.s3_model.specs.declared.requests.Ask.TheVariants as ask
 use Rattle.s3_model.specs.declared.tries.Mark.{Mark}
 use Rattle.s3_model.specs.declared.answers.Reply.{Reply}
 use Rattle.s3_model.specs.Replies.{IsSameReply}
@@ -33,12 +34,23 @@ Names (class.Success reply) bytes answer = (same : Reply) × IsSameReply reply s
 Names (class.Refusal code message) bytes answer = answer ≡ Refused code
 Names (class.Uncertain why) bytes answer = Unit {0}
 
-abbrev pub IsCertain : Class → Type 0
-IsCertain (class.Success reply) = Unit {0}
-IsCertain (class.Refusal code message) = Unit {0}
-IsCertain (class.Uncertain why) = ⊥
+-- it asks for a page of a listing
+abbrev pub IsListing : Ask → Type 0
+IsListing (ask.List bucket prefix delimited token) = Unit {0}
+IsListing other = ⊥
 
-module _ (Shows : Ask → ℕ → Talk → Class → List ℕ → Type 0) where
+-- the planning job of that number, which asked for a page
+abbrev pub IsPageJob : Option ℕ → Dispatched → Type 0
+IsPageJob number c = IsListing c.ask × (c.dispatch.job.task ≡ None) × (number ≡ Some c.dispatch.job.number)
+
+-- The class says what became of the request: a refusal or a success, but no page that the run refused by its content or
+-- its count. `refused_page` is the number of the planning job that brought such a page, if one did.
+abbrev pub IsCertain : (refused_page : Option ℕ) → Dispatched → Class → Type 0
+IsCertain refused_page c (class.Success reply) = ¬ (IsPageJob refused_page c)
+IsCertain refused_page c (class.Refusal code message) = Unit {0}
+IsCertain refused_page c (class.Uncertain why) = ⊥
+
+module _ (Shows : Ask → ℕ → Talk → Class → List ℕ → Type 0) (refused_page : Option ℕ) where
   -- this is a request of that talk, and the answer is the one that the talk names
   pub record IsAnswered (dispatched : List Dispatched) (sent : SentRequest) (answer : Answer) : Type 0 where
     pub of : Dispatched
@@ -48,7 +60,7 @@ module _ (Shows : Ask → ℕ → Talk → Class → List ℕ → Type 0) where
     pub is_attempt : slice_get of.dispatch.attempts place ≡ Some attempt
     pub is_sent : sent ≡ request_at of place
     pub names : (shown : Class) (bytes : List ℕ) → Shows of.ask of.limit attempt.talk shown bytes
-        → Names shown bytes answer
+        → IsCertain refused_page of shown → Names shown bytes answer
 
   pub record Fits (trace : List TraceEvent) (journal : List Event) (dispatched : List Dispatched) : Type 0 where
     -- what was given and what came is the journal, in order
@@ -73,5 +85,5 @@ module _ (Shows : Ask → ℕ → Talk → Class → List ℕ → Type 0) where
         → trace ≡ front ++ Came job lane tries ∷ back → Contains dispatched c → c.dispatch.job ≡ job
         → c.dispatch.came_at ≡ Some (length (filter_map event_of front))
         → slice_get c.dispatch.attempts place ≡ Some attempt → Shows c.ask c.limit attempt.talk shown bytes
-        → IsCertain shown
+        → IsCertain refused_page c shown
         → (answer : Answer) × Contains front (Serve (request_at c place) answer) × Names shown bytes answer

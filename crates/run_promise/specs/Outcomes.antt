@@ -223,7 +223,7 @@ module _ (Shows : Ask → ℕ → Talk → Class → List ℕ → Type 0) (HasSt
     abbrev pub HasFreePlace : Task → Type 0
     HasFreePlace task = task.fresh ≡ true → task.kind ≡ kind.Download → ¬ (StoodAt s.held s.others task.dest)
 
-    -- or something did, and no Get was sent
+    -- where something stood at the place of such a download, it is given no job
     abbrev pub IsFreeOrIdle : ℕ → Task → Type 0
     IsFreeOrIdle n task =
         task.fresh ≡ true → task.kind ≡ kind.Download → StoodAt s.held s.others task.dest → HasNoJob n

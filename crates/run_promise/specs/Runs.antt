@@ -1,5 +1,5 @@
 -- A run over a service: what it gave and what came, with a trace of that service.
-use Rattle.std.specs.Prelude.{◌≡◌, ◌++◌, ℕ, List, [], filter_map}
+use Rattle.std.specs.Prelude.{◌≡◌, ◌++◌, ℕ, List, [], Option, filter_map}
 use Rattle.s3_model.specs.declared.requests.Ask.{Ask}
 use Rattle.s3_model.specs.declared.answers.Class.{Class}
 use Rattle.s3_model.specs.declared.outcomes.Event.{Event}
@@ -17,6 +17,8 @@ pub record Run : Type 0 where
   pub trace : List Step
   pub journal : List Event
   pub dispatched : List Dispatched
+  -- the number of the planning job whose page was refused by its content, if one was
+  pub refused_page : Option ℕ
 
 -- the states of the service, at the start and after each step
 abbrev pub moments : Run → List State
@@ -37,4 +39,4 @@ module _ (Shows : Ask → ℕ → Talk → Class → List ℕ → Type 0) where
   pub record IsFitting (limits : Limits) (run : Run) (IsKept : List ℕ → List ℕ → Type 0) : Type 0 where
     pub runs : IsTrace limits [] run.start run.trace
     pub honest : IsHonest run.start run.trace IsKept
-    pub fits : Fits Shows (events_of run.trace) run.journal run.dispatched
+    pub fits : Fits Shows run.refused_page (events_of run.trace) run.journal run.dispatched

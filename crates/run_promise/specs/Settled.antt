@@ -125,6 +125,8 @@ pub record RunEnd : Type 0 where
   pub logs : ℕ → List Talk
   pub notes : ℕ → List Note
   pub files : FileStore
+  -- the number of the planning job whose page was refused by its content, if one was
+  pub refused_page : Option ℕ
 
 -- for a task by its cause, and beside tasks by the status
 abbrev pub wanted_by : RunEnd → Option ℕ → Bool
@@ -161,4 +163,5 @@ shown_by start came cancelled_at = record {
     untimed = filter_map untimed_by came.warnings;
     wanted_memory = came.status == 70;
   };
+  refused_page = came.refused_page;
 }

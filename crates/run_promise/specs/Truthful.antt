@@ -1,5 +1,5 @@
 -- Truthful outcomes: what a run of `cp`, `mv`, `rm` and `sync` promises over every honest service.
-use Rattle.std.specs.Prelude.{◌≡◌, ◌++◌, ◌⊎◌, ℕ, Bool, true, false, List, [], ◌∷◌, Some, None, length}
+use Rattle.std.specs.Prelude.{◌≡◌, ◌++◌, ◌⊎◌, ℕ, Bool, true, false, List, [], ◌∷◌, Option, Some, None, length}
 use Rattle.std.specs.Prelude.{slice_get, Contains, IsNone}
 use Rattle.std.specs.FinMap.{get}
 use Rattle.s3_model.specs.declared.requests.Ask.{Ask}
@@ -43,6 +43,8 @@ pub record Shown : Type 0 where
   pub notes : ℕ → List Note
   pub held_after : MapOf HeldFile
   pub excused : Excused
+  -- the number of the planning job whose page was refused by its content, if one was
+  pub refused_page : Option ℕ
 
 -- ---- the places that a run is to change
 
@@ -156,6 +158,7 @@ module _ (Shows : Ask → ℕ → Talk → Class → List ℕ → Type 0) where
   -- a run with the journal that is shown, over an honest trace that fits
   pub record FitsShown (shown : Shown) (run : Run) : Type 0 where
     pub of_journal : run.journal ≡ shown.journal
+    pub of_page : run.refused_page ≡ shown.refused_page
     pub fitting : IsFitting Shows shown.setting.limits run (IsDest shown.setting.tasks)
 
   -- Over every honest service, and whatever is lost, refused or late.
@@ -172,15 +175,16 @@ module _ (Shows : Ask → ℕ → Talk → Class → List ℕ → Type 0) where
       → ¬ (Shows c.ask c.limit attempt.talk (class.Uncertain why) bytes)
 
   -- `request_text ask body moment`: the text of a request, signed at that moment;
-  -- `Plans`: the planning jobs, in order, are those that the command needs
-  module _ (request_text : Ask → List ℕ → ℕ → List ℕ) (host : List ℕ) (port : ℕ) (Plans : List Dispatched → Type 0)
-    where
+  -- `Plans refused_page`: the planning jobs, in order, are those that the command needs, and the page of the job of that
+  -- number was refused by its content
+  module _ (request_text : Ask → List ℕ → ℕ → List ℕ) (host : List ℕ) (port : ℕ)
+      (Plans : Option ℕ → List Dispatched → Type 0) where
       -- However the jobs of the run are read, and over every honest service that does what it may: where each answer is
       -- certain, nobody else writes, the buckets of the destinations are there, and the run is not cancelled, each task
       -- is done (or skipped, see above), but one whose file call failed or for which memory ran out.
       abbrev pub IsDoneWhereWilling : Shown → Type 0
       IsDoneWhereWilling shown = (run : Run) (coming : List Dispatched)
-          → IsSchedule Shows shown.setting Plans run.dispatched coming
+          → IsSchedule Shows shown.setting (Plans shown.refused_page) run.dispatched coming
           → IsCarried Shows request_text host port shown.setting shown.journal shown.logs shown.notes
           run.dispatched coming
           → FitsShown shown run → IsWilling shown.setting.limits run.start run.trace
@@ -190,17 +194,17 @@ module _ (Shows : Ask → ℕ → Talk → Class → List ℕ → Type 0) where
           → IsFinished shown.setting.dryrun (WasTaken shown run.start n) how ⊎ (shown.setting.file_failed n ≡ true)
           ⊎ (shown.setting.wanted_memory (Some n) ≡ true)
 
--- `HasStatus ask limit talk status`: its answer has that HTTP status;
+-- `HasStatus ask limit talk status`: its answer has that HTTP status; `Plans refused_page`: as above;
 -- `CallFailed n why`: the calls on files show that one of task n failed so
 module _ (Shows : Ask → ℕ → Talk → Class → List ℕ → Type 0) (HasStatus : Ask → ℕ → Talk → ℕ → Type 0)
     (request_text : Ask → List ℕ → ℕ → List ℕ) (host : List ℕ) (port : ℕ)
-    (Plans : List Dispatched → Type 0) (CallFailed : ℕ → Cause → Type 0) where
+    (Plans : Option ℕ → List Dispatched → Type 0) (CallFailed : ℕ → Cause → Type 0) where
   -- The jobs are those of the plan, the wires carried them and nothing else, each task has its outcome with the cause
   -- that the talks show, and over every honest trace that fits it is true.
   pub record IsTruthful (shown : Shown) : Type 0 where
     pub dispatched : List Dispatched
     pub coming : List Dispatched
-    pub schedule : IsSchedule Shows shown.setting Plans dispatched coming
+    pub schedule : IsSchedule Shows shown.setting (Plans shown.refused_page) dispatched coming
     pub carried : IsCarried Shows request_text host port shown.setting shown.journal shown.logs shown.notes
         dispatched coming
     pub buffers : KeepsBuffers shown.setting.config.buffers shown.journal

@@ -117,10 +117,10 @@ has_needs words command why is listing goes_on =
     ∙ ap (λ (at : Option Place). needs_of at (is_given Recursive (arguments_of words))) (sym (from_is words command is)) ∙ ap (λ (recursive : Bool). needs_of command.from recursive) (sym (recursive_is words command is))
 
 -- a run that ended by what no request shows asks nothing, unless memory ran out
-asks_none : (words : List (List ℕ)) (why : Option Fatal) → IsUnasked why → PlansBy words why []
+asks_none : (words : List (List ℕ)) (why : Option Fatal) → IsUnasked why → PlansBy words why None []
 asks_none words why unasked = elim (ends_so why unasked) [
-  | inl memory ↦ inr memory
-  | inr ends ↦ inl (nothing (lists_in words) (ends_here why) ends)
+  | inl memory ↦ (refl, inr memory)
+  | inr ends ↦ (refl, inl (nothing (lists_in words) (ends_here why) ends))
 ]
   where
     ends_so : (end : Option Fatal) → IsUnasked end → (end ≡ Some fatal.Memory) ⊎ (ends_here end ≡ true)
@@ -168,40 +168,41 @@ module _ (words : List (List ℕ)) (env : Option SeenEnv) (limits : Limits) (val
   Told = IsTrue words env limits wires (files_over was now before after) run (in_first talks) (in_first notes)
 
   -- what is to be shown, of these lists
-  abbrev Keeps : Endpoint → Settings → List Task → List Outcome → List Event → List Warning → List Talk → List Note → Type 0
-  Keeps endpoint settings tasks outcomes journal warnings of_talks of_notes =
+  abbrev Keeps : Option ℕ → Endpoint → Settings → List Task → List Outcome → List Event → List Warning → List Talk → List Note → Type 0
+  Keeps page endpoint settings tasks outcomes journal warnings of_talks of_notes =
       KeepsPromise Shows HasStatus (text_of endpoint settings.keys) endpoint.host endpoint.port (PlansBy words run.fatal) (CallFailed path now before after tasks)
-      (start_of (config_for words settings.config) limits wires tasks was) (end_of run.status outcomes warnings journal of_talks of_notes now) None ⊥ ⊥
+      (start_of (config_for words settings.config) limits wires tasks was) (record (end_of run.status outcomes warnings journal of_talks of_notes now) { refused_page = page }) None ⊥ ⊥
 
   abbrev PlansNone : Type 0
-  PlansNone = PlansBy words run.fatal []
+  PlansNone = PlansBy words run.fatal None []
 
   nothing : (endpoint : Endpoint) (settings : Settings) → IsValidConfig settings.config → PlansNone → (warnings : List Warning)
-      → (of_notes : List Note) → AreIdle of_notes → Keeps endpoint settings [] [] [] warnings [] of_notes
+      → (of_notes : List Note) → AreIdle of_notes → Keeps None endpoint settings [] [] [] warnings [] of_notes
   nothing endpoint settings configured none warnings of_notes idle =
       promise.unplanned Shows HasStatus (text_of endpoint settings.keys) endpoint.host endpoint.port (PlansBy words run.fatal) none (config_for words settings.config)
       (valid_for (lists_in words) settings.config configured) limits valid wires has_wire run.status before after path was now same warnings of_notes idle
 
   -- the lists of the run are these
-  of_run : (endpoint : Endpoint) (settings : Settings) (tasks : List Task) (outcomes : List Outcome) (journal : List Event) (warnings : List Warning) (of_talks : List Talk) (of_notes : List Note)
+  of_run : (page : Option ℕ) (endpoint : Endpoint) (settings : Settings) (tasks : List Task) (outcomes : List Outcome) (journal : List Event) (warnings : List Warning) (of_talks : List Talk) (of_notes : List Note)
       → run.plan.tasks.items ≡ tasks → run.outcomes.items ≡ outcomes → run.journal.items ≡ journal → run.warnings.items ≡ warnings → talks ≡ of_talks → notes ≡ of_notes
-      → Keeps endpoint settings tasks outcomes journal warnings of_talks of_notes
-      → Keeps endpoint settings run.plan.tasks.items run.outcomes.items run.journal.items run.warnings.items talks notes
-  of_run endpoint settings tasks outcomes journal warnings of_talks of_notes t o j w ts ns keeps =
-      subst (λ (all : List Task). Keeps endpoint settings all run.outcomes.items run.journal.items run.warnings.items talks notes) (sym t)
-      (subst (λ (all : List Outcome). Keeps endpoint settings tasks all run.journal.items run.warnings.items talks notes) (sym o)
-      (subst (λ (all : List Event). Keeps endpoint settings tasks outcomes all run.warnings.items talks notes) (sym j)
-      (subst (λ (all : List Warning). Keeps endpoint settings tasks outcomes journal all talks notes) (sym w)
-      (subst (λ (all : List Talk). Keeps endpoint settings tasks outcomes journal warnings all notes) (sym ts)
-      (subst (λ (all : List Note). Keeps endpoint settings tasks outcomes journal warnings of_talks all) (sym ns) keeps)))))
+      → Keeps page endpoint settings tasks outcomes journal warnings of_talks of_notes
+      → Keeps page endpoint settings run.plan.tasks.items run.outcomes.items run.journal.items run.warnings.items talks notes
+  of_run page endpoint settings tasks outcomes journal warnings of_talks of_notes t o j w ts ns keeps =
+      subst (λ (all : List Task). Keeps page endpoint settings all run.outcomes.items run.journal.items run.warnings.items talks notes) (sym t)
+      (subst (λ (all : List Outcome). Keeps page endpoint settings tasks all run.journal.items run.warnings.items talks notes) (sym o)
+      (subst (λ (all : List Event). Keeps page endpoint settings tasks outcomes all run.warnings.items talks notes) (sym j)
+      (subst (λ (all : List Warning). Keeps page endpoint settings tasks outcomes journal all talks notes) (sym w)
+      (subst (λ (all : List Talk). Keeps page endpoint settings tasks outcomes journal warnings all notes) (sym ts)
+      (subst (λ (all : List Note). Keeps page endpoint settings tasks outcomes journal warnings of_talks all) (sym ns) keeps)))))
 
   unplanned_true : IsUnplanned run talks notes → Told
   unplanned_true u = record {
     endpoint = nowhere;
     settings = some_settings;
     cancelled_at = None;
+      refused_page = None;
     begun = λ some. absurd (some u.nothing.no_job);
-    keeps = of_run nowhere some_settings [] [] [] [] [] [] u.nothing.no_task u.nothing.no_outcome u.nothing.no_job u.nothing.no_warning u.no_talk u.no_note
+    keeps = of_run None nowhere some_settings [] [] [] [] [] [] u.nothing.no_task u.nothing.no_outcome u.nothing.no_job u.nothing.no_warning u.no_talk u.no_note
         (nothing nowhere some_settings some_valid (asks_none words run.fatal u.nothing.stopped) [] [] none_idle);
   }
 
@@ -210,32 +211,33 @@ module _ (words : List (List ℕ)) (env : Option SeenEnv) (limits : Limits) (val
     endpoint = nowhere;
     settings = some_settings;
     cancelled_at = None;
+      refused_page = None;
     begun = λ some. absurd (some u.taskless.no_job);
-    keeps = of_run nowhere some_settings [] [] [] [] [] (Moment u.moment ∷ []) u.taskless.no_task u.taskless.no_outcome u.taskless.no_job u.taskless.no_warning u.no_talk u.noted
-        (nothing nowhere some_settings some_valid (inl (no_needs words u.command run.fatal u.begun.rest (presign_is_no_listing u.command.verb u.presign))) [] (Moment u.moment ∷ []) (moment_idle u.moment));
+    keeps = of_run None nowhere some_settings [] [] [] [] [] (Moment u.moment ∷ []) u.taskless.no_task u.taskless.no_outcome u.taskless.no_job u.taskless.no_warning u.no_talk u.noted
+        (nothing nowhere some_settings some_valid (refl, inl (no_needs words u.command run.fatal u.begun.rest (presign_is_no_listing u.command.verb u.presign))) [] (Moment u.moment ∷ []) (moment_idle u.moment));
   }
 
   module _ (command : Command) (settings : Settings) (begun : IsBegun words env command settings) where
     abbrev endpoint : Endpoint
     endpoint = command.endpoint
 
-    abbrev KeepsBoth : List Task → List Outcome → List Event → List Warning → List Talk → List Note → Type 0
-    KeepsBoth = Keeps endpoint settings
+    abbrev KeepsBoth : Option ℕ → List Task → List Outcome → List Event → List Warning → List Talk → List Note → Type 0
+    KeepsBoth page = Keeps page endpoint settings
 
     -- a listing tries each request once, and nothing else does
     config_is : (lists_it : Bool) → is_listing command.verb ≡ lists_it → config_for words settings.config ≡ (if lists_it then one_attempt settings.config else settings.config)
     config_is lists_it is = ap (λ (b : Bool). if b then one_attempt settings.config else settings.config) (lists words command begun.rest ∙ is)
 
-    true_by : KeepsBoth run.plan.tasks.items run.outcomes.items run.journal.items run.warnings.items talks notes → Told
-    true_by keeps = record { endpoint = endpoint; settings = settings; cancelled_at = None; begun = λ some. (command, begun, refl); keeps = keeps }
+    true_by : (page : Option ℕ) → KeepsBoth page run.plan.tasks.items run.outcomes.items run.journal.items run.warnings.items talks notes → Told
+    true_by page keeps = record { endpoint = endpoint; settings = settings; cancelled_at = None; refused_page = page; begun = λ some. (command, begun, refl); keeps = keeps }
 
     none_planned : is_listing command.verb ≡ false → PlansNone
-    none_planned none = inl (no_needs words command run.fatal begun.rest none)
+    none_planned none = (refl, inl (no_needs words command run.fatal begun.rest none))
 
     -- a plan without a task
     idle_true : is_listing command.verb ≡ false → (comes : Fate) → run.plan.tasks.items ≡ [] → run.warnings.items ≡ warnings_of comes → IsIdle run talks notes → Told
     idle_true none comes tasks warnings idle =
-        true_by (of_run endpoint settings [] [] [] (warnings_of comes) [] [] tasks idle.no_outcome idle.no_job warnings idle.no_talk idle.no_note
+        true_by None (of_run None endpoint settings [] [] [] (warnings_of comes) [] [] tasks idle.no_outcome idle.no_job warnings idle.no_talk idle.no_note
         (nothing endpoint settings begun.valid (none_planned none) (warnings_of comes) [] none_idle))
 
     -- a plan with its upload
@@ -250,12 +252,12 @@ module _ (words : List (List ℕ)) (env : Option SeenEnv) (limits : Limits) (val
         let keeps =
         uploaded endpoint settings.keys (PlansBy words run.fatal) (none_planned none) settings.config begun.valid limits valid wires has_wire run.status before after (source_path command) was now same []
         (bucket_of command) key (content_for command (source_path command)) of_file.size of_file.micros of_file.small stands run.journal.items how talks notes sent in
-        let here : KeepsBoth (of_task ∷ []) (how ∷ []) run.journal.items [] talks notes =
+        let here : KeepsBoth None (of_task ∷ []) (how ∷ []) run.journal.items [] talks notes =
         subst (λ (config : Config). KeepsPromise Shows HasStatus (text_of endpoint settings.keys) endpoint.host endpoint.port (PlansBy words run.fatal) (CallFailed path now before after (of_task ∷ []))
         (start_of config limits wires (of_task ∷ []) was) (end_of run.status (how ∷ []) [] run.journal.items talks notes now) None ⊥ ⊥) (sym (config_is false none))
         (subst (λ (at : List ℕ). KeepsPromise Shows HasStatus (text_of endpoint settings.keys) endpoint.host endpoint.port (PlansBy words run.fatal) (CallFailed at now before after (of_task ∷ []))
         (start_of settings.config limits wires (of_task ∷ []) was) (end_of run.status (how ∷ []) [] run.journal.items talks notes now) None ⊥ ⊥) (source_is words command begun.rest) keeps) in
-        true_by (of_run endpoint settings (of_task ∷ []) (how ∷ []) run.journal.items [] talks notes
+        true_by None (of_run None endpoint settings (of_task ∷ []) (how ∷ []) run.journal.items [] talks notes
         (tasks ∙ ap (λ (t : Task). t ∷ []) of_file.is) one refl warnings refl refl here)
 
     planned_true : is_listing command.verb ≡ false → (comes : Fate) → IsFate command settings limits (Some was) comes → HasPlan comes run → Works comes endpoint settings.keys settings.config.attempts (Some now) before after run talks notes
@@ -268,26 +270,26 @@ module _ (words : List (List ℕ)) (env : Option SeenEnv) (limits : Limits) (val
     planned_true none (fate.Upload task) fated plan works = upload_true none task fated plan.tasks plan.warnings works
 
     -- a listing: its requests are those that planning needs
-    listed_true : is_listing command.verb ≡ true → HasNoOutcome run → (asked : List Asked) (wanting : Bool) → run.journal.items ≡ events_from 0 asked → AreAsked endpoint settings.keys wanting asked talks notes
-        → (wanting ≡ true → run.fatal ≡ Some fatal.Memory) → (needs : List Need) → needs_in words run.fatal ≡ needs → AskQuestions needs → Plans wanting (dispatched_from 0 0 asked) needs [] None
+    listed_true : is_listing command.verb ≡ true → HasNoOutcome run → (asked : List Asked) (wanting : Bool) (page : Option ℕ) → run.journal.items ≡ events_from 0 asked → AreAsked endpoint settings.keys wanting asked talks notes
+        → (wanting ≡ true → run.fatal ≡ Some fatal.Memory) → (needs : List Need) → needs_in words run.fatal ≡ needs → AskQuestions needs → Plans wanting page (dispatched_from 0 0 asked) needs [] None
         → Told
-    listed_true listing none asked wanting events gained wants needs needed ask plans =
-        let questions = all_questions Shows IsRefusedPage (wanting ≡ true) asked 0 0 needs [] None ask plans in
-        let more = asked_more Shows IsRefusedPage (wanting ≡ true) (run.fatal ≡ Some fatal.Memory) wants (dispatched_from 0 0 asked) needs [] None plans in
-        let planned = subst (λ (all : List Need). PlansFor Shows IsRefusedPage (run.fatal ≡ Some fatal.Memory) all (dispatched_from 0 0 asked)) (sym needed) more in
-        true_by (of_run endpoint settings [] [] (events_from 0 asked) [] talks notes none.no_task none.no_outcome events none.no_warning refl refl
+    listed_true listing none asked wanting page events gained wants needs needed ask plans =
+        let questions = all_questions Shows IsRefusedPage (wanting ≡ true) page asked 0 0 needs [] None ask plans in
+        let more = asked_more Shows IsRefusedPage (wanting ≡ true) (run.fatal ≡ Some fatal.Memory) page wants (dispatched_from 0 0 asked) needs [] None plans in
+        let planned = subst (λ (all : List Need). PlansFor Shows IsRefusedPage (run.fatal ≡ Some fatal.Memory) page all (dispatched_from 0 0 asked)) (sym needed) more in
+        true_by page (of_run page endpoint settings [] [] (events_from 0 asked) [] talks notes none.no_task none.no_outcome events none.no_warning refl refl
         (subst (λ (config : Config). KeepsPromise Shows HasStatus (text_of endpoint settings.keys) endpoint.host endpoint.port (PlansBy words run.fatal) (CallFailed path now before after [])
-        (start_of config limits wires [] was) (end_of run.status [] [] (events_from 0 asked) talks notes now) None ⊥ ⊥) (sym (config_is true listing))
-        (listing_keeps endpoint settings.keys (PlansBy words run.fatal) settings.config begun.valid limits valid wires has_wire run.status before after path was now same asked questions talks notes wanting
+        (start_of config limits wires [] was) (record (end_of run.status [] [] (events_from 0 asked) talks notes now) { refused_page = page }) None ⊥ ⊥) (sym (config_is true listing))
+        (listing_keeps endpoint settings.keys (PlansBy words run.fatal) page settings.config begun.valid limits valid wires has_wire run.status before after path was now same asked questions talks notes wanting
         (λ e. memory (wants e)) gained planned)))
 
     shown_true : is_listing command.verb ≡ true → HasNoOutcome run → (at : Option Place) (recursive : Bool) → needs_in words run.fatal ≡ needs_of at recursive → (result : Result Shown ListingFault)
         → ShowsListing endpoint settings.keys at recursive [] run.journal.items result talks notes → EndsListing result run.fatal → Told
     shown_true listing none None recursive needed result shows ends =
-        listed_true listing none shows.lists.asked (is_memory shows.listed) shows.lists.events shows.lists.gained
+        listed_true listing none shows.lists.asked (is_memory shows.listed) None shows.lists.events shows.lists.gained
         (λ e. memory_ends IsShownBuckets shows.listed result run.fatal e shows.shown ends) (needs_of None recursive) needed (tt, tt) (shows.lists.plans 0)
     shown_true listing none (Some (place.Object bucket key)) recursive needed result shows ends =
-        listed_true listing none shows.lists.asked (is_memory shows.listed) shows.lists.events shows.lists.gained
+        listed_true listing none shows.lists.asked (is_memory shows.listed) shows.lists.refused_page shows.lists.events shows.lists.gained
         (λ e. memory_ends (IsShownWalk key recursive) shows.listed result run.fatal e shows.shown ends) (needs_of (Some (place.Object bucket key)) recursive) needed tt (shows.lists.plans 0)
     shown_true listing none (Some (place.File at)) recursive needed result shows ends = absurd shows
 

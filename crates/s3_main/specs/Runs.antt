@@ -184,9 +184,10 @@ Undertakes words limits before after run =
 -- ---- the promise
 
 -- The planning of the run asks what its words need, unless memory ran out; and nothing where the run ended by what no
--- request shows.
-abbrev pub PlansBy : (words : List (List ℕ)) → Option Fatal → List Dispatched → Type 0
-PlansBy words why = PlansFor Shows IsRefusedPage (why ≡ Some fatal.Memory) (needs_in words why)
+-- request shows. The page of the job of that number was refused by its content, if there is one.
+abbrev pub PlansBy : (words : List (List ℕ)) → Option Fatal → (refused_page : Option ℕ) → List Dispatched → Type 0
+PlansBy words why refused_page =
+    PlansFor Shows IsRefusedPage (why ≡ Some fatal.Memory) refused_page (needs_in words why)
 
 -- a listing tries each request once
 abbrev pub config_for : (words : List (List ℕ)) → Config → Config
@@ -208,8 +209,8 @@ files_over was now faults_before faults_after = record {
 }
 
 -- what the run came to, by its record, with what the wires gained
-abbrev pub end_for : Run → (logs : ℕ → List Talk) → (notes : ℕ → List Note) → (now : SeenFiles) → RunEnd
-end_for run logs notes now = record {
+abbrev pub end_for : Run → (refused_page : Option ℕ) → (logs : ℕ → List Talk) → (notes : ℕ → List Note) → (now : SeenFiles) → RunEnd
+end_for run refused_page logs notes now = record {
   status = run.status;
   outcomes = run.outcomes.items;
   warnings = run.warnings.items;
@@ -217,6 +218,7 @@ end_for run logs notes now = record {
   logs = logs;
   notes = notes;
   files = now.store;
+  refused_page = refused_page;
 }
 
 -- Over every honest service the outcomes are true, and over a willing one the task is done. The endpoint is the
@@ -227,13 +229,14 @@ pub record IsTrue (words : List (List ℕ)) (env : Option SeenEnv) (limits : Lim
   pub endpoint : Endpoint
   pub settings : Settings
   pub cancelled_at : Option ℕ
+  pub refused_page : Option ℕ
   pub begun : run.journal.items ≢ [] → (command : Command) × IsBegun words env command settings
       × (command.endpoint ≡ endpoint)
   pub keeps : KeepsPromise Shows HasStatus (text_of endpoint settings.keys) endpoint.host endpoint.port
       (PlansBy words run.fatal)
       (CallFailed (path_in words) over.now over.faults_before over.faults_after run.plan.tasks.items)
       (start_of (config_for words settings.config) limits wires run.plan.tasks.items over.was)
-      (end_for run logs notes over.now) cancelled_at ⊥ ⊥
+      (end_for run refused_page logs notes over.now) cancelled_at ⊥ ⊥
 
 -- where the files are seen before and after
 abbrev pub IfSeen : (was now : Option SeenFiles) → (SeenFiles → SeenFiles → Type 0) → Type 0

@@ -1,6 +1,6 @@
 -- What makes a run truthful, and done where the service is willing, by the laws of whole runs over objects. The run's jobs can be
 -- read from its journal in one way only, and no task is one that is not to replace.
-use Rattle.std.proofs.Common.{◌≡◌, ◌≤◌, ℕ, true, List, Some, None, sym, subst, inl, inr, map, Contains, length, slice_get}
+use Rattle.std.proofs.Common.{◌≡◌, ◌≤◌, ℕ, true, List, Option, Some, None, sym, subst, inl, inr, map, Contains, length, slice_get}
 use Rattle.std.specs.FinMap.{get}
 use Rattle.s3_model.specs.declared.requests.Ask.{Ask}
 use Rattle.s3_model.specs.declared.answers.Class.{Class}
@@ -25,14 +25,14 @@ use Rattle.world_laws.proofs.Completeness.{orderly_is_done}
 use Rattle.world_laws.proofs.Promises.{promise_holds}
 
 module _ (Shows : Ask → ℕ → Talk → Class → List ℕ → Type 0) (HasStatus : Ask → ℕ → Talk → ℕ → Type 0) (request_text : Ask → List ℕ → ℕ → List ℕ) (host : List ℕ) (port : ℕ)
-    (Plans : List Dispatched → Type 0) (CallFailed : ℕ → Cause → Type 0) (shown : Shown) (jobs : List Dispatched) where
+    (Plans : Option ℕ → List Dispatched → Type 0) (CallFailed : ℕ → Cause → Type 0) (shown : Shown) (jobs : List Dispatched) where
   -- the jobs are these, however the journal is read
   abbrev pub AreAlone : Type 0
-  AreAlone = (dispatched coming : List Dispatched) → IsSchedule Shows shown.setting Plans dispatched coming → map (λ (c : Dispatched). c.dispatch) dispatched ≡ dispatches shown.journal shown.logs
+  AreAlone = (dispatched coming : List Dispatched) → IsSchedule Shows shown.setting (Plans shown.refused_page) dispatched coming → map (λ (c : Dispatched). c.dispatch) dispatched ≡ dispatches shown.journal shown.logs
       → (dispatched ≡ jobs) × (coming ≡ jobs)
 
   pub record IsOrdered : Type 0 where
-    pub schedule : IsSchedule Shows shown.setting Plans jobs jobs
+    pub schedule : IsSchedule Shows shown.setting (Plans shown.refused_page) jobs jobs
     pub carried : IsCarried Shows request_text host port shown.setting shown.journal shown.logs shown.notes jobs jobs
     pub alone : AreAlone
     pub buffers : KeepsBuffers shown.setting.config.buffers shown.journal
@@ -47,14 +47,14 @@ module _ (Shows : Ask → ℕ → Talk → Class → List ℕ → Type 0) (HasSt
     pub left : AreFilesLeft shown
     pub stay : (path : List ℕ) → get shown.held_after path ≡ get shown.setting.held path
     pub replaces : (n : ℕ) (task : Task) → slice_get shown.setting.tasks n ≡ Some task → task.fresh ≡ true → ⊥
-    pub counted : AreCallsCounted Shows HasStatus Plans CallFailed shown
+    pub counted : AreCallsCounted Shows HasStatus (Plans shown.refused_page) CallFailed shown
     pub threshold : 1 ≤ shown.setting.config.threshold
     pub limits : IsValidLimits shown.setting.limits
 
   module _ (o : IsOrdered) where
-    orderly : (dispatched coming : List Dispatched) → IsSchedule Shows shown.setting Plans dispatched coming
+    orderly : (dispatched coming : List Dispatched) → IsSchedule Shows shown.setting (Plans shown.refused_page) dispatched coming
         → IsCarried Shows request_text host port shown.setting shown.journal shown.logs shown.notes dispatched coming
-        → IsOrderly Shows HasStatus Plans CallFailed request_text host port shown dispatched coming
+        → IsOrderly Shows HasStatus (Plans shown.refused_page) CallFailed request_text host port shown dispatched coming
     orderly dispatched coming scheduled carried =
         let are = o.alone dispatched coming scheduled carried.shown in
         record {
@@ -84,10 +84,10 @@ module _ (Shows : Ask → ℕ → Talk → Class → List ℕ → Type 0) (HasSt
       outcomes = inl o.as_many;
       causes = o.causes;
       files = λ path. inr (inr (o.stay path));
-      holds = promise_holds Shows HasStatus Plans CallFailed request_text host port shown jobs jobs (orderly jobs jobs o.schedule o.carried);
+      holds = promise_holds Shows HasStatus (Plans shown.refused_page) CallFailed request_text host port shown jobs jobs (orderly jobs jobs o.schedule o.carried);
     }
 
     pub done_where_willing : IsDoneWhereWilling Shows request_text host port Plans shown
     done_where_willing =
-        orderly_is_done Shows HasStatus Plans CallFailed request_text host port shown o.counted (λ n task at_task is_fresh. absurd (o.replaces n task at_task is_fresh)) orderly
+        orderly_is_done Shows HasStatus (Plans shown.refused_page) CallFailed request_text host port shown o.counted (λ n task at_task is_fresh. absurd (o.replaces n task at_task is_fresh)) orderly
         (λ run coming scheduled carried of_shown willing alone. o.there run.start)

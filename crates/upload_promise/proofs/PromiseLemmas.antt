@@ -140,7 +140,7 @@ one_valid config v = record {
 }
 
 module _ (Shows : Ask → ℕ → Talk → Class → List ℕ → Type 0) (HasStatus : Ask → ℕ → Talk → ℕ → Type 0) (request_text : Ask → List ℕ → ℕ → List ℕ) (host : List ℕ) (port : ℕ)
-    (Plans : List Dispatched → Type 0) (plans_none : Plans []) (config : Config) (configured : IsValidConfig config) (limits : Limits) (valid : IsValidLimits limits) (wires : ℕ) (has_wire : 1 ≤ wires)
+    (Plans : Option ℕ → List Dispatched → Type 0) (plans_none : Plans None []) (config : Config) (configured : IsValidConfig config) (limits : Limits) (valid : IsValidLimits limits) (wires : ℕ) (has_wire : 1 ≤ wires)
     (status before after : ℕ) (path : List ℕ) (was now : SeenFiles) (same : now.store ≡ was.store) (warnings : List Warning) where
   abbrev Fails : List Task → ℕ → Cause → Type 0
   Fails tasks = CallFailed path now before after tasks
@@ -201,9 +201,9 @@ module _ (Shows : Ask → ℕ → Talk → Class → List ℕ → Type 0) (HasSt
   unplanned notes idle =
       keeps [] [] [] [] notes []
       (record {
-        schedule = no_schedule Shows Plans (shown [] [] [] [] notes []).setting plans_none;
+        schedule = no_schedule Shows (Plans None) (shown [] [] [] [] notes []).setting plans_none;
         carried = none_carried Shows request_text host port (shown [] [] [] [] notes []).setting notes idle (has_lanes config wires configured has_wire);
-        alone = no_jobs Shows Plans (shown [] [] [] [] notes []).setting;
+        alone = no_jobs Shows (Plans None) (shown [] [] [] [] notes []).setting;
         buffers = no_buffers config.buffers;
         as_many = refl;
         causes = λ n task how at_task at_how. absurd (none_is_some task at_task);
@@ -276,7 +276,7 @@ module _ (Shows : Ask → ℕ → Talk → Class → List ℕ → Type 0) (HasSt
       abbrev shows : Shown
       shows = shown (task ∷ []) (how ∷ []) journal talks notes jobs
 
-      planned : IsSchedule Shows shows.setting Plans jobs jobs → IsCarried Shows request_text host port shows.setting journal (in_first talks) (in_first notes) jobs jobs
+      planned : IsSchedule Shows shows.setting (Plans None) jobs jobs → IsCarried Shows request_text host port shows.setting journal (in_first talks) (in_first notes) jobs jobs
           → Alone (task ∷ []) (how ∷ []) journal talks notes jobs → KeepsBuffers config.buffers journal → HasOutcome Shows HasStatus (Fails (task ∷ [])) shows.setting jobs jobs 0 task how
           → ((c : Dispatched) → Contains jobs c → c.dispatch.job.task ≡ None → ⊥) → IsOrdinary how
           → Keeps (task ∷ []) (how ∷ []) journal talks notes
@@ -318,8 +318,8 @@ module _ (Shows : Ask → ℕ → Talk → Class → List ℕ → Type 0) (HasSt
     unread_run : (of_cause : Cause) → IsReadCause (Some now) path size before after of_cause → Keeps (task ∷ []) (outcome.Failed of_cause ∷ []) [] [] []
     unread_run of_cause h =
         let how = outcome.Failed of_cause in
-        planned how [] [] [] [] (no_schedule Shows Plans (shows how [] [] [] []).setting plans_none)
-        (none_carried Shows request_text host port (shows how [] [] [] []).setting [] none_idle (has_lanes config wires configured has_wire)) (no_jobs Shows Plans (shows how [] [] [] []).setting) (no_buffers config.buffers)
+        planned how [] [] [] [] (no_schedule Shows (Plans None) (shows how [] [] [] []).setting plans_none)
+        (none_carried Shows request_text host port (shows how [] [] [] []).setting [] none_idle (has_lanes config wires configured has_wire)) (no_jobs Shows (Plans None) (shows how [] [] [] []).setting) (no_buffers config.buffers)
         (unread_for Shows HasStatus (Fails (task ∷ [])) (upload how) now before after of_cause (λ reason. (task, refl, reason)) refl h) (λ c known of_none. in_none c known)
         (read_ordinary (Some now) path size before after of_cause h)
 
@@ -330,8 +330,8 @@ module _ (Shows : Ask → ℕ → Talk → Class → List ℕ → Type 0) (HasSt
         → Keeps (task ∷ []) (how ∷ []) (put_events tries) talks notes
     given_run how tries attempts talks notes carried has ordinary =
         let put : Dispatched = put_with (upload how) attempts in
-        planned how (put_events tries) talks notes (put ∷ []) (put_schedule Shows Plans (upload how) plans_none attempts) carried
-        (λ dispatched coming scheduled are. put_alone Shows Plans (upload how) dispatched coming attempts scheduled (are ∙ sym carried.shown)) (put_buffers config.buffers tries configured.buffers.least) has
+        planned how (put_events tries) talks notes (put ∷ []) (put_schedule Shows (Plans None) (upload how) plans_none attempts) carried
+        (λ dispatched coming scheduled are. put_alone Shows (Plans None) (upload how) dispatched coming attempts scheduled (are ∙ sym carried.shown)) (put_buffers config.buffers tries configured.buffers.least) has
         (each (λ (c : Dispatched). c.dispatch.job.task ≡ None → ⊥) put (λ e. none_is_some 0 (sym e))) ordinary
 
     -- the job of the Put of the file's bytes, and that the outcome is what its attempts show

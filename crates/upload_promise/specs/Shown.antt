@@ -43,6 +43,7 @@ end_of status outcomes warnings journal talks notes now = record {
   logs = in_first talks;
   notes = in_first notes;
   files = now.store;
+  refused_page = None;
 }
 
 -- the calls on files show that one of the task failed so: a read failed, or the file gave fewer bytes than planned
@@ -54,9 +55,11 @@ CallFailed path now before after tasks n why = (task : Task) × (slice_get tasks
 -- `Shows ask limit talk class bytes`: the talk has that class for the ask, and its answer that body.
 -- `HasStatus ask limit talk status`: its answer has that HTTP status.
 -- `request_text ask body moment`: the text of a request, signed at that moment.
--- `Plans`: the planning jobs, in order, are those that the command needs.
+-- `Plans refused_page`: the planning jobs, in order, are those that the command needs, and the page of the job of that
+-- number was refused by its content.
 module _ (Shows : Ask → ℕ → Talk → Class → List ℕ → Type 0) (HasStatus : Ask → ℕ → Talk → ℕ → Type 0)
-    (request_text : Ask → List ℕ → ℕ → List ℕ) (host : List ℕ) (port : ℕ) (Plans : List Dispatched → Type 0) where
+    (request_text : Ask → List ℕ → ℕ → List ℕ) (host : List ℕ) (port : ℕ)
+    (Plans : Option ℕ → List Dispatched → Type 0) where
   -- Over every honest service the outcomes are true, over a willing one the tasks are done, and the setting is that of
   -- a run with this start and this end. `Fails n why`: the calls on files show that one of task n failed so.
   pub record KeepsPromise (Fails : ℕ → Cause → Type 0) (start : RunStart) (came : RunEnd) (cancelled_at : Option ℕ)

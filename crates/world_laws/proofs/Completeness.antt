@@ -1,6 +1,6 @@
 -- An orderly run over a service that does what it may owes nothing.
 use Rattle.std.proofs.Common.{◌≡◌, ◌∙◌, ◌⊎◌, ◌<◌, ◌≤◌, ◌++◌, ℕ, Bool, true, false, List, [], ◌∷◌, Option, Some, None, refl, sym, ap, subst, inl, inr, Contains, length, slice_get, arith}
-use Rattle.world_laws.proofs.Fitting.{IsServed}
+use Rattle.world_laws.proofs.Fitting.{IsServed, task_asks_no_page}
 use Rattle.world_laws.proofs.OpenUploads as opens
 use Rattle.world_laws.proofs.OpenUploads.{IsOpenWith, Joins, UsesUpload, part_of, row_joins, row_upload, AsksPart, completed_says, complete_vacant}
 use Rattle.world_laws.proofs.Uploads as up
@@ -282,7 +282,8 @@ module _ (Shows : Ask → ℕ → Talk → Class → List ℕ → Type 0) (HasSt
           let told = promises.decided Shows HasStatus Plans CallFailed request_text host port shown dispatched coming (promises.carried_out Shows HasStatus Plans CallFailed request_text host port shown dispatched coming o) n task is_task (o.tasks n task is_task) d in
           let has_come = jobs.come Shows HasStatus Plans CallFailed request_text host port shown dispatched coming o certain not_cancelled start trace p willing alone buckets sources told.request told.known in
           let served = fitting.success_is_served Shows s.limits start trace dispatched shown.journal p.runs p.fits trace [] (sym (append-nil trace)) told.request told.known
-          (has_come.0, has_come.1, has_come.2, ap (λ (j : List Event). slice_get j has_come.0) p.fits.moves ∙ has_come.3) told.succeeded in
+          (has_come.0, has_come.1, has_come.2, ap (λ (j : List Event). slice_get j has_come.0) p.fits.moves ∙ has_come.3) told.succeeded
+          (λ page. task_asks_no_page n told.request (ap (λ (j : JobId). j.task) told.decides) (page.0, page.1)) in
           let sent = request_at told.request told.succeeded.place in
           let step = step_of trace (Serve sent (Replied served.0 told.succeeded.bytes)) served.2 in
           let steps = subst (λ (event : TraceEvent). Steps s.limits (begun_through [] step.front) (state_after start step.front) event step.step.state) step.is_event
@@ -370,7 +371,7 @@ module _ (Shows : Ask → ℕ → Talk → Class → List ℕ → Type 0) (HasSt
   pub willing_is_done : WillingIsDone Shows HasStatus Plans CallFailed
   willing_is_done request_text host port shown run coming o counted fresh of_shown willing certain alone buckets sources not_cancelled =
       nothing_owed Shows HasStatus Plans CallFailed request_text host port shown run.dispatched coming o certain not_cancelled run.start run.trace
-      (subst (λ (r : Run). IsTraceOf Shows shown.setting r) (promises.run_is shown run.dispatched run refl of_shown.of_journal) of_shown.fitting) willing alone buckets sources counted fresh
+      (subst (λ (r : Run). IsTraceOf Shows shown.setting r) (promises.run_is shown run.dispatched run refl of_shown.of_journal of_shown.of_page) of_shown.fitting) willing alone buckets sources counted fresh
 
   pub orderly_is_done : OrderlyIsDone Shows HasStatus Plans CallFailed
   orderly_is_done request_text host port shown counted fresh orderly sources run coming scheduled carried of_shown willing certain alone buckets not_cancelled =

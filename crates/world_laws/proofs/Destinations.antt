@@ -18,14 +18,14 @@ use Rattle.world_laws.specs.Premises.{HasCome, HasSucceeded, AllRefused}
 use Rattle.shared_lemmas.proofs.Members.{Has}
 use Rattle.world_laws.proofs.Traces.{step_of, state_after_step}
 use Rattle.world_laws.proofs.Requests.{IsWriteOf, may_change_decided, write_decided, success_elsewhere, external_elsewhere}
-use Rattle.world_laws.proofs.Fitting.{IsServed, IsKept, holds_at, holds_from, success_is_served, success_at}
+use Rattle.world_laws.proofs.Fitting.{IsServed, IsKept, changes_no_page, holds_at, holds_from, success_is_served, success_at}
 use Rattle.world_laws.proofs.Frame.{external_of}
 
 not_refused : (answered : Reply) (bytes code : List ℕ) → Replied answered bytes ≡ Refused code → ⊥
 not_refused answered bytes code e = cc
 
-module _ (Shows : Ask → ℕ → Talk → Class → List ℕ → Type 0) (limits : Limits) (start : State) (trace : List Step) (dispatched : List Dispatched) (journal : List Event)
-    (runs : IsTrace limits [] start trace) (fits : Fits Shows (events_of trace) journal dispatched) (bucket key : List ℕ) where
+module _ {page : Option ℕ} (Shows : Ask → ℕ → Talk → Class → List ℕ → Type 0) (limits : Limits) (start : State) (trace : List Step) (dispatched : List Dispatched) (journal : List Event)
+    (runs : IsTrace limits [] start trace) (fits : Fits Shows page (events_of trace) journal dispatched) (bucket key : List ℕ) where
   -- where all that may change the object was refused, and nobody else writes it, it is as before
   pub refused_stays : (IsExternal trace bucket key → ⊥) → ((c : Dispatched) → Contains dispatched c → MayChange c.ask bucket key → AllRefused Shows c)
       → (part late : List Step) → trace ≡ part ++ late → object_at (state_after start part) bucket key ≡ object_at start bucket key
@@ -36,7 +36,7 @@ module _ (Shows : Ask → ℕ → Talk → Class → List ℕ → Type 0) (limit
           | inr apart ↦ success_elsewhere bucket key limits old c.ask c.body answered bytes new served.succeeds apart ∙ same
           | inl may ↦
               let shown = refused c served.known may served.place served.attempt served.is_attempt in
-              absurd (not_refused answered bytes shown.0 (served.names (class.Refusal shown.0 shown.1) shown.2 shown.3))
+              absurd (not_refused answered bytes shown.0 (served.names (changes_no_page bucket key c may) (class.Refusal shown.0 shown.1) shown.2 shown.3))
         ];
         written = λ write old happened there same. external_elsewhere bucket key old write (λ at. unwritten (external_of trace bucket key write happened at)) ∙ same;
       })
@@ -109,7 +109,7 @@ module _ (Shows : Ask → ℕ → Talk → Class → List ℕ → Type 0) (limit
     pub success_makes_new : (part late : List Step) → trace ≡ part ++ late → (c : Dispatched) → Contains dispatched c → MayChange c.ask bucket key
         → HasCome (filter_map event_of (events_of part)) c → HasSucceeded Shows c → IsNew (object_at (state_after start part) bucket key)
     success_makes_new part late is c known may come succeeded =
-        let served = success_is_served Shows limits start trace dispatched journal runs fits part late is c known come succeeded in
+        let served = success_is_served Shows limits start trace dispatched journal runs fits part late is c known come succeeded (λ page. changes_no_page bucket key c may (page.0, page.1)) in
         let at = step_of part (Serve (request_at c succeeded.place) (Replied served.0 succeeded.bytes)) served.2 in
         subst (λ (t : List Step). IsNew (object_at (state_after start t) bucket key)) (sym at.is)
         (success_lands at.front at.step at.back late (request_at c succeeded.place) served.0 succeeded.bytes (is ∙ ap (λ (t : List Step). t ++ late) at.is) at.is_event may)

@@ -13,7 +13,7 @@ use Rattle.s3_model.specs.Talks.{Talk}
 use Rattle.s3_service.specs.ServiceState.{State, Object}
 use Rattle.s3_service.specs.Serves.{Replied, Succeeds, IsThere, bytes_within}
 use Rattle.run_promise.specs.Traces.{Step, TraceEvent, Serve, Steps, state_after, states, events_of, event_of}
-use Rattle.run_promise.specs.Fits.{request_at}
+use Rattle.run_promise.specs.Fits.{request_at, IsListing}
 use Rattle.s3_model.specs.Parts.{piece_count}
 use Rattle.run_promise.specs.Schedule.{asked_range}
 use Rattle.world_laws.specs.Premises.{IsNoPlace, HasCome}
@@ -67,7 +67,7 @@ module _ (Shows : Ask → ℕ → Talk → Class → List ℕ → Type 0) where
       → (is : IsGot Shows run.journal run.dispatched bucket key etag range bytes) → (content : List ℕ) × HadContent (moments run) bucket key etag content × Tells range is.succeeded.reply bytes content
   got limits run bucket key etag range bytes p is =
       let come : HasCome (filter_map event_of (events_of run.trace)) is.get = (is.come.0, is.come.1, is.come.2, ap (λ (j : List Event). slice_get j is.come.0) p.fits.moves ∙ is.come.3) in
-      let served = fitting.success_is_served Shows limits run.start run.trace run.dispatched run.journal p.runs p.fits run.trace [] (sym (append-nil run.trace)) is.get is.known come is.succeeded in
+      let served = fitting.success_is_served Shows limits run.start run.trace run.dispatched run.journal p.runs p.fits run.trace [] (sym (append-nil run.trace)) is.get is.known come is.succeeded (λ page. subst IsListing is.is_get page.0) in
       let at = step_of run.trace (Serve (request_at is.get is.succeeded.place) (Replied served.0 is.succeeded.bytes)) served.2 in
       let steps = subst (λ (event : TraceEvent). Steps limits (begun_through [] at.front) (state_after run.start at.front) event at.step.state) at.is_event
       (fitting.steps_at Shows limits run.start run.trace run.dispatched run.journal p.runs p.fits at.front at.step at.back at.is) in

@@ -1,5 +1,5 @@
 -- What holds along a trace until a place of its journal is reached, where nobody else writes.
-use Rattle.std.proofs.Common.{append_assoc, ◌≡◌, ◌∙◌, ◌+◌, ◌<◌, ◌≤◌, ◌++◌, ℕ, List, [], ◌∷◌, refl, sym, ap, subst, Contains, length, filter_map, arith}
+use Rattle.std.proofs.Common.{append_assoc, ◌≡◌, ◌∙◌, ◌+◌, ◌<◌, ◌≤◌, ◌++◌, ℕ, List, [], ◌∷◌, refl, sym, ap, subst, Contains, length, filter_map, arith, Option}
 use Rattle.std.proofs.lemmas.List.{append-nil, map-append, length-append}
 use Rattle.std.proofs.lemmas.List.Elements.{filter_map-append}
 use Rattle.s3_model.specs.declared.requests.Ask.{Ask}
@@ -32,8 +32,8 @@ reached_before front rest =
     ∙ ap length (filter_map-append event_of (events_of front) (events_of rest)) ∙ length-append (filter_map event_of (events_of front)) (filter_map event_of (events_of rest)) in
     omega arith
 
-module _ (Shows : Ask → ℕ → Talk → Class → List ℕ → Type 0) (limits : Limits) (start : State) (trace : List Step) (dispatched : List Dispatched) (journal : List Event)
-    (runs : IsTrace limits [] start trace) (fits : Fits Shows (events_of trace) journal dispatched) (given : AreGiven journal dispatched) (alone : IsAlone trace) (place : ℕ) where
+module _ {page : Option ℕ} (Shows : Ask → ℕ → Talk → Class → List ℕ → Type 0) (limits : Limits) (start : State) (trace : List Step) (dispatched : List Dispatched) (journal : List Event)
+    (runs : IsTrace limits [] start trace) (fits : Fits Shows page (events_of trace) journal dispatched) (given : AreGiven journal dispatched) (alone : IsAlone trace) (place : ℕ) where
   abbrev pub IsEarly : List Step → Type 0
   IsEarly part = reached part ≤ place
 

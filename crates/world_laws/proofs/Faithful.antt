@@ -108,7 +108,7 @@ has_bucket_still t bucket inner other there = elim (text_decided other bucket) [
 
 -- a run that makes these rounds
 abbrev pub run_by : State → List Round → Run
-run_by start rounds = record { start = start; trace = steps_from 0 start rounds; journal = journal_of rounds; dispatched = dispatched_from 0 rounds }
+run_by start rounds = record { start = start; trace = steps_from 0 start rounds; journal = journal_of rounds; dispatched = dispatched_from 0 rounds; refused_page = None }
 
 -- the states after the rounds are faithful
 abbrev pub AreFaithful : List Round → Type 0

@@ -1,7 +1,8 @@
 -- Traces that fit a journal: what is served in them was dispatched, and a certain answer was served before its dispatch came.
-use Rattle.std.proofs.Common.{append_assoc, ◌≡◌, ◌∙◌, ◌+◌, ◌==◌, ℕ, true, cond, List, [], ◌∷◌, ◌++◌, Some, None, refl, sym, ap, subst, inl, inr, Contains, filter, filter_map, slice_get, arith}
+use Rattle.std.proofs.Common.{append_assoc, ◌≡◌, ◌∙◌, ◌+◌, ◌==◌, ℕ, true, cond, List, [], ◌∷◌, ◌++◌, Some, None, refl, sym, ap, subst, inl, inr, Contains, filter, filter_map, slice_get, arith, Option}
 use Rattle.std.proofs.lemmas.List.{map-append, append-nil}
 use Rattle.s3_model.specs.declared.requests.Ask.{Ask}
+use Rattle.s3_model.specs.declared.requests.Ask.TheVariants as ask
 use Rattle.s3_model.specs.declared.answers.Reply.{Reply}
 use Rattle.s3_model.specs.declared.answers.Class.{Class}
 use Rattle.s3_model.specs.declared.answers.Class.TheVariants as class
@@ -13,14 +14,15 @@ use Rattle.s3_model.specs.declared.tries.Mark.{Mark}
 use Rattle.s3_model.specs.Replies.{IsSameReply}
 use Rattle.s3_model.specs.Talks.{Talk}
 use Rattle.s3_service.specs.ServiceState.{State, HasBucket}
-use Rattle.s3_service.specs.Serves.{Answer, Replied, Refused, Succeeds, ExternalWrite, bucket_of, after_external}
+use Rattle.s3_service.specs.Serves.{Answer, Replied, Refused, Succeeds, ExternalWrite, bucket_of, after_external, MayChange}
 use Rattle.job_terms.specs.Dispatches.{Attempt, Dispatched}
 use Rattle.run_promise.specs.Traces.{SentRequest, Step, TraceEvent, Given, Begin, Serve, External, Came, IsTrace, Steps, state_after, states, events_of, event_of, begun_in}
-use Rattle.run_promise.specs.Fits.{Fits, IsCertain, Names, request_at, requests_from, requests_of}
+use Rattle.run_promise.specs.Fits.{Fits, IsCertain, IsListing, IsPageJob, Names, request_at, requests_from, requests_of}
 use Rattle.run_promise.specs.Runs.{HasJournal}
 use Rattle.world_laws.specs.Premises.{HasCome, HasSucceeded}
 use Rattle.shared_lemmas.proofs.Members.{contains_of, gathered, Has, has, has-append_left, has-filter_map, kept, split_at}
 use Rattle.world_laws.proofs.Traces.{begun_through, begun_from, state_after_step, step_within, event_within, has_state_after, beginning_of}
+use Rattle.shared_lemmas.proofs.Clashes.{none_is_some}
 
 -- ---- requests of a dispatch
 
@@ -43,6 +45,28 @@ came_event (Begin l sent) job lane tries e = cc
 came_event (Serve sent answer) job lane tries e = cc
 came_event (External write) job lane tries e = cc
 
+-- a planning job that asks for a page of a listing
+abbrev pub AsksPage : Dispatched → Type 0
+AsksPage c = IsListing c.ask × (c.dispatch.job.task ≡ None)
+
+-- what changes an object lists nothing
+pub changes_no_page : (bucket key : List ℕ) (c : Dispatched) → MayChange c.ask bucket key → AsksPage c → ⊥
+changes_no_page bucket key c may page = by c.ask may page.0
+  where
+    by : (asked : Ask) → MayChange asked bucket key → IsListing asked → ⊥
+    by (ask.List b prefix delimited token) may is = may
+    by asked may is = is
+
+-- a task lists nothing
+pub task_asks_no_page : (n : ℕ) (c : Dispatched) → c.dispatch.job.task ≡ Some n → AsksPage c → ⊥
+task_asks_no_page n c of_task page = none_is_some n (sym page.1 ∙ of_task)
+
+-- a request is answered as its class names, but where its page was refused by its content
+pub names_where : (page : Option ℕ) (c : Dispatched) → (IsPageJob page c → ⊥) → (shown : Class) (body : List ℕ) (answer : Answer) → (IsCertain page c shown → Names shown body answer) → Names shown body answer
+names_where page c no_page (class.Success said) body answer names = names no_page
+names_where page c no_page (class.Refusal code message) body answer names = names tt
+names_where page c no_page (class.Uncertain why) body answer names = tt
+
 module _ (Shows : Ask → ℕ → Talk → Class → List ℕ → Type 0) (limits : Limits) (start : State) (trace : List Step) (dispatched : List Dispatched) where
   -- a request of this dispatch is served with success, at a step of the trace
   pub record IsServed (c : Dispatched) (old : State) (answered : Reply) (bytes : List ℕ) (new : State) : Type 0 where
@@ -50,7 +74,7 @@ module _ (Shows : Ask → ℕ → Talk → Class → List ℕ → Type 0) (limit
     pub place : ℕ
     pub attempt : Attempt
     pub is_attempt : slice_get c.dispatch.attempts place ≡ Some attempt
-    pub names : (shown : Class) (body : List ℕ) → Shows c.ask c.limit attempt.talk shown body → Names shown body (Replied answered bytes)
+    pub names : (AsksPage c → ⊥) → (shown : Class) (body : List ℕ) → Shows c.ask c.limit attempt.talk shown body → Names shown body (Replied answered bytes)
     pub succeeds : Succeeds limits old c.ask c.body answered bytes new
     pub among : Has (states start trace) old
     pub front : List Step
@@ -66,7 +90,7 @@ module _ (Shows : Ask → ℕ → Talk → Class → List ℕ → Type 0) (limit
     pub served : (c : Dispatched) (old : State) (answered : Reply) (bytes : List ℕ) (new : State) → IsServed c old answered bytes new → Holds old → Holds new
     pub written : (write : ExternalWrite) (old : State) → Has (events_of trace) (External write) → HasBucket old (bucket_of write) → Holds old → Holds (after_external write old)
 
-  module _ (journal : List Event) (runs : IsTrace limits [] start trace) (fits : Fits Shows (events_of trace) journal dispatched) where
+  module _ {page : Option ℕ} (journal : List Event) (runs : IsTrace limits [] start trace) (fits : Fits Shows page (events_of trace) journal dispatched) where
     -- what begins was dispatched
     pub begin_is_dispatched : (lane : ℕ) (sent : SentRequest) → Has (events_of trace) (Begin lane sent) → (c : Dispatched) × Contains dispatched c × IsRequestOf c sent
     begin_is_dispatched lane sent h =
@@ -102,7 +126,7 @@ module _ (Shows : Ask → ℕ → Talk → Class → List ℕ → Type 0) (limit
             place = told.place;
             attempt = told.attempt;
             is_attempt = told.is_attempt;
-            names = told.names;
+            names = λ no_page shown body shows. names_where page told.of (λ is. no_page (is.0, is.1)) shown body (Replied answered bytes) (told.names shown body shows);
             succeeds = subst (λ (s : SentRequest). Succeeds limits (state_after start front) s.ask s.body answered bytes step.state) told.is_sent steps.1;
             among = subst (λ (t : List Step). Has (states start t) (state_after start front)) (sym is) (has_state_after front (step ∷ back) start);
             front = front;
@@ -154,7 +178,7 @@ module _ (Shows : Ask → ℕ → Talk → Class → List ℕ → Type 0) (limit
 
     -- a certain answer is served by the time that its dispatch has come
     pub certain_is_served : (part late : List Step) → trace ≡ part ++ late → (c : Dispatched) → Contains dispatched c → HasCome (filter_map event_of (events_of part)) c
-        → (place : ℕ) (attempt : Attempt) (shown : Class) (bytes : List ℕ) → slice_get c.dispatch.attempts place ≡ Some attempt → Shows c.ask c.limit attempt.talk shown bytes → IsCertain shown
+        → (place : ℕ) (attempt : Attempt) (shown : Class) (bytes : List ℕ) → slice_get c.dispatch.attempts place ≡ Some attempt → Shows c.ask c.limit attempt.talk shown bytes → IsCertain page c shown
         → (answer : Answer) × Has (events_of part) (Serve (request_at c place) answer) × Names shown bytes answer
     certain_is_served part late is c known come place attempt shown bytes is_attempt shows certain =
         let at = split_at event_of (events_of part) come.0 (entry.Came c.dispatch.job c.dispatch.lane come.1) come.3 in
@@ -170,9 +194,9 @@ module _ (Shows : Ask → ℕ → Talk → Class → List ℕ → Type 0) (limit
 
     -- and so is a success, with a reply of the same items
     pub success_is_served : (part late : List Step) → trace ≡ part ++ late → (c : Dispatched) → Contains dispatched c → HasCome (filter_map event_of (events_of part)) c
-        → (succeeded : HasSucceeded Shows c) → (same : Reply) × IsSameReply succeeded.reply same × Has (events_of part) (Serve (request_at c succeeded.place) (Replied same succeeded.bytes))
-    success_is_served part late is c known come succeeded =
-        let served = certain_is_served part late is c known come succeeded.place succeeded.attempt (class.Success succeeded.reply) succeeded.bytes succeeded.is_attempt succeeded.shows tt in
+        → (succeeded : HasSucceeded Shows c) → (IsPageJob page c → ⊥) → (same : Reply) × IsSameReply succeeded.reply same × Has (events_of part) (Serve (request_at c succeeded.place) (Replied same succeeded.bytes))
+    success_is_served part late is c known come succeeded no_page =
+        let served = certain_is_served part late is c known come succeeded.place succeeded.attempt (class.Success succeeded.reply) succeeded.bytes succeeded.is_attempt succeeded.shows no_page in
         (served.2.0, served.2.1, subst (λ (answer : Answer). Has (events_of part) (Serve (request_at c succeeded.place) answer)) served.2.2 served.1)
 
 -- what has come by the end has come by every whole part

@@ -1,5 +1,5 @@
 -- What no request of a run may change, and nobody else writes, stays as it was.
-use Rattle.std.proofs.Common.{◌≡◌, ◌∙◌, ◌⊎◌, ◌++◌, ℕ, List, [], ◌∷◌, refl, sym, subst, inl, inr, Contains}
+use Rattle.std.proofs.Common.{◌≡◌, ◌∙◌, ◌⊎◌, ◌++◌, ℕ, List, [], ◌∷◌, refl, sym, subst, inl, inr, Contains, Option}
 use Rattle.s3_model.specs.declared.requests.Ask.{Ask}
 use Rattle.s3_model.specs.declared.answers.Class.{Class}
 use Rattle.s3_model.specs.declared.outcomes.Event.{Event}
@@ -83,8 +83,8 @@ external_decided trace bucket key = elim (any_decided (IsExternalAt bucket key) 
 
 -- ---- the frame
 
-module _ (Shows : Ask → ℕ → Talk → Class → List ℕ → Type 0) (limits : Limits) (start : State) (trace : List Step) (dispatched : List Dispatched) (journal : List Event)
-    (runs : IsTrace limits [] start trace) (fits : Fits Shows (events_of trace) journal dispatched) (bucket key : List ℕ) where
+module _ {page : Option ℕ} (Shows : Ask → ℕ → Talk → Class → List ℕ → Type 0) (limits : Limits) (start : State) (trace : List Step) (dispatched : List Dispatched) (journal : List Event)
+    (runs : IsTrace limits [] start trace) (fits : Fits Shows page (events_of trace) journal dispatched) (bucket key : List ℕ) where
   -- what no request may change, and nobody else writes
   pub untouched_stays : (part late : List Step) → trace ≡ part ++ late → ((c : Dispatched) → Contains dispatched c → MayChange c.ask bucket key → ⊥) → (IsExternal trace bucket key → ⊥)
       → object_at (state_after start part) bucket key ≡ object_at start bucket key

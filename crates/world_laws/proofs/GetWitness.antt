@@ -39,6 +39,7 @@ use Rattle.world_laws.proofs.Objects.{objects_in_same, object_at-with_object}
 use Rattle.world_laws.proofs.Rounds.{AreApart, rounds_come}
 use Rattle.world_laws.proofs.Faithful.{bare_objects, has_bucket_after, IsFaithful, object_of, bare, bare_is_faithful, faithful_with, run_by, states_faithful, rounds_fitting}
 use Rattle.world_laws.proofs.Witnesses.{round, succeeds}
+use Rattle.shared_lemmas.proofs.Clashes.{none_is_some}
 
 -- ---- what planning is told
 
@@ -75,11 +76,12 @@ module _ (bucket key etag : List ℕ) where
       question : Round
       question = round (planning_job of_op) asked [] etag holding
 
-      found : IsFound Told (journal_of (question ∷ [])) (dispatched_from 0 (question ∷ [])) bucket key etag size
+      found : IsFound Told (run_by holding (question ∷ [])) bucket key etag size
       found = record {
         request = dispatch_at 0 question;
         known = (0, omega arith, refl);
         come = rounds_come (question ∷ []) holding ((λ other h. absurd h), tt) (dispatch_at 0 question) (inl refl);
+        taken = λ page. none_is_some question.job.number page.2;
         succeeded = succeeds 0 question refl;
         tells = tells;
       }

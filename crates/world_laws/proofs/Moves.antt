@@ -116,8 +116,8 @@ module _ (Shows : Ask → ℕ → Talk → Class → List ℕ → Type 0) where
       subst (λ (x : List ℕ). object_at (after_external (Removes b k) old) bucket x ≡ None) at.1
       (subst (λ (x : List ℕ). object_at (after_external (Removes b k) old) x k ≡ None) at.0 (object_at-without_object old b k))
 
-  gone_after : (limits : Limits) (start : State) (trace part : List Step) (journal : List Event) (dispatched : List Dispatched) (bucket key : List ℕ)
-      → IsTrace limits [] start trace → Fits Shows (events_of trace) journal dispatched → AllThatChange bucket key (AsksDelete bucket key) dispatched
+  gone_after : {page : Option ℕ} (limits : Limits) (start : State) (trace part : List Step) (journal : List Event) (dispatched : List Dispatched) (bucket key : List ℕ)
+      → IsTrace limits [] start trace → Fits Shows page (events_of trace) journal dispatched → AllThatChange bucket key (AsksDelete bucket key) dispatched
       → HasJournal journal trace part → (c : Dispatched) → Contains dispatched c → MayChange c.ask bucket key → HasCome journal c → HasSucceeded Shows c
       → IsDeleted trace bucket key × ((object_at (state_after start part) bucket key ≡ None) ⊎ IsWritten trace bucket key)
   gone_after limits start trace part journal dispatched bucket key runs fits ours whole c known may come succeeded = (deleted, gone)
@@ -127,6 +127,7 @@ module _ (Shows : Ask → ℕ → Talk → Class → List ℕ → Type 0) where
 
       answer : (same : Reply) × IsSameReply succeeded.reply same × Has (events_of part) (Serve sent (Replied same succeeded.bytes))
       answer = fitting.success_is_served Shows limits start trace dispatched journal runs fits part whole.0 whole.1 c known (come_by journal trace part whole c come) succeeded
+          (λ is. fitting.changes_no_page bucket key c may (is.0, is.1))
 
       served : Has (events_of trace) (Serve sent (Replied answer.0 succeeded.bytes))
       served = subst (λ (t : List Step). Has (events_of t) (Serve sent (Replied answer.0 succeeded.bytes))) (sym whole.1)

@@ -20,7 +20,7 @@ use Rattle.s3_service.specs.ServiceState.{State, Object, Upload, StoredPart, End
 use Rattle.s3_service.specs.Serves.{Replied, Succeeds, Assembles, Completes, StoresObject, IsOpen, MayChange, ExternalWrite, after_external}
 use Rattle.job_terms.specs.Dispatches.{Dispatched}
 use Rattle.run_promise.specs.Traces.{Step, TraceEvent, Serve, External, Steps, state_after, states, events_of, event_of}
-use Rattle.run_promise.specs.Fits.{request_at}
+use Rattle.run_promise.specs.Fits.{request_at, IsListing}
 use Rattle.world_laws.specs.Premises.{IsPlace, HasCome}
 use Rattle.run_promise.specs.Runs.{Run, IsFitting}
 use Rattle.world_laws.specs.Destinations.{AllThatChange}
@@ -121,7 +121,8 @@ module _ (Shows : Ask → ℕ → Talk → Class → List ℕ → Type 0) (limit
   pub created_at : (id : List ℕ) → IsCreated Shows bucket key journal dispatched id → IsCreatedAt id
   created_at id created =
       let sent = request_at created.create created.succeeded.place in
-      let served = fitting.success_is_served Shows limits start trace dispatched journal p.runs p.fits trace [] (sym (append-nil trace)) created.create created.known (all_come created.create created.has_come) created.succeeded in
+      let served = fitting.success_is_served Shows limits start trace dispatched journal p.runs p.fits trace [] (sym (append-nil trace)) created.create created.known (all_come created.create created.has_come) created.succeeded
+      (λ page. subst IsListing created.is_create page.0) in
       let is_named : served.0 ≡ reply.Created id = sym (subst (λ (r : Reply). IsSameReply r served.0) created.names served.1) in
       let at = step_of trace (Serve sent (Replied served.0 created.succeeded.bytes)) served.2 in
       let steps = subst (λ (event : TraceEvent). Steps limits (begun_through [] at.front) (state_after start at.front) event at.step.state) at.is_event

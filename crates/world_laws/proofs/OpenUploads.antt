@@ -229,8 +229,8 @@ pub record IsOpenWith (bucket key id : List ℕ) (IsSuch : Upload → Type 0) (t
   pub is_open : IsOpen t id bucket key upload
   pub such : IsSuch upload
 
-module _ (Shows : Ask → ℕ → Talk → Class → List ℕ → Type 0) (s : Setting) (journal : List Event) (dispatched coming : List Dispatched) (r : IsScheduled Shows s journal dispatched coming)
-    (start : State) (trace : List Step) (p : IsTraceOf Shows s (record { start = start; trace = trace; journal = journal; dispatched = dispatched })) (n : ℕ) (task : Task) (bucket key : List ℕ) (is_task : slice_get s.tasks n ≡ Some task) (is_dest : task.dest ≡ place.Object bucket key) where
+module _ {page : Option ℕ} (Shows : Ask → ℕ → Talk → Class → List ℕ → Type 0) (s : Setting) (journal : List Event) (dispatched coming : List Dispatched) (r : IsScheduled Shows s journal dispatched coming)
+    (start : State) (trace : List Step) (p : IsTraceOf Shows s (record { start = start; trace = trace; journal = journal; dispatched = dispatched; refused_page = page })) (n : ℕ) (task : Task) (bucket key : List ℕ) (is_task : slice_get s.tasks n ≡ Some task) (is_dest : task.dest ≡ place.Object bucket key) where
   abbrev pub HereServed : Dispatched → State → Reply → List ℕ → State → Type 0
   HereServed = IsServed Shows s.limits start trace dispatched
 
@@ -250,11 +250,12 @@ module _ (Shows : Ask → ℕ → Talk → Class → List ℕ → Type 0) (s : S
     pub bytes : List ℕ
     pub is_event : step.event ≡ Serve (request_at c place) (Replied answered bytes)
 
-  served_in : (front back : List Step) → trace ≡ front ++ back → (c : Dispatched) → Contains dispatched c → HasCome (filter_map event_of (events_of front)) c → (said : Reply) → HasReply Shows c (last_of c.dispatch.attempts) said
+  served_in : (front back : List Step) → trace ≡ front ++ back → (c : Dispatched) → Contains dispatched c → HasCome (filter_map event_of (events_of front)) c → (m : ℕ) → c.dispatch.job.task ≡ Some m → (said : Reply) → HasReply Shows c (last_of c.dispatch.attempts) said
       → (at : IsServedIn front c) × IsSameReply said at.answered
-  served_in front back is c known come said h =
+  served_in front back is c known come m of_task said h =
       let succeeded = tasks.replied Shows c said h in
-      let served = fitting.success_is_served Shows s.limits start trace dispatched journal p.runs p.fits front back is c known come succeeded.0 in
+      let served = fitting.success_is_served Shows s.limits start trace dispatched journal p.runs p.fits front back is c known come succeeded.0
+      (λ is_page. fitting.task_asks_no_page m c of_task (is_page.0, is_page.1)) in
       let at = step_of front (Serve (request_at c succeeded.0.place) (Replied served.0 succeeded.0.bytes)) served.2 in (
         record { before = at.front; step = at.step; after = at.back; is = at.is; place = succeeded.0.place; answered = served.0; bytes = succeeded.0.bytes; is_event = at.is_event },
         subst (λ (a : Reply). IsSameReply a served.0) succeeded.1 served.1,
@@ -274,7 +275,7 @@ module _ (Shows : Ask → ℕ → Talk → Class → List ℕ → Type 0) (s : S
     pub the_answer : (c : Dispatched) → Contains dispatched c → c.dispatch.job.task ≡ Some n → (said : Reply) → HasReply Shows c (last_of c.dispatch.attempts) said
         → (answered : Reply) × ((any : Reply) → HasReply Shows c (last_of c.dispatch.attempts) any → IsSameReply any answered)
     the_answer c known of_task said h =
-        let at = (served_in trace [] (sym (append-nil trace)) c known (come_in_all c known) said h).0 in
+        let at = (served_in trace [] (sym (append-nil trace)) c known (come_in_all c known) n of_task said h).0 in
         let found = fitting.success_at Shows s.limits start trace dispatched journal p.runs p.fits at.before at.step at.after (request_at c at.place) at.answered at.bytes at.is at.is_event in
         let same_job : c.dispatch.job ≡ found.0.dispatch.job = ap (λ (q : SentRequest). q.job) found.2.is_sent in
         let last = lasts found.0 (state_after start at.before) at.answered at.bytes at.step.state found.1 (ap (λ (j : JobId). j.task) (sym same_job) ∙ of_task) in
@@ -298,8 +299,8 @@ module _ (Shows : Ask → ℕ → Talk → Class → List ℕ → Type 0) (s : S
     -- no other task has it
     ours : (m : ℕ) (id : List ℕ) (place : ℕ) → HasId id → IsUpload (gained_before Shows dispatched place) m id → m ≡ n
     ours m id place a b =
-        let x = served_in trace [] (sym (append-nil trace)) a.1.0 a.1.1 (come_in_all a.1.0 a.1.1) (reply.Created id) a.1.4 in
-        let y = served_in trace [] (sym (append-nil trace)) b.0 b.1 (come_in_all b.0 b.1) (reply.Created id) b.4 in
+        let x = served_in trace [] (sym (append-nil trace)) a.1.0 a.1.1 (come_in_all a.1.0 a.1.1) n (ap (λ (j : JobId). j.task) a.1.2) (reply.Created id) a.1.4 in
+        let y = served_in trace [] (sym (append-nil trace)) b.0 b.1 (come_in_all b.0 b.1) m (ap (λ (j : JobId). j.task) b.2) (reply.Created id) b.4 in
         let x_event : x.0.step.event ≡ Serve (request_at a.1.0 x.0.place) (Replied (reply.Created id) x.0.bytes) = x.0.is_event ∙ ap (λ (said : Reply). Serve (request_at a.1.0 x.0.place) (Replied said x.0.bytes)) (sym x.1) in
         let y_event : y.0.step.event ≡ Serve (request_at b.0 y.0.place) (Replied (reply.Created id) y.0.bytes) = y.0.is_event ∙ ap (λ (said : Reply). Serve (request_at b.0 y.0.place) (Replied said y.0.bytes)) (sym y.1) in
         let level : x.0.before ≡ y.0.before =
@@ -432,7 +433,7 @@ module _ (Shows : Ask → ℕ → Talk → Class → List ℕ → Type 0) (s : S
       pub open_at : (front back : List Step) → trace ≡ front ++ back → reached front ≤ place → HasCome (filter_map event_of (events_of front)) has.1.0 → Open AnyUpload (state_after start front)
       open_at front back is by_then come =
           let create = has.1.0 in
-          let made = served_in front back is create has.1.1 come (reply.Created id) has.1.4 in
+          let made = served_in front back is create has.1.1 come n (ap (λ (j : JobId). j.task) has.1.2) (reply.Created id) has.1.4 in
           let at = made.0 in
           let own = tasks.row_of_job Shows s journal dispatched coming r n task bucket key is_task is_dest create op.Create 0 has.1.1 has.1.2 in
           let row = rows.row_create (gained_before Shows dispatched create.dispatch.given_at) task (record { number = n; bytes = source_bytes s.held task.source; piece = own.piece; count = own.count }) task.kind (is_small s task)
@@ -445,8 +446,8 @@ module _ (Shows : Ask → ℕ → Talk → Class → List ℕ → Type 0) (s : S
           (fitting.steps_at Shows s.limits start trace dispatched journal p.runs p.fits at.before at.step (at.after ++ back) (in_trace front back is create at)) in
           let succeeds = subst (λ (said : Reply). Succeeds s.limits (state_after start at.before) (ask.Create bucket key row.content) create.body said at.bytes at.step.state) (sym made.1)
           (subst (λ (a : Ask). Succeeds s.limits (state_after start at.before) a create.body at.answered at.bytes at.step.state) asks steps.1) in
-          let opened = multi.opened Shows s.limits (record { start = start; trace = trace; journal = journal; dispatched = dispatched }) bucket key
-          (laws.fitting Shows s (record { start = start; trace = trace; journal = journal; dispatched = dispatched }) coming r n task bucket key is_task is_dest p)
+          let opened = multi.opened Shows s.limits (record { start = start; trace = trace; journal = journal; dispatched = dispatched; refused_page = page }) bucket key
+          (laws.fitting Shows s (record { start = start; trace = trace; journal = journal; dispatched = dispatched; refused_page = page }) coming r n task bucket key is_task is_dest p)
           (state_after start at.before) id create.body at.bytes row.content at.step.state succeeds in
           stays_open AnyUpload (λ c old answered bytes new served number part stores says upload such. tt) front back is by_then at.before at.step at.after at.is
           (record { upload = opened.1.0; is_open = opened.1.1; such = tt })
@@ -479,7 +480,7 @@ module _ (Shows : Ask → ℕ → Talk → Class → List ℕ → Type 0) (s : S
 
         pub part_at : AsksPart q.ask bucket key id number → (front back : List Step) → trace ≡ front ++ back → reached front ≤ place → HasCome (filter_map event_of (events_of front)) q → Open HasPart (state_after start front)
         part_at asks front back is by_then come =
-            let made = served_in front back is q q_known come (reply.PartStored etag) q_says in
+            let made = served_in front back is q q_known come n (ap (λ (j : JobId). j.task) q_job) (reply.PartStored etag) q_says in
             let at = made.0 in
             let split = in_trace front back is q at in
             let steps = subst (λ (event : TraceEvent). Steps s.limits (begun_through [] at.before) (state_after start at.before) event at.step.state) at.is_event

@@ -87,8 +87,8 @@ module _ (job : JobId) where
       let counted : count_by (is_begin_of job) (event ∷ events) ≡ cond (is_begin_of job event) 1 0 + count_by (is_begin_of job) events = one_more event events in
       omega arith
 
-module _ (Shows : Ask → ℕ → Talk → Class → List ℕ → Type 0) (limits : Limits) (start : State) (trace : List Step) (dispatched : List Dispatched) (journal : List Event)
-    (runs : IsTrace limits [] start trace) (fits : Fits Shows (events_of trace) journal dispatched) (given : AreGiven journal dispatched) where
+module _ {page : Option ℕ} (Shows : Ask → ℕ → Talk → Class → List ℕ → Type 0) (limits : Limits) (start : State) (trace : List Step) (dispatched : List Dispatched) (journal : List Event)
+    (runs : IsTrace limits [] start trace) (fits : Fits Shows page (events_of trace) journal dispatched) (given : AreGiven journal dispatched) where
   -- the journal in two parts
   journal_is : (front rest : List TraceEvent) → events_of trace ≡ front ++ rest → journal ≡ filter_map event_of front ++ filter_map event_of rest
   journal_is front rest is = sym fits.moves ∙ ap (filter_map event_of) is ∙ filter_map-append event_of front rest

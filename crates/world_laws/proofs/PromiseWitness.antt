@@ -81,6 +81,7 @@ module _ (held : MapOf HeldFile) (task : Task) (how : Outcome) (rounds : List Ro
     notes = notes_of all;
     held_after = held;
     excused = record { left = []; untimed = []; wanted_memory = false };
+    refused_page = None;
   }
 
   pub orderly : IsSchedule Told (setting_with held task) AreNone all all → HasOutcome Told ToldStatus NeverFailed (setting_with held task) all all 0 task how → IsByRequests task → AreApart (task ∷ [])

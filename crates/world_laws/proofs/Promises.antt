@@ -63,11 +63,15 @@ decided_by kind.RemoveFile small n count gained by h = absurd by
 -- ---- a run that is shown
 
 abbrev with_journal : Run → List Event → Run
-with_journal run journal = record { start = run.start; trace = run.trace; journal = journal; dispatched = run.dispatched }
+with_journal run journal = record { start = run.start; trace = run.trace; journal = journal; dispatched = run.dispatched; refused_page = run.refused_page }
+
+abbrev with_page : Run → List Event → Option ℕ → Run
+with_page run journal page = record { start = run.start; trace = run.trace; journal = journal; dispatched = run.dispatched; refused_page = page }
 
 -- it is the one of its start and its trace
-pub run_is : (shown : Shown) (dispatched : List Dispatched) (run : Run) → run.dispatched ≡ dispatched → run.journal ≡ shown.journal → run ≡ run_of shown dispatched run.start run.trace
-run_is shown dispatched run same is = ap (with_journal run) is ∙ ap (λ (all : List Dispatched). run_of shown all run.start run.trace) same
+pub run_is : (shown : Shown) (dispatched : List Dispatched) (run : Run) → run.dispatched ≡ dispatched → run.journal ≡ shown.journal → run.refused_page ≡ shown.refused_page
+    → run ≡ run_of shown dispatched run.start run.trace
+run_is shown dispatched run same is page = ap (with_journal run) is ∙ ap (with_page run shown.journal) page ∙ ap (λ (all : List Dispatched). run_of shown all run.start run.trace) same
 
 abbrev pub IsAllTrue : Shown → Run → List Step → Type 0
 IsAllTrue shown run part = AllEnded shown run part × NoneChanged shown run part × OthersStay shown run part × MovesAfter shown run × AbortsLast run.trace
@@ -78,7 +82,7 @@ pub as_shown : (Shows : Ask → ℕ → Talk → Class → List ℕ → Type 0) 
     → (IsTraceOf Shows shown.setting (run_of shown dispatched run.start run.trace) → HasJournal shown.journal run.trace part → IsAllTrue shown (run_of shown dispatched run.start run.trace) part)
     → IsAllTrue shown run part
 as_shown Shows shown dispatched run part same of_shown whole holds =
-    let is = run_is shown dispatched run same of_shown.of_journal in
+    let is = run_is shown dispatched run same of_shown.of_journal of_shown.of_page in
     subst (λ (r : Run). IsAllTrue shown r part) (sym is)
     (holds (subst (λ (r : Run). IsTraceOf Shows shown.setting r) is of_shown.fitting) (subst (λ (r : Run). HasEndedBy r part) is whole))
 
@@ -308,7 +312,7 @@ module _ (Shows : Ask → ℕ → Talk → Class → List ℕ → Type 0) (HasSt
 
   -- ---- over one trace
 
-  module _ (start : State) (trace part : List Step) (runs : IsTrace s.limits [] start trace) (honest : IsHonest start trace (IsDest s.tasks)) (fits : Fits Shows (events_of trace) shown.journal dispatched)
+  module _ (start : State) (trace part : List Step) (runs : IsTrace s.limits [] start trace) (honest : IsHonest start trace (IsDest s.tasks)) (fits : Fits Shows shown.refused_page (events_of trace) shown.journal dispatched)
       (whole : HasJournal shown.journal trace part) where
     abbrev run : Run
     run = run_of shown dispatched start trace
@@ -376,13 +380,13 @@ module _ (Shows : Ask → ℕ → Talk → Class → List ℕ → Type 0) (HasSt
     limits = o.limits;
   }
 
-  module _ (start : State) (trace part : List Step) (runs : IsTrace shown.setting.limits [] start trace) (honest : IsHonest start trace (IsDest shown.setting.tasks)) (fits : Fits Shows (events_of trace) shown.journal dispatched)
+  module _ (start : State) (trace part : List Step) (runs : IsTrace shown.setting.limits [] start trace) (honest : IsHonest start trace (IsDest shown.setting.tasks)) (fits : Fits Shows shown.refused_page (events_of trace) shown.journal dispatched)
       (whole : HasJournal shown.journal trace part) where
     abbrev shown_run : Run
     shown_run = run_of shown dispatched start trace
 
     of_shown : FitsShown Shows shown shown_run
-    of_shown = record { of_journal = refl; fitting = record { runs = runs; honest = honest; fits = fits } }
+    of_shown = record { of_journal = refl; of_page = refl; fitting = record { runs = runs; honest = honest; fits = fits } }
 
     pub all_ended : AllEnded shown shown_run part
     all_ended n task how is_task at_how =

@@ -4,7 +4,7 @@ use Rattle.std.proofs.lemmas.Bool.{cases_order}
 use Rattle.s3_model.specs.Classes.{is_tried_again}
 use Rattle.s3_model.specs.Replies.{IsSameReply}
 use Rattle.s3_model.specs.Parts.{HasPieces, piece_count, IsTransfer, piece_of}
-use Rattle.world_laws.proofs.Fitting.{IsServed}
+use Rattle.world_laws.proofs.Fitting.{IsServed, AsksPage, task_asks_no_page}
 use Rattle.world_laws.proofs.OpenUploads as opens
 use Rattle.world_laws.proofs.Order.{came_before}
 use Rattle.job_terms.proofs.PieceCounts.{in_parts, pieces_are_one, least_piece, begins_inside, some_pieces}
@@ -184,13 +184,13 @@ module _ (Shows : Ask → ℕ → Talk → Class → List ℕ → Type 0) (HasSt
 
   -- a success that was served is the last attempt of its dispatch, and its answer the one that this shows
   module _ (d : Dispatched) (before : State) (answered : Reply) (bytes : List ℕ) (after : State) (served : IsServed Shows s.limits start trace dispatched d before answered bytes after)
-      (memory : s.wanted_memory d.dispatch.job.task ≡ true → ⊥) where
+      (memory : s.wanted_memory d.dispatch.job.task ≡ true → ⊥) (no_page : AsksPage d → ⊥) where
     not_refused : (code message body : List ℕ) → Shows d.ask d.limit served.attempt.talk (class.Refusal code message) body → ⊥
-    not_refused code message body shows = refused_is_no_reply code bytes answered (served.names (class.Refusal code message) body shows)
+    not_refused code message body shows = refused_is_no_reply code bytes answered (served.names no_page (class.Refusal code message) body shows)
 
     same_said : (said : Reply) (body : List ℕ) → Shows d.ask d.limit served.attempt.talk (class.Success said) body → IsSameReply said answered
     same_said said body shows =
-        let names = served.names (class.Success said) body shows in
+        let names = served.names no_page (class.Success said) body shows in
         subst (λ (any : Reply). IsSameReply said any) (sym (same_answer answered names.0 bytes body names.2)) names.1
 
     not_tried : (of_class : Class) (body : List ℕ) → Shows d.ask d.limit served.attempt.talk of_class body → is_tried_again of_class ≡ true → ⊥
@@ -267,8 +267,8 @@ module _ (Shows : Ask → ℕ → Talk → Class → List ℕ → Type 0) (HasSt
     pub lasts : (d : Dispatched) (before : State) (answered : Reply) (bytes : List ℕ) (after : State) → HereServed d before answered bytes after → d.dispatch.job.task ≡ Some n
         → opens.IsLast Shows s shown.journal dispatched coming scheduled start trace p n task by.bucket by.key is_task by.is_dest d answered
     lasts d before answered bytes after served of_task =
-        let said = said_last d before answered bytes after served (enough_for d of_task) in
-        record { succeeded = marks.replied_last Shows d (last_of d.dispatch.attempts) said.0 said.1; says = λ any h. any_said d before answered bytes after served (enough_for d of_task) any h }
+        let said = said_last d before answered bytes after served (enough_for d of_task) (task_asks_no_page n d of_task) in
+        record { succeeded = marks.replied_last Shows d (last_of d.dispatch.attempts) said.0 said.1; says = λ any h. any_said d before answered bytes after served (enough_for d of_task) (task_asks_no_page n d of_task) any h }
 
     abbrev Ends : Dispatched → Type 0
     Ends d = (d.dispatch.job ≡ job_of n op.Complete 0) ⊎ (d.dispatch.job ≡ job_of n op.Abort 0)
@@ -607,7 +607,7 @@ module _ (Shows : Ask → ℕ → Talk → Class → List ℕ → Type 0) (HasSt
             not_joined e known_e before answered bytes after served ends =
                 let says = (joins e known_e ends).1 in
                 let completed = completed_says s.limits e.ask e.body says.to.bucket says.to.key says.id (record { items = says.etags; spare = says.spare }) task.fresh before answered bytes after says.asks served.succeeds in
-                let said = said_last e before answered bytes after served (enough_for e (ap (λ (j : JobId). j.task) ends)) in
+                let said = said_last e before answered bytes after served (enough_for e (ap (λ (j : JobId). j.task) ends)) (task_asks_no_page n e (ap (λ (j : JobId). j.task) ends)) in
                 let is_completed : said.0 ≡ reply.Completed = same_completed said.0 (subst (λ (any : Reply). IsSameReply said.0 any) completed said.2) in
                 let place = come e known_e in
                 let by_end : IsBefore e.dispatch.came_at (place.0 + 1) = subst (λ (at : Option ℕ). IsBefore at (place.0 + 1)) (sym place.2) (omega arith) in

@@ -361,7 +361,7 @@ each_came (r ∷ rounds) place (suc (suc k)) lane job tries e =
 -- ---- they fit
 
 module _ (rounds : List Round) (start : State) (apart : AreApart rounds) where
-  pub rounds_fit : Fits Told (events_of (steps_from 0 start rounds)) (journal_of rounds) (dispatched_from 0 rounds)
+  pub rounds_fit : Fits Told None (events_of (steps_from 0 start rounds)) (journal_of rounds) (dispatched_from 0 rounds)
   rounds_fit = record {
     moves = moves rounds 0 start;
     begins = λ lane. begins lane rounds 0 start;
@@ -377,7 +377,7 @@ module _ (rounds : List Round) (start : State) (apart : AreApart rounds) where
           attempt = attempt_of is.round;
           is_attempt = refl;
           is_sent = is.is_sent;
-          names = λ shown bytes told. names_answer is.round.refused is.round.ask is.round.got is.round.size shown bytes answer told is.is_answer;
+          names = λ shown bytes told certain. names_answer is.round.refused is.round.ask is.round.got is.round.size shown bytes answer told is.is_answer;
         };
     served = λ front back job lane tries c place attempt shown bytes e known same at slot shows certain.
         let found = served_before rounds 0 start front back job lane tries c apart e (has (dispatched_from 0 rounds) c known) same place attempt slot in (

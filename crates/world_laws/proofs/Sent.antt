@@ -1,5 +1,5 @@
 -- What begins or is served in a trace that fits: nothing but requests that were dispatched, and each began before it was served.
-use Rattle.std.proofs.Common.{◌≡◌, ◌++◌, ℕ, List, [], ◌∷◌, ap, Contains}
+use Rattle.std.proofs.Common.{◌≡◌, ◌++◌, ℕ, List, [], ◌∷◌, ap, Contains, Option}
 use Rattle.s3_model.specs.declared.requests.Ask.{Ask}
 use Rattle.s3_model.specs.declared.answers.Class.{Class}
 use Rattle.s3_model.specs.declared.outcomes.Event.{Event}
@@ -20,8 +20,8 @@ IsOf sent c = (sent.ask ≡ c.ask) × (sent.body ≡ c.body) × (sent.job ≡ c.
 of_request : (c : Dispatched) (sent : SentRequest) → fitting.IsRequestOf c sent → IsOf sent c
 of_request c sent is = (ap (λ (r : SentRequest). r.ask) is.is_sent, ap (λ (r : SentRequest). r.body) is.is_sent, ap (λ (r : SentRequest). r.job) is.is_sent)
 
-module _ (Shows : Ask → ℕ → Talk → Class → List ℕ → Type 0) (limits : Limits) (start : State) (trace : List Step) (dispatched : List Dispatched) (journal : List Event)
-    (runs : IsTrace limits [] start trace) (fits : Fits Shows (events_of trace) journal dispatched) where
+module _ {page : Option ℕ} (Shows : Ask → ℕ → Talk → Class → List ℕ → Type 0) (limits : Limits) (start : State) (trace : List Step) (dispatched : List Dispatched) (journal : List Event)
+    (runs : IsTrace limits [] start trace) (fits : Fits Shows page (events_of trace) journal dispatched) where
   pub begun_is_dispatched : (lane : ℕ) (sent : SentRequest) → Contains (events_of trace) (Begin lane sent) → (c : Dispatched) × Contains dispatched c × IsOf sent c
   begun_is_dispatched lane sent h =
       let found = fitting.begin_is_dispatched Shows limits start trace dispatched journal runs fits lane sent (has (events_of trace) (Begin lane sent) h) in

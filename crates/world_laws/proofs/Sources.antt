@@ -52,7 +52,7 @@ module _ (Shows : Ask → ℕ → Talk → Class → List ℕ → Type 0) where
       let c = found.request in
       let come = found.come in
       let served = fitting.success_is_served Shows s.limits run.start run.trace run.dispatched run.journal p.runs p.fits run.trace [] (sym (append-nil run.trace)) c found.known
-      (come.0, come.1, come.2, ap (λ (j : List Event). slice_get j come.0) p.fits.moves ∙ come.3) found.succeeded in
+      (come.0, come.1, come.2, ap (λ (j : List Event). slice_get j come.0) p.fits.moves ∙ come.3) found.succeeded found.taken in
       let at = step_of run.trace (Serve (request_at c found.succeeded.place) (Replied served.0 found.succeeded.bytes)) served.2 in
       let old : State = state_after run.start at.front in
       let steps = subst (λ (event : TraceEvent). Steps s.limits (begun_through [] at.front) old event at.step.state) at.is_event

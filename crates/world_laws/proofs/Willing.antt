@@ -1,5 +1,5 @@
 -- A willing service: what it refuses could not be done.
-use Rattle.std.proofs.Common.{append_assoc, ◌≡◌, ◌∙◌, ◌++◌, ◌≤◌, ℕ, List, [], ◌∷◌, Some, refl, sym, ap, subst, Contains, filter_map, length, slice_get, arith}
+use Rattle.std.proofs.Common.{append_assoc, ◌≡◌, ◌∙◌, ◌++◌, ◌≤◌, ℕ, List, [], ◌∷◌, Some, refl, sym, ap, subst, Contains, filter_map, length, slice_get, arith, Option}
 use Rattle.s3_model.specs.declared.requests.Ask.{Ask}
 use Rattle.s3_model.specs.declared.answers.Reply.{Reply}
 use Rattle.s3_model.specs.declared.answers.Class.{Class}
@@ -55,8 +55,8 @@ steps_split (step ∷ trace) (event ∷ front) back is =
     let rest = steps_split trace front back (tail_is step.event event (events_of trace) (front ++ back) is) in
     (step ∷ rest.0, rest.1, ap (λ (t : List Step). step ∷ t) rest.2, ap (λ (t : List TraceEvent). step.event ∷ t) rest.3 ∙ ap (λ (e : TraceEvent). e ∷ front) (head_is step.event event (events_of trace) (front ++ back) is))
 
-module _ (Shows : Ask → ℕ → Talk → Class → List ℕ → Type 0) (limits : Limits) (start : State) (trace : List Step) (dispatched : List Dispatched) (journal : List Event)
-    (runs : IsTrace limits [] start trace) (fits : Fits Shows (events_of trace) journal dispatched) where
+module _ {page : Option ℕ} (Shows : Ask → ℕ → Talk → Class → List ℕ → Type 0) (limits : Limits) (start : State) (trace : List Step) (dispatched : List Dispatched) (journal : List Event)
+    (runs : IsTrace limits [] start trace) (fits : Fits Shows page (events_of trace) journal dispatched) where
   pub refused_early : IsWilling limits start trace → (c : Dispatched) → Contains dispatched c → (come : HasCome journal c) → (place : ℕ) (attempt : Attempt) (code message bytes : List ℕ)
       → slice_get c.dispatch.attempts place ≡ Some attempt → Shows c.ask c.limit attempt.talk (class.Refusal code message) bytes → IsRefusedEarly limits start trace c code come.0
   refused_early willing c known come place attempt code message bytes is_attempt shows =

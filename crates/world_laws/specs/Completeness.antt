@@ -85,4 +85,4 @@ module _ (Shows : Ask → ℕ → Talk → Class → List ℕ → Type 0) (HasSt
       → IsCarried Shows request_text host port shown.setting shown.journal shown.logs shown.notes run.dispatched coming
       → FitsShown Shows shown run → IsWilling shown.setting.limits run.start run.trace → IsAlone run.trace
       → AreSourcesThere shown.setting.held shown.setting.tasks run.start)
-      → IsDoneWhereWilling Shows request_text host port Plans shown
+      → IsDoneWhereWilling Shows request_text host port (λ page. Plans) shown

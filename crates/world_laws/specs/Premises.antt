@@ -59,7 +59,7 @@ module _ (Shows : Ask → ℕ → Talk → Class → List ℕ → Type 0) where
   -- the trace is one of a service, and it fits
   pub record HasTrace (limits : Limits) (run : Run) : Type 0 where
     pub runs : IsTrace limits [] run.start run.trace
-    pub fits : Fits Shows (events_of run.trace) run.journal run.dispatched
+    pub fits : Fits Shows run.refused_page (events_of run.trace) run.journal run.dispatched
 
   -- some attempt was answered with success, and with this reply
   pub record HasSucceeded (c : Dispatched) : Type 0 where

@@ -46,7 +46,13 @@ AreFilesLeft shown = (n : ℕ) (task : Task) (how : Outcome) (path : List ℕ) �
 -- what is shown, with a trace
 abbrev pub run_of : Shown → List Dispatched → State → List Step → Run
 run_of shown dispatched start trace =
-    record { start = start; trace = trace; journal = shown.journal; dispatched = dispatched }
+    record {
+      start = start;
+      trace = trace;
+      journal = shown.journal;
+      dispatched = dispatched;
+      refused_page = shown.refused_page;
+    }
 
 -- `Shows ask limit talk class bytes`: the talk has that class for the ask, and its answer that body
 module _ (Shows : Ask → ℕ → Talk → Class → List ℕ → Type 0) where

@@ -14,6 +14,7 @@ use Rattle.s3_model.specs.Talks.{Talk}
 use Rattle.job_terms.specs.Dispatches.{Dispatched}
 use Rattle.run_promise.specs.Schedule.{Setting}
 use Rattle.world_laws.specs.Premises.{HasCome, HasSucceeded}
+use Rattle.run_promise.specs.Fits.{IsPageJob}
 use Rattle.run_promise.specs.Runs.{Run, moments}
 use Rattle.world_laws.specs.SmallTransfers.{HasSize}
 use Rattle.world_laws.specs.Tasks.{HasSourceObject, IsTraceOf}
@@ -30,20 +31,21 @@ TellsOf asked answered bucket key etag size = ⊥
 -- `Shows ask limit talk class bytes`: the talk has that class for the ask, and its answer that body
 module _ (Shows : Ask → ℕ → Talk → Class → List ℕ → Type 0) where
   -- a request came with success that told the size and the ETag
-  pub record IsFound (journal : List Event) (dispatched : List Dispatched) (bucket key etag : List ℕ) (size : ℕ)
-      : Type 0 where
+  pub record IsFound (run : Run) (bucket key etag : List ℕ) (size : ℕ) : Type 0 where
     pub request : Dispatched
-    pub known : Contains dispatched request
-    pub come : HasCome journal request
+    pub known : Contains run.dispatched request
+    pub come : HasCome run.journal request
+    -- and brought no page that was refused by its content
+    pub taken : ¬ (IsPageJob run.refused_page request)
     pub succeeded : HasSucceeded Shows request
     pub tells : TellsOf request.ask succeeded.reply bucket key etag size
 
   abbrev pub FoundHasSize : Type 0
   FoundHasSize = (s : Setting) (run : Run) → IsTraceOf Shows s run → (bucket key etag : List ℕ) (size : ℕ)
-      → IsFound run.journal run.dispatched bucket key etag size → HasSize (moments run) bucket key etag size
+      → IsFound run bucket key etag size → HasSize (moments run) bucket key etag size
 
   -- So a copy that is planned from it has its source.
   abbrev pub FoundIsSource : Type 0
   FoundIsSource = (s : Setting) (run : Run) → IsTraceOf Shows s run → (task : Task) (bucket key : List ℕ)
-      → task.source ≡ Some (place.Object bucket key) → IsFound run.journal run.dispatched bucket key task.etag task.size
+      → task.source ≡ Some (place.Object bucket key) → IsFound run bucket key task.etag task.size
       → HasSourceObject (moments run) task

@@ -170,7 +170,7 @@ RangesAreMet = (limits : Limits) (bucket key etag : List ℕ) → 1 ≤ length e
 abbrev pub IsFoundMet : (bucket key etag : List ℕ) → (asked : Ask) → Type 0
 IsFoundMet bucket key etag asked =
     (setting : Setting) × IsMet setting.limits (IsDest setting.tasks) (λ (run : Run). (size : ℕ)
-    × ((found : IsFound Told run.journal run.dispatched bucket key etag size) × (found.request.ask ≡ asked)))
+    × ((found : IsFound Told run bucket key etag size) × (found.request.ask ≡ asked)))
 
 -- a Head
 abbrev pub HeadIsMet : Type 0
