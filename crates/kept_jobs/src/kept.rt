@@ -1,16 +1,14 @@
 //! The jobs of a task that are kept to be given again.
 
-ghost use Rattle.std.specs.Prelude.{◌≡◌, ◌<◌, ◌+◌, ◌^◌, ℕ, None, IfOk, if◌then◌else◌, get_or, length, replicate, set};
-ghost use Rattle.job_terms.specs.Ops.{is_op};
+ghost use Rattle.std.specs.Prelude.{◌≡◌, ◌<◌, ◌+◌, ◌^◌, ℕ, None, IfOk, if◌then◌else◌, get_or, length, set};
 ghost use Rattle.s3_model.specs.declared.requests.Op.{Op};
 ghost use Rattle.task_acts.specs.declared.acts.Act.TheVariants as act;
 ghost use Rattle.task_acts.specs.Histories.{is_act};
-ghost use Rattle.task_acts.specs.Work.{first_number, piece_op};
 ghost use Rattle.kept_jobs.specs.Slots.{HasSlot, job_at, piece_slot, rank, slot, slots};
 
 use jobs::Job;
-use s3_model::{Kind, Op};
-use std::alloc::{AllocError, Global};
+use s3_model::{Op, OutOfMemory, nones};
+use std::alloc::Global;
 use std::marker::Model;
 use std::mem;
 use task_acts::Work;
@@ -34,17 +32,6 @@ impl Model for KeptJobs {
     ghost invariant = { λ k. HasSlots k.work k.jobs.items };
 }
 
-/// So many empty places.
-fn empty(alloc: Global, count: usize) -> Result<Vec<Option<Job>>, AllocError>
-    ensures { IfOk result (λ jobs. jobs.items ≡ replicate count None) }
-{
-    let mut jobs = Vec::with_capacity(alloc, count)?;
-    for _ in 0..count {
-        jobs.push_reserved(None);
-    }
-    Ok(jobs)
-}
-
 /// The place of a job that a task has once; 4 for every other op.
 fn rank(op: Op) -> usize
     ensures { result ≡ rank op }
@@ -58,32 +45,12 @@ fn rank(op: Op) -> usize
     }
 }
 
-/// Whether an op is that of the pieces' requests.
-fn is_piece_op(kind: Kind, small: bool, op: Op) -> bool
-    ensures { result ≡ is_op op (piece_op kind small) }
-{
-    match (kind, small) {
-        (Kind::Upload, true) => matches!(op, Op::Put),
-        (Kind::Upload, false) => matches!(op, Op::Part),
-        (Kind::Download, _) => matches!(op, Op::Get),
-        (Kind::Copy, true) => matches!(op, Op::Copy),
-        (Kind::Copy, false) => matches!(op, Op::PartCopy),
-        (Kind::RemoveObject | Kind::RemoveFile, _) => matches!(op, Op::Delete),
-    }
-}
-
-fn first_number(small: bool) -> u32
-    ensures { result ≡ (if small then 0 else 1) }
-{
-    if small { 0 } else { 1 }
-}
-
 /// The place of a piece's job.
 fn piece_slot(work: &Work, op: Op, number: u32) -> usize
     ensures { result ≡ piece_slot work.now op number }
 {
-    let first = first_number(work.small);
-    if !is_piece_op(work.of_kind, work.small, op) || number < first {
+    let first = work.first_number();
+    if !work.has_piece_op(op) || number < first {
         4 + work.count as usize
     } else {
         4 + (number - first) as usize
@@ -106,12 +73,12 @@ pub fn slot(work: &Work, op: Op, number: u32) -> usize
 
 impl KeptJobs {
     /// No job is kept. It takes all the memory that the places need.
-    pub fn make(alloc: Global, work: Work) -> Result<KeptJobs, AllocError>
+    pub fn make(alloc: Global, work: Work) -> Result<KeptJobs, OutOfMemory>
         requires { work.count + 1 < 2 ^ 32 }
         ensures work { IfOk result (λ kept. kept.work ≡ work) }
         ensures none { IfOk result (λ kept. (of_op : Op) (number : ℕ) → job_at kept of_op number ≡ None) }
     {
-        let jobs = empty(alloc, 4 + work.count as usize)?;
+        let jobs = nones(alloc, 4 + work.count as usize)?;
         Ok(KeptJobs { work, jobs })
     }
 

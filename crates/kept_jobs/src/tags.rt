@@ -3,8 +3,8 @@
 ghost use Rattle.std.specs.Prelude.{◌≡◌, ◌<◌, ◌≤◌, ◌+◌, ◌-◌, ◌++◌, ◌∷◌, [], ◌^◌, IfOk, None, length, replicate, set};
 ghost use Rattle.kept_jobs.specs.Tags.{HasPart, present};
 
-use s3_model::{OutOfMemory, Text, Texts};
-use std::alloc::{AllocError, Global};
+use s3_model::{OutOfMemory, Text, Texts, nones};
+use std::alloc::Global;
 use std::marker::Model;
 use std::mem;
 
@@ -25,16 +25,6 @@ impl Model for PartTags {
     ghost view = { λ t. record { first = t.first; tags = t.tags.items } };
 
     ghost invariant = { λ t. HasRoom t.tags.items t.texts };
-}
-
-fn empty(alloc: Global, count: usize) -> Result<Vec<Option<Text>>, AllocError>
-    ensures { IfOk result (λ tags. tags.items ≡ replicate count None) }
-{
-    let mut tags = Vec::with_capacity(alloc, count)?;
-    for _ in 0..count {
-        tags.push_reserved(None);
-    }
-    Ok(tags)
 }
 
 /// Gives away the tag that stands at a place, if there is one.
@@ -64,7 +54,7 @@ impl PartTags {
         ensures first { IfOk result (λ tags. tags.first ≡ first) }
         ensures none { IfOk result (λ tags. tags.tags ≡ replicate count None) }
     {
-        let tags = empty(alloc, count as usize)?;
+        let tags = nones(alloc, count as usize)?;
         let mut texts = Texts::make(alloc);
         texts.reserve(count as usize)?;
         Ok(PartTags { first, tags, texts })

@@ -6,7 +6,7 @@ ghost use Rattle.lane_jobs.specs.Lanes.{IsCarriedBy, IsSameCarrier, IsSameJob, r
 
 use crate::carrier::Carrier;
 use jobs::{Carried, Job};
-use s3_model::{Endpoint, Keys, OutOfMemory, Text};
+use s3_model::{Endpoint, Keys, OutOfMemory};
 use s3_outside::Wire;
 use std::alloc::Global;
 use std::marker::Model;
@@ -28,36 +28,6 @@ impl<W> Model for Lane<W> {
     ghost view = { λ l. record { wire = l.wire; carrier = l.carrier } };
 }
 
-fn copy_of(text: &Option<Text>) -> Result<Option<Text>, OutOfMemory>
-    ensures { IfOk result (λ copy. copy ≡ text.now) }
-{
-    match text {
-        Some(text) => Ok(Some(text.copy()?)),
-        None => Ok(None),
-    }
-}
-
-fn copy_endpoint(endpoint: &Endpoint) -> Result<Endpoint, OutOfMemory>
-    ensures { IfOk result (λ copy. copy ≡ endpoint.now) }
-{
-    Ok(Endpoint {
-        host: endpoint.host.copy()?,
-        port: endpoint.port,
-        written: endpoint.written.copy()?,
-    })
-}
-
-fn copy_keys(keys: &Keys) -> Result<Keys, OutOfMemory>
-    ensures { IfOk result (λ copy. copy ≡ keys.now) }
-{
-    Ok(Keys {
-        id: keys.id.copy()?,
-        secret: keys.secret.copy()?,
-        token: copy_of(&keys.token)?,
-        region: keys.region.copy()?,
-    })
-}
-
 /// A carrier with copies of an endpoint and of keys.
 fn carrier_of(
     alloc: Global,
@@ -69,8 +39,8 @@ fn carrier_of(
     ensures { IfOk result (λ carrier.
         carrier ≡ record { endpoint = endpoint.now; keys = keys.now; attempts = attempts }) }
 {
-    let endpoint = copy_endpoint(endpoint)?;
-    match copy_keys(keys) {
+    let endpoint = endpoint.copy()?;
+    match keys.copy() {
         Ok(keys) => Carrier::make(alloc, endpoint, keys, attempts),
         Err(OutOfMemory) => Err(OutOfMemory),
     }

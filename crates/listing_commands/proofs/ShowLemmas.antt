@@ -16,7 +16,7 @@ use Rattle.listings.specs.Buckets.{ListsBuckets}
 use Rattle.listings.specs.Pages.{Lists}
 use Rattle.listings.specs.declared.fault.ListingFault.{ListingFault}
 use Rattle.listings.specs.declared.fault.ListingFault.TheVariants as fault
-use Rattle.upload_plans.specs.Commands.{IsListed}
+use Rattle.s3_model.specs.Places.{IsListed}
 use Rattle.listing_commands.specs.declared.show.Shown.{Shown}
 use Rattle.listing_commands.specs.Commands.{IsShownBuckets, IsShownBy, IsShownWalk, ShowsBuckets, ShowsListing, ShowsPages, listing_of}
 

@@ -5,7 +5,7 @@ ghost use Rattle.answer_dates.specs.Dates.{AreDated};
 ghost use Rattle.job_terms.specs.Gains.{Gains};
 ghost use Rattle.listings.specs.Asked.{OfSomeTalks};
 ghost use Rattle.listings.specs.Faults.{IsNoCancel};
-ghost use Rattle.upload_plans.specs.Commands.{IsListed};
+ghost use Rattle.s3_model.specs.Places.{IsListed};
 ghost use Rattle.listing_commands.specs.Commands.{
   IsShownBy,
   IsShownWalk,

@@ -11,13 +11,7 @@ ghost use Rattle.manager_core.specs.Running.{IsRunning, Start};
 
 use crate::manager::Manager;
 use jobs::Carried;
-use s3_model::{Event, JobId, Tries};
-
-fn id_of(carried: &Carried) -> JobId
-    ensures { result ≡ carried.now.job.id }
-{
-    carried.job.id
-}
+use s3_model::{Event, Tries};
 
 /// The marks of a job once more, for the journal.
 fn copy_of(tries: &Tries) -> Tries
@@ -44,7 +38,7 @@ impl Manager {
         ensures free { self.new.due ≡ due.Free }
     {
         self.drop_move();
-        let job = id_of(&carried);
+        let job = carried.id();
         let tries = copy_of(&carried.tries);
         self.journal.push(Event::Came { job, lane, tries });
         self.moves.back(lane, carried);

@@ -14,7 +14,7 @@ use act_queues::ActQueues;
 use held_parts::HeldParts;
 use lane_queues::LaneQueues;
 use manager_moves::Move;
-use s3_model::{OutOfMemory, Outcome, Reason};
+use s3_model::{OutOfMemory, Outcome, Reason, nones};
 use std::alloc::Global;
 use std::marker::Model;
 use task_acts::Act;
@@ -68,16 +68,6 @@ fn empty_slots(alloc: Global, count: u32) -> Result<Vec<TaskSlot>, OutOfMemory>
     Ok(slots)
 }
 
-fn no_outcomes(alloc: Global, count: u32) -> Result<Vec<Option<Outcome>>, OutOfMemory>
-    ensures { IfOk result (λ outcomes. outcomes.items ≡ replicate count None) }
-{
-    let mut outcomes = Vec::with_capacity(alloc, count as usize)?;
-    for _ in 0..count {
-        outcomes.push_reserved(None);
-    }
-    Ok(outcomes)
-}
-
 /// What the tasks of a run share.
 #[derive(Clone, Copy)]
 pub struct Means {
@@ -103,7 +93,7 @@ fn make_places(alloc: Global, count: u32) -> Result<Places, OutOfMemory>
     ensures outcomes { IfOk result (λ places. places.outcomes.items ≡ replicate count None) }
 {
     let slots = empty_slots(alloc, count)?;
-    let outcomes = no_outcomes(alloc, count)?;
+    let outcomes = nones(alloc, count as usize)?;
     Ok(Places { slots, outcomes })
 }
 

@@ -14,15 +14,9 @@ ghost use Rattle.part_changes.specs.Changes.{comes_down};
 use crate::move_core::MoveCore;
 use crate::settling::fails;
 use jobs::Carried;
-use s3_model::{JobId, Op, Part};
+use s3_model::{Op, Part};
 use task_core::TaskState;
 use task_slots::comes_down;
-
-fn id_of(carried: &Carried) -> JobId
-    ensures { result ≡ carried.now.job.id }
-{
-    carried.job.id
-}
 
 impl MoveCore {
     /// Whether the part of a job that came back is still wanted: its bytes came with it, and the task goes on.
@@ -69,7 +63,7 @@ impl MoveCore {
         ensures bytes { KeepsBytes (part_by carried) self.old.parts.slots self.new.parts.slots }
         ensures steady { IsSteady self.old self.new }
     {
-        let id = id_of(&carried);
+        let id = carried.id();
         let Some(task) = id.task else { unreachable!() };
         self.pop(lane);
         let mut state = self.take_state(task);

@@ -5,7 +5,7 @@ use Rattle.s3_model.specs.declared.list.OutOfMemory.{OutOfMemory}
 use Rattle.s3_model.specs.declared.settings.Settings.{Settings}
 use Rattle.s3_model.specs.Talks.{Talk, Note, Moment, WireLog}
 use Rattle.s3_words.specs.declared.commands.Command.{Command}
-use Rattle.upload_plans.specs.Commands.{bucket_at, key_at}
+use Rattle.s3_model.specs.Places.{bucket_at, key_at}
 use Rattle.job_terms.specs.Gains.{Gains}
 use Rattle.run_report.specs.declared.run.Fatal.TheVariants as fatal
 use Rattle.run_report.specs.declared.printout.Printout.{Printout}

@@ -4,7 +4,7 @@ ghost use Rattle.std.specs.Prelude.{◌≡◌, ◌≤◌, [], true, None, Some, 
 ghost use Rattle.listing_commands.specs.Commands.{ShowsListing};
 ghost use Rattle.listings.specs.Asked.{OfSomeTalks};
 ghost use Rattle.listings.specs.Faults.{IsNoCancel};
-ghost use Rattle.upload_plans.specs.Commands.{IsListed};
+ghost use Rattle.s3_model.specs.Places.{IsListed};
 ghost use Rattle.job_terms.specs.Gains.{Gains};
 ghost use Rattle.run_report.specs.Texts.{HasLine, IsTextOf};
 ghost use Rattle.run_show.specs.Listings.{HasListed, IsMade, Lists, MayEndListing, fatal_for};

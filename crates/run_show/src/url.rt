@@ -1,7 +1,8 @@
 //! The URL of an object, for somebody who has no keys.
 
 ghost use Rattle.std.specs.Prelude.{◌≡◌, ◌≤◌, ◌<◌, [], ◌∷◌, IfOk, map, string_bytes};
-ghost use Rattle.upload_plans.specs.Commands.{IsObject, NamesObject, bucket_at, key_at};
+ghost use Rattle.s3_model.specs.Places.{IsObject, bucket_at, key_at};
+ghost use Rattle.s3_words.specs.Commands.{NamesObject};
 ghost use Rattle.job_terms.specs.Gains.{Gains};
 ghost use Rattle.run_show.specs.Urls.{IsMoment, MakesLine, url_line};
 

@@ -1,7 +1,10 @@
 //! What comes before the files are looked at: the words, and then the settings.
 
 ghost use Rattle.std.specs.Prelude.{◌≡◌, ◌≢◌, ◌≤◌, ◌⊎◌, true, false, IfOk, IfErr, IfSome, map, string_bytes};
-ghost use Rattle.upload_plans.specs.Commands.{CopiesUp, IsListed, NamesObject, is_listing, is_presign, is_unbuilt};
+ghost use Rattle.s3_model.specs.Places.{IsListed};
+ghost use Rattle.s3_words.specs.Options.{is_listing, is_presign};
+ghost use Rattle.s3_words.specs.Commands.{NamesObject};
+ghost use Rattle.upload_plans.specs.Commands.{CopiesUp, is_unbuilt};
 ghost use Rattle.run_start.specs.Begun.{IsBegun, IsRead, RefusedFor, StopsInSettings, StopsInWords};
 ghost use Rattle.run_start.specs.Settings.{AreSettings, AsksOnly, settings_fatal, without_settings};
 ghost use Rattle.s3_model.specs.Validity.{IsValidConfig, IsWithin};

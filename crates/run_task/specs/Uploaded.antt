@@ -7,7 +7,7 @@ use Rattle.s3_model.specs.declared.tasks.Task.{Task}
 use Rattle.s3_model.specs.Talks.{Talk, Note}
 use Rattle.s3_outside.specs.Files.{SeenFiles}
 use Rattle.small_uploads.specs.Uploading.{IsPutTask, Uploads, put_ask}
-use Rattle.upload_plans.specs.Commands.{IsFile, path_at}
+use Rattle.s3_model.specs.Places.{IsFile, path_at}
 use Rattle.upload_promise.specs.Uploads.{WantsJournal}
 use Rattle.run_report.specs.declared.run.Run.{Run}
 use Rattle.run_report.specs.Taskless.{EndsForMemory}

@@ -19,7 +19,6 @@ use small_uploads::upload;
 use std::alloc::Global;
 use std::mem;
 use std::sync::Arc;
-use task_copies::share;
 
 /// The lists that a run fills.
 #[derive(Drop)]
@@ -66,7 +65,7 @@ fn share_with_lists(alloc: Global, task: &Task) -> Result<(Arc<Task, Global>, Li
     ensures shared { IfOk result (λ made. arc_value made.0 ≡ task.now) }
     ensures room { IfOk result (λ made. HasRoom made.1) }
 {
-    let shared = share(alloc, task)?;
+    let shared = task.share(alloc)?;
     match make_lists(alloc) {
         Ok(lists) => Ok((shared, lists)),
         Err(fault) => {

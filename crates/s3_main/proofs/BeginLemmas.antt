@@ -11,7 +11,9 @@ use Rattle.s3_model.specs.Talks.{Talk, Note, WireLog}
 use Rattle.s3_outside.specs.Env.{SeenEnv}
 use Rattle.s3_outside.specs.Files.{SeenFiles}
 use Rattle.s3_words.specs.declared.commands.Command.{Command}
-use Rattle.upload_plans.specs.Commands.{is_listing, is_presign, path_at, source_path}
+use Rattle.s3_model.specs.Places.{path_at}
+use Rattle.s3_words.specs.Options.{is_listing, is_presign}
+use Rattle.upload_plans.specs.Commands.{source_path}
 use Rattle.job_terms.specs.Gains.{Gains}
 use Rattle.upload_promise.specs.Sources.{LooksAt}
 use Rattle.job_terms.proofs.GainLemmas.{gains_as, gains_nothing}

@@ -31,7 +31,7 @@ use Rattle.s3_model.specs.Talks.{Talk, Note, WireLog}
 use Rattle.s3_outside.specs.Env.{SeenEnv}
 use Rattle.s3_outside.specs.Files.{SeenFiles}
 use Rattle.s3_words.specs.declared.commands.Command.{Command}
-use Rattle.upload_plans.specs.Commands.{is_listing}
+use Rattle.s3_words.specs.Options.{is_listing}
 use Rattle.job_terms.specs.Gains.{Gains}
 use Rattle.job_terms.proofs.GainLemmas.{gains_as}
 use Rattle.run_report.specs.declared.run.Fatal.{Fatal}

@@ -33,7 +33,7 @@ use Rattle.s3_words.specs.Commands.{arguments_of, first_of}
 use Rattle.s3_words.specs.Given.{is_given}
 use Rattle.s3_words.specs.Places.{places_in}
 use Rattle.s3_words.specs.declared.options.OptionName.TheVariants.{Recursive}
-use Rattle.upload_plans.specs.Commands.{is_listing}
+use Rattle.s3_words.specs.Options.{is_listing}
 use Rattle.run_report.specs.declared.run.Fatal.{Fatal}
 use Rattle.run_report.specs.declared.run.Fatal.TheVariants as fatal
 use Rattle.run_show.specs.Listings.{HasNoOutcome}

@@ -8,7 +8,7 @@ use Rattle.s3_model.specs.Talks.{WireLog}
 use Rattle.s3_outside.specs.Env.{SeenEnv}
 use Rattle.s3_words.specs.declared.commands.Command.{Command}
 use Rattle.s3_words.specs.declared.commands.Verb.{Verb}
-use Rattle.upload_plans.specs.Commands.{is_listing, is_presign}
+use Rattle.s3_words.specs.Options.{is_listing, is_presign}
 use Rattle.job_terms.specs.Gains.{Gains}
 use Rattle.job_terms.proofs.GainLemmas.{gains_as}
 use Rattle.s3_model.specs.declared.outcomes.Outcome.{Outcome}

@@ -9,7 +9,8 @@ use Rattle.s3_words.specs.declared.options.OptionName.TheVariants.{Recursive}
 use Rattle.s3_words.specs.Given.{is_given}
 use Rattle.run_report.specs.declared.run.Fatal.{Fatal}
 use Rattle.run_report.specs.declared.run.Fatal.TheVariants as fatal
-use Rattle.upload_plans.specs.Commands.{is_listing, is_presign, path_at}
+use Rattle.s3_model.specs.Places.{path_at}
+use Rattle.s3_words.specs.Options.{is_listing, is_presign}
 
 -- the first path of the words, where it is a local one
 abbrev pub path_in : (words : List (List ℕ)) → List ℕ

@@ -7,7 +7,7 @@ use Rattle.s3_model.specs.declared.settings.Settings.{Settings}
 use Rattle.s3_model.specs.Talks.{Talk, Note, WireLog}
 use Rattle.s3_outside.specs.Env.{SeenEnv}
 use Rattle.s3_words.specs.declared.commands.Command.{Command}
-use Rattle.upload_plans.specs.Commands.{is_listing}
+use Rattle.s3_words.specs.Options.{is_listing}
 use Rattle.job_terms.specs.Gains.{Gains}
 use Rattle.run_start.specs.Begun.{IsBegun}
 use Rattle.s3_main.specs.Asked.{lists_in, shows_url}

@@ -23,7 +23,8 @@ use Rattle.listings.specs.Asked.{OfSomeTalks}
 use Rattle.listings.specs.Faults.{IsCauseOf}
 use Rattle.job_terms.specs.Dispatches.{Dispatched}
 use Rattle.run_promise.specs.Planning.{PlansFor}
-use Rattle.upload_plans.specs.Commands.{is_listing, is_presign, source_path}
+use Rattle.s3_words.specs.Options.{is_listing, is_presign}
+use Rattle.upload_plans.specs.Commands.{source_path}
 use Rattle.upload_plans.specs.Plans.{is_large}
 use Rattle.upload_plans.specs.declared.plan.Fate.{Fate}
 use Rattle.upload_plans.specs.declared.plan.Fate.TheVariants as fate

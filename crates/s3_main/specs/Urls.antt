@@ -4,7 +4,7 @@ use Rattle.s3_model.specs.declared.settings.Settings.{Settings}
 use Rattle.s3_model.specs.Talks.{Talk, Note, Moment}
 use Rattle.s3_outside.specs.Env.{SeenEnv}
 use Rattle.s3_words.specs.declared.commands.Command.{Command}
-use Rattle.upload_plans.specs.Commands.{is_presign}
+use Rattle.s3_words.specs.Options.{is_presign}
 use Rattle.run_start.specs.Begun.{IsBegun}
 use Rattle.run_report.specs.declared.run.Run.{Run}
 use Rattle.run_show.specs.Urls.{url_line}

@@ -31,7 +31,7 @@ use s3_outside::{Env, Files, Wire};
 use s3_words::Command;
 use std::alloc::Global;
 use std::mem;
-use upload_plans::{Fate, is_listing, is_presign, places_of, plan_upload};
+use upload_plans::{Fate, places_of, plan_upload};
 
 /// Looks at the file of a command, and says what copying it comes to, which takes over the command's texts.
 fn find_fate<F: Files>(
@@ -157,12 +157,12 @@ pub(crate) fn execute<W: Wire, F: Files, E: Env>(
 {
     let limits = env.limits();
     match read_start(alloc, words, env) {
-        Ok(start) if is_presign(start.command.verb) => Worked {
+        Ok(start) if start.command.verb.is_presign() => Worked {
             executed: execute_presign(alloc, words, start, wire),
             lists: false,
             missed: false,
         },
-        Ok(start) if is_listing(start.command.verb) => execute_listing(alloc, words, start, wire),
+        Ok(start) if start.command.verb.is_listing() => execute_listing(alloc, words, start, wire),
         Ok(start) => Worked {
             executed: execute_command(alloc, words, start, &limits, files, wire),
             lists: false,

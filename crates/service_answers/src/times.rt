@@ -3,13 +3,8 @@
 ghost use Rattle.std.specs.Prelude.{◌<◌};
 
 use httpdate::HttpDate;
-use jiff_core::civil::Date;
+use s3_model::civil_time;
 use std::alloc::{AllocError, Global};
-
-/// 1970-01-01, in days since the first day that the calendar library has.
-const EPOCH: u32 = 4_371_587;
-
-const SECONDS_PER_DAY: u64 = 86_400;
 
 const MICROS_PER_SECOND: u64 = 1_000_000;
 
@@ -25,14 +20,13 @@ fn seconds_of(micros: u64) -> u64
 
 /// Adds the day of a time.
 fn push_day(out: &mut String, micros: u64) -> Result<(), AllocError> {
-    let days = (seconds_of(micros) / SECONDS_PER_DAY) as u32;
-    let date = Date::from_days_since_min(EPOCH + days);
-    write!(out, "{:04}-{:02}-{:02}", date.year, date.month, date.day)
+    let time = civil_time(seconds_of(micros));
+    write!(out, "{:04}-{:02}-{:02}", time.year, time.month, time.day)
 }
 
 /// Adds what the clock says at a time.
 fn push_clock(out: &mut String, micros: u64) -> Result<(), AllocError> {
-    let second = seconds_of(micros) % SECONDS_PER_DAY;
+    let second = civil_time(seconds_of(micros)).second;
     let (hours, minutes, rest) = (second / 3600, second / 60 % 60, second % 60);
     let thousandths = micros / 1000 % 1000;
     write!(out, "{hours:02}:{minutes:02}:{rest:02}.{thousandths:03}")

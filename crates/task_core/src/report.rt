@@ -33,12 +33,6 @@ pub(crate) struct Report {
     pub(crate) made: usize,
 }
 
-fn id_of(carried: &Carried) -> JobId
-    ensures { result ≡ carried.now.job.id }
-{
-    carried.job.id
-}
-
 fn made(carried: &Carried) -> usize
     ensures { result ≡ length carried.now.tries }
 {
@@ -63,7 +57,7 @@ pub(crate) fn report_of(work: &Work, stopped: bool, carried: &Carried) -> Report
 {
     let is_cut = is_cut_short(work, carried);
     Report {
-        id: id_of(carried),
+        id: carried.id(),
         stage: carried_stage(work, stopped, carried),
         is_cut,
         is_kept: is_kept(is_cut, stopped),

@@ -9,37 +9,15 @@ ghost use Rattle.task_acts.specs.declared.acts.Act.TheVariants as act_of;
 ghost use Rattle.task_acts.specs.declared.work.Work.{Work as OneWork};
 ghost use Rattle.task_acts.specs.Failures.{is_stopped};
 ghost use Rattle.task_acts.specs.Histories.{Cancelled, History, is_act};
-ghost use Rattle.task_acts.specs.Work.{piece_op};
 ghost use Rattle.move_laws.specs.Follows.{IsTaskIn};
 ghost use Rattle.move_laws.specs.Freed.{AreWithJobs, IsWith, keeps_part, kept_piece, part_in};
 
 use crate::parts::free_part;
 use held_parts::HeldParts;
 use jobs::Job;
-use s3_model::{Kind, Op, Part, Reason};
+use s3_model::{Op, Part, Reason};
 use std::mem;
 use task_core::TaskState;
-
-/// The op of the requests of a task's pieces.
-fn piece_op(kind: Kind, small: bool) -> Op
-    ensures { result ≡ piece_op kind small }
-{
-    match (kind, small) {
-        (Kind::Upload, true) => Op::Put,
-        (Kind::Upload, false) => Op::Part,
-        (Kind::Download, _) => Op::Get,
-        (Kind::Copy, true) => Op::Copy,
-        (Kind::Copy, false) => Op::PartCopy,
-        (Kind::RemoveObject | Kind::RemoveFile, _) => Op::Delete,
-    }
-}
-
-/// The number of the first piece.
-fn first_number(small: bool) -> u32
-    ensures { result ≡ (if small then 0 else 1) }
-{
-    if small { 0 } else { 1 }
-}
 
 /// The part of a job.
 fn part_in(job: Option<Job>) -> Option<Part>
@@ -83,8 +61,8 @@ fn free_each_kept(parts: &mut HeldParts, state: &mut TaskState, task: u32)
     ensures tags { state.new.tags ≡ state.old.tags }
 {
     let work = state.work();
-    let op = piece_op(work.of_kind, work.small);
-    let first = first_number(work.small);
+    let op = work.piece_op();
+    let first = work.first_number();
     for number in first..first + work.count {
         free_kept(parts, state, task, op, number);
     }

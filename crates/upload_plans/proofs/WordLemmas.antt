@@ -13,7 +13,10 @@ use Rattle.s3_words.specs.Faults.{command_fault, count_fault, endpoint_missing, 
 use Rattle.s3_words.specs.Given.{is_given}
 use Rattle.s3_words.specs.Places.{is_pair, is_right_count, places_in}
 use Rattle.s3_words.specs.Roles.{roles}
-use Rattle.upload_plans.specs.Commands.{CopiesUp, IsFile, IsListed, IsObject, NamesObject, is_copy, is_listing, is_presign, is_unbuilt, is_unbuilt_copy, reads_object}
+use Rattle.s3_model.specs.Places.{IsFile, IsListed, IsObject}
+use Rattle.s3_words.specs.Options.{is_copy, is_listing, is_presign}
+use Rattle.s3_words.specs.Commands.{NamesObject}
+use Rattle.upload_plans.specs.Commands.{CopiesUp, is_unbuilt, is_unbuilt_copy, reads_object}
 use Rattle.shared_lemmas.proofs.Clashes.{false_true, some_is_none, true_is_false}
 use Rattle.shared_lemmas.proofs.Options.{neither}
 

@@ -4,9 +4,6 @@ ghost use Rattle.std.specs.Prelude.{◌≡◌, None};
 ghost use Rattle.upload_plans.specs.Commands.{
   CopiesUp,
   bucket_of,
-  is_copy,
-  is_listing,
-  is_presign,
   is_unbuilt,
   is_unbuilt_copy,
   key_of,
@@ -15,7 +12,7 @@ ghost use Rattle.upload_plans.specs.Commands.{
 };
 
 use s3_model::{Place, Text};
-use s3_words::{Command, Verb};
+use s3_words::Command;
 
 /// The local file of an upload, and the bucket and the key that its words name, as they are written.
 #[derive(Clone, Copy)]
@@ -25,30 +22,10 @@ pub struct Places<'a> {
     pub key: &'a str,
 }
 
-fn is_copy(verb: Verb) -> bool
-    ensures { result ≡ is_copy verb }
-{
-    matches!(verb, Verb::Cp)
-}
-
 fn reads_object(from: &Option<Place>) -> bool
     ensures { result ≡ reads_object from.now }
 {
     matches!(from, Some(Place::Object { .. }))
-}
-
-/// Whether the command is `presign`.
-pub fn is_presign(verb: Verb) -> bool
-    ensures { result ≡ is_presign verb }
-{
-    matches!(verb, Verb::Presign)
-}
-
-/// Whether the command is `ls`.
-pub fn is_listing(verb: Verb) -> bool
-    ensures { result ≡ is_listing verb }
-{
-    matches!(verb, Verb::Ls)
 }
 
 fn is_unbuilt_copy(command: &Command) -> bool
@@ -62,8 +39,8 @@ fn is_unbuilt_copy(command: &Command) -> bool
 pub fn is_unbuilt(command: &Command) -> bool
     ensures { result ≡ is_unbuilt command.now }
 {
-    let shows = is_presign(command.verb) || is_listing(command.verb);
-    !shows && (!is_copy(command.verb) || is_unbuilt_copy(command))
+    let shows = command.verb.is_presign() || command.verb.is_listing();
+    !shows && (!command.verb.is_copy() || is_unbuilt_copy(command))
 }
 
 /// The places of an upload.

@@ -4,5 +4,5 @@
 mod command;
 mod plan;
 
-pub use command::{Places, is_listing, is_presign, is_unbuilt, places_of};
+pub use command::{Places, is_unbuilt, places_of};
 pub use plan::{Fate, plan_upload};

@@ -1,7 +1,6 @@
 //! The plan of one local file that is to become an object.
 
-ghost use Rattle.std.specs.Prelude.{◌≡◌, ◌≢◌, false, IfErr, IfOk, None, OnOk, Some, codes, nat_eq};
-ghost use Rattle.std.specs.List.{ends_with};
+ghost use Rattle.std.specs.Prelude.{◌≡◌, ◌≢◌, false, IfErr, IfOk, None, OnOk, Some};
 ghost use Rattle.std.specs.Str.{chars};
 ghost use Rattle.path_filters.specs.Filters.{is_kept};
 ghost use Rattle.s3_model.specs.ContentTypes.{content_type_of, last_name};
@@ -21,7 +20,9 @@ ghost use Rattle.upload_plans.specs.Plans.{
 
 use crate::command::{PlaceTexts, take_places};
 use path_names::last_name;
-use s3_model::{KeySkip, Kind, OutOfMemory, Place, PlanFault, Task, Text, content_of};
+use s3_model::{
+    KeySkip, Kind, OutOfMemory, Place, PlanFault, Task, Text, content_of, ends_in_slash,
+};
 use s3_outside::Shape;
 use s3_words::Command;
 use std::alloc::Global;
@@ -42,12 +43,6 @@ pub enum Fate {
     /// A filter leaves it out.
     LeftOut,
     Upload(Task),
-}
-
-fn ends_in_slash(text: &str) -> bool
-    ensures { result ≡ ends_with nat_eq text.now (codes "/") }
-{
-    text.ends_with("/")
 }
 
 fn takes_name(key: &str) -> bool

@@ -1,6 +1,9 @@
 use Rattle.std.proofs.Common.{◌≡◌, ◌≤◌, Global, false, true, map, string_bytes, subst, sym}
 use Rattle.s3_words.specs.declared.commands.Command.{Command}
-use Rattle.upload_plans.specs.Commands.{CopiesUp, IsListed, NamesObject, is_listing, is_presign}
+use Rattle.s3_model.specs.Places.{IsListed}
+use Rattle.s3_words.specs.Options.{is_listing, is_presign}
+use Rattle.s3_words.specs.Commands.{NamesObject}
+use Rattle.upload_plans.specs.Commands.{CopiesUp}
 use Rattle.upload_plans.proofs.WordLemmas.{copies_up, names_listed, names_object}
 use Rattle.run_start.proofs.ExpiryLemmas.{expires_within}
 use Rattle.run_start.proofs.start.read_start.Goals as goal

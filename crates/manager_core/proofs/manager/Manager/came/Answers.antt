@@ -60,7 +60,7 @@ settle-requires c =
     let free = c.drop_move.ensures.free in
     let its = back_task r.start r.s r.events m running free c.args.lane c.args.carried r.may in
     let same : its.0 ≡ c.in-Some.task =
-    same_value (sym its.1 ∙ ap (λ (j : JobId). j.task) (sym c.id_of-job.ensures) ∙ c.in-Some.is) in
+    same_value (sym its.1 ∙ ap (λ (j : JobId). j.task) (sym c.id-job.ensures) ∙ c.in-Some.is) in
     subst (λ (t : ℕ). t < length c.self.inside.steps.items) same
     (subst (λ (x : SeenManager). its.0 < length x.steps) (sym c.self.view_is)
     (place_within r.start r.s r.events m running its.0 its.2 its.3
@@ -76,7 +76,7 @@ returns-clause-running c start s events was may =
     let after = Back c.args.lane carried ∷ events in
     let its = back_task start s events m running free c.args.lane carried may in
     let same : its.0 ≡ c.in-Some.task =
-    same_value (sym its.1 ∙ ap (λ (j : JobId). j.task) (sym c.id_of-job.ensures) ∙ c.in-Some.is) in
+    same_value (sym its.1 ∙ ap (λ (j : JobId). j.task) (sym c.id-job.ensures) ∙ c.in-Some.is) in
     let within = place_within start s events m running its.0 its.2 its.3
     (free_at start s events m running free).steps.count in
     let follows = c.back.ensures.goes_on s events
@@ -95,8 +95,8 @@ returns-clause-running c start s events was may =
     c.push.new.self
     (c.push.ensures.items
     ∙ ap (λ (x : SeenManager).
-    x.journal.items ++ entry.Came c.id_of-job.result c.args.lane c.copy_of-tries.result ∷ []) c.self.view_is
-    ∙ ap (λ (j : JobId). m.journal.items ++ entry.Came j c.args.lane c.copy_of-tries.result ∷ []) c.id_of-job.ensures
+    x.journal.items ++ entry.Came c.id-job.result c.args.lane c.copy_of-tries.result ∷ []) c.self.view_is
+    ∙ ap (λ (j : JobId). m.journal.items ++ entry.Came j c.args.lane c.copy_of-tries.result ∷ []) c.id-job.ensures
     ∙ ap (λ (t : List Mark). m.journal.items ++ entry.Came carried.job.id c.args.lane t ∷ [])
     (c.copy_of-tries.ensures ∙ ap (λ (x : SeenCarried). x.tries) c.carried.view_is))
     (c.push.ensures.spare ∙ ap (λ (x : SeenManager). x.journal.spare) c.self.view_is)))))

@@ -28,13 +28,13 @@ pub unreachable-requires : goal.unreachable-requires
 unreachable-requires c =
     let a = c.requires.admitted in
     subst (λ (o : Option ℕ). IsOfTask a.s a.events o c.args.carried)
-    (ap (λ (i : JobId). i.task) (sym c.id_of-id.ensures) ∙ c.in_default.is) a.run.run.0.1
+    (ap (λ (i : JobId). i.task) (sym c.id-id.ensures) ∙ c.in_default.is) a.run.run.0.1
 
 pub pop-requires : goal.pop-requires
 pop-requires c =
     let a = c.requires.admitted in
     returning.within a.s a.events c.args.lane c.args.carried c.in-Some.task c.args.self.now a.run a.follows
-    (ap (λ (i : JobId). i.task) (sym c.id_of-id.ensures) ∙ c.in-Some.is)
+    (ap (λ (i : JobId). i.task) (sym c.id-id.ensures) ∙ c.in-Some.is)
 
 pub take_state-state-requires : goal.take_state-state-requires
 take_state-state-requires c =
@@ -42,14 +42,14 @@ take_state-state-requires c =
     subst (λ (x : SeenMoves). is_some (state_at x c.in-Some.task) ≡ true) (sym c.pop.ensures)
     (ap (λ (o : Option SeenTask). is_some o)
     (returning.going a.s a.events c.args.lane c.args.carried c.in-Some.task c.args.self.now a.run a.follows
-    (ap (λ (i : JobId). i.task) (sym c.id_of-id.ensures) ∙ c.in-Some.is)).slot)
+    (ap (λ (i : JobId). i.task) (sym c.id-id.ensures) ∙ c.in-Some.is)).slot)
 
 pub came-part-requires-clause-out : goal.came-part-requires-clause-out
 came-part-requires-clause-out c =
     let a = c.requires.admitted in
     subst (λ (t : SeenTask). is_out (stage_by t.stages (sent c.args.carried)) ≡ true) (sym c.deref_mut.ensures.value)
     (returning.is_out_in a.s a.events c.args.lane c.args.carried c.in-Some.task c.args.self.now a.run a.follows
-    (ap (λ (i : JobId). i.task) (sym c.id_of-id.ensures) ∙ c.in-Some.is)
+    (ap (λ (i : JobId). i.task) (sym c.id-id.ensures) ∙ c.in-Some.is)
     c.take_state-state.result.value
     (ap (λ (x : SeenMoves). state_at x c.in-Some.task) (sym c.pop.ensures) ∙ c.take_state-state.ensures.state))
 
@@ -57,7 +57,7 @@ pub came-part-requires-clause-first : goal.came-part-requires-clause-first
 came-part-requires-clause-first c has =
     let a = c.requires.admitted in
     let its = subst (λ (o : Option ℕ). IsOfTask a.s a.events o c.args.carried)
-    (ap (λ (i : JobId). i.task) (sym c.id_of-id.ensures) ∙ c.in-Some.is) a.run.run.0.1 in
+    (ap (λ (i : JobId). i.task) (sym c.id-id.ensures) ∙ c.in-Some.is) a.run.run.0.1 in
     had_none its.0 (share its.0 c.in-Some.task a.events) c.args.carried
     (shares_are_histories a.s a.events c.in-Some.task its.0 its.1 a.run.run.1) its.2 has
 
@@ -67,25 +67,25 @@ bring-requires-clause-away c some =
     let t = c.take_state-state.result.value in
     let taken = c.take_state-state.new.self in
     let its = returning.w a.s a.events c.args.lane c.args.carried c.in-Some.task c.args.self.now a.run a.follows
-    (ap (λ (i : JobId). i.task) (sym c.id_of-id.ensures) ∙ c.in-Some.is) in
+    (ap (λ (i : JobId). i.task) (sym c.id-id.ensures) ∙ c.in-Some.is) in
     let heard = returning.heard a.s a.events c.args.lane c.args.carried c.in-Some.task c.args.self.now a.run a.follows
-    (ap (λ (i : JobId). i.task) (sym c.id_of-id.ensures) ∙ c.in-Some.is) in
+    (ap (λ (i : JobId). i.task) (sym c.id-id.ensures) ∙ c.in-Some.is) in
     let later = returning.later a.s a.events c.args.lane c.args.carried c.in-Some.task c.args.self.now a.run a.follows
-    (ap (λ (i : JobId). i.task) (sym c.id_of-id.ensures) ∙ c.in-Some.is) in
+    (ap (λ (i : JobId). i.task) (sym c.id-id.ensures) ∙ c.in-Some.is) in
     let slot : state_at c.args.self.now c.in-Some.task ≡ Some t =
     ap (λ (x : SeenMoves). state_at x c.in-Some.task) (sym c.pop.ensures) ∙ c.take_state-state.ensures.state in
     let stood : Stands its heard c.deref_mut.result.now =
     subst (λ (x : SeenTask). Stands its heard x) (sym c.deref_mut.ensures.value)
     (returning.stood a.s a.events c.args.lane c.args.carried c.in-Some.task c.args.self.now a.run a.follows
-    (ap (λ (i : JobId). i.task) (sym c.id_of-id.ensures) ∙ c.in-Some.is) t slot) in
+    (ap (λ (i : JobId). i.task) (sym c.id-id.ensures) ∙ c.in-Some.is) t slot) in
     let part_is = c.came-part.ensures.part its heard stood in
     let came : Stands its later c.came-part.new.self = c.came-part.ensures.stands its heard stood in
     subst (λ (k : ℕ). held_at c.take_state-state.new.self.parts.slots c.in-Some.task k ≡ Some None)
-    (ap (λ (i : JobId). i.number) (sym c.id_of-id.ensures))
+    (ap (λ (i : JobId). i.number) (sym c.id-id.ensures))
     (subst (λ (x : SeenMoves). held_at x.parts.slots c.in-Some.task c.args.carried.job.id.number ≡ Some None)
     (sym (c.take_state-state.ensures.rest ∙ ap (λ (x : SeenMoves). without_state c.in-Some.task x) c.pop.ensures))
     (returning.part_away a.s a.events c.args.lane c.args.carried c.in-Some.task c.args.self.now a.run a.follows
-    (ap (λ (i : JobId). i.task) (sym c.id_of-id.ensures) ∙ c.in-Some.is) c.requires.room t c.came-part.new.self slot
+    (ap (λ (i : JobId). i.task) (sym c.id-id.ensures) ∙ c.in-Some.is) c.requires.room t c.came-part.new.self slot
     came
     c.came-part.result part_is some))
 
@@ -95,23 +95,23 @@ bring-requires-clause-room c =
     let t = c.take_state-state.result.value in
     let taken = c.take_state-state.new.self in
     let its = returning.w a.s a.events c.args.lane c.args.carried c.in-Some.task c.args.self.now a.run a.follows
-    (ap (λ (i : JobId). i.task) (sym c.id_of-id.ensures) ∙ c.in-Some.is) in
+    (ap (λ (i : JobId). i.task) (sym c.id-id.ensures) ∙ c.in-Some.is) in
     let heard = returning.heard a.s a.events c.args.lane c.args.carried c.in-Some.task c.args.self.now a.run a.follows
-    (ap (λ (i : JobId). i.task) (sym c.id_of-id.ensures) ∙ c.in-Some.is) in
+    (ap (λ (i : JobId). i.task) (sym c.id-id.ensures) ∙ c.in-Some.is) in
     let later = returning.later a.s a.events c.args.lane c.args.carried c.in-Some.task c.args.self.now a.run a.follows
-    (ap (λ (i : JobId). i.task) (sym c.id_of-id.ensures) ∙ c.in-Some.is) in
+    (ap (λ (i : JobId). i.task) (sym c.id-id.ensures) ∙ c.in-Some.is) in
     let slot : state_at c.args.self.now c.in-Some.task ≡ Some t =
     ap (λ (x : SeenMoves). state_at x c.in-Some.task) (sym c.pop.ensures) ∙ c.take_state-state.ensures.state in
     let stood : Stands its heard c.deref_mut.result.now =
     subst (λ (x : SeenTask). Stands its heard x) (sym c.deref_mut.ensures.value)
     (returning.stood a.s a.events c.args.lane c.args.carried c.in-Some.task c.args.self.now a.run a.follows
-    (ap (λ (i : JobId). i.task) (sym c.id_of-id.ensures) ∙ c.in-Some.is) t slot) in
+    (ap (λ (i : JobId). i.task) (sym c.id-id.ensures) ∙ c.in-Some.is) t slot) in
     let part_is = c.came-part.ensures.part its heard stood in
     let came : Stands its later c.came-part.new.self = c.came-part.ensures.stands its heard stood in
     subst (λ (x : SeenMoves). IfSome c.came-part.result (λ part. x.parts.pool.room ≤ part.bytes.room))
     (sym (c.take_state-state.ensures.rest ∙ ap (λ (x : SeenMoves). without_state c.in-Some.task x) c.pop.ensures))
     (returning.part_fits a.s a.events c.args.lane c.args.carried c.in-Some.task c.args.self.now a.run a.follows
-    (ap (λ (i : JobId). i.task) (sym c.id_of-id.ensures) ∙ c.in-Some.is) c.requires.room t c.came-part.new.self slot
+    (ap (λ (i : JobId). i.task) (sym c.id-id.ensures) ∙ c.in-Some.is) c.requires.room t c.came-part.new.self slot
     came
     c.came-part.result part_is)
 
@@ -121,17 +121,17 @@ free_where-requires c e =
     let t = c.take_state-state.result.value in
     let taken = c.take_state-state.new.self in
     let its = returning.w a.s a.events c.args.lane c.args.carried c.in-Some.task c.args.self.now a.run a.follows
-    (ap (λ (i : JobId). i.task) (sym c.id_of-id.ensures) ∙ c.in-Some.is) in
+    (ap (λ (i : JobId). i.task) (sym c.id-id.ensures) ∙ c.in-Some.is) in
     let heard = returning.heard a.s a.events c.args.lane c.args.carried c.in-Some.task c.args.self.now a.run a.follows
-    (ap (λ (i : JobId). i.task) (sym c.id_of-id.ensures) ∙ c.in-Some.is) in
+    (ap (λ (i : JobId). i.task) (sym c.id-id.ensures) ∙ c.in-Some.is) in
     let later = returning.later a.s a.events c.args.lane c.args.carried c.in-Some.task c.args.self.now a.run a.follows
-    (ap (λ (i : JobId). i.task) (sym c.id_of-id.ensures) ∙ c.in-Some.is) in
+    (ap (λ (i : JobId). i.task) (sym c.id-id.ensures) ∙ c.in-Some.is) in
     let slot : state_at c.args.self.now c.in-Some.task ≡ Some t =
     ap (λ (x : SeenMoves). state_at x c.in-Some.task) (sym c.pop.ensures) ∙ c.take_state-state.ensures.state in
     let stood : Stands its heard c.deref_mut.result.now =
     subst (λ (x : SeenTask). Stands its heard x) (sym c.deref_mut.ensures.value)
     (returning.stood a.s a.events c.args.lane c.args.carried c.in-Some.task c.args.self.now a.run a.follows
-    (ap (λ (i : JobId). i.task) (sym c.id_of-id.ensures) ∙ c.in-Some.is) t slot) in
+    (ap (λ (i : JobId). i.task) (sym c.id-id.ensures) ∙ c.in-Some.is) t slot) in
     let part_is = c.came-part.ensures.part its heard stood in
     let came : Stands its later c.came-part.new.self = c.came-part.ensures.stands its heard stood in
     let m2 = c.take_state-state.ensures.rest ∙ ap (λ (x : SeenMoves). without_state c.in-Some.task x) c.pop.ensures in
@@ -145,7 +145,7 @@ free_where-requires c e =
     c.args.self.now.reason)) =
     c.stays-stays.ensures
     ∙ ap (λ (i : JobId). comes_down i.op && not (c.deref-2.result.now.causes.failing || is_some taken.reason))
-    c.id_of-id.ensures
+    c.id-id.ensures
     ∙ ap (λ (x : SeenTask). comes_down c.args.carried.job.id.op && not (x.causes.failing || is_some taken.reason))
     (c.deref-2.ensures ∙ sym c.deref_mut-2.ensures.value)
     ∙ ap (λ (x : SeenMoves). comes_down c.args.carried.job.id.op
@@ -156,10 +156,10 @@ free_where-requires c e =
     let put = subst (λ (x : SeenMoves). IsBrought c.in-Some.task c.args.carried.job.id.number c.came-part.result
     c.stays-stays.result x.parts.slots c.bring.new.self.parts.slots) m2
     (subst (λ (i : JobId). IsBrought c.in-Some.task i.number c.came-part.result c.stays-stays.result taken.parts.slots
-    c.bring.new.self.parts.slots) c.id_of-id.ensures c.bring.ensures.held) in
+    c.bring.new.self.parts.slots) c.id-id.ensures c.bring.ensures.held) in
     let pool = subst (λ (x : SeenMoves). IsSamePool x.parts.pool c.bring.new.self.parts.pool) m2 c.bring.ensures.pool in
     returning.are_away a.s a.events c.args.lane c.args.carried c.in-Some.task c.args.self.now a.run a.follows
-    (ap (λ (i : JobId). i.task) (sym c.id_of-id.ensures) ∙ c.in-Some.is) c.requires.room t c.deref_mut-2.result.now
+    (ap (λ (i : JobId). i.task) (sym c.id-id.ensures) ∙ c.in-Some.is) c.requires.room t c.deref_mut-2.result.now
     slot stands
     c.is_stopped-stopped.result c.fails-stops.result c.stays-stays.result stopped_is fails_is stays_is
     c.came-part.result
@@ -169,9 +169,9 @@ pub put_state-requires-clause-counted : goal.put_state-requires-clause-counted
 put_state-requires-clause-counted c =
     let a = c.requires.admitted in
     let its = returning.w a.s a.events c.args.lane c.args.carried c.in-Some.task c.args.self.now a.run a.follows
-    (ap (λ (i : JobId). i.task) (sym c.id_of-id.ensures) ∙ c.in-Some.is) in
+    (ap (λ (i : JobId). i.task) (sym c.id-id.ensures) ∙ c.in-Some.is) in
     let going = returning.going a.s a.events c.args.lane c.args.carried c.in-Some.task c.args.self.now a.run a.follows
-    (ap (λ (i : JobId). i.task) (sym c.id_of-id.ensures) ∙ c.in-Some.is) in
+    (ap (λ (i : JobId). i.task) (sym c.id-id.ensures) ∙ c.in-Some.is) in
     let some = is_counted a.s a.events c.args.self.now c.in-Some.task its a.follows going in
     let most = at_most_one c.free_where.new.state in
     let moved = moved_again c.in-Some.task c.pop.new.self c.bring.new.self c.free_where.new.self
@@ -186,17 +186,17 @@ returns-clause-goes_on c s events run follows =
     let t = c.take_state-state.result.value in
     let taken = c.take_state-state.new.self in
     let its = returning.w s events c.args.lane c.args.carried c.in-Some.task c.args.self.now run follows
-    (ap (λ (i : JobId). i.task) (sym c.id_of-id.ensures) ∙ c.in-Some.is) in
+    (ap (λ (i : JobId). i.task) (sym c.id-id.ensures) ∙ c.in-Some.is) in
     let heard = returning.heard s events c.args.lane c.args.carried c.in-Some.task c.args.self.now run follows
-    (ap (λ (i : JobId). i.task) (sym c.id_of-id.ensures) ∙ c.in-Some.is) in
+    (ap (λ (i : JobId). i.task) (sym c.id-id.ensures) ∙ c.in-Some.is) in
     let later = returning.later s events c.args.lane c.args.carried c.in-Some.task c.args.self.now run follows
-    (ap (λ (i : JobId). i.task) (sym c.id_of-id.ensures) ∙ c.in-Some.is) in
+    (ap (λ (i : JobId). i.task) (sym c.id-id.ensures) ∙ c.in-Some.is) in
     let slot : state_at c.args.self.now c.in-Some.task ≡ Some t =
     ap (λ (x : SeenMoves). state_at x c.in-Some.task) (sym c.pop.ensures) ∙ c.take_state-state.ensures.state in
     let stood : Stands its heard c.deref_mut.result.now =
     subst (λ (x : SeenTask). Stands its heard x) (sym c.deref_mut.ensures.value)
     (returning.stood s events c.args.lane c.args.carried c.in-Some.task c.args.self.now run follows
-    (ap (λ (i : JobId). i.task) (sym c.id_of-id.ensures) ∙ c.in-Some.is) t slot) in
+    (ap (λ (i : JobId). i.task) (sym c.id-id.ensures) ∙ c.in-Some.is) t slot) in
     let part_is = c.came-part.ensures.part its heard stood in
     let came : Stands its later c.came-part.new.self = c.came-part.ensures.stands its heard stood in
     let m2 = c.take_state-state.ensures.rest ∙ ap (λ (x : SeenMoves). without_state c.in-Some.task x) c.pop.ensures in
@@ -210,7 +210,7 @@ returns-clause-goes_on c s events run follows =
     c.args.self.now.reason)) =
     c.stays-stays.ensures
     ∙ ap (λ (i : JobId). comes_down i.op && not (c.deref-2.result.now.causes.failing || is_some taken.reason))
-    c.id_of-id.ensures
+    c.id-id.ensures
     ∙ ap (λ (x : SeenTask). comes_down c.args.carried.job.id.op && not (x.causes.failing || is_some taken.reason))
     (c.deref-2.ensures ∙ sym c.deref_mut-2.ensures.value)
     ∙ ap (λ (x : SeenMoves). comes_down c.args.carried.job.id.op
@@ -221,13 +221,13 @@ returns-clause-goes_on c s events run follows =
     let put = subst (λ (x : SeenMoves). IsBrought c.in-Some.task c.args.carried.job.id.number c.came-part.result
     c.stays-stays.result x.parts.slots c.bring.new.self.parts.slots) m2
     (subst (λ (i : JobId). IsBrought c.in-Some.task i.number c.came-part.result c.stays-stays.result taken.parts.slots
-    c.bring.new.self.parts.slots) c.id_of-id.ensures c.bring.ensures.held) in
+    c.bring.new.self.parts.slots) c.id-id.ensures c.bring.ensures.held) in
     let pool = subst (λ (x : SeenMoves). IsSamePool x.parts.pool c.bring.new.self.parts.pool) m2 c.bring.ensures.pool in
     let moved = moved_again c.in-Some.task c.pop.new.self c.bring.new.self c.free_where.new.self
     (taken_moved c.in-Some.task c.pop.new.self c.take_state-state.new.self c.bring.new.self
     c.take_state-state.ensures.rest c.bring.ensures.rest) c.free_where.ensures.rest in
     returning.returned_follows s events c.args.lane c.args.carried c.in-Some.task c.args.self.now run follows
-    (ap (λ (i : JobId). i.task) (sym c.id_of-id.ensures) ∙ c.in-Some.is) c.requires.room t c.deref_mut-2.result.now
+    (ap (λ (i : JobId). i.task) (sym c.id-id.ensures) ∙ c.in-Some.is) c.requires.room t c.deref_mut-2.result.now
     slot stands
     c.is_stopped-stopped.result c.fails-stops.result c.stays-stays.result stopped_is fails_is stays_is
     c.came-part.result
@@ -244,7 +244,7 @@ returns-clause-bytes c =
     let a = c.requires.admitted in
     let m = c.args.self.now in
     let t = c.take_state-state.result.value in
-    let of_task = ap (λ (i : JobId). i.task) (sym c.id_of-id.ensures) ∙ c.in-Some.is in
+    let of_task = ap (λ (i : JobId). i.task) (sym c.id-id.ensures) ∙ c.in-Some.is in
     let its = returning.w a.s a.events c.args.lane c.args.carried c.in-Some.task m a.run a.follows of_task in
     let heard = returning.heard a.s a.events c.args.lane c.args.carried c.in-Some.task m a.run a.follows of_task in
     let stood : Stands its heard c.deref_mut.result.now =
@@ -255,7 +255,7 @@ returns-clause-bytes c =
     let put = subst (λ (x : SeenMoves). IsBrought c.in-Some.task c.args.carried.job.id.number c.came-part.result
     c.stays-stays.result x.parts.slots c.bring.new.self.parts.slots) m2
     (subst (λ (i : JobId). IsBrought c.in-Some.task i.number c.came-part.result c.stays-stays.result
-    c.take_state-state.new.self.parts.slots c.bring.new.self.parts.slots) c.id_of-id.ensures c.bring.ensures.held) in
+    c.take_state-state.new.self.parts.slots c.bring.new.self.parts.slots) c.id-id.ensures c.bring.ensures.held) in
     subst (λ (x : SeenMoves). KeepsBytes (part_by c.args.carried) m.parts.slots x.parts.slots) (sym c.put_state.ensures)
     (bytes_then (part_by c.args.carried) m.parts.slots c.bring.new.self.parts.slots
     c.free_where.new.self.parts.slots
