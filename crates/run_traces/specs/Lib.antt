@@ -1,0 +1,4 @@
+pub mod Exchanges
+pub mod Files
+pub mod Plannings
+pub mod Traces
