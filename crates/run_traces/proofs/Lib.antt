@@ -1,7 +1,11 @@
+pub mod Completions
+pub mod Dispatching
 pub mod Exchanging
+pub mod Forward
 pub mod Handing
 pub mod Pending
 pub mod Planned
 pub mod Splits
 pub mod Steps
+pub mod Tallies
 pub mod Turns

@@ -5,10 +5,10 @@ use Rattle.std.specs.Prelude.{drop}
 use Rattle.jobs.specs.Endings.{SeenCarried}
 use Rattle.jobs.specs.Jobs.{SeenJob}
 use Rattle.shared_lemmas.proofs.Clashes.{none_is_some}
-use Rattle.shared_lemmas.proofs.Members.{place_in_front}
+use Rattle.shared_lemmas.proofs.Members.{place_in_front, place_middle}
 use Rattle.run_traces.specs.Traces.{Called, Gave, IsRunTrace, Lined, Made, RunTrace, Stopped, Took, pending_in}
 use Rattle.run_traces.proofs.Splits.{snoc_at}
-use Rattle.run_traces.proofs.Steps.{gave_given, gave_taken, given_count, given_in, given_grows, taken_count, taken_counted, taken_grows, took_given, took_taken}
+use Rattle.run_traces.proofs.Steps.{gave_given, gave_here, gave_taken, given_count, given_in, given_grows, taken_count, taken_counted, taken_grows, took_given, took_taken}
 
 -- ---- lists
 
@@ -23,6 +23,9 @@ pub get_at : {X : Type 0} (xs : List X) (k : ℕ) → k < length xs → (x : X) 
 get_at [] k below = absurd (omega arith)
 get_at (x ∷ xs) zero below = (x, refl)
 get_at (x ∷ xs) (suc k) below = get_at xs k (omega arith)
+
+pub more_or_same : (m n : ℕ) → m ≤ n → (m < n) ⊎ (m ≡ n)
+more_or_same m n below = grind arith
 
 -- ---- pending jobs
 
@@ -97,6 +100,13 @@ pending_still t to job lane number other at = record { given = given; behind = l
       | inl here ↦ subst (λ (js : List SeenJob). slice_get js number ≡ Some other) (sym here.1) (place_in_front (given_in lane t) (job ∷ []) number other at.given)
       | inr apart ↦ subst (λ (js : List SeenJob). slice_get js number ≡ Some other) (sym apart.1) at.given
     ]
+
+-- what is given is pending
+pub new_pending : (t : RunTrace) (to : ℕ) (job : SeenJob) → IsRunTrace t → IsPendingAt (Gave to job ∷ t) to (given_count to t) job
+new_pending t to job run = record {
+  given = subst (λ (js : List SeenJob). slice_get js (given_count to t) ≡ Some job) (sym (gave_here t to job)) (place_middle (given_in to t) job []);
+  behind = let same = ap (λ (cs : List SeenCarried). length cs) (gave_taken t to job to) in let few = taken_behind t run to in omega arith;
+}
 
 -- what is pending behind a completion was pending before it
 pub pending_before : (t : RunTrace) (from : ℕ) (c : SeenCarried) (lane number : ℕ) (other : SeenJob) → IsPendingAt (Took from c ∷ t) lane number other → IsPendingAt t lane number other
