@@ -179,20 +179,20 @@ module _ (Shows : Ask → ℕ → Talk → Class → List ℕ → Type 0) where
   -- number was refused by its content
   module _ (request_text : Ask → List ℕ → ℕ → List ℕ) (host : List ℕ) (port : ℕ)
       (Plans : Option ℕ → List Dispatched → Type 0) where
-      -- However the jobs of the run are read, and over every honest service that does what it may: where each answer is
-      -- certain, nobody else writes, the buckets of the destinations are there, and the run is not cancelled, each task
-      -- is done (or skipped, see above), but one whose file call failed or for which memory ran out.
-      abbrev pub IsDoneWhereWilling : Shown → Type 0
-      IsDoneWhereWilling shown = (run : Run) (coming : List Dispatched)
-          → IsSchedule Shows shown.setting (Plans shown.refused_page) run.dispatched coming
-          → IsCarried Shows request_text host port shown.setting shown.journal shown.logs shown.notes
-          run.dispatched coming
-          → FitsShown shown run → IsWilling shown.setting.limits run.start run.trace
-          → AreCertain run.dispatched → IsAlone run.trace → HasDestBuckets shown.setting.tasks run.start
-          → shown.setting.cancelled_at ≡ None
-          → (n : ℕ) (how : Outcome) → slice_get shown.outcomes n ≡ Some how
-          → IsFinished shown.setting.dryrun (WasTaken shown run.start n) how ⊎ (shown.setting.file_failed n ≡ true)
-          ⊎ (shown.setting.wanted_memory (Some n) ≡ true)
+    -- However the jobs of the run are read, and over every honest service that does what it may: where each answer is
+    -- certain, nobody else writes, the buckets of the destinations are there, and the run is not cancelled, each task
+    -- is done (or skipped, see above), but one whose file call failed or for which memory ran out.
+    abbrev pub IsDoneWhereWilling : Shown → Type 0
+    IsDoneWhereWilling shown = (run : Run) (coming : List Dispatched)
+        → IsSchedule Shows shown.setting (Plans shown.refused_page) run.dispatched coming
+        → IsCarried Shows request_text host port shown.setting shown.journal shown.logs shown.notes
+        run.dispatched coming
+        → FitsShown shown run → IsWilling shown.setting.limits run.start run.trace
+        → AreCertain run.dispatched → IsAlone run.trace → HasDestBuckets shown.setting.tasks run.start
+        → shown.setting.cancelled_at ≡ None
+        → (n : ℕ) (how : Outcome) → slice_get shown.outcomes n ≡ Some how
+        → IsFinished shown.setting.dryrun (WasTaken shown run.start n) how ⊎ (shown.setting.file_failed n ≡ true)
+        ⊎ (shown.setting.wanted_memory (Some n) ≡ true)
 
 -- `HasStatus ask limit talk status`: its answer has that HTTP status; `Plans refused_page`: as above;
 -- `CallFailed n why`: the calls on files show that one of task n failed so

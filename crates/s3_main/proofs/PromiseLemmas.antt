@@ -200,7 +200,7 @@ module _ (words : List (List ℕ)) (env : Option SeenEnv) (limits : Limits) (val
     endpoint = nowhere;
     settings = some_settings;
     cancelled_at = None;
-      refused_page = None;
+    refused_page = None;
     begun = λ some. absurd (some u.nothing.no_job);
     keeps = of_run None nowhere some_settings [] [] [] [] [] [] u.nothing.no_task u.nothing.no_outcome u.nothing.no_job u.nothing.no_warning u.no_talk u.no_note
         (nothing nowhere some_settings some_valid (asks_none words run.fatal u.nothing.stopped) [] [] none_idle);
@@ -211,7 +211,7 @@ module _ (words : List (List ℕ)) (env : Option SeenEnv) (limits : Limits) (val
     endpoint = nowhere;
     settings = some_settings;
     cancelled_at = None;
-      refused_page = None;
+    refused_page = None;
     begun = λ some. absurd (some u.taskless.no_job);
     keeps = of_run None nowhere some_settings [] [] [] [] [] (Moment u.moment ∷ []) u.taskless.no_task u.taskless.no_outcome u.taskless.no_job u.taskless.no_warning u.no_talk u.noted
         (nothing nowhere some_settings some_valid (refl, inl (no_needs words u.command run.fatal u.begun.rest (presign_is_no_listing u.command.verb u.presign))) [] (Moment u.moment ∷ []) (moment_idle u.moment));

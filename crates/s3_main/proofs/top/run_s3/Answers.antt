@@ -8,9 +8,12 @@ use Rattle.s3_main.proofs.top.run_s3.Goals as goal
 pub returns-clause-went : goal.returns-clause-went
 returns-clause-went g c =
     lemma.on_used (map (string_bytes {Z = Global}) c.args.words.now) (g.E.Env.seen c.execute-worked.new.env) (λ wire. g.W.Wire.seen wire) c.args.wires.now.items c.index_mut.result.now c.execute-worked.new.wire _ _
-    (λ talks notes goes. (λ lane beyond. (beyond_first talks lane beyond, beyond_first notes lane beyond), lemma.goes c.execute-worked.result.executed.run c.report.result c.execute-worked.result.executed.text
-    (record { plan = c.report.ensures.plan; outcomes = c.report.ensures.outcomes; journal = c.report.ensures.journal; warnings = c.report.ensures.warnings; fatal = c.report.ensures.fatal })
-    _ _ 0 0 _ _ _ _ _ talks notes goes)) (omega (arith, c.requires.some, c.args.wires.now.ok.0)) c.index_mut.ensures.value c.execute-worked.ensures.went
+    (λ talks notes goes. (
+      λ lane beyond. (beyond_first talks lane beyond, beyond_first notes lane beyond),
+      lemma.goes c.execute-worked.result.executed.run c.report.result c.execute-worked.result.executed.text
+          (record { plan = c.report.ensures.plan; outcomes = c.report.ensures.outcomes; journal = c.report.ensures.journal; warnings = c.report.ensures.warnings; fatal = c.report.ensures.fatal })
+          _ _ 0 0 _ _ _ _ _ talks notes goes,
+    )) (omega (arith, c.requires.some, c.args.wires.now.ok.0)) c.index_mut.ensures.value c.execute-worked.ensures.went
 
 pub returns-clause-truthful : goal.returns-clause-truthful
 returns-clause-truthful g c =
