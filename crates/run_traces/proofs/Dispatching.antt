@@ -1,5 +1,5 @@
 -- The dispatches that the journal of a trace shows: one for each job that was given, with the talks of its number.
-use Rattle.std.proofs.Common.{◌≡◌, ◌∙◌, ◌==◌, ◌+◌, ◌<◌, ◌++◌, ℕ, zero, suc, Bool, true, false, cond, List, [], ◌∷◌, Option, Some, refl, sym, subst, ap, inl, inr, arith, length, map, filter, slice_get, append_assoc, append-nil, if◌then◌else◌}
+use Rattle.std.proofs.Common.{◌≤◌, ◌≡◌, ◌∙◌, ◌==◌, ◌+◌, ◌<◌, ◌++◌, ℕ, zero, suc, Bool, true, false, cond, List, [], ◌∷◌, Option, Some, refl, sym, subst, ap, inl, inr, arith, length, map, filter, slice_get, append_assoc, append-nil, if◌then◌else◌}
 use Rattle.std.proofs.lemmas.Grind.{reverse_onto}
 use Rattle.std.proofs.lemmas.List.{length-append}
 use Rattle.std.proofs.lemmas.List.Sums.{sum_by-cons}
@@ -32,7 +32,7 @@ paired_front [] talks more e = refl
 paired_front (m ∷ marks) [] more e = absurd (omega arith)
 paired_front (m ∷ marks) (t ∷ talks) more e = ap (λ (tries : List Attempt). record { mark = m; talk = t } ∷ tries) (paired_front marks talks more (omega arith))
 
-paired_long : (marks : List Mark) (talks : List Talk) → length talks ≡ length marks → length (paired marks talks) ≡ length marks
+pub paired_long : (marks : List Mark) (talks : List Talk) → length talks ≡ length marks → length (paired marks talks) ≡ length marks
 paired_long [] talks e = refl
 paired_long (m ∷ marks) [] e = absurd (omega arith)
 paired_long (m ∷ marks) (t ∷ talks) e = ap suc (paired_long marks talks (omega arith))
@@ -42,6 +42,9 @@ drop_front zero [] ys e = refl
 drop_front zero (x ∷ xs) ys e = absurd (omega arith)
 drop_front (suc n) [] ys e = absurd (omega arith)
 drop_front (suc n) (x ∷ xs) ys e = drop_front n xs ys (omega arith)
+
+no_less : (n : ℕ) → n ≤ n
+no_less n = omega arith
 
 gave_same : (lane : ℕ) (a b : SeenJob) → ◌≡◌ {A = RunStep} (Gave lane a) (Gave lane b) → a ≡ b
 gave_same lane a b e = cc
@@ -77,6 +80,11 @@ module _ (trace : RunTrace) (shares : ℕ → ℕ → List Talk) where
   abbrev pub Numbered : (lane number : ℕ) → List Row → Type 0
   Numbered lane number [] = number ≡ given_count lane trace
   Numbered lane number (row ∷ rows) = (row.dispatch.lane ≡ lane) × (number_of row ≡ number) × Numbered lane (number + 1) rows
+
+  -- in the order in which their jobs were given
+  abbrev pub Rising : List Row → Type 0
+  Rising [] = Unit {0}
+  Rising (row ∷ rows) = ((other : Row) → Has rows other → entry_count row.before < entry_count other.before) × Rising rows
 
   -- ---- all of them
 
@@ -180,6 +188,8 @@ module _ (trace : RunTrace) (shares : ℕ → ℕ → List Talk) where
       pub rows : List Row
       pub is : dispatches_from logs before (entry_count t) (entries_of steps) ≡ reverse before ++ map (λ (row : Row). row.dispatch) rows
       pub numbered : (lane : ℕ) → Numbered lane (given_count lane t) (rows_in lane rows)
+      pub above : (row : Row) → Has rows row → entry_count t ≤ entry_count row.before
+      pub rising : Rising rows
 
     -- a job that is given
     module _ (t : RunTrace) (lane : ℕ) (job : SeenJob) (steps : List RunStep) (logs : ℕ → List Talk) (before : List Dispatch) (there : IsRunTrace (Gave lane job ∷ t)) (ready : IsReady t logs before)
@@ -292,8 +302,17 @@ module _ (trace : RunTrace) (shares : ℕ → ℕ → List Talk) where
             ∙ ap (λ (ds : List Dispatch). ds ++ map (λ (r : Row). r.dispatch) s.rows) (reverse_onto before new [])
             ∙ append_assoc (reverse before) (new ∷ []) (map (λ (r : Row). r.dispatch) s.rows);
         numbered = numbered;
+        above = above;
+        rising = (later, s.rising);
       }
         where
+          later : (other : Row) → Has s.rows other → entry_count t < entry_count other.before
+          later other h = let low = s.above other h in let one = gave_counted lane job t in omega arith
+
+          above : (r : Row) → Has (row ∷ s.rows) r → entry_count t ≤ entry_count r.before
+          above r (inl e) = subst (λ (x : Row). entry_count t ≤ entry_count x.before) e (no_less (entry_count t))
+          above r (inr h) = let low = later r h in omega arith
+
           numbered : (other : ℕ) → Numbered other (given_count other t) (rows_in other (row ∷ s.rows))
           numbered other = elim (test_of lane other) [
             | inl same ↦
@@ -331,6 +350,8 @@ module _ (trace : RunTrace) (shares : ℕ → ℕ → List Talk) where
       rows = s.rows;
       is = ap (λ (k : ℕ). dispatches_from logs before k (entries_of steps)) (sym (took_counted from c t)) ∙ s.is;
       numbered = λ lane. subst (λ (js : List SeenJob). Numbered lane (length js) (rows_in lane s.rows)) (took_given t from c lane) (s.numbered lane);
+      above = λ row h. let low = s.above row h in let one = took_counted from c t in omega arith;
+      rising = s.rising;
     }
 
     -- any other step
@@ -341,7 +362,7 @@ module _ (trace : RunTrace) (shares : ℕ → ℕ → List Talk) where
     }
 
     pub shown : (steps : List RunStep) (t : RunTrace) (logs : ℕ → List Talk) (before : List Dispatch) → onto steps t ≡ trace → IsReady t logs before → Shown t steps logs before
-    shown [] t logs before e ready = record { rows = []; is = sym (append-nil (reverse before)); numbered = λ lane. ap (λ (s : RunTrace). given_count lane s) e }
+    shown [] t logs before e ready = record { rows = []; is = sym (append-nil (reverse before)); numbered = λ lane. ap (λ (s : RunTrace). given_count lane s) e; above = λ row none. absurd none; rising = tt }
     shown (Gave lane job ∷ steps) t logs before e ready =
         let f = found t lane job steps e in
         let newer = newer_of steps (Gave lane job ∷ t) in
@@ -351,16 +372,16 @@ module _ (trace : RunTrace) (shares : ℕ → ℕ → List Talk) where
         took_shown t from c steps logs before (shown steps (Took from c ∷ t) logs before e (took_ready t from c steps logs before e ready))
     shown (Called task called result made notes ∷ steps) t logs before e ready =
         let s = shown steps (Called task called result made notes ∷ t) logs before e (passed_ready t (Called task called result made notes ∷ t) logs before (λ l. refl) (λ id. refl) ready) in
-        record { rows = s.rows; is = s.is; numbered = s.numbered }
+        record { rows = s.rows; is = s.is; numbered = s.numbered; above = s.above; rising = s.rising }
     shown (Made fits ∷ steps) t logs before e ready =
         let s = shown steps (Made fits ∷ t) logs before e (passed_ready t (Made fits ∷ t) logs before (λ l. refl) (λ id. refl) ready) in
-        record { rows = s.rows; is = s.is; numbered = s.numbered }
+        record { rows = s.rows; is = s.is; numbered = s.numbered; above = s.above; rising = s.rising }
     shown (Lined ∷ steps) t logs before e ready =
         let s = shown steps (Lined ∷ t) logs before e (passed_ready t (Lined ∷ t) logs before (λ l. refl) (λ id. refl) ready) in
-        record { rows = s.rows; is = s.is; numbered = s.numbered }
+        record { rows = s.rows; is = s.is; numbered = s.numbered; above = s.above; rising = s.rising }
     shown (Stopped reason ∷ steps) t logs before e ready =
         let s = shown steps (Stopped reason ∷ t) logs before e (passed_ready t (Stopped reason ∷ t) logs before (λ l. refl) (λ id. refl) ready) in
-        record { rows = s.rows; is = s.is; numbered = s.numbered }
+        record { rows = s.rows; is = s.is; numbered = s.numbered; above = s.above; rising = s.rising }
 
     -- ---- the whole trace
 
@@ -368,6 +389,7 @@ module _ (trace : RunTrace) (shares : ℕ → ℕ → List Talk) where
       pub rows : List Row
       pub is : dispatches (journal_of trace) logs ≡ map (λ (row : Row). row.dispatch) rows
       pub numbered : (lane : ℕ) → Numbered lane 0 (rows_in lane rows)
+      pub rising : Rising rows
 
     pub all_shown : (logs : ℕ → List Talk) → ((lane : ℕ) → logs lane ≡ rest lane 0) → AllShown logs
     all_shown logs are =
@@ -378,4 +400,5 @@ module _ (trace : RunTrace) (shares : ℕ → ℕ → List Talk) where
           rows = s.rows;
           is = ap (λ (es : List Entry). dispatches es logs) (sym journal_is) ∙ s.is;
           numbered = s.numbered;
+          rising = s.rising;
         }

@@ -5,6 +5,7 @@ pub mod Forward
 pub mod Handing
 pub mod Pending
 pub mod Planned
+pub mod Rows
 pub mod Splits
 pub mod Steps
 pub mod Tallies

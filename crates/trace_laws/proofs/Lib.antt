@@ -1,0 +1,9 @@
+pub mod Bodies
+pub mod Closed
+pub mod Coming
+pub mod Givings
+pub mod Journal
+pub mod Own
+pub mod Sorting
+pub mod Stopping
+pub mod Trips
