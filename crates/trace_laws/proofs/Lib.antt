@@ -7,3 +7,4 @@ pub mod Own
 pub mod Sorting
 pub mod Stopping
 pub mod Trips
+pub mod Witness
