@@ -41,6 +41,20 @@ runs_at R (b ∷ befores) (l ∷ lanes) (a ∷ afters) each (suc lane) = elim (r
 ]
 runs_at R befores lanes afters each lane = absurd each
 
+-- what follows from what each worker does with a job follows from what all do
+runs_by : {V J D : Type 0} (R S : V → J → D → V → Type 0) → ((before : V) (job : J) (done : D) (after : V) → R before job done after → S before job done after)
+    → (before : V) (given : List J) (taken : List D) (after : V) → Runs R before given taken after → Runs S before given taken after
+runs_by R S by before [] [] after ran = ran
+runs_by R S by before (job ∷ given) (done ∷ taken) after (next, one, more) = (next, by before job done next one, runs_by R S by next given taken after more)
+runs_by R S by before (job ∷ given) [] after ran = absurd ran
+runs_by R S by before [] (done ∷ taken) after ran = absurd ran
+
+pub each_runs_by : {V J D : Type 0} (R S : V → J → D → V → Type 0) → ((before : V) (job : J) (done : D) (after : V) → R before job done after → S before job done after)
+    → (befores : List V) (lanes : List (Exchange J D)) (afters : List V) → EachRuns R befores lanes afters → EachRuns S befores lanes afters
+each_runs_by R S by [] [] [] each = tt
+each_runs_by R S by (b ∷ befores) (l ∷ lanes) (a ∷ afters) each = (runs_by R S by b l.given l.taken a each.0, each_runs_by R S by befores lanes afters each.1)
+each_runs_by R S by befores lanes afters each = absurd each
+
 -- ---- one job of a lane
 
 made_of : (e f : Endpoint) (k l : Keys) (m n : ℕ) → e ≡ f → k ≡ l → m ≡ n → ◌≡◌ {A = SeenCarrier} (record { endpoint = e; keys = k; attempts = m }) (record { endpoint = f; keys = l; attempts = n })

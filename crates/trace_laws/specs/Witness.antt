@@ -1,5 +1,5 @@
--- A trace over two lanes that meets what the laws take: while a job of the planning is pending in one lane, a removal is
--- stopped in the other, and given again behind it. And neighbours of it that are none.
+-- A trace over two lanes that meets what the laws take: while a job of the planning is pending in one lane, a removal
+-- is stopped in the other, and given again behind it. And neighbours of it that are none.
 use Rattle.std.specs.Prelude.{◌++◌, [], ◌∷◌, ℕ, zero, suc, List, Option, Some, None}
 use Rattle.job_terms.specs.Jobs.{job_of}
 use Rattle.jobs.specs.Endings.{SeenCarried}

@@ -7,8 +7,8 @@ ghost use Rattle.trace_laws.specs.Witness.{NoneAreExchanged, NoneIsGivenTwice, T
 use s3_outside::Wire;
 
 /// Once the lanes of a trace are joined, each completion is that of the oldest pending job of its lane, whether or not
-/// their wires are seen, and the jobs of tasks come back for what they were given. So no lanes exchanged their jobs, and
-/// no job was given while it was pending.
+/// their wires are seen, and the jobs of tasks come back for what they were given. So no lanes exchanged their jobs,
+/// and no job was given while it was pending.
 pub fn completions_are_own<W: Wire>()
     ensures own { CompletionsAreOwn W.seen }
     ensures none { NoneIsStranger W.seen }
