@@ -62,8 +62,8 @@ use Rattle.world_laws.proofs.Rows as rows
 use Rattle.world_laws.proofs.Tasks as tasks
 use Rattle.world_laws.proofs.Tasks.{last_place, planning_changes_nothing}
 use Rattle.world_laws.proofs.Traces.{begun_through, stable_along, trace_beginning}
-use Rattle.file_laws.specs.FileEnds.{IsByFiles, IsDestChanged}
-use Rattle.file_laws.specs.FileTasks.{TaskCall}
+use Rattle.run_promise.specs.FileOutcomes.{IsByFiles, IsDestChanged}
+use Rattle.run_promise.specs.FileCalls.{TaskCall}
 use Rattle.file_laws.specs.PlanEnds.{IsPlanCarriedOut}
 use Rattle.file_laws.proofs.Ranges.{are_sound}
 use Rattle.file_completeness.specs.FileCompleteness.{IsDownloadThere, WillingFilesAreDone}
@@ -470,7 +470,7 @@ module _ (Shows : Ask → ℕ → Talk → Class → List ℕ → Type 0) (HasSt
         by_kind k h = absurd h
 
         made : ((c : TaskCall) × Contains calls c) → ⊥
-        made h = has [] h.0 (subst (λ (all : List TaskCall). Contains all h.0) (o.over_files.keep.dry dried) h.1)
+        made h = has [] h.0 (subst (λ (all : List TaskCall). Contains all h.0) (o.over_files.keep.keep.dry dried) h.1)
 
     in_earnest : (how : Outcome) → (s.dryrun ≡ true → ⊥) → IsFinished false (WasTaken shown start n) how → IsFinished s.dryrun (WasTaken shown start n) how
     in_earnest how real finished = elim (either_way s.dryrun) [
@@ -509,7 +509,7 @@ module _ (Shows : Ask → ℕ → Talk → Class → List ℕ → Type 0) (HasSt
 
     module _ (counted : AreCallsCounted Shows HasStatus Plans CallFailed shown) where
       owed : (how : Outcome) → slice_get shown.outcomes n ≡ Some how → HasOutcome Shows HasStatus CallFailed s dispatched coming n task how → IsOwed shown start n how
-      owed outcome.Done at caused = inl (in_earnest outcome.Done (not_dry (o.decided n task outcome.Done is_task at by).0) (never_taken caused.3))
+      owed outcome.Done at caused = inl (in_earnest outcome.Done (not_dry (o.over_files.decided n task outcome.Done is_task at by).0) (never_taken caused.3))
       owed (outcome.Copied why) at caused = absurd (stays_never caused.0 why caused.3)
       owed (outcome.Failed why) at caused = inr (inl (counted n why at (fails_by_call why caused.2)))
       owed (outcome.Unknown why) at caused = absurd (no_request caused.0.0.2.0)

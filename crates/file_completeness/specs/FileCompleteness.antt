@@ -16,8 +16,8 @@ use Rattle.job_terms.specs.Jobs.{IsObject, IsSource}
 use Rattle.run_promise.specs.Traces.{IsWilling}
 use Rattle.run_promise.specs.Truthful.{AreCertain, FitsShown, IsAlone, Shown}
 use Rattle.world_laws.specs.Completeness.{AreCallsCounted, IsOwed}
-use Rattle.file_laws.specs.FileEnds.{IsByFiles}
-use Rattle.file_laws.specs.FileTasks.{TaskCall}
+use Rattle.run_promise.specs.FileOutcomes.{IsByFiles}
+use Rattle.run_promise.specs.FileCalls.{TaskCall}
 use Rattle.file_laws.specs.PlanEnds.{IsPlanCarriedOut}
 
 -- What planning made sure of: the source of a download is there when the run begins, under the planned ETag and with the

@@ -23,7 +23,7 @@ use Rattle.shared_lemmas.proofs.Lists.{head_is, no_middle, tail_is}
 use Rattle.shared_lemmas.proofs.Members.{Has, has, split_of}
 use Rattle.world_laws.proofs.ScheduleWitness.{one_task}
 use Rattle.file_laws.proofs.Keeping.{true_false}
-use Rattle.file_laws.specs.FileTasks.{AreFileCalls, AreFilesApart, AreWritten, HasFailedBefore, HasFailedDrop, HasFailedStamp, IsBody, IsCallFor, IsDecidedBefore, IsDropped, IsMade, IsRenamed, IsStamped, IsTidying, MayFollow, TaskCall, UsesTemp}
+use Rattle.run_promise.specs.FileCalls.{AreFileCalls, AreFilesApart, AreWritten, HasFailedBefore, HasFailedDrop, HasFailedStamp, IsBody, IsCallFor, IsDecidedBefore, IsDropped, IsMade, IsRenamed, IsStamped, IsTidying, MayFollow, TaskCall, UsesTemp}
 
 -- ---- lists that are written out
 

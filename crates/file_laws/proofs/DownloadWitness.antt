@@ -48,8 +48,9 @@ use Rattle.world_laws.proofs.Objects.{object_at-with_object}
 use Rattle.job_terms.proofs.PieceCounts.{pieces_are_one}
 use Rattle.world_laws.proofs.Rounds.{AreApart as AreOtherJobs, rounds_come, rounds_given}
 use Rattle.world_laws.proofs.ScheduleWitness.{limits_are_valid, one_task, setting_of, the_limits}
-use Rattle.file_laws.specs.FileEnds.{HasFailedAct, HasFailedCall, IsFailedAct, IsShownByCalls}
-use Rattle.file_laws.specs.FileTasks.{AreFileCalls, AreFilesApart, AreWritten, HasFailedBefore, IsBody, IsDropped, IsRangeIn, IsRenamed, IsTidying, TaskCall, steps_of}
+use Rattle.run_promise.specs.FileOutcomes.{HasFailedAct, IsFailedAct, IsShownByCalls}
+use Rattle.file_laws.specs.FileEnds.{HasFailedCall}
+use Rattle.run_promise.specs.FileCalls.{AreFileCalls, AreFilesApart, AreWritten, HasFailedBefore, IsBody, IsDropped, IsRangeIn, IsRenamed, IsTidying, TaskCall, steps_of}
 use Rattle.file_laws.specs.FileLaws.{in_the_end}
 use Rattle.file_laws.specs.FileWitnesses.{DownloadIsMet, IsFileTaskMet, LeftFileIsMet, RefusedGetIsMet, offsets_written, two_bytes}
 use Rattle.file_laws.proofs.CallWitness.{IsWarned, all_pairs, calls_keep, still_apart}

@@ -22,8 +22,9 @@ use Rattle.local_files.specs.Calls.{Call, DropTemp, IsCallRun, IsTempFor, Leads,
 use Rattle.world_laws.specs.Tasks.{HasSourceObject, IsScheduled, IsTraceOf}
 use Rattle.shared_lemmas.proofs.Clashes.{some_is}
 use Rattle.shared_lemmas.proofs.Members.{contains_of, Has, has, has-append_left, split_of}
-use Rattle.file_laws.specs.FileTasks.{AreWritten, IsBody, IsMade, IsRangeIn, IsRenamed, IsStamped, MayFollow, TaskCall, UsesTemp, files_after, steps_of}
-use Rattle.file_laws.specs.FileLaws.{AreCalls, FileIsDownloaded, FileIsKeptSafe, HasOtherTime, HasStayed}
+use Rattle.run_promise.specs.FileCalls.{AreWritten, IsBody, IsMade, IsRangeIn, IsRenamed, IsStamped, MayFollow, TaskCall, UsesTemp, files_after, steps_of}
+use Rattle.run_promise.specs.FileCalls.{AreCalls}
+use Rattle.file_laws.specs.FileLaws.{FileIsDownloaded, FileIsKeptSafe, HasOtherTime, HasStayed}
 use Rattle.file_laws.proofs.Effects.{Effect, Spares, arrives, drops, effect, goes, leaves, makes, removes, spoils, stamps, stays, writes}
 use Rattle.file_laws.proofs.Files as files
 use Rattle.file_laws.proofs.Files.{Free, Kept, Left}

@@ -28,13 +28,15 @@ use Rattle.run_promise.specs.Schedule.{Setting, is_small}
 use Rattle.run_promise.specs.Traces.{Step, state_after, states}
 use Rattle.run_promise.specs.Truthful.{IsTouchedFile}
 use Rattle.run_promise.specs.Runs.{HasJournal, Run}
-use Rattle.world_laws.specs.Promises.{IsFileLeft}
+use Rattle.run_promise.specs.FileOutcomes.{IsFileLeft}
 use Rattle.world_laws.specs.Tasks.{HasSourceObject, IsScheduled, IsTraceOf, MayBeNew}
 use Rattle.shared_lemmas.proofs.Clashes.{some_is}
 use Rattle.shared_lemmas.proofs.Members.{has, split_of}
-use Rattle.file_laws.specs.FileTasks.{IsRemoved, IsRenamed, TaskCall, files_after}
-use Rattle.file_laws.specs.FileLaws.{AreCalls}
-use Rattle.file_laws.specs.FileEnds.{FileTaskEnds, HasFailedAct, IsDestChanged, IsShownByCalls, MovedFilesAreLeft, PromisedFilesStay, run_shown}
+use Rattle.run_promise.specs.FileCalls.{IsRemoved, IsRenamed, TaskCall, files_after}
+use Rattle.run_promise.specs.FileCalls.{AreCalls}
+use Rattle.run_promise.specs.FileOutcomes.{HasFailedAct, IsDestChanged, IsShownByCalls}
+use Rattle.run_promise.specs.Truthful.{run_shown}
+use Rattle.file_laws.specs.FileEnds.{FileTaskEnds, MovedFilesAreLeft, PromisedFilesStay}
 use Rattle.file_laws.proofs.Downloads as downloads
 use Rattle.file_laws.proofs.Files as files
 use Rattle.file_laws.proofs.Keeping as keeping

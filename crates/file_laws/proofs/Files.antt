@@ -16,8 +16,9 @@ use Rattle.run_promise.specs.Truthful.{IsTouchedFile}
 use Rattle.local_files.specs.Calls.{Call, MakeTemp, Remove}
 use Rattle.shared_lemmas.proofs.Maps.{text_decided}
 use Rattle.shared_lemmas.proofs.Members.{contains_of, Has, has, has-append_left, has_at}
-use Rattle.file_laws.specs.FileTasks.{IsDecidedBefore, IsMade, IsRemoved, TaskCall, files_after}
-use Rattle.file_laws.specs.FileLaws.{AreCalls, FileIsMoved, FileIsRemoved, FilesStay, HasStayed, IsCalledOnceDecided, IsUntouched}
+use Rattle.run_promise.specs.FileCalls.{IsDecidedBefore, IsMade, IsRemoved, TaskCall, files_after}
+use Rattle.run_promise.specs.FileCalls.{AreCalls}
+use Rattle.file_laws.specs.FileLaws.{FileIsMoved, FileIsRemoved, FilesStay, HasStayed, IsCalledOnceDecided, IsUntouched}
 use Rattle.file_laws.proofs.Keeping as keeping
 use Rattle.file_laws.proofs.Keeping.{IsClosing, only_download_makes, removal_downloads, run_of, same_path, same_task, some_none, some_place, true_false, upload_downloads, upload_removes, who_removes}
 use Rattle.file_laws.proofs.TempFiles as temps

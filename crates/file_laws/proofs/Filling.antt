@@ -17,8 +17,8 @@ use Rattle.local_files.specs.Calls.{Call, DropTemp, IsCallRun, Leads, MakeTemp, 
 use Rattle.shared_lemmas.proofs.Clashes.{some_is}
 use Rattle.shared_lemmas.proofs.Maps.{not_both}
 use Rattle.shared_lemmas.proofs.Members.{Has, has-append_left}
-use Rattle.file_laws.specs.FileTasks.{IsRangeIn, MayFollow, TaskCall, UsesTemp, files_after, steps_of}
-use Rattle.file_laws.specs.FileLaws.{AreCalls}
+use Rattle.run_promise.specs.FileCalls.{IsRangeIn, MayFollow, TaskCall, UsesTemp, files_after, steps_of}
+use Rattle.run_promise.specs.FileCalls.{AreCalls}
 use Rattle.file_laws.proofs.Effects.{Effect, Spares, arrives, drops, effect, goes, inserted, leaves, makes, removes, spoils, stamps, stays, writes}
 use Rattle.file_laws.proofs.Keeping as keeping
 use Rattle.file_laws.proofs.Keeping.{closed_unused, first_is_make, has_last, last_cases, run_of, same_number}

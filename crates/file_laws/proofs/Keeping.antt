@@ -15,8 +15,8 @@ use Rattle.run_promise.specs.Endings.{Excused}
 use Rattle.run_promise.specs.Schedule.{Setting}
 use Rattle.local_files.specs.Calls.{Call, DropTemp, Fault, MakeTemp, Remove, Rename, Stamp, WriteAt}
 use Rattle.shared_lemmas.proofs.Members.{contains_of, Has, has-append_cases, has-append_left, has_middle}
-use Rattle.file_laws.specs.FileTasks.{IsCallFor, MayFollow, TaskCall, UsesTemp}
-use Rattle.file_laws.specs.FileLaws.{AreCalls, FileRun}
+use Rattle.run_promise.specs.FileCalls.{IsCallFor, MayFollow, TaskCall, UsesTemp}
+use Rattle.run_promise.specs.FileCalls.{AreCalls, FileRun}
 
 abbrev pub run_of : Setting → Excused → (dispatched coming : List Dispatched) → List TaskCall → FileRun
 run_of s excused dispatched coming calls = record { setting = s; excused = excused; dispatched = dispatched; coming = coming; calls = calls }

@@ -24,8 +24,9 @@ use Rattle.world_laws.specs.Tasks.{HasSource, HasSourceObject, IsTraceOf, MayBeN
 use Rattle.world_laws.proofs.InParts.{aborts_are_final}
 use Rattle.world_laws.proofs.Promises as promises
 use Rattle.world_laws.proofs.Promises.{IsAllTrue}
-use Rattle.file_laws.specs.FileEnds.{IsByFiles, run_shown}
-use Rattle.file_laws.specs.FileTasks.{TaskCall, files_after}
+use Rattle.run_promise.specs.FileOutcomes.{IsByFiles}
+use Rattle.run_promise.specs.Truthful.{run_shown}
+use Rattle.run_promise.specs.FileCalls.{TaskCall, files_after}
 use Rattle.file_laws.specs.PlanEnds.{HasPlannedSource, IsPlanCarriedOut, PlanEnds}
 use Rattle.file_laws.proofs.FileEnds.{file_task_ends, moved_files_are_left, promised_files_stay}
 
@@ -51,7 +52,7 @@ module _ (Shows : Ask → ℕ → Talk → Class → List ℕ → Type 0) (HasSt
     (request_text : Ask → List ℕ → ℕ → List ℕ) (host : List ℕ) (port : ℕ) (shown : Shown) (dispatched coming : List Dispatched) (calls : List TaskCall)
     (o : IsPlanCarriedOut Shows HasStatus Plans CallFailed request_text host port shown dispatched coming calls) where
   files_left : AreFilesLeft shown
-  files_left = moved_files_are_left Shows shown dispatched coming calls o.over_files o.held_after o.moved
+  files_left = moved_files_are_left Shows shown dispatched coming calls o.over_files.keep o.over_files.held_after o.over_files.moved
 
   module _ (start : State) (trace part : List Step) (runs : IsTrace shown.setting.limits [] start trace) (honest : IsHonest start trace (IsDest shown.setting.tasks)) (fits : Fits Shows shown.refused_page (events_of trace) shown.journal dispatched)
       (whole : HasJournal shown.journal trace part) where
@@ -79,11 +80,11 @@ module _ (Shows : Ask → ℕ → Talk → Class → List ℕ → Type 0) (HasSt
 
     by_files : (n : ℕ) (task : Task) (how : Outcome) → slice_get shown.setting.tasks n ≡ Some task → slice_get shown.outcomes n ≡ Some how → IsByFiles task → Ends n task how shown.held_after
     by_files n task how is_task at_how by =
-        subst (Ends n task how) (sym o.held_after)
-        (file_task_ends Shows HasStatus CallFailed (run_shown shown dispatched coming calls) run part refl o.over_files
+        subst (Ends n task how) (sym o.over_files.held_after)
+        (file_task_ends Shows HasStatus CallFailed (run_shown shown dispatched coming calls) run part refl o.over_files.keep
         (promises.scheduled Shows HasStatus Plans CallFailed request_text host port shown dispatched coming o.over_wires) of_trace whole n task how is_task by
         (λ may load. subst (HasPlannedSource shown.setting (states start trace) task) load (o.sources run refl of_shown n task how is_task at_how may))
-        (o.over_wires.causes n task how is_task at_how) (o.decided n task how is_task at_how by))
+        (o.over_wires.causes n task how is_task at_how) (o.over_files.decided n task how is_task at_how by))
 
     all_ended : AllEnded shown run part
     all_ended n task how is_task at_how = elim (o.tasks n task is_task) [
@@ -112,4 +113,4 @@ module _ (Shows : Ask → ℕ → Talk → Class → List ℕ → Type 0) (HasSt
 module _ (Shows : Ask → ℕ → Talk → Class → List ℕ → Type 0) (HasStatus : Ask → ℕ → Talk → ℕ → Type 0) (Plans : List Dispatched → Type 0) (CallFailed : ℕ → Cause → Type 0) where
   pub plan_ends : PlanEnds Shows HasStatus Plans CallFailed
   plan_ends request_text host port shown dispatched coming calls o =
-      (holds_over Shows HasStatus Plans CallFailed request_text host port shown dispatched coming calls o, promised_files_stay Shows shown dispatched coming calls o.over_files o.held_after)
+      (holds_over Shows HasStatus Plans CallFailed request_text host port shown dispatched coming calls o, promised_files_stay Shows shown dispatched coming calls o.over_files.keep o.over_files.held_after)

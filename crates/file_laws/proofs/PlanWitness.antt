@@ -22,9 +22,10 @@ use Rattle.world_laws.specs.Rounds.{AreNone, Told, ToldStatus, no_text}
 use Rattle.world_laws.proofs.ScheduleWitness.{limits_are_valid, none_created, one_task, rounds_schedule}
 use Rattle.shared_lemmas.proofs.Maps.{get-insert_same, text_exact}
 use Rattle.shared_lemmas.proofs.Members.{Has, has}
-use Rattle.file_laws.specs.FileEnds.{HasFailedAct, HasFailedCall, IsByFiles, IsDestChanged, IsShownByCalls}
+use Rattle.run_promise.specs.FileOutcomes.{HasFailedAct, IsByFiles, IsDestChanged, IsShownByCalls}
+use Rattle.file_laws.specs.FileEnds.{HasFailedCall}
 use Rattle.file_laws.specs.PlanEnds.{IsCountedByCalls}
-use Rattle.file_laws.specs.FileTasks.{AreFileCalls, AreFilesApart, IsRemoved, TaskCall}
+use Rattle.run_promise.specs.FileCalls.{AreFileCalls, AreFilesApart, IsRemoved, TaskCall}
 use Rattle.file_laws.specs.FileWitnesses.{file_removal}
 use Rattle.file_laws.specs.PlanWitnesses.{IsRemovalCarriedOut, PlanIsMet, UncountedIsRefused, failed_removal, one_file, removal_shown}
 use Rattle.file_laws.proofs.CallWitness.{calls_keep, still_apart}
@@ -141,11 +142,14 @@ module _ (path : List ℕ) where
   met : IsRemovalCarriedOut true path [] []
   met = record {
     over_wires = over_wires;
-    over_files = record { keep = keep; runs = (refl, tt); apart = apart };
-    held_after = refl;
+    over_files = record {
+      told = refl;
+      keep = record { keep = keep; runs = (refl, tt); apart = apart };
+      held_after = refl;
+      decided = λ n of_task how is_task at_how by. cause_is n of_task how is_task at_how (λ m t h. IsShownByCalls h (IsDestChanged t.kind calls m) (HasFailedAct calls m)) shows;
+      moved = λ n of_task how p move at_how. absurd (true_false (sym move.1 ∙ ap (λ (t : Task). t.moves) (one_task task n of_task move.0).1));
+    };
     tasks = λ n of_task is_task. inr (subst IsByFiles (sym (one_task task n of_task is_task).1) by_files);
-    decided = λ n of_task how is_task at_how by. cause_is n of_task how is_task at_how (λ m t h. IsShownByCalls h (IsDestChanged t.kind calls m) (HasFailedAct calls m)) shows;
-    moved = λ n of_task how p move at_how. absurd (true_false (sym move.1 ∙ ap (λ (t : Task). t.moves) (one_task task n of_task move.0).1));
     counted = λ n of_task is_task by. subst (λ (m : ℕ). IsCountedByCalls setting calls m) (sym (one_task task n of_task is_task).0) ((λ any. refl), (λ is. inl failed));
     sources = λ run same of_shown n of_task how is_task at_how may. absurd (cause_is n of_task how is_task at_how (λ m t h. MayBeNew h → ⊥) (λ never. never) may);
   }

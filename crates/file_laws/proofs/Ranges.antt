@@ -9,7 +9,7 @@ use Rattle.s3_model.specs.Parts.{HasPieces, piece_count}
 use Rattle.s3_model.specs.Validity.{IsValidLimits}
 use Rattle.run_promise.specs.Schedule.{Setting, is_small}
 use Rattle.job_terms.proofs.PieceCounts.{in_parts, pieces_are_one, begins_inside, some_pieces}
-use Rattle.file_laws.specs.FileTasks.{IsRange, IsRangeIn}
+use Rattle.run_promise.specs.FileCalls.{IsRange, IsRangeIn}
 
 -- in parts the pieces have a length, and are as many as cover the whole, which is not empty
 abbrev pub AreSound : Bool → ℕ → ℕ → ℕ → Type 0

@@ -33,8 +33,9 @@ use Rattle.shared_lemmas.proofs.Maps.{get-insert_same, text_exact}
 use Rattle.shared_lemmas.proofs.Members.{contains_of, Has, has, has_middle}
 use Rattle.world_laws.proofs.Rounds.{rounds_given}
 use Rattle.world_laws.proofs.ScheduleWitness.{limits_are_valid, none_created, one_task, rounds_schedule, setting_of, the_limits}
-use Rattle.file_laws.specs.FileEnds.{HasFailedAct, HasFailedCall, IsShownByCalls}
-use Rattle.file_laws.specs.FileTasks.{AreFileCalls, AreFilesApart, IsRemoved, TaskCall, steps_of}
+use Rattle.run_promise.specs.FileOutcomes.{HasFailedAct, IsShownByCalls}
+use Rattle.file_laws.specs.FileEnds.{HasFailedCall}
+use Rattle.run_promise.specs.FileCalls.{AreFileCalls, AreFilesApart, IsRemoved, TaskCall, steps_of}
 use Rattle.file_laws.specs.FileWitnesses.{FailedRemovalIsMet, IsFileTaskMet, IsMovedFileMet, MovedFileIsMet, RemovalIsMet, file_removal, moved_upload}
 use Rattle.file_laws.proofs.CallWitness.{calls_keep, still_apart}
 use Rattle.file_laws.proofs.Keeping.{removal_downloads, run_of, same_path, some_is_there, true_false, upload_downloads, upload_removes}

@@ -41,7 +41,7 @@ use Rattle.job_terms.proofs.PieceCounts.{pieces_are_one}
 use Rattle.world_laws.proofs.Pieces.{pieces_make_whole}
 use Rattle.world_laws.proofs.MovedTasks.{moved_source_is_gone}
 use Rattle.world_laws.proofs.Tasks.{last_place, replied}
-use Rattle.file_laws.specs.FileTasks.{IsBody, IsRangeIn}
+use Rattle.run_promise.specs.FileCalls.{IsBody, IsRangeIn}
 use Rattle.file_laws.proofs.Keeping.{same_task, some_place}
 use Rattle.file_laws.proofs.Ranges.{AreSound, are_sound, range_in, range_one}
 

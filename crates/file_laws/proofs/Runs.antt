@@ -4,7 +4,7 @@ use Rattle.std.proofs.lemmas.List.{append-nil}
 use Rattle.s3_model.specs.Files.{HeldFile}
 use Rattle.s3_model.specs.Maps.{MapOf}
 use Rattle.local_files.specs.Calls.{IsCallRun, Leads}
-use Rattle.file_laws.specs.FileTasks.{TaskCall, files_after, steps_of}
+use Rattle.run_promise.specs.FileCalls.{TaskCall, files_after, steps_of}
 
 pub after_last : (front : List TaskCall) (c : TaskCall) (held : MapOf HeldFile) → files_after held (front ++ c ∷ []) ≡ c.step.held
 after_last [] c held = refl

@@ -15,8 +15,9 @@ use Rattle.run_promise.specs.Endings.{Excused}
 use Rattle.run_promise.specs.Schedule.{Setting}
 use Rattle.local_files.specs.Calls.{Call, DropTemp, Fault, IsCallRun, MakeTemp, Remove, Rename, Stamp, WriteAt}
 use Rattle.shared_lemmas.proofs.Members.{Has, has, has-append_left}
-use Rattle.file_laws.specs.FileTasks.{MayFollow, TaskCall, UsesTemp, files_after, steps_of}
-use Rattle.file_laws.specs.FileLaws.{AreCalls, HasStayed}
+use Rattle.run_promise.specs.FileCalls.{MayFollow, TaskCall, UsesTemp, files_after, steps_of}
+use Rattle.run_promise.specs.FileCalls.{AreCalls}
+use Rattle.file_laws.specs.FileLaws.{HasStayed}
 use Rattle.file_laws.proofs.Effects.{Effect, Spares, arrives, drops, effect, goes, leaves, makes, removes, spoils, stamps, stays, writes}
 use Rattle.file_laws.proofs.Keeping as keeping
 use Rattle.file_laws.proofs.Keeping.{closed_unused, closes_own, first_is_make, has_last, IsClosing, last_cases, only_download_makes, only_download_renames, only_download_stamps, removal_downloads, run_of, same_number, same_path, same_task, some_is_there, some_none, upload_downloads, who_removes}

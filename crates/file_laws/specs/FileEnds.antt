@@ -17,22 +17,14 @@ use Rattle.job_terms.specs.Dispatches.{Dispatched}
 use Rattle.run_promise.specs.Endings.{IsEnded}
 use Rattle.run_promise.specs.Outcomes.{HasOutcome}
 use Rattle.run_promise.specs.Traces.{Step}
-use Rattle.run_promise.specs.Truthful.{OtherFilesStay, Shown}
+use Rattle.run_promise.specs.Truthful.{OtherFilesStay, Shown, run_shown}
 use Rattle.run_promise.specs.Runs.{HasEndedBy, Run, moments}
 use Rattle.local_files.specs.Calls.{Blocked, Call, Failed, MakeTemp, Remove, Rename, WriteAt}
-use Rattle.world_laws.specs.Promises.{AreFilesLeft, IsFileLeft}
+use Rattle.run_promise.specs.FileOutcomes.{IsFileLeft, IsByFiles, HasFailedAct, IsDestChanged, IsShownByCalls, IsMoveShown}
+use Rattle.world_laws.specs.Promises.{AreFilesLeft}
 use Rattle.world_laws.specs.Tasks.{HasSourceObject, IsScheduled, IsTraceOf, MayBeNew, scene_after, scene_before}
-use Rattle.file_laws.specs.FileLaws.{AreCalls, FileRun}
-use Rattle.file_laws.specs.FileTasks.{IsMoveOf, IsRemoved, IsRenamed, TaskCall, files_after}
-
--- a task that calls on files decide: a download of an object, or the removal of a file, which moves nothing
-pub record IsByFiles (task : Task) : Type 0 where
-  pub path : List ℕ
-  pub is_dest : task.dest ≡ place.File path
-  pub decided : (task.kind ≡ kind.Download) ⊎ (task.kind ≡ kind.RemoveFile)
-  pub from : task.kind ≡ kind.Download → (bucket : List ℕ) × (key : List ℕ)
-      × (task.source ≡ Some (place.Object bucket key))
-  pub keeps : task.kind ≡ kind.RemoveFile → task.moves ≡ false
+use Rattle.run_promise.specs.FileCalls.{AreCalls, FileRun}
+use Rattle.run_promise.specs.FileCalls.{IsMoveOf, IsRemoved, IsRenamed, TaskCall, files_after}
 
 -- ---- what calls show
 
@@ -57,54 +49,6 @@ HasFailedCall calls n (cause.Files of_call) = (c : TaskCall) × Contains calls c
 HasFailedCall calls n (cause.Blocked length) = (c : TaskCall) × Contains calls c × (c.task ≡ n)
     × IsBlockedCall length c.step.call
 HasFailedCall calls n other = ⊥
-
--- a call that carries out its task failed: any but a drop and a time
-abbrev pub IsFailedAct : Call → Type 0
-IsFailedAct (MakeTemp dest (Err fault)) = Unit {0}
-IsFailedAct (WriteAt temp at bytes false) = Unit {0}
-IsFailedAct (Rename temp dest (Some fault)) = Unit {0}
-IsFailedAct (Remove path false) = Unit {0}
-IsFailedAct call = ⊥
-
-abbrev pub HasFailedAct : List TaskCall → ℕ → Type 0
-HasFailedAct calls n = (c : TaskCall) × Contains calls c × (c.task ≡ n) × IsFailedAct c.step.call
-
--- the destination was replaced, or removed
-abbrev pub IsDestChanged : Kind → List TaskCall → ℕ → Type 0
-IsDestChanged kind.Download calls n = IsRenamed calls n
-IsDestChanged kind.RemoveFile calls n = IsRemoved calls n
-IsDestChanged other calls n = ⊥
-
--- A cause that no call shows stands only where no such call failed. Memory wins over every other cause.
-abbrev pub IsCauseBeside : Cause → (failed : Type 0) → Type 0
-IsCauseBeside (cause.Files of_call) failed = Unit {0}
-IsCauseBeside (cause.Blocked length) failed = Unit {0}
-IsCauseBeside cause.Memory failed = Unit {0}
-IsCauseBeside why failed = ¬ failed
-
-abbrev pub IsOutcomeBeside : Outcome → (failed : Type 0) → Type 0
-IsOutcomeBeside (outcome.Copied why) failed = IsCauseBeside why failed
-IsOutcomeBeside (outcome.Failed why) failed = IsCauseBeside why failed
-IsOutcomeBeside how failed = Unit {0}
-
--- Done and copied are tasks whose destination was replaced or removed, and failed those where it was not.
-abbrev pub IsShownByDest : Outcome → (changed : Type 0) → Type 0
-IsShownByDest outcome.Done changed = changed
-IsShownByDest (outcome.Copied why) changed = changed
-IsShownByDest (outcome.Failed why) changed = ¬ changed
-IsShownByDest how changed = Unit {0}
-
--- what the calls show of a task's outcome, and of the task of a moved file
-abbrev pub IsShownByCalls : Outcome → (changed failed : Type 0) → Type 0
-IsShownByCalls how changed failed = IsShownByDest how changed × IsOutcomeBeside how failed
-
-abbrev pub IsMoveShown : Outcome → (removed failed : Type 0) → Type 0
-IsMoveShown how removed failed = IsFileLeft how removed (¬ removed) × IsOutcomeBeside how failed
-
--- what a run shows, with its dispatched requests and its calls
-abbrev pub run_shown : Shown → (dispatched coming : List Dispatched) → List TaskCall → FileRun
-run_shown shown dispatched coming calls =
-    record { setting = shown.setting; excused = shown.excused; dispatched = dispatched; coming = coming; calls = calls }
 
 -- `Shows ask limit talk class bytes`: the talk has that class for the ask, and its answer that body
 module _ (Shows : Ask → ℕ → Talk → Class → List ℕ → Type 0) where

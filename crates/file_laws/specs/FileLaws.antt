@@ -17,17 +17,8 @@ use Rattle.run_promise.specs.Truthful.{IsTouchedFile}
 use Rattle.local_files.specs.Calls.{IsCallRun, WriteAt}
 use Rattle.run_promise.specs.Runs.{Run, moments}
 use Rattle.world_laws.specs.Tasks.{HasSourceObject, IsScheduled, IsTraceOf}
-use Rattle.file_laws.specs.FileTasks.{AreFileCalls, AreFilesApart, HasFailedDrop, HasFailedStamp, IsDecidedBefore}
-use Rattle.file_laws.specs.FileTasks.{IsMade, IsMoveOf, IsRemoved, IsRenamed, IsTaskTo, TaskCall, files_after, steps_of}
-
--- a run as files see it: what it began with, what its warnings except, its dispatched requests, and its calls on files
-pub record FileRun : Type 0 where
-  pub setting : Setting
-  pub excused : Excused
-  pub dispatched : List Dispatched
-  -- the same in the order of their coming
-  pub coming : List Dispatched
-  pub calls : List TaskCall
+use Rattle.run_promise.specs.FileCalls.{AreFileCalls, AreFilesApart, HasFailedDrop, HasFailedStamp, IsDecidedBefore, FileRun, AreCalls}
+use Rattle.run_promise.specs.FileCalls.{IsMade, IsMoveOf, IsRemoved, IsRenamed, IsTaskTo, TaskCall, files_after, steps_of}
 
 -- the file at a path: when the run begins, after some of its calls, and after all of them
 abbrev pub at_first : FileRun → List ℕ → Option HeldFile
@@ -90,12 +81,6 @@ IsDownloaded run moments n task path = (part late : List TaskCall) → run.calls
 
 -- `Shows ask limit talk class bytes`: the talk has that class for the ask, and its answer that body
 module _ (Shows : Ask → ℕ → Talk → Class → List ℕ → Type 0) where
-  -- the calls keep to their clauses, follow from the files at the start, and the plan is apart
-  pub record AreCalls (run : FileRun) : Type 0 where
-    pub keep : AreFileCalls Shows run.setting run.excused run.dispatched run.coming run.calls
-    pub runs : IsCallRun run.setting.held (steps_of run.calls)
-    pub apart : AreFilesApart run.setting.held run.setting.tasks
-
   -- the task made one of these calls after the success that decides it
   abbrev pub IsCalledOnceDecided : FileRun → List TaskCall → ℕ → Task → Type 0
   IsCalledOnceDecided run part n task = (c : TaskCall) × Contains part c × (c.task ≡ n)
@@ -105,13 +90,13 @@ module _ (Shows : Ask → ℕ → Talk → Class → List ℕ → Type 0) where
 
   -- Every file is a destination, the source of a move, or untouched.
   abbrev pub FilesStay : Type 0
-  FilesStay = (run : FileRun) → AreCalls run → (path : List ℕ)
+  FilesStay = (run : FileRun) → AreCalls Shows run → (path : List ℕ)
       → IsTouchedFile run.setting.tasks path ⊎ IsUntouched run path
 
   -- After a removal that went well the file is absent, unless a temporary file that stayed has its name; until then it
   -- is as before.
   abbrev pub FileIsRemoved : Type 0
-  FileIsRemoved = (run : FileRun) → AreCalls run → (n : ℕ) (task : Task) (path : List ℕ)
+  FileIsRemoved = (run : FileRun) → AreCalls Shows run → (n : ℕ) (task : Task) (path : List ℕ)
       → IsTaskTo run.setting.tasks n task path → task.kind ≡ kind.RemoveFile
       → (IsRemoved run.calls n → (in_the_end run path ≡ None) ⊎ HasStayed run path)
       × ((part late : List TaskCall) → run.calls ≡ part ++ late → ¬ (IsRemoved part n)
@@ -120,7 +105,7 @@ module _ (Shows : Ask → ℕ → Talk → Class → List ℕ → Type 0) where
   -- The file of a move is gone after its removal went well, and until then as before; and it goes only after the
   -- success that decides its task.
   abbrev pub FileIsMoved : Type 0
-  FileIsMoved = (run : FileRun) → AreCalls run → (n : ℕ) (task : Task) (path : List ℕ)
+  FileIsMoved = (run : FileRun) → AreCalls Shows run → (n : ℕ) (task : Task) (path : List ℕ)
       → IsMoveOf run.setting.tasks n task path
       → (IsRemoved run.calls n → in_the_end run path ≡ None)
       × ((part late : List TaskCall) → run.calls ≡ part ++ late → ¬ (IsRemoved part n)
@@ -130,12 +115,12 @@ module _ (Shows : Ask → ℕ → Talk → Class → List ℕ → Type 0) where
 
   -- A download leaves its destination as it was until it is renamed, and no temporary file but one whose drop failed.
   abbrev pub FileIsKeptSafe : Type 0
-  FileIsKeptSafe = (run : FileRun) → AreCalls run → (n : ℕ) (task : Task) (path : List ℕ)
+  FileIsKeptSafe = (run : FileRun) → AreCalls Shows run → (n : ℕ) (task : Task) (path : List ℕ)
       → IsTaskTo run.setting.tasks n task path → task.kind ≡ kind.Download → IsKeptSafe run n task path
 
   -- Over every honest trace of the same dispatched requests, what is renamed has the content of its source.
   abbrev pub FileIsDownloaded : Type 0
-  FileIsDownloaded = (run : FileRun) (over : Run) → over.dispatched ≡ run.dispatched → AreCalls run
+  FileIsDownloaded = (run : FileRun) (over : Run) → over.dispatched ≡ run.dispatched → AreCalls Shows run
       → IsScheduled Shows run.setting over.journal run.dispatched run.coming → IsTraceOf Shows run.setting over
       → (n : ℕ) (task : Task) (path : List ℕ) → IsTaskTo run.setting.tasks n task path → task.kind ≡ kind.Download
       → HasSourceObject (moments over) task → IsDownloaded run (moments over) n task path

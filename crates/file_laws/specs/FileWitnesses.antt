@@ -18,9 +18,11 @@ use Rattle.run_promise.specs.Runs.{HasJournal}
 use Rattle.local_files.specs.Calls.{Call, WriteAt}
 use Rattle.world_laws.specs.Rounds.{Told, ToldStatus}
 use Rattle.world_laws.specs.Tasks.{HasSourceObject, IsScheduled, IsTraceOf, MayBeNew}
-use Rattle.file_laws.specs.FileEnds.{HasFailedAct, HasFailedCall, IsByFiles, IsDestChanged, IsShownByCalls}
-use Rattle.file_laws.specs.FileLaws.{AreCalls, FileRun, in_the_end, with_trace}
-use Rattle.file_laws.specs.FileTasks.{IsDropped, IsMoveOf, IsRemoved, TaskCall}
+use Rattle.run_promise.specs.FileOutcomes.{HasFailedAct, IsByFiles, IsDestChanged, IsShownByCalls}
+use Rattle.file_laws.specs.FileEnds.{HasFailedCall}
+use Rattle.run_promise.specs.FileCalls.{AreCalls, FileRun}
+use Rattle.file_laws.specs.FileLaws.{in_the_end, with_trace}
+use Rattle.run_promise.specs.FileCalls.{IsDropped, IsMoveOf, IsRemoved, TaskCall}
 
 -- an object of two bytes, under an ETag that spells them, to a file
 abbrev pub two_bytes : (bucket key : List ℕ) (a b : ℕ) → Task

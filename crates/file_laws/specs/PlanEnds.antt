@@ -13,12 +13,13 @@ use Rattle.s3_service.specs.ServiceState.{State}
 use Rattle.job_terms.specs.Dispatches.{Dispatched}
 use Rattle.run_promise.specs.Schedule.{Setting, is_small}
 use Rattle.run_promise.specs.Runs.{Run, moments}
-use Rattle.run_promise.specs.Truthful.{FitsShown, HoldsOver, OtherFilesStay, Shown}
+use Rattle.run_promise.specs.Truthful.{FitsShown, HoldsOver, OtherFilesStay, Shown, AreToldByCalls}
 use Rattle.world_laws.specs.Promises.{IsByRequests, IsCarriedOut}
 use Rattle.world_laws.specs.Tasks.{HasSource, HasSourceObject, MayBeNew}
-use Rattle.file_laws.specs.FileEnds.{HasFailedAct, IsByFiles, IsDestChanged, IsMoveShown, IsShownByCalls, run_shown}
-use Rattle.file_laws.specs.FileLaws.{AreCalls}
-use Rattle.file_laws.specs.FileTasks.{IsMoveOf, IsRemoved, TaskCall, files_after}
+use Rattle.run_promise.specs.FileOutcomes.{HasFailedAct, IsByFiles, IsDestChanged, IsMoveShown, IsShownByCalls}
+use Rattle.run_promise.specs.Truthful.{run_shown}
+use Rattle.run_promise.specs.FileCalls.{AreCalls}
+use Rattle.run_promise.specs.FileCalls.{IsMoveOf, IsRemoved, TaskCall, files_after}
 
 -- what planning made sure of the source of a task, of every kind
 abbrev pub HasPlannedSource : Setting → List State → Task → Kind → Type 0
@@ -42,15 +43,8 @@ module _ (Shows : Ask → ℕ → Talk → Class → List ℕ → Type 0) (HasSt
   pub record IsPlanCarriedOut (request_text : Ask → List ℕ → ℕ → List ℕ) (host : List ℕ) (port : ℕ) (shown : Shown)
       (dispatched coming : List Dispatched) (calls : List TaskCall) : Type 0 where
     pub over_wires : IsCarriedOut Shows HasStatus Plans CallFailed request_text host port shown dispatched coming
-    pub over_files : AreCalls Shows (run_shown shown dispatched coming calls)
-    pub held_after : shown.held_after ≡ files_after shown.setting.held calls
+    pub over_files : AreToldByCalls Shows shown dispatched coming calls
     pub tasks : (n : ℕ) (task : Task) → slice_get shown.setting.tasks n ≡ Some task → IsByRequests task ⊎ IsByFiles task
-    -- each outcome is one that the calls show, of a task that they decide and of one that moves its file
-    pub decided : (n : ℕ) (task : Task) (how : Outcome) → slice_get shown.setting.tasks n ≡ Some task
-        → slice_get shown.outcomes n ≡ Some how → IsByFiles task
-        → IsShownByCalls how (IsDestChanged task.kind calls n) (HasFailedAct calls n)
-    pub moved : (n : ℕ) (task : Task) (how : Outcome) (path : List ℕ) → IsMoveOf shown.setting.tasks n task path
-        → slice_get shown.outcomes n ≡ Some how → IsMoveShown how (IsRemoved calls n) (HasFailedAct calls n)
     pub counted : (n : ℕ) (task : Task) → slice_get shown.setting.tasks n ≡ Some task → IsByFiles task
         → IsCountedByCalls shown.setting calls n
     -- over every honest trace that fits, a task's source is as planned where its destination may be new

@@ -11,7 +11,7 @@ use Rattle.run_promise.specs.Truthful.{Shown}
 use Rattle.local_files.specs.Calls.{Remove}
 use Rattle.world_laws.specs.Rounds.{AreNone, Told, ToldStatus, no_text}
 use Rattle.file_laws.specs.FileEnds.{HasFailedCall}
-use Rattle.file_laws.specs.FileTasks.{TaskCall}
+use Rattle.run_promise.specs.FileCalls.{TaskCall}
 use Rattle.file_laws.specs.FileWitnesses.{file_removal}
 use Rattle.file_laws.specs.PlanEnds.{IsPlanCarriedOut}
 
@@ -46,6 +46,7 @@ removal_shown counted path = record {
   notes = λ lane. [];
   held_after = one_file path;
   excused = record { left = []; untimed = []; wanted_memory = false };
+  file_calls = Remove path false ∷ [];
   refused_page = None;
 }
 

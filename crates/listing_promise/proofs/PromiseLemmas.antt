@@ -24,14 +24,16 @@ use Rattle.upload_promise.specs.Shown.{CallFailed, KeepsPromise, end_of, one_att
 use Rattle.upload_promise.proofs.PromiseLemmas.{has_lanes, one_valid, status_is}
 use Rattle.listings.specs.Asked.{AreAsked, Asked, dispatched_from, events_from}
 use Rattle.listings.proofs.CarriedLaw.{requests_are_carried}
+use Rattle.upload_promise.specs.Sources.{AreLeft}
+use Rattle.world_laws.proofs.NoCalls.{IsWithoutCalls, told_by_none}
 use Rattle.listing_promise.specs.Listings.{AreQuestions}
-use Rattle.listing_promise.proofs.ScheduleLemmas.{listing_buffers, listing_schedule, questions}
+use Rattle.listing_promise.proofs.ScheduleLemmas.{listing_buffers, listing_schedule, no_task, questions}
 
 seventy : (n : ℕ) → n ≡ 70 → (n == 70) ≡ true
 seventy n is = grind arith
 
 module _ (endpoint : Endpoint) (keys : Keys) (Plans : Option ℕ → List Dispatched → Type 0) (page : Option ℕ) (config : Config) (configured : IsValidConfig config) (limits : Limits) (valid : IsValidLimits limits) (wires : ℕ) (has_wire : 1 ≤ wires) (status before after : ℕ)
-    (path : List ℕ) (was now : SeenFiles) (same : now.store ≡ was.store) (asked : List Asked) (asks : AreQuestions asked) (talks : List Talk) (notes : List Note) where
+    (path : List ℕ) (was now : SeenFiles) (same : AreLeft was now) (asked : List Asked) (asks : AreQuestions asked) (talks : List Talk) (notes : List Note) where
   abbrev jobs : List Dispatched
   jobs = dispatched_from 0 0 asked
 
@@ -39,7 +41,7 @@ module _ (endpoint : Endpoint) (keys : Keys) (Plans : Option ℕ → List Dispat
   start = start_of (one_attempt config) limits wires [] was
 
   abbrev came : RunEnd
-  came = record (end_of status [] [] (events_from 0 asked) talks notes now) { refused_page = page }
+  came = record (end_of status [] [] (events_from 0 asked) talks notes was now) { refused_page = page }
 
   abbrev shown : Shown
   shown = shown_by start came None
@@ -47,8 +49,16 @@ module _ (endpoint : Endpoint) (keys : Keys) (Plans : Option ℕ → List Dispat
   abbrev Fails : ℕ → Cause → Type 0
   Fails = CallFailed path now before after []
 
-  stay : (any : List ℕ) → get now.store.held any ≡ get was.store.held any
-  stay any = ap (λ (s : FileStore). get s.held any) same
+  without_calls : IsWithoutCalls Shows shown jobs jobs
+  without_calls = record {
+    quiet = same.1;
+    untouched = ap (λ (s : FileStore). s.held) same.0;
+    none_left = refl;
+    none_untimed = refl;
+    tasks = λ n task at_task. absurd (none_is_some task at_task);
+    keeps = λ n task at_task moves. none_is_some task at_task;
+    sends = λ c n known of_task. absurd (none_is_some n (sym (no_task Shows (Plans page) shown.setting asked asks c known) ∙ of_task));
+  }
 
   abbrev Scheduled : Type 0
   Scheduled = IsSchedule Shows shown.setting (Plans page) jobs jobs
@@ -84,7 +94,9 @@ module _ (endpoint : Endpoint) (keys : Keys) (Plans : Option ℕ → List Dispat
     buffers = listing_buffers config.buffers asked asks 0;
     outcomes = inl refl;
     causes = λ n task how at_task at_how. absurd (none_is_some task at_task);
-    files = λ any. inr (inr (stay any));
+    calls = [];
+    files = told_by_none Shows shown jobs jobs without_calls;
+    others = λ any. inr (inr (ap (λ (held : MapOf HeldFile). get held any) without_calls.untouched));
     holds = promise_holds Shows HasStatus (Plans page) Fails (text_of endpoint keys) endpoint.host endpoint.port shown jobs jobs (orderly schedule carried);
   }
 

@@ -70,7 +70,7 @@ module _ (Shows : Ask → ℕ → Talk → Class → List ℕ → Type 0) (Plans
   pub questions : (c : Dispatched) → Contains jobs c → IsPlanning c.ask
   questions = each (λ (c : Dispatched). IsPlanning c.ask) (λ place number a is. is)
 
-  no_task : (c : Dispatched) → Contains jobs c → c.dispatch.job.task ≡ None
+  pub no_task : (c : Dispatched) → Contains jobs c → c.dispatch.job.task ≡ None
   no_task = each (λ (c : Dispatched). c.dispatch.job.task ≡ None) (λ place number a is. refl)
 
   of_no_task : (c : Dispatched) (n : ℕ) → Contains jobs c → c.dispatch.job.task ≡ Some n → ⊥

@@ -231,7 +231,7 @@ module _ (l : Listing) (walk : Walk) (number : ℕ) (before middle : List Event)
       plans = λ at.
           subst (λ (all : List Dispatched). Plans false None all (need_of l ∷ []) [] None) (append-nil (dispatched_from at l.first (u.asked ++ taken ∷ [])))
           (with_one taken refl false None at []
-          (u.asks walk.token, inl (page, has_reply (place_after at u.asked) (number_after l.first u.asked), inr (inr (not_refused l.prefix u.pages page (refusal_here page None none), no_more, refl, inl refl)))));
+          (u.asks walk.token, inl (page, has_reply (place_after at u.asked) (number_after l.first u.asked), inr (inr (not_refused l.prefix u.pages page (refusal_here page None none), no_more, (refl, inl refl))))));
       ends = (
         u.pages,
         page,
@@ -271,9 +271,9 @@ module _ (l : Listing) (walk : Walk) (number : ℕ) (before middle : List Event)
         → Plans true (refused_at n o) (dispatched_at c n taken ∷ []) (need_of l ∷ []) u.pages walk.token
     memory_behind c n (Some bad) is_more e m = (u.asks walk.token, inl (page, has_reply c n, inl (refused_last bad e, refl, refl)))
     memory_behind c n None true e m =
-        (u.asks walk.token, inl (page, has_reply c n, inr (inl (not_refused l.prefix u.pages page (refusal_here page None e), m, refl, inr refl)))))
+        (u.asks walk.token, inl (page, has_reply c n, inr (inl (not_refused l.prefix u.pages page (refusal_here page None e), m, (refl, inr refl)))))
     memory_behind c n None false e m =
-        (u.asks walk.token, inl (page, has_reply c n, inr (inr (not_refused l.prefix u.pages page (refusal_here page None e), m, refl, inl refl))))
+        (u.asks walk.token, inl (page, has_reply c n, inr (inr (not_refused l.prefix u.pages page (refusal_here page None e), m, (refl, inl refl)))))
 
     memory_here : (after : List Event) → after ≡ middle ++ events_of number taken → Lists l before after (Err fault.Memory) (talks ++ more) (notes ++ others)
     memory_here after events = record {

@@ -42,8 +42,9 @@ use Rattle.world_laws.proofs.Faithful.{IsFaithful, faithful_with}
 use Rattle.world_laws.proofs.Objects.{object_at-with_object, object_at-with_object_other}
 use Rattle.world_laws.proofs.Promises.{run_is}
 use Rattle.world_laws.proofs.ScheduleWitness.{limits_are_valid}
-use Rattle.file_laws.specs.FileEnds.{HasFailedAct, HasFailedCall, IsByFiles, IsDestChanged, IsFailedAct, IsShownByCalls}
-use Rattle.file_laws.specs.FileTasks.{AreWritten, HasFailedBefore, HasFailedDrop, IsBody, IsMade, IsRenamed, TaskCall}
+use Rattle.run_promise.specs.FileOutcomes.{HasFailedAct, IsByFiles, IsDestChanged, IsFailedAct, IsShownByCalls}
+use Rattle.file_laws.specs.FileEnds.{HasFailedCall}
+use Rattle.run_promise.specs.FileCalls.{AreWritten, HasFailedBefore, HasFailedDrop, IsBody, IsMade, IsRenamed, TaskCall}
 use Rattle.file_laws.specs.PlanEnds.{HasPlannedSource, IsPlanCarriedOut}
 use Rattle.file_laws.proofs.Keeping.{removal_downloads, upload_downloads, upload_removes}
 use Rattle.promise_examples.specs.BothKinds.{BothKindsAreMet, IsMetByBoth, bucket, stored_key, first_key, second_key, source_path, first_path, first_temp, second_path, second_temp, removed_path, bytes, content, upload, first_load, second_load, limits, put_job, get_job, put, first_get, second_get, denied, put_talk, first_talk, second_talk, journal, with_bytes, removes, makes_first, writes_first, renames_first, stamps_first, makes_second, drops_second, calls, shown, start, stored, trace}
@@ -488,19 +489,22 @@ module _ (page_of : List ℕ → Listed) where
   carried_out : IsPlanCarriedOut Shows HasNoStatus Plans (HasFailedCall calls) signed_body [] 80 shown jobs jobs calls
   carried_out = record {
     over_wires = over_wires;
-    over_files = record { keep = many.all_keep Shows s shown.excused jobs jobs calls kept; runs = call_run; apart = files_apart };
-    held_after = refl;
+    over_files = record {
+      told = refl;
+      keep = record { keep = many.all_keep Shows s shown.excused jobs jobs calls kept; runs = call_run; apart = files_apart };
+      held_after = refl;
+      decided = of_outcomes (λ n task how. IsByFiles task → IsShownByCalls how (IsDestChanged task.kind calls n) (HasFailedAct calls n))
+          (λ by. absurd (object_is_no_file bucket stored_key by.path by.is_dest))
+          (λ by. ((renames_first, at calls 3 renames_first refl, refl, first_temp, first_path, refl), tt))
+          (λ by. (not_renamed, no_act 2))
+          (λ by. ((removes, at calls 0 removes refl, refl, removed_path, refl), tt));
+      moved = λ n task how path move at_how. absurd (still n task move.0 move.1);
+    };
     tasks = of_plan (λ n task. IsByRequests task ⊎ IsByFiles task)
         (inl (record { bucket = bucket; key = stored_key; is_dest = refl; decided = tt; keeps = λ removal. refl }))
         (inr (record { path = first_path; is_dest = refl; decided = inl refl; from = λ load. (bucket, first_key, refl); keeps = λ removal. refl }))
         (inr (record { path = second_path; is_dest = refl; decided = inl refl; from = λ load. (bucket, second_key, refl); keeps = λ removal. refl }))
         (inr (record { path = removed_path; is_dest = refl; decided = inr refl; from = λ load. absurd (removal_downloads load); keeps = λ removal. refl }));
-    decided = of_outcomes (λ n task how. IsByFiles task → IsShownByCalls how (IsDestChanged task.kind calls n) (HasFailedAct calls n))
-        (λ by. absurd (object_is_no_file bucket stored_key by.path by.is_dest))
-        (λ by. ((renames_first, at calls 3 renames_first refl, refl, first_temp, first_path, refl), tt))
-        (λ by. (not_renamed, no_act 2))
-        (λ by. ((removes, at calls 0 removes refl, refl, removed_path, refl), tt));
-    moved = λ n task how path move at_how. absurd (still n task move.0 move.1);
     counted = λ n task is_task by. ((λ act. absurd (no_act n act)), (λ is. absurd (never is)));
     sources = λ run same of_shown. of_outcomes (λ n task how. MayBeNew how → HasPlannedSource s (moments run) task task.kind)
         (λ may. (source_path, with_bytes bytes, refl, source_is, refl)) (λ may. got_first run same of_shown) (λ may. absurd may) (λ may. tt);

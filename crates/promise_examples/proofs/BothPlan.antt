@@ -17,7 +17,7 @@ use Rattle.local_files.specs.Calls.{IsCallRun, IsTempFor}
 use Rattle.shared_lemmas.proofs.Clashes.{false_true as never}
 use Rattle.shared_lemmas.proofs.Lists.{head_is}
 use Rattle.shared_lemmas.proofs.Maps.{get-insert_other, get-insert_same, get-remove_other, text_exact}
-use Rattle.file_laws.specs.FileTasks.{AreFilesApart, steps_of}
+use Rattle.run_promise.specs.FileCalls.{AreFilesApart, steps_of}
 use Rattle.file_laws.specs.FileWitnesses.{file_removal}
 use Rattle.file_laws.proofs.Keeping.{removal_downloads, same_path, some_is_there}
 use Rattle.promise_examples.specs.BothKinds.{bucket, stored_key, first_key, second_key, source_path, first_path, first_temp, second_path, second_temp, removed_path, bytes, upload, first_load, second_load, limits, config, with_bytes, held, after_removal, with_temp, written, filled, renamed, stamped, calls, shown}

@@ -1,5 +1,5 @@
 -- A run that ended before a job of its task was given is truthful, and its neighbours are not.
-use Rattle.std.proofs.Common.{◌≡◌, ◌∙◌, ◌⊎◌, ◌≤◌, ℕ, List, [], ◌∷◌, Option, Some, None, refl, sym, ap, subst, inl, inr, Contains, length, arith}
+use Rattle.std.proofs.Common.{◌≡◌, ◌∙◌, ◌⊎◌, ◌≤◌, ℕ, List, [], ◌∷◌, Option, Some, None, refl, sym, ap, subst, inl, inr, Contains, length, arith, true}
 use Rattle.s3_model.specs.declared.answers.Listed.{Listed}
 use Rattle.s3_model.specs.declared.tasks.Kind.TheVariants as kind
 use Rattle.s3_model.specs.declared.tasks.Task.{Task}
@@ -18,6 +18,9 @@ use Rattle.promise_examples.specs.Runs.{Example}
 use Rattle.promise_examples.proofs.Concrete.{at, front_of, has, none_is_some, slot}
 use Rattle.promise_examples.proofs.IdleRun.{no_jobs, nothing_carried}
 use Rattle.promise_examples.proofs.Shown.{made, of_shown}
+use Rattle.world_laws.specs.Promises.{IsByRequests}
+use Rattle.shared_lemmas.proofs.Clashes.{false_true}
+use Rattle.world_laws.proofs.NoCalls.{told_by_none}
 
 module _ (page_of : List ℕ → Listed) where
   -- ---- the run that ended early
@@ -51,7 +54,17 @@ module _ (page_of : List ℕ → Listed) where
     buffers = λ front back e. front_of (λ all. buffers_out all ≤ 1) [] (omega arith) front back e;
     outcomes = inr (refl, refl, (λ c known. absurd (has [] c known)), λ path. refl);
     causes = λ n t how at_task at_how. absurd (none_is_some how at_how);
-    files = λ path. inr (inr refl);
+    calls = [];
+    files = told_by_none (Reads page_of) (without_outcome 70 jobless) [] [] (record {
+      quiet = refl;
+      untouched = refl;
+      none_left = refl;
+      none_untimed = refl;
+      tasks = slot (λ k (planned : Task). IsByRequests planned) (task ∷ []) (record { bucket = _; key = _; is_dest = refl; decided = tt; keeps = λ removal. refl }, tt);
+      keeps = slot (λ k (planned : Task). planned.moves ≡ true → ⊥) (task ∷ []) (false_true, tt);
+      sends = λ c n known of_task. absurd (has [] c known);
+    });
+    others = λ path. inr (inr refl);
     holds = holds;
   }
 

@@ -18,7 +18,6 @@ pub mod Honest
 pub mod IdleRun
 pub mod JobBreaks
 pub mod Lies
-pub mod MadeRequests
 pub mod ManyCalls
 pub mod Misfits
 pub mod Noting

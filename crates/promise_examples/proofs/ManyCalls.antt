@@ -11,7 +11,7 @@ use Rattle.run_promise.specs.Endings.{Excused}
 use Rattle.run_promise.specs.Schedule.{IsBefore, Setting}
 use Rattle.job_terms.specs.Jobs.{job_of}
 use Rattle.local_files.specs.Calls.{Call, DropTemp, MakeTemp, Rename, WriteAt}
-use Rattle.file_laws.specs.FileTasks.{AreFileCalls, AreWritten, HasFailedBefore, HasFailedDrop, HasFailedStamp, IsBody, IsCallFor, IsDecidedBefore, IsDropped, IsMade, IsRenamed, IsStamped, IsTidying, MayFollow, TaskCall, UsesTemp}
+use Rattle.run_promise.specs.FileCalls.{AreFileCalls, AreWritten, HasFailedBefore, HasFailedDrop, HasFailedStamp, IsBody, IsCallFor, IsDecidedBefore, IsDropped, IsMade, IsRenamed, IsStamped, IsTidying, MayFollow, TaskCall, UsesTemp}
 use Rattle.file_laws.proofs.CallWitness.{IsWarned, OnRename, OnStamp, OnUse, OnWrite}
 use Rattle.promise_examples.proofs.Concrete.{Cuts, Each, Pairs, cut, each, pairs}
 

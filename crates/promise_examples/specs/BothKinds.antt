@@ -1,6 +1,6 @@
 -- A plan of both kinds of task: an upload, two downloads of which one failed and left its temporary file, and a file
 -- that is removed.
-use Rattle.std.specs.Prelude.{◌≡◌, ℕ, true, false, List, [], ◌∷◌, Some, None, Ok, codes}
+use Rattle.std.specs.Prelude.{◌≡◌, ℕ, true, false, List, [], ◌∷◌, Some, None, Ok, codes, map}
 use Rattle.std.specs.FinMap.{empty, insert, remove}
 use Rattle.s3_model.specs.declared.answers.Listed.{Listed}
 use Rattle.s3_model.specs.declared.answers.Reply.TheVariants as reply
@@ -34,7 +34,7 @@ use Rattle.world_laws.specs.Completeness.{AreCallsCounted}
 use Rattle.world_laws.specs.ExampleTasks as tasks
 use Rattle.world_laws.specs.Promises.{run_of}
 use Rattle.file_laws.specs.FileEnds.{HasFailedCall}
-use Rattle.file_laws.specs.FileTasks.{TaskCall}
+use Rattle.run_promise.specs.FileCalls.{TaskCall}
 use Rattle.file_laws.specs.FileWitnesses.{file_removal}
 use Rattle.file_laws.specs.PlanEnds.{IsPlanCarriedOut}
 use Rattle.file_completeness.specs.FileCompleteness.{IsDownloadThere}
@@ -237,6 +237,7 @@ shown = record {
   notes = in_first notes;
   held_after = left_over;
   excused = record { left = second_temp ∷ []; untimed = []; wanted_memory = false };
+  file_calls = map (λ (c : TaskCall). c.step.call) calls;
   refused_page = None;
 }
 

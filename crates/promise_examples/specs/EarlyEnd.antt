@@ -17,6 +17,7 @@ without_outcome status e = record {
   notes = e.notes;
   held_after = e.setting.held;
   excused = record { left = []; untimed = []; wanted_memory = false };
+  file_calls = [];
   refused_page = None;
 }
 

@@ -19,6 +19,7 @@ idle_run why = record {
   notes = λ lane. [];
   held_after = setting.held;
   excused = record { left = []; untimed = []; wanted_memory = false };
+  file_calls = [];
   refused_page = None;
 }
 

@@ -6,7 +6,6 @@ pub mod FailedUpload
 pub mod GivenAgain
 pub mod Idleness
 pub mod Lies
-pub mod MadeRequests
 pub mod Misfits
 pub mod Orders
 pub mod Pages

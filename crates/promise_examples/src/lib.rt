@@ -6,5 +6,5 @@ mod runs;
 mod untried;
 
 pub use changes::{refused, single_breaks};
-pub use runs::{Reading, both_kinds, everything, failed_upload, given_again, refusals, two_pages};
+pub use runs::{Reading, both_kinds, everything, failed_upload, given_again, two_pages};
 pub use untried::{early_end, idleness};

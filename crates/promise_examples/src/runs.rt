@@ -4,7 +4,6 @@ ghost use Rattle.promise_examples.specs.BothKinds.{BothKindsAreMet};
 ghost use Rattle.promise_examples.specs.Everything.{EverythingIsMet};
 ghost use Rattle.promise_examples.specs.FailedUpload.{FailedUploadIsMet};
 ghost use Rattle.promise_examples.specs.GivenAgain.{BusyIsGivenAgain, DeniedIsNotGivenAgain, RefusedForGood};
-ghost use Rattle.promise_examples.specs.MadeRequests.{RefusalWasMade, RefusedTaskWasMade};
 ghost use Rattle.promise_examples.specs.Pages.{TwoPagesAreMet};
 ghost use Rattle.job_terms.specs.Dispatches.{Dispatched};
 ghost use Rattle.s3_model.specs.Talks.{Talk};
@@ -52,11 +51,4 @@ pub fn failed_upload()
 /// not be dropped, with a warning; and a file that was removed.
 pub fn both_kinds()
     ensures { BothKindsAreMet }
-{}
-
-/// What the laws on refusals take is met by runs whose refused request has an attempt: one for an object, and one that
-/// decides a task.
-pub fn refusals()
-    ensures request { RefusalWasMade }
-    ensures task { RefusedTaskWasMade }
 {}

@@ -1,5 +1,5 @@
 -- A run with its one upload keeps its promise.
-use Rattle.std.proofs.Common.{◌≡◌, ◌<◌, ◌≤◌, ℕ, List, [], ◌∷◌, Option, Some, None, sym, ap, subst, length}
+use Rattle.std.proofs.Common.{◌≡◌, ◌<◌, ◌≤◌, ℕ, List, [], ◌∷◌, Option, Some, None, sym, ap, subst, length, filter_map}
 use Rattle.std.specs.FinMap.{get}
 use Rattle.s3_model.specs.declared.outcomes.Event.{Event}
 use Rattle.s3_model.specs.declared.outcomes.Outcome.{Outcome}
@@ -17,6 +17,7 @@ use Rattle.s3_outside.specs.declared.files.Shape.TheVariants as shape
 use Rattle.answer_classes.specs.Showing.{HasStatus, Shows}
 use Rattle.attempts.specs.Attempts.{text_of}
 use Rattle.job_terms.specs.Dispatches.{Dispatched}
+use Rattle.run_promise.specs.Settled.{left_by, untimed_by}
 use Rattle.run_promise.specs.Schedule.{bytes_of, source_bytes}
 use Rattle.upload_promise.specs.Shown.{CallFailed, KeepsPromise, end_of, start_of}
 use Rattle.upload_promise.specs.Uploads.{upload_ask, upload_task}
@@ -25,13 +26,15 @@ use Rattle.upload_promise.proofs.PromiseLemmas as promise
 use Rattle.small_uploads.specs.Uploading.{IsPutCarried, Uploads}
 use Rattle.put_promise.proofs.CarriedLemmas.{attempts, put_carried, tries}
 use Rattle.put_promise.proofs.OutcomeLemmas.{put_outcome}
+use Rattle.upload_promise.specs.Sources.{AreLeft}
 
 module _ (endpoint : Endpoint) (keys : Keys) (Plans : Option ℕ → List Dispatched → Type 0) (plans_none : Plans None []) (config : Config) (configured : IsValidConfig config) (limits : Limits) (valid : IsValidLimits limits)
-    (wires : ℕ) (has_wire : 1 ≤ wires) (status before after : ℕ) (path : List ℕ) (was now : SeenFiles) (same : now.store ≡ was.store) (warnings : List Warning) where
+    (wires : ℕ) (has_wire : 1 ≤ wires) (status before after : ℕ) (path : List ℕ) (was now : SeenFiles) (same : AreLeft was now) (warnings : List Warning)
+    (no_left : filter_map left_by warnings ≡ []) (no_untimed : filter_map untimed_by warnings ≡ []) where
   abbrev KeepsUpload : Task → Outcome → List Event → List Talk → List Note → Type 0
   KeepsUpload task how journal talks notes =
       KeepsPromise Shows HasStatus (text_of endpoint keys) endpoint.host endpoint.port Plans (CallFailed path now before after (task ∷ [])) (start_of config limits wires (task ∷ []) was)
-      (end_of status (how ∷ []) warnings journal talks notes now) None ⊥ ⊥
+      (end_of status (how ∷ []) warnings journal talks notes was now) None ⊥ ⊥
 
   module _ (bucket key : List ℕ) (content : Option (List ℕ)) (size micros : ℕ) (is_below : size < config.threshold) (file : HeldFile) (held : get was.store.held path ≡ Some file) (long : length file.bytes ≡ size) where
     abbrev upload : Outcome → Planned
@@ -53,7 +56,7 @@ module _ (endpoint : Endpoint) (keys : Keys) (Plans : Option ℕ → List Dispat
     }
 
     abbrev IsKept : Outcome → List Event → List Talk → List Note → Type 0
-    IsKept = promise.IsKept Shows HasStatus (text_of endpoint keys) endpoint.host endpoint.port Plans plans_none config configured limits valid wires has_wire status before after path was now same warnings bucket key content size micros is_below file held long
+    IsKept = promise.IsKept Shows HasStatus (text_of endpoint keys) endpoint.host endpoint.port Plans plans_none config configured limits valid wires has_wire status before after path was now same warnings no_left no_untimed bucket key content size micros is_below file held long
 
     kept : (how : Outcome) (journal : List Event) (talks : List Talk) (notes : List Note) → IsPutCarried endpoint keys config.attempts (upload_ask bucket key content) file.bytes journal how talks notes
         → IsKept how journal talks notes
@@ -74,7 +77,7 @@ module _ (endpoint : Endpoint) (keys : Keys) (Plans : Option ℕ → List Dispat
         → Uploads endpoint keys config.attempts (upload_ask bucket key content) (Some now) path size before after journal how talks notes
         → KeepsUpload (upload_task path bucket key content size micros) how journal talks notes
     keeps =
-        promise.upload_keeps Shows HasStatus (text_of endpoint keys) endpoint.host endpoint.port Plans plans_none config configured limits valid wires has_wire status before after path was now same warnings bucket key content size micros is_below file held long (IsPutCarried endpoint keys config.attempts) kept
+        promise.upload_keeps Shows HasStatus (text_of endpoint keys) endpoint.host endpoint.port Plans plans_none config configured limits valid wires has_wire status before after path was now same warnings no_left no_untimed bucket key content size micros is_below file held long (IsPutCarried endpoint keys config.attempts) kept
 
   -- an upload whose file stood there, with the size that was planned
   pub uploaded : (bucket key : List ℕ) (content : Option (List ℕ)) (size micros : ℕ) → size < config.threshold → shape_at was.store path ≡ shape.File size micros

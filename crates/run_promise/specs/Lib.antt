@@ -1,6 +1,8 @@
 pub mod Carried
 pub mod Dispatches
 pub mod Endings
+pub mod FileCalls
+pub mod FileOutcomes
 pub mod Fits
 pub mod Outcomes
 pub mod Planning

@@ -19,6 +19,7 @@ use Rattle.s3_model.specs.declared.tasks.Task.{Task}
 use Rattle.s3_model.specs.Files.{FileStore, HeldFile}
 use Rattle.s3_model.specs.Maps.{MapOf}
 use Rattle.s3_model.specs.Talks.{Talk, Note}
+use Rattle.local_files.specs.Calls.{Call}
 use Rattle.run_promise.specs.Schedule.{Setting}
 use Rattle.run_promise.specs.Truthful.{Shown}
 
@@ -125,6 +126,8 @@ pub record RunEnd : Type 0 where
   pub logs : ℕ → List Talk
   pub notes : ℕ → List Note
   pub files : FileStore
+  -- the calls that changed files, in order, as the files tell them
+  pub file_calls : List Call
   -- the number of the planning job whose page was refused by its content, if one was
   pub refused_page : Option ℕ
 
@@ -163,5 +166,6 @@ shown_by start came cancelled_at = record {
     untimed = filter_map untimed_by came.warnings;
     wanted_memory = came.status == 70;
   };
+  file_calls = came.file_calls;
   refused_page = came.refused_page;
 }

@@ -1,5 +1,5 @@
 -- Truthful outcomes: what a run of `cp`, `mv`, `rm` and `sync` promises over every honest service.
-use Rattle.std.specs.Prelude.{◌≡◌, ◌++◌, ◌⊎◌, ℕ, Bool, true, false, List, [], ◌∷◌, Option, Some, None, length}
+use Rattle.std.specs.Prelude.{◌≡◌, ◌++◌, ◌⊎◌, ℕ, Bool, true, false, List, [], ◌∷◌, Option, Some, None, length, map}
 use Rattle.std.specs.Prelude.{slice_get, Contains, IsNone}
 use Rattle.std.specs.FinMap.{get}
 use Rattle.s3_model.specs.declared.requests.Ask.{Ask}
@@ -26,7 +26,10 @@ use Rattle.s3_service.specs.Serves.{Replied, ExternalWrite, Writes, Removes}
 use Rattle.job_terms.specs.Dispatches.{Attempt, Dispatched}
 use Rattle.run_promise.specs.Traces.{Step, SentRequest, Begin, Serve, External, IsWilling, events_of, state_after}
 use Rattle.run_promise.specs.Runs.{Run, moments, HasEndedBy, IsFitting}
+use Rattle.local_files.specs.Calls.{Call}
 use Rattle.run_promise.specs.Endings.{Excused, Scene, IsEnded, IsLeftover, IsNew, IsThereIn}
+use Rattle.run_promise.specs.FileCalls.{AreCalls, FileRun, IsMoveOf, IsRemoved, TaskCall, files_after}
+use Rattle.run_promise.specs.FileOutcomes.{HasFailedAct, IsByFiles, IsDestChanged, IsMoveShown, IsShownByCalls}
 use Rattle.run_promise.specs.Schedule.{Setting, IsSchedule}
 use Rattle.run_promise.specs.Outcomes.{HasOutcome}
 use Rattle.job_terms.specs.Buffers.{KeepsBuffers}
@@ -43,6 +46,8 @@ pub record Shown : Type 0 where
   pub notes : ℕ → List Note
   pub held_after : MapOf HeldFile
   pub excused : Excused
+  -- the calls that changed files, in order, as the files tell them
+  pub file_calls : List Call
   -- the number of the planning job whose page was refused by its content, if one was
   pub refused_page : Option ℕ
 
@@ -100,6 +105,11 @@ abbrev pub OtherFilesStay : Shown → Type 0
 OtherFilesStay shown =
     (path : List ℕ) → IsTouchedFile shown.setting.tasks path ⊎ IsLeftover shown.excused shown.setting.held path
     ⊎ (get shown.held_after path ≡ get shown.setting.held path)
+
+-- what a run shows, with its dispatched requests and its calls
+abbrev pub run_shown : Shown → (dispatched coming : List Dispatched) → List TaskCall → FileRun
+run_shown shown dispatched coming calls =
+    record { setting = shown.setting; excused = shown.excused; dispatched = dispatched; coming = coming; calls = calls }
 
 -- the Delete of a copied source begins only once the destination is new
 abbrev pub MovesAfter : Shown → Run → Type 0
@@ -161,6 +171,20 @@ module _ (Shows : Ask → ℕ → Talk → Class → List ℕ → Type 0) where
     pub of_page : run.refused_page ≡ shown.refused_page
     pub fitting : IsFitting Shows shown.setting.limits run (IsDest shown.setting.tasks)
 
+  -- What local files hold, whatever a service did: the calls that the files tell are those of the run's tasks and keep
+  -- to their clauses, the files are those after them, and each outcome is one that they show.
+  pub record AreToldByCalls (shown : Shown) (dispatched coming : List Dispatched) (calls : List TaskCall) : Type 0
+    where
+      pub told : map (λ (c : TaskCall). c.step.call) calls ≡ shown.file_calls
+      pub keep : AreCalls Shows (run_shown shown dispatched coming calls)
+      pub held_after : shown.held_after ≡ files_after shown.setting.held calls
+      -- of a task that calls decide, and of one that moves its file
+      pub decided : (n : ℕ) (task : Task) (how : Outcome) → slice_get shown.setting.tasks n ≡ Some task
+          → slice_get shown.outcomes n ≡ Some how → IsByFiles task
+          → IsShownByCalls how (IsDestChanged task.kind calls n) (HasFailedAct calls n)
+      pub moved : (n : ℕ) (task : Task) (how : Outcome) (path : List ℕ) → IsMoveOf shown.setting.tasks n task path
+          → slice_get shown.outcomes n ≡ Some how → IsMoveShown how (IsRemoved calls n) (HasFailedAct calls n)
+
   -- Over every honest service, and whatever is lost, refused or late.
   abbrev pub HoldsOver : Shown → List Dispatched → Type 0
   HoldsOver shown dispatched = (run : Run) (part : List Step) → run.dispatched ≡ dispatched → FitsShown shown run
@@ -212,5 +236,7 @@ module _ (Shows : Ask → ℕ → Talk → Class → List ℕ → Type 0) (HasSt
     pub causes : (n : ℕ) (task : Task) (how : Outcome) → slice_get shown.setting.tasks n ≡ Some task
         → slice_get shown.outcomes n ≡ Some how
         → HasOutcome Shows HasStatus CallFailed shown.setting dispatched coming n task how
-    pub files : OtherFilesStay shown
+    pub calls : List TaskCall
+    pub files : AreToldByCalls Shows shown dispatched coming calls
+    pub others : OtherFilesStay shown
     pub holds : HoldsOver Shows shown dispatched

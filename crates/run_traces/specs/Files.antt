@@ -1,6 +1,6 @@
 -- The calls on files that a conductor made.
 use Rattle.std.specs.Prelude.{◌++◌, [], ◌∷◌, ℕ, List, length, map}
-use Rattle.file_laws.specs.FileTasks.{TaskCall}
+use Rattle.run_promise.specs.FileCalls.{TaskCall}
 use Rattle.local_files.specs.Calls.{CallStep}
 use Rattle.s3_outside.specs.declared.files.FileNote.{FileNote}
 use Rattle.run_traces.specs.Traces.{Called, RunTrace, journal_of}

@@ -1,5 +1,5 @@
 -- A run keeps its promise: it planned an upload and carried it out, or it has no task.
-use Rattle.std.proofs.Common.{◌≡◌, ◌∙◌, ◌≤◌, ◌^◌, ℕ, Bool, true, false, List, [], ◌∷◌, Option, Some, None, Result, Ok, Err, if◌then◌else◌, refl, sym, ap, subst, inl, inr, arith}
+use Rattle.std.proofs.Common.{◌≡◌, ◌∙◌, ◌≤◌, ◌^◌, ℕ, Bool, true, false, List, [], ◌∷◌, Option, Some, None, Result, Ok, Err, if◌then◌else◌, refl, sym, ap, subst, inl, inr, arith, filter_map}
 use Rattle.job_terms.specs.Attempts.{in_first}
 use Rattle.s3_model.specs.declared.outcomes.Event.{Event}
 use Rattle.s3_model.specs.declared.outcomes.Outcome.{Outcome}
@@ -25,6 +25,7 @@ use Rattle.listings.specs.Asked.{AreAsked, Asked, dispatched_from, events_from}
 use Rattle.listings.specs.Pages.{Plans, is_memory}
 use Rattle.listings.specs.declared.fault.ListingFault.{ListingFault}
 use Rattle.listings.specs.declared.fault.ListingFault.TheVariants as unlisted
+use Rattle.run_promise.specs.Settled.{left_by, untimed_by}
 use Rattle.run_promise.specs.Planning.{Need, PlansFor}
 use Rattle.shared_lemmas.proofs.Clashes.{false_true}
 use Rattle.s3_model.specs.declared.places.Place.{Place}
@@ -52,7 +53,7 @@ use Rattle.upload_plans.specs.declared.plan.Fate.{Fate}
 use Rattle.upload_plans.specs.declared.plan.Fate.TheVariants as fate
 use Rattle.upload_plans.proofs.FateLemmas.{task_of}
 use Rattle.upload_promise.specs.Shown.{CallFailed, KeepsPromise, end_of, one_attempt, start_of}
-use Rattle.upload_promise.specs.Sources.{LooksAt}
+use Rattle.upload_promise.specs.Sources.{LooksAt, AreLeft}
 use Rattle.upload_promise.proofs.PromiseLemmas as promise
 use Rattle.upload_promise.proofs.PromiseLemmas.{one_valid}
 use Rattle.put_promise.proofs.PromiseLemmas.{uploaded}
@@ -65,6 +66,7 @@ use Rattle.s3_main.specs.Plans.{HasPlan, IsFate, IsIdle, Works, warnings_of}
 use Rattle.s3_main.specs.Runs.{GoesAs, IfSeen, IsTrue, IsUnasked, IsUnplanned, PlansBy, config_for, files_over}
 use Rattle.s3_main.proofs.BeginLemmas.{source_is}
 use Rattle.s3_main.proofs.UrlLemmas.{lists, presign_is_no_listing}
+use Rattle.upload_promise.proofs.SourceLemmas.{looks_left}
 
 abbrev no_keys : Keys
 no_keys = record { id = []; secret = []; token = None; region = [] }
@@ -84,6 +86,22 @@ some_valid = record {
   buffers = within 1 1 64 (omega arith) (omega arith);
   attempts = within 1 1 10 (omega arith) (omega arith);
 }
+
+no_left : (comes : Fate) → filter_map left_by (warnings_of comes) ≡ []
+no_left fate.NotYet = refl
+no_left (fate.Refused fault) = refl
+no_left (fate.NotAFile path) = refl
+no_left (fate.Skipped place why) = refl
+no_left fate.LeftOut = refl
+no_left (fate.Upload task) = refl
+
+no_untimed : (comes : Fate) → filter_map untimed_by (warnings_of comes) ≡ []
+no_untimed fate.NotYet = refl
+no_untimed (fate.Refused fault) = refl
+no_untimed (fate.NotAFile path) = refl
+no_untimed (fate.Skipped place why) = refl
+no_untimed fate.LeftOut = refl
+no_untimed (fate.Upload task) = refl
 
 -- a run that began nothing may say what it likes of its settings
 abbrev some_settings : Settings
@@ -159,7 +177,7 @@ memory_ends Shows (Err unlisted.Memory) (Err same) why e shown ends =
     elim (subst (λ (f : ListingFault). EndsListing (Err f) why) shown ends) [ inl is ↦ is | inr is ↦ is ]
 
 module _ (words : List (List ℕ)) (env : Option SeenEnv) (limits : Limits) (valid : IsValidLimits limits) (wires : ℕ) (has_wire : 1 ≤ wires) (before after : ℕ) (run : Run) (talks : List Talk) (notes : List Note)
-    (was now : SeenFiles) (same : now.store ≡ was.store) (memory : run.fatal ≡ Some fatal.Memory → run.status ≡ 70) where
+    (was now : SeenFiles) (same : AreLeft was now) (memory : run.fatal ≡ Some fatal.Memory → run.status ≡ 70) where
   abbrev path : List ℕ
   path = path_in words
 
@@ -171,16 +189,16 @@ module _ (words : List (List ℕ)) (env : Option SeenEnv) (limits : Limits) (val
   abbrev Keeps : Option ℕ → Endpoint → Settings → List Task → List Outcome → List Event → List Warning → List Talk → List Note → Type 0
   Keeps page endpoint settings tasks outcomes journal warnings of_talks of_notes =
       KeepsPromise Shows HasStatus (text_of endpoint settings.keys) endpoint.host endpoint.port (PlansBy words run.fatal) (CallFailed path now before after tasks)
-      (start_of (config_for words settings.config) limits wires tasks was) (record (end_of run.status outcomes warnings journal of_talks of_notes now) { refused_page = page }) None ⊥ ⊥
+      (start_of (config_for words settings.config) limits wires tasks was) (record (end_of run.status outcomes warnings journal of_talks of_notes was now) { refused_page = page }) None ⊥ ⊥
 
   abbrev PlansNone : Type 0
   PlansNone = PlansBy words run.fatal None []
 
-  nothing : (endpoint : Endpoint) (settings : Settings) → IsValidConfig settings.config → PlansNone → (warnings : List Warning)
+  nothing : (endpoint : Endpoint) (settings : Settings) → IsValidConfig settings.config → PlansNone → (warnings : List Warning) → filter_map left_by warnings ≡ [] → filter_map untimed_by warnings ≡ []
       → (of_notes : List Note) → AreIdle of_notes → Keeps None endpoint settings [] [] [] warnings [] of_notes
-  nothing endpoint settings configured none warnings of_notes idle =
+  nothing endpoint settings configured none warnings left untimed of_notes idle =
       promise.unplanned Shows HasStatus (text_of endpoint settings.keys) endpoint.host endpoint.port (PlansBy words run.fatal) none (config_for words settings.config)
-      (valid_for (lists_in words) settings.config configured) limits valid wires has_wire run.status before after path was now same warnings of_notes idle
+      (valid_for (lists_in words) settings.config configured) limits valid wires has_wire run.status before after path was now same warnings left untimed of_notes idle
 
   -- the lists of the run are these
   of_run : (page : Option ℕ) (endpoint : Endpoint) (settings : Settings) (tasks : List Task) (outcomes : List Outcome) (journal : List Event) (warnings : List Warning) (of_talks : List Talk) (of_notes : List Note)
@@ -203,7 +221,7 @@ module _ (words : List (List ℕ)) (env : Option SeenEnv) (limits : Limits) (val
     refused_page = None;
     begun = λ some. absurd (some u.nothing.no_job);
     keeps = of_run None nowhere some_settings [] [] [] [] [] [] u.nothing.no_task u.nothing.no_outcome u.nothing.no_job u.nothing.no_warning u.no_talk u.no_note
-        (nothing nowhere some_settings some_valid (asks_none words run.fatal u.nothing.stopped) [] [] none_idle);
+        (nothing nowhere some_settings some_valid (asks_none words run.fatal u.nothing.stopped) [] refl refl [] none_idle);
   }
 
   url_true : IsPresigned words env run talks notes → Told
@@ -214,7 +232,7 @@ module _ (words : List (List ℕ)) (env : Option SeenEnv) (limits : Limits) (val
     refused_page = None;
     begun = λ some. absurd (some u.taskless.no_job);
     keeps = of_run None nowhere some_settings [] [] [] [] [] (Moment u.moment ∷ []) u.taskless.no_task u.taskless.no_outcome u.taskless.no_job u.taskless.no_warning u.no_talk u.noted
-        (nothing nowhere some_settings some_valid (refl, inl (no_needs words u.command run.fatal u.begun.rest (presign_is_no_listing u.command.verb u.presign))) [] (Moment u.moment ∷ []) (moment_idle u.moment));
+        (nothing nowhere some_settings some_valid (refl, inl (no_needs words u.command run.fatal u.begun.rest (presign_is_no_listing u.command.verb u.presign))) [] refl refl (Moment u.moment ∷ []) (moment_idle u.moment));
   }
 
   module _ (command : Command) (settings : Settings) (begun : IsBegun words env command settings) where
@@ -238,7 +256,7 @@ module _ (words : List (List ℕ)) (env : Option SeenEnv) (limits : Limits) (val
     idle_true : is_listing command.verb ≡ false → (comes : Fate) → run.plan.tasks.items ≡ [] → run.warnings.items ≡ warnings_of comes → IsIdle run talks notes → Told
     idle_true none comes tasks warnings idle =
         true_by None (of_run None endpoint settings [] [] [] (warnings_of comes) [] [] tasks idle.no_outcome idle.no_job warnings idle.no_talk idle.no_note
-        (nothing endpoint settings begun.valid (none_planned none) (warnings_of comes) [] none_idle))
+        (nothing endpoint settings begun.valid (none_planned none) (warnings_of comes) (no_left comes) (no_untimed comes) [] none_idle))
 
     -- a plan with its upload
     upload_true : is_listing command.verb ≡ false → (task : Task) → IsFate command settings limits (Some was) (fate.Upload task) → run.plan.tasks.items ≡ task ∷ [] → run.warnings.items ≡ []
@@ -250,13 +268,13 @@ module _ (words : List (List ℕ)) (env : Option SeenEnv) (limits : Limits) (val
         let sent = subst (λ (t : Task). Uploads endpoint settings.keys settings.config.attempts (put_ask t) (Some now) (path_of t) t.size before after run.journal.items how talks notes) of_file.is uploads in
         let stands : shape_at was.store (source_path command) ≡ shape.File of_file.size of_file.micros = fated.seen ∙ of_file.is_file in
         let keeps =
-        uploaded endpoint settings.keys (PlansBy words run.fatal) (none_planned none) settings.config begun.valid limits valid wires has_wire run.status before after (source_path command) was now same []
+        uploaded endpoint settings.keys (PlansBy words run.fatal) (none_planned none) settings.config begun.valid limits valid wires has_wire run.status before after (source_path command) was now same [] refl refl
         (bucket_of command) key (content_for command (source_path command)) of_file.size of_file.micros of_file.small stands run.journal.items how talks notes sent in
         let here : KeepsBoth None (of_task ∷ []) (how ∷ []) run.journal.items [] talks notes =
         subst (λ (config : Config). KeepsPromise Shows HasStatus (text_of endpoint settings.keys) endpoint.host endpoint.port (PlansBy words run.fatal) (CallFailed path now before after (of_task ∷ []))
-        (start_of config limits wires (of_task ∷ []) was) (end_of run.status (how ∷ []) [] run.journal.items talks notes now) None ⊥ ⊥) (sym (config_is false none))
+        (start_of config limits wires (of_task ∷ []) was) (end_of run.status (how ∷ []) [] run.journal.items talks notes was now) None ⊥ ⊥) (sym (config_is false none))
         (subst (λ (at : List ℕ). KeepsPromise Shows HasStatus (text_of endpoint settings.keys) endpoint.host endpoint.port (PlansBy words run.fatal) (CallFailed at now before after (of_task ∷ []))
-        (start_of settings.config limits wires (of_task ∷ []) was) (end_of run.status (how ∷ []) [] run.journal.items talks notes now) None ⊥ ⊥) (source_is words command begun.rest) keeps) in
+        (start_of settings.config limits wires (of_task ∷ []) was) (end_of run.status (how ∷ []) [] run.journal.items talks notes was now) None ⊥ ⊥) (source_is words command begun.rest) keeps) in
         true_by None (of_run None endpoint settings (of_task ∷ []) (how ∷ []) run.journal.items [] talks notes
         (tasks ∙ ap (λ (t : Task). t ∷ []) of_file.is) one refl warnings refl refl here)
 
@@ -279,7 +297,7 @@ module _ (words : List (List ℕ)) (env : Option SeenEnv) (limits : Limits) (val
         let planned = subst (λ (all : List Need). PlansFor Shows IsRefusedPage (run.fatal ≡ Some fatal.Memory) page all (dispatched_from 0 0 asked)) (sym needed) more in
         true_by page (of_run page endpoint settings [] [] (events_from 0 asked) [] talks notes none.no_task none.no_outcome events none.no_warning refl refl
         (subst (λ (config : Config). KeepsPromise Shows HasStatus (text_of endpoint settings.keys) endpoint.host endpoint.port (PlansBy words run.fatal) (CallFailed path now before after [])
-        (start_of config limits wires [] was) (record (end_of run.status [] [] (events_from 0 asked) talks notes now) { refused_page = page }) None ⊥ ⊥) (sym (config_is true listing))
+        (start_of config limits wires [] was) (record (end_of run.status [] [] (events_from 0 asked) talks notes was now) { refused_page = page }) None ⊥ ⊥) (sym (config_is true listing))
         (listing_keeps endpoint settings.keys (PlansBy words run.fatal) page settings.config begun.valid limits valid wires has_wire run.status before after path was now same asked questions talks notes wanting
         (λ e. memory (wants e)) gained planned)))
 
@@ -300,11 +318,11 @@ pub all_true : (limits : Limits) → IsValidLimits limits → (wires : ℕ) → 
 all_true limits valid wires some run talks notes words env was None before after memory looks goes = tt
 all_true limits valid wires some run talks notes words env None (Some now) before after memory looks goes = tt
 all_true limits valid wires some run talks notes words env (Some was) (Some now) before after memory looks (inl u) =
-    unplanned_true words env limits valid wires some before after run talks notes was now looks.0 memory u
+    unplanned_true words env limits valid wires some before after run talks notes was now (looks_left (path_in words) was now looks) memory u
 all_true limits valid wires some run talks notes words env (Some was) (Some now) before after memory looks (inr (inr (inl u))) =
-    url_true words env limits valid wires some before after run talks notes was now looks.0 memory u
+    url_true words env limits valid wires some before after run talks notes was now (looks_left (path_in words) was now looks) memory u
 all_true limits valid wires some run talks notes words env (Some was) (Some now) before after memory looks (inr (inl p)) =
-    planned_true words env limits valid wires some before after run talks notes was now looks.0 memory p.command p.settings p.begun p.no_listing p.comes p.fated p.plan p.works
+    planned_true words env limits valid wires some before after run talks notes was now (looks_left (path_in words) was now looks) memory p.command p.settings p.begun p.no_listing p.comes p.fated p.plan p.works
 all_true limits valid wires some run talks notes words env (Some was) (Some now) before after memory looks (inr (inr (inr l))) =
-    shown_true words env limits valid wires some before after run talks notes was now looks.0 memory l.command l.settings l.begun l.listing l.nothing l.command.from l.command.recursive
+    shown_true words env limits valid wires some before after run talks notes was now (looks_left (path_in words) was now looks) memory l.command l.settings l.begun l.listing l.nothing l.command.from l.command.recursive
     (has_needs words l.command run.fatal l.begun.rest l.listing (listing_goes_on l.result run.fatal l.ends)) l.result l.shows l.ends

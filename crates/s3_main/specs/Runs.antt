@@ -30,6 +30,7 @@ use Rattle.upload_plans.specs.declared.plan.Fate.{Fate}
 use Rattle.upload_plans.specs.declared.plan.Fate.TheVariants as fate
 use Rattle.run_promise.specs.Settled.{RunEnd}
 use Rattle.upload_promise.specs.Shown.{CallFailed, KeepsPromise, one_attempt, start_of}
+use Rattle.upload_promise.specs.Sources.{calls_between}
 use Rattle.run_report.specs.declared.run.Fatal.{Fatal}
 use Rattle.run_report.specs.declared.run.Fatal.TheVariants as fatal
 use Rattle.run_report.specs.declared.run.Run.{Run}
@@ -210,8 +211,8 @@ files_over was now faults_before faults_after = record {
 }
 
 -- what the run came to, by its record, with what the wires gained
-abbrev pub end_for : Run → (refused_page : Option ℕ) → (logs : ℕ → List Talk) → (notes : ℕ → List Note) → (now : SeenFiles) → RunEnd
-end_for run refused_page logs notes now = record {
+abbrev pub end_for : Run → (refused_page : Option ℕ) → (logs : ℕ → List Talk) → (notes : ℕ → List Note) → (was now : SeenFiles) → RunEnd
+end_for run refused_page logs notes was now = record {
   status = run.status;
   outcomes = run.outcomes.items;
   warnings = run.warnings.items;
@@ -219,6 +220,7 @@ end_for run refused_page logs notes now = record {
   logs = logs;
   notes = notes;
   files = now.store;
+  file_calls = calls_between was now;
   refused_page = refused_page;
 }
 
@@ -237,7 +239,7 @@ pub record IsTrue (words : List (List ℕ)) (env : Option SeenEnv) (limits : Lim
       (PlansBy words run.fatal)
       (CallFailed (path_in words) over.now over.faults_before over.faults_after run.plan.tasks.items)
       (start_of (config_for words settings.config) limits wires run.plan.tasks.items over.was)
-      (end_for run refused_page logs notes over.now) cancelled_at ⊥ ⊥
+      (end_for run refused_page logs notes over.was over.now) cancelled_at ⊥ ⊥
 
 -- where the files are seen before and after
 abbrev pub IfSeen : (was now : Option SeenFiles) → (SeenFiles → SeenFiles → Type 0) → Type 0

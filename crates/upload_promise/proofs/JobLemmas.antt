@@ -109,7 +109,7 @@ abbrev pub task_of : Planned → Task
 task_of u = upload_task u.path u.bucket u.key u.content u.size u.micros
 
 abbrev pub setting_of : Planned → Setting
-setting_of u = setting_by (start_of u.config u.limits u.wires (task_of u ∷ []) u.was) (end_of u.status (u.how ∷ []) [] [] [] [] u.was) None
+setting_of u = setting_by (start_of u.config u.limits u.wires (task_of u ∷ []) u.was) (end_of u.status (u.how ∷ []) [] [] [] [] u.was u.was) None
 
 -- the job's dispatch, with its attempts
 abbrev pub put_dispatch : List Attempt → Dispatch

@@ -1,12 +1,14 @@
 -- What makes a run truthful, and done where the service is willing, by the laws of whole runs over objects. The run's jobs can be
 -- read from its journal in one way only, and no task is one that is not to replace.
-use Rattle.std.proofs.Common.{◌≡◌, ◌≤◌, ℕ, true, List, Option, Some, None, sym, subst, inl, inr, map, Contains, length, slice_get}
+use Rattle.std.proofs.Common.{◌≡◌, ◌≤◌, ℕ, true, List, [], Option, Some, None, sym, ap, subst, inl, inr, map, Contains, length, slice_get}
 use Rattle.std.specs.FinMap.{get}
 use Rattle.s3_model.specs.declared.requests.Ask.{Ask}
 use Rattle.s3_model.specs.declared.answers.Class.{Class}
 use Rattle.s3_model.specs.declared.outcomes.Cause.{Cause}
 use Rattle.s3_model.specs.declared.outcomes.Outcome.{Outcome}
 use Rattle.s3_model.specs.declared.tasks.Task.{Task}
+use Rattle.s3_model.specs.Files.{HeldFile}
+use Rattle.s3_model.specs.Maps.{MapOf}
 use Rattle.s3_model.specs.Talks.{Talk}
 use Rattle.s3_model.specs.Validity.{IsValidLimits}
 use Rattle.s3_service.specs.ServiceState.{State}
@@ -22,6 +24,7 @@ use Rattle.world_laws.specs.Completeness.{AreCallsCounted, AreSourcesThere}
 use Rattle.world_laws.specs.Promises.{AreFilesLeft, IsByRequests, IsOrderly}
 use Rattle.world_laws.specs.Tasks.{AreApart, HasSource}
 use Rattle.world_laws.proofs.Completeness.{orderly_is_done}
+use Rattle.world_laws.proofs.NoCalls.{IsWithoutCalls, told_by_none}
 use Rattle.world_laws.proofs.Promises.{promise_holds}
 
 module _ (Shows : Ask → ℕ → Talk → Class → List ℕ → Type 0) (HasStatus : Ask → ℕ → Talk → ℕ → Type 0) (request_text : Ask → List ℕ → ℕ → List ℕ) (host : List ℕ) (port : ℕ)
@@ -45,7 +48,7 @@ module _ (Shows : Ask → ℕ → Talk → Class → List ℕ → Type 0) (HasSt
     pub sources : (moments : List State) (n : ℕ) (task : Task) → slice_get shown.setting.tasks n ≡ Some task → HasSource shown.setting.held moments task task.kind (is_small shown.setting task)
     pub there : (start : State) → AreSourcesThere shown.setting.held shown.setting.tasks start
     pub left : AreFilesLeft shown
-    pub stay : (path : List ℕ) → get shown.held_after path ≡ get shown.setting.held path
+    pub calls : IsWithoutCalls Shows shown jobs jobs
     pub replaces : (n : ℕ) (task : Task) → slice_get shown.setting.tasks n ≡ Some task → task.fresh ≡ true → ⊥
     pub counted : AreCallsCounted Shows HasStatus (Plans shown.refused_page) CallFailed shown
     pub threshold : 1 ≤ shown.setting.config.threshold
@@ -83,7 +86,9 @@ module _ (Shows : Ask → ℕ → Talk → Class → List ℕ → Type 0) (HasSt
       buffers = o.buffers;
       outcomes = inl o.as_many;
       causes = o.causes;
-      files = λ path. inr (inr (o.stay path));
+      calls = [];
+      files = told_by_none Shows shown jobs jobs o.calls;
+      others = λ path. inr (inr (ap (λ (held : MapOf HeldFile). get held path) o.calls.untouched));
       holds = promise_holds Shows HasStatus (Plans shown.refused_page) CallFailed request_text host port shown jobs jobs (orderly jobs jobs o.schedule o.carried);
     }
 

@@ -1,5 +1,5 @@
 -- A run of at most one small upload keeps its promise: its task was planned and carried, or none was.
-use Rattle.std.proofs.Common.{◌≡◌, ◌∙◌, ◌==◌, ◌<◌, ◌≤◌, ℕ, Bool, true, false, List, [], ◌∷◌, Option, Some, None, refl, sym, ap, subst, inl, inr, Contains, length, slice_get, if◌then◌else◌, arith}
+use Rattle.std.proofs.Common.{◌≡◌, ◌∙◌, ◌==◌, ◌<◌, ◌≤◌, ℕ, Bool, true, false, List, [], ◌∷◌, Option, Some, None, refl, sym, ap, subst, inl, inr, Contains, length, slice_get, filter_map, if◌then◌else◌, arith, ◌≢◌}
 use Rattle.std.specs.FinMap.{get}
 use Rattle.std.proofs.lemmas.List.{take_all}
 use Rattle.s3_model.specs.declared.requests.Ask.{Ask}
@@ -13,6 +13,7 @@ use Rattle.s3_model.specs.declared.outcomes.Outcome.{Outcome}
 use Rattle.s3_model.specs.declared.outcomes.Outcome.TheVariants as outcome
 use Rattle.s3_model.specs.declared.outcomes.Reason.{Reason}
 use Rattle.s3_model.specs.declared.requests.Op.{Op}
+use Rattle.s3_model.specs.declared.requests.Op.TheVariants as op
 use Rattle.s3_model.specs.declared.settings.Config.{Config}
 use Rattle.s3_model.specs.declared.settings.Limits.{Limits}
 use Rattle.s3_model.specs.declared.tasks.Kind.TheVariants as kind
@@ -28,7 +29,7 @@ use Rattle.job_terms.specs.Attempts.{in_first}
 use Rattle.job_terms.specs.Dispatches.{Attempt, Dispatched}
 use Rattle.run_promise.specs.Outcomes.{HasOutcome}
 use Rattle.run_promise.specs.Schedule.{IsSchedule, is_small}
-use Rattle.run_promise.specs.Settled.{IsSettingOf, cause_of, is_dry, is_upload, lanes_of, shown_by, tells_file_failed}
+use Rattle.run_promise.specs.Settled.{IsSettingOf, cause_of, is_dry, is_upload, lanes_of, left_by, shown_by, tells_file_failed, untimed_by}
 use Rattle.run_promise.specs.Truthful.{Shown}
 use Rattle.world_laws.specs.Promises.{IsByRequests}
 use Rattle.world_laws.specs.Tasks.{HasSource, HasSourceFile}
@@ -36,7 +37,7 @@ use Rattle.shared_lemmas.proofs.Clashes.{none_is_some}
 use Rattle.s3_outside.specs.Files.{SeenFiles, shape_of}
 use Rattle.s3_outside.specs.declared.files.Shape.TheVariants as shape
 use Rattle.upload_promise.specs.Puts.{AreIdle}
-use Rattle.upload_promise.specs.Sources.{AreFirstBytes}
+use Rattle.upload_promise.specs.Sources.{AreFirstBytes, AreLeft}
 use Rattle.upload_promise.specs.Uploads.{IsReadCause, Uploads, put_events, upload_ask, upload_task}
 use Rattle.upload_promise.specs.Shown.{CallFailed, KeepsPromise, end_of, one_attempt, start_of}
 use Rattle.upload_promise.proofs.JobLemmas.{Planned, each, first_only, in_none, no_buffers, no_jobs, no_schedule, put_alone, put_buffers, put_schedule, put_with, setting_of}
@@ -141,18 +142,19 @@ one_valid config v = record {
 
 module _ (Shows : Ask → ℕ → Talk → Class → List ℕ → Type 0) (HasStatus : Ask → ℕ → Talk → ℕ → Type 0) (request_text : Ask → List ℕ → ℕ → List ℕ) (host : List ℕ) (port : ℕ)
     (Plans : Option ℕ → List Dispatched → Type 0) (plans_none : Plans None []) (config : Config) (configured : IsValidConfig config) (limits : Limits) (valid : IsValidLimits limits) (wires : ℕ) (has_wire : 1 ≤ wires)
-    (status before after : ℕ) (path : List ℕ) (was now : SeenFiles) (same : now.store ≡ was.store) (warnings : List Warning) where
+    (status before after : ℕ) (path : List ℕ) (was now : SeenFiles) (same : AreLeft was now) (warnings : List Warning)
+    (no_left : filter_map left_by warnings ≡ []) (no_untimed : filter_map untimed_by warnings ≡ []) where
   abbrev Fails : List Task → ℕ → Cause → Type 0
   Fails tasks = CallFailed path now before after tasks
 
   -- what is to be shown of a run
   abbrev Keeps : List Task → List Outcome → List Event → List Talk → List Note → Type 0
   Keeps tasks outcomes journal talks notes =
-      KeepsPromise Shows HasStatus request_text host port Plans (Fails tasks) (start_of config limits wires tasks was) (end_of status outcomes warnings journal talks notes now) None ⊥ ⊥
+      KeepsPromise Shows HasStatus request_text host port Plans (Fails tasks) (start_of config limits wires tasks was) (end_of status outcomes warnings journal talks notes was now) None ⊥ ⊥
 
   module _ (tasks : List Task) (outcomes : List Outcome) (journal : List Event) (talks : List Talk) (notes : List Note) (jobs : List Dispatched) where
     abbrev shown : Shown
-    shown = shown_by (start_of config limits wires tasks was) (end_of status outcomes warnings journal talks notes now) None
+    shown = shown_by (start_of config limits wires tasks was) (end_of status outcomes warnings journal talks notes was now) None
 
     abbrev Alone : Type 0
     Alone = AreAlone Shows HasStatus request_text host port Plans (Fails tasks) shown jobs
@@ -192,8 +194,8 @@ module _ (Shows : Ask → ℕ → Talk → Class → List ℕ → Type 0) (HasSt
         ap (tells_file_failed (slice_get tasks n)) at_n
         ∙ tells (slice_get tasks n) (ap is_upload fails.1 ∙ uploads n fails.0 fails.1) now path fails.0.size before after of_cause fails.2
 
-  stay : (any : List ℕ) → get now.store.held any ≡ get was.store.held any
-  stay any = ap (λ (s : FileStore). get s.held any) same
+  stays : now.store.held ≡ was.store.held
+  stays = ap (λ (s : FileStore). s.held) same.0
 
   -- ---- a run that ended before its task
 
@@ -218,7 +220,15 @@ module _ (Shows : Ask → ℕ → Talk → Class → List ℕ → Type 0) (HasSt
           moved_once = λ m n a b bucket key at_a at_b copies from moves of_b. absurd (none_is_some a at_a);
         };
         left = λ n task how at at_task at_how moves from. absurd (none_is_some task at_task);
-        stay = stay;
+        calls = record {
+          quiet = same.1;
+          untouched = stays;
+          none_left = no_left;
+          none_untimed = no_untimed;
+          tasks = λ n task at_task. absurd (none_is_some task at_task);
+          keeps = λ n task at_task moves. none_is_some task at_task;
+          sends = λ c n known of_task. absurd (in_none c known);
+        };
         replaces = λ n task at_task is_fresh. none_is_some task at_task;
         counted = counted [] [] [] [] notes [] (λ n task at_task. absurd (none_is_some task at_task));
         threshold = configured.threshold.least;
@@ -227,6 +237,13 @@ module _ (Shows : Ask → ℕ → Talk → Class → List ℕ → Type 0) (HasSt
       (λ n how at_n. absurd (none_is_some how at_n))
 
   -- ---- a run that was planned
+
+  -- neither a Get nor a Delete
+  abbrev SendsOnly : Dispatched → Type 0
+  SendsOnly c = (c.dispatch.job.op ≢ op.Get) × (c.dispatch.job.op ≢ op.Delete)
+
+  abbrev SendsNoOther : List Dispatched → Type 0
+  SendsNoOther jobs = (c : Dispatched) → Contains jobs c → SendsOnly c
 
   module _ (bucket key : List ℕ) (content : Option (List ℕ)) (size micros : ℕ) (is_below : size < config.threshold) (file : HeldFile) (held : get was.store.held path ≡ Some file) (long : length file.bytes ≡ size) where
     abbrev upload : Outcome → Planned
@@ -278,9 +295,9 @@ module _ (Shows : Ask → ℕ → Talk → Class → List ℕ → Type 0) (HasSt
 
       planned : IsSchedule Shows shows.setting (Plans None) jobs jobs → IsCarried Shows request_text host port shows.setting journal (in_first talks) (in_first notes) jobs jobs
           → Alone (task ∷ []) (how ∷ []) journal talks notes jobs → KeepsBuffers config.buffers journal → HasOutcome Shows HasStatus (Fails (task ∷ [])) shows.setting jobs jobs 0 task how
-          → ((c : Dispatched) → Contains jobs c → c.dispatch.job.task ≡ None → ⊥) → IsOrdinary how
+          → ((c : Dispatched) → Contains jobs c → c.dispatch.job.task ≡ None → ⊥) → SendsNoOther jobs → IsOrdinary how
           → Keeps (task ∷ []) (how ∷ []) journal talks notes
-      planned schedule carried alone buffers has of_task ordinary =
+      planned schedule carried alone buffers has of_task sends ordinary =
           keeps (task ∷ []) (how ∷ []) journal talks notes jobs
           (record {
             schedule = schedule;
@@ -306,7 +323,15 @@ module _ (Shows : Ask → ℕ → Talk → Class → List ℕ → Type 0) (HasSt
               moved_once = λ m n a b bucket key at_a at_b copies from moves of_b. absurd (no_copy m a at_a copies);
             };
             left = λ n t of_how at at_task at_how moves from. absurd (keeps_source n t at_task moves);
-            stay = stay;
+            calls = record {
+              quiet = same.1;
+              untouched = stays;
+              none_left = no_left;
+              none_untimed = no_untimed;
+              tasks = of_each IsByRequests (record { bucket = bucket; key = key; is_dest = refl; decided = tt; keeps = λ removes. refl });
+              keeps = keeps_source;
+              sends = λ c n known of_one. sends c known;
+            };
             replaces = of_each (λ (t : Task). t.fresh ≡ true → ⊥) false_is_true;
             counted = counted (task ∷ []) (how ∷ []) journal talks notes jobs (of_each (λ (t : Task). is_upload (Some t) ≡ true) refl);
             threshold = configured.threshold.least;
@@ -320,7 +345,7 @@ module _ (Shows : Ask → ℕ → Talk → Class → List ℕ → Type 0) (HasSt
         let how = outcome.Failed of_cause in
         planned how [] [] [] [] (no_schedule Shows (Plans None) (shows how [] [] [] []).setting plans_none)
         (none_carried Shows request_text host port (shows how [] [] [] []).setting [] none_idle (has_lanes config wires configured has_wire)) (no_jobs Shows (Plans None) (shows how [] [] [] []).setting) (no_buffers config.buffers)
-        (unread_for Shows HasStatus (Fails (task ∷ [])) (upload how) now before after of_cause (λ reason. (task, refl, reason)) refl h) (λ c known of_none. in_none c known)
+        (unread_for Shows HasStatus (Fails (task ∷ [])) (upload how) now before after of_cause (λ reason. (task, refl, reason)) refl h) (λ c known of_none. in_none c known) (λ c known. absurd (in_none c known))
         (read_ordinary (Some now) path size before after of_cause h)
 
     -- the job was given: with these attempts, marks, talks and notes
@@ -332,7 +357,7 @@ module _ (Shows : Ask → ℕ → Talk → Class → List ℕ → Type 0) (HasSt
         let put : Dispatched = put_with (upload how) attempts in
         planned how (put_events tries) talks notes (put ∷ []) (put_schedule Shows (Plans None) (upload how) plans_none attempts) carried
         (λ dispatched coming scheduled are. put_alone Shows (Plans None) (upload how) dispatched coming attempts scheduled (are ∙ sym carried.shown)) (put_buffers config.buffers tries configured.buffers.least) has
-        (each (λ (c : Dispatched). c.dispatch.job.task ≡ None → ⊥) put (λ e. none_is_some 0 (sym e))) ordinary
+        (each (λ (c : Dispatched). c.dispatch.job.task ≡ None → ⊥) put (λ e. none_is_some 0 (sym e))) (each SendsOnly put (λ e. cc, λ e. cc)) ordinary
 
     -- the job of the Put of the file's bytes, and that the outcome is what its attempts show
     pub record IsKept (how : Outcome) (journal : List Event) (talks : List Talk) (notes : List Note) : Type 0 where
@@ -360,6 +385,6 @@ module _ (Shows : Ask → ℕ → Talk → Class → List ℕ → Type 0) (HasSt
           (subst (λ (all : List Talk). Keeps (task ∷ []) (outcome.Failed u.why ∷ []) [] all notes) (sym u.no_talk)
           (subst (λ (all : List Note). Keeps (task ∷ []) (outcome.Failed u.why ∷ []) [] [] all) (sym u.no_note) (unread_run u.why u.reason))))
       upload_keeps journal how talks notes (inr g) =
-          let read : AreFirstBytes was.store path g.bytes = subst (λ (s : FileStore). AreFirstBytes s path g.bytes) same g.read in
+          let read : AreFirstBytes was.store path g.bytes = subst (λ (s : FileStore). AreFirstBytes s path g.bytes) same.0 g.read in
           let whole : g.bytes ≡ file.bytes = whole_file was.store path g.bytes file held read (g.size_is ∙ sym long) in
           kept_keeps how journal talks notes (kept how journal talks notes (subst (λ (bytes : List ℕ). Carries asked bytes journal how talks notes) whole g.carries))

@@ -1,8 +1,8 @@
 -- Files over a call, and the bytes that came of one.
 use Rattle.shared_lemmas.proofs.Clashes.{none_is_some, some_is}
-use Rattle.std.proofs.Common.{◌≡◌, ◌≤◌, ◌+◌, ◌-◌, ◌∙◌, ◌++◌, ℕ, List, [], ◌∷◌, Option, Result, refl, append_assoc, append-nil, Some, None, IfSome, length, take, drop, sym, ap, subst, inl, inr, arith, length-drop}
+use Rattle.std.proofs.Common.{◌≡◌, ◌≤◌, ◌+◌, ◌-◌, ◌∙◌, ◌++◌, ℕ, List, [], ◌∷◌, Option, Result, refl, append_assoc, append-nil, Some, None, IfSome, length, take, drop, filter_map, sym, ap, subst, inl, inr, arith, length-drop}
 use Rattle.std.proofs.lemmas.List.{length-take-le, take-append-le}
-use Rattle.std.proofs.Math.Seq.{take-append-add, take-add}
+use Rattle.std.proofs.Math.Seq.{drop-append_seam, take-append-add, take-add}
 use Rattle.s3_model.specs.Files.{FileStore, HeldFile}
 use Rattle.s3_outside.specs.Seen.{IsSeenAfter}
 use Rattle.s3_outside.specs.Files.{SeenFiles, Reads, asked_bytes, asked_kind, called}
@@ -10,7 +10,8 @@ use Rattle.s3_outside.specs.declared.files.FileNote.{FileNote}
 use Rattle.s3_outside.specs.declared.files.FileNote.TheVariants as note
 use Rattle.s3_outside.specs.declared.files.Shape.{Shape}
 use Rattle.s3_outside.specs.declared.wire.Failed.{Failed}
-use Rattle.upload_promise.specs.Sources.{AreFirstBytes, AskFor, LooksAt}
+use Rattle.s3_outside.specs.FileCalls.{call_of}
+use Rattle.upload_promise.specs.Sources.{AreFirstBytes, AreLeft, AskFor, LooksAt}
 
 append_asks : (path : List ℕ) (calls more : List FileNote) → AskFor path calls → AskFor path more → AskFor path (calls ++ more)
 append_asks path [] more asks others = others
@@ -21,6 +22,19 @@ append_asks path (other ∷ calls) more asks others = absurd asks
 pub looks_none : (path : List ℕ) (files : Option SeenFiles) → LooksAt path files files
 looks_none path None = tt
 looks_none path (Some files) = (refl, [], sym (append-nil files.calls), tt)
+
+-- such calls change no file
+pub looks_left : (path : List ℕ) (was now : SeenFiles) → LooksAt path (Some was) (Some now) → AreLeft was now
+looks_left path was now looks = (
+  looks.0,
+  ap (λ (all : List FileNote). filter_map call_of (drop (length was.calls) all)) looks.2 ∙ ap (filter_map call_of) (drop-append_seam was.calls looks.1) ∙ none looks.1 looks.3,
+)
+  where
+    none : (calls : List FileNote) → AskFor path calls → filter_map call_of calls ≡ []
+    none [] asks = refl
+    none (note.Kind asked answer ∷ calls) asks = none calls asks.1
+    none (note.ReadAt asked at room answer ∷ calls) asks = none calls asks.1
+    none (other ∷ calls) asks = absurd asks
 
 -- one and then the other
 pub looks_both : (path : List ℕ) (first before after : Option SeenFiles) → LooksAt path first before → LooksAt path before after → LooksAt path first after

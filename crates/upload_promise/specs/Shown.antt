@@ -15,6 +15,7 @@ use Rattle.run_promise.specs.Settled.{IsSettingOf, RunEnd, RunStart, shown_by}
 use Rattle.run_promise.specs.Truthful.{IsTruthful, IsDoneWhereWilling}
 use Rattle.job_terms.specs.Attempts.{in_first}
 use Rattle.s3_outside.specs.Files.{SeenFiles}
+use Rattle.upload_promise.specs.Sources.{calls_between}
 use Rattle.upload_promise.specs.Uploads.{IsReadCause}
 
 -- the settings of a run that tries each request once
@@ -34,8 +35,8 @@ start_of config limits wires tasks was = record {
 
 -- what a run came to that used the first wire alone
 abbrev pub end_of : (status : ℕ) → List Outcome → List Warning → List Event → List Talk → List Note
-    → (now : SeenFiles) → RunEnd
-end_of status outcomes warnings journal talks notes now = record {
+    → (was now : SeenFiles) → RunEnd
+end_of status outcomes warnings journal talks notes was now = record {
   status = status;
   outcomes = outcomes;
   warnings = warnings;
@@ -43,6 +44,7 @@ end_of status outcomes warnings journal talks notes now = record {
   logs = in_first talks;
   notes = in_first notes;
   files = now.store;
+  file_calls = calls_between was now;
   refused_page = None;
 }
 

@@ -1,7 +1,10 @@
 -- The local file that is copied up: the calls on it, and its bytes.
 use Rattle.std.specs.Prelude.{◌≡◌, ◌≤◌, ◌<◌, ◌++◌, ℕ, List, [], ◌∷◌, Option, Some, None, length, take}
+use Rattle.std.specs.Prelude.{drop, filter_map}
 use Rattle.std.specs.FinMap.{get}
 use Rattle.s3_model.specs.Files.{FileStore, HeldFile}
+use Rattle.local_files.specs.Calls.{Call}
+use Rattle.s3_outside.specs.FileCalls.{call_of}
 use Rattle.s3_outside.specs.Files.{SeenFiles}
 use Rattle.s3_outside.specs.declared.files.FileNote.{FileNote}
 use Rattle.s3_outside.specs.declared.files.FileNote.TheVariants as note
@@ -12,6 +15,14 @@ AskFor path [] = Unit {0}
 AskFor path (note.Kind asked answer ∷ calls) = (asked ≡ path) × AskFor path calls
 AskFor path (note.ReadAt asked at room answer ∷ calls) = (asked ≡ path) × AskFor path calls
 AskFor path (other ∷ calls) = ⊥
+
+-- the calls that changed files, in order, as the files tell them
+abbrev pub calls_between : (was now : SeenFiles) → List Call
+calls_between was now = filter_map call_of (drop (length was.calls) now.calls)
+
+-- the files are the same, and no call was made that changes any
+abbrev pub AreLeft : (was now : SeenFiles) → Type 0
+AreLeft was now = (now.store ≡ was.store) × (calls_between was now ≡ [])
 
 -- the files are the same after the call, as far as they are still seen
 abbrev pub Keeps : Option SeenFiles → Option SeenFiles → Type 0

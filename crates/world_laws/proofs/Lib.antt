@@ -19,6 +19,7 @@ pub mod Marks
 pub mod MovedTasks
 pub mod Moves
 pub mod Multipart
+pub mod NoCalls
 pub mod Objects
 pub mod OpenUploads
 pub mod Order

@@ -81,6 +81,7 @@ module _ (held : MapOf HeldFile) (task : Task) (how : Outcome) (rounds : List Ro
     notes = notes_of all;
     held_after = held;
     excused = record { left = []; untimed = []; wanted_memory = false };
+    file_calls = [];
     refused_page = None;
   }
 

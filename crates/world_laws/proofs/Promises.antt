@@ -36,7 +36,8 @@ use Rattle.job_terms.specs.Jobs.{job_of}
 use Rattle.run_promise.specs.Traces.{Step, IsHonest, IsTrace, events_of, state_after, states}
 use Rattle.run_promise.specs.Truthful.{Shown, AbortsLast, AllEnded, FitsShown, IsDest, MovesAfter, NoneChanged, OthersStay}
 use Rattle.run_promise.specs.Runs.{HasEndedBy, HasJournal, Run}
-use Rattle.world_laws.specs.Promises.{run_of, CarriedIsGiven, IsByRequests, IsCarriedOut, IsFileLeft, IsOrderly, PromiseHolds}
+use Rattle.run_promise.specs.FileOutcomes.{IsFileLeft}
+use Rattle.world_laws.specs.Promises.{run_of, CarriedIsGiven, IsByRequests, IsCarriedOut, IsOrderly, PromiseHolds}
 use Rattle.world_laws.specs.Tasks.{AreQuestions, HasSource, IsDecidedIn, IsRefusedIn, IsRunOf, IsScheduled, IsShown, IsSourceGone, IsTakenIn, IsTraceOf, IsConditional, MayBeNew}
 use Rattle.world_laws.proofs.Carried.{are_given, has_come, is_scheduled}
 use Rattle.world_laws.proofs.Frame.{others_stay}

@@ -24,6 +24,7 @@ use Rattle.world_laws.specs.Premises.{AreGiven, HasCome}
 use Rattle.run_promise.specs.Runs.{Run, moments}
 use Rattle.job_terms.specs.Ops.{IsPlanning}
 use Rattle.world_laws.specs.Tasks.{AreApart, HasSource, MayBeNew}
+use Rattle.run_promise.specs.FileOutcomes.{IsFileLeft}
 
 -- a task that requests decide: its destination is an object, and a removal moves nothing
 pub record IsByRequests (task : Task) : Type 0 where
@@ -32,11 +33,6 @@ pub record IsByRequests (task : Task) : Type 0 where
   pub is_dest : task.dest ≡ place.Object bucket key
   pub decided : IsDecidedByRequest task.kind
   pub keeps : task.kind ≡ kind.RemoveObject → task.moves ≡ false
-
--- the file of a move goes where the task is done, and else stays
-abbrev pub IsFileLeft : Outcome → (gone stays : Type 0) → Type 0
-IsFileLeft outcome.Done gone stays = gone
-IsFileLeft how gone stays = stays
 
 abbrev pub AreFilesLeft : Shown → Type 0
 AreFilesLeft shown = (n : ℕ) (task : Task) (how : Outcome) (path : List ℕ) → slice_get shown.setting.tasks n ≡ Some task

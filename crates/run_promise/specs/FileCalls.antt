@@ -24,7 +24,7 @@ use Rattle.job_terms.specs.Ops.{deciding}
 use Rattle.run_promise.specs.Schedule.{HasReply, IsBefore, IsFailed, Setting, is_small}
 use Rattle.job_terms.specs.Jobs.{job_of}
 use Rattle.local_files.specs.Calls.{Call, CallStep, DropTemp, Fault, MakeTemp, Remove, Rename, Stamp, WriteAt}
-use Rattle.local_files.specs.Calls.{held_after}
+use Rattle.local_files.specs.Calls.{IsCallRun, held_after}
 
 -- ---- the calls of a run
 
@@ -171,6 +171,15 @@ pub record AreWritten (s : Setting) (calls : List TaskCall) (n : ℕ) (task : Ta
   pub each : (number at length_of : ℕ) → IsRangeIn (is_small s task) task.size piece count number at length_of
       → (w : TaskCall) × Contains calls w × (w.task ≡ n) × (bytes : List ℕ) × (w.step.call ≡ WriteAt temp at bytes true)
 
+-- a run as files see it: what it began with, what its warnings except, its dispatched requests, and its calls on files
+pub record FileRun : Type 0 where
+  pub setting : Setting
+  pub excused : Excused
+  pub dispatched : List Dispatched
+  -- the same in the order of their coming
+  pub coming : List Dispatched
+  pub calls : List TaskCall
+
 -- `Shows ask limit talk class bytes`: the talk has that class for the ask, and its answer that body
 module _ (Shows : Ask → ℕ → Talk → Class → List ℕ → Type 0) where
   -- a Get of the task came before that place of the journal with what was asked for: these bytes, which belong there
@@ -260,3 +269,9 @@ module _ (Shows : Ask → ℕ → Talk → Class → List ℕ → Type 0) where
         → (c : TaskCall) × Contains calls c × (c.task ≡ n) × (temp : List ℕ) × (dest : List ℕ)
         × (c.step.call ≡ Rename temp dest None)
         × (c.events_before ≤ delete.dispatch.given_at)
+
+  -- the calls keep to their clauses, follow from the files at the start, and the plan is apart
+  pub record AreCalls (run : FileRun) : Type 0 where
+    pub keep : AreFileCalls run.setting run.excused run.dispatched run.coming run.calls
+    pub runs : IsCallRun run.setting.held (steps_of run.calls)
+    pub apart : AreFilesApart run.setting.held run.setting.tasks
