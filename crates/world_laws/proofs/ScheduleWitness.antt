@@ -451,7 +451,7 @@ module _ (task : Task) (stays : task.moves ≡ false) (r : Round) (plain : IsPla
     whole = ([], sym (append-nil (steps_from 0 start (r ∷ []))), one_fitting.fits.moves);
     task = task;
     object = record { is_task = refl; is_dest = is_dest; has_source = sourced };
-    such = record { request = request; known = (0, omega arith, refl); decides = decides; refused = λ c known of_job. subst (AllRefused Told) (is_only c known) refused };
+    such = record { request = request; known = (0, omega arith, refl); decides = decides; made = omega arith; refused = λ c known of_job. subst (AllRefused Told) (is_only c known) refused };
   }
 
 -- ---- a removal that is refused

@@ -23,7 +23,7 @@ use Rattle.world_laws.specs.Destinations.{AllThatChange, Requests}
 use Rattle.world_laws.specs.Frame.{IsAskedOf}
 use Rattle.world_laws.specs.SmallTransfers.{AsksPut, AsksCopy, AsksDelete}
 use Rattle.world_laws.specs.Rounds.{Told, Round, reply_to, body_by, class_by, ending_by, attempt_of, dispatch_at, dispatched_from, journal_of, AreServed}
-use Rattle.world_laws.specs.Witnesses.{IsMet, IsDestMet, UploadIsMet, CopyIsMet, DeleteIsMet, RefusalIsMet, IsMoveMet, FrameIsMet, MoveIsMet}
+use Rattle.world_laws.specs.Witnesses.{IsMet, IsDestMet, UploadIsMet, CopyIsMet, DeleteIsMet, RefusalIsMet, IsMoveMet, FrameIsMet, MoveIsMet, WasMade}
 use Rattle.world_laws.proofs.Objects.{object_at-with_object}
 use Rattle.world_laws.proofs.Rounds.{AreApart, rounds_given, rounds_come}
 use Rattle.world_laws.proofs.Faithful.{IsFaithful, AreFaithful, object_of, bare, bare_is_faithful, bare_has, faithful_with, faithful_without, run_by, has_bucket_after, has_bucket_still, rounds_fitting, rounds_whole, rounds_unwritten}
@@ -151,11 +151,12 @@ module _ (limits : Limits) (bucket key : List ℕ) where
       none_is : (a : Attempt) → ◌≡◌ {A = Option Attempt} None (Some a) → ⊥
       none_is a e = cc
 
-  refused : IsMet limits (IsPlace bucket key) (λ (run : Run). AllThatChange bucket key (AllRefused Told) run.dispatched × IsAskedOf run.dispatched bucket key)
+  refused : IsMet limits (IsPlace bucket key)
+      (λ (run : Run). AllThatChange bucket key (AllRefused Told) run.dispatched × ((c : Dispatched) × Contains run.dispatched c × MayChange c.ask bucket key × WasMade c))
   refused = record {
     run = run_by one_bucket (refused_delete ∷ []);
     fitting = rounds_fitting limits one_bucket (refused_delete ∷ []) ((refl, tt), tt) (alone refused_delete) (bare_is_faithful (bucket ∷ [])) (bare_is_faithful (bucket ∷ []), tt) (IsPlace bucket key);
-    such = (of_one bucket key (AllRefused Told) (dispatch_at 0 refused_delete) is_refused, (dispatch_at 0 refused_delete, (0, omega arith, refl), (refl, refl)));
+    such = (of_one bucket key (AllRefused Told) (dispatch_at 0 refused_delete) is_refused, (dispatch_at 0 refused_delete, (0, omega arith, refl), (refl, refl), omega arith));
   }
 
 pub delete_is_met : DeleteIsMet

@@ -13,7 +13,7 @@ use Rattle.s3_model.specs.declared.settings.Limits.{Limits}
 use Rattle.s3_model.specs.declared.tasks.Kind.TheVariants as kind
 use Rattle.s3_model.specs.declared.tasks.Task.{Task}
 use Rattle.s3_service.specs.ServiceState.{State}
-use Rattle.s3_service.specs.Serves.{Replied, LiesWithin, bytes_within}
+use Rattle.s3_service.specs.Serves.{Replied, LiesWithin, MayChange, bytes_within}
 use Rattle.job_terms.specs.Dispatches.{Dispatched}
 use Rattle.run_promise.specs.Traces.{SentRequest, Step, Begin, Serve, IsTrace, IsWilling, state_after, events_of}
 use Rattle.run_promise.specs.Schedule.{Setting, is_small}
@@ -84,10 +84,15 @@ CopiedPartsAreMet = (limits : Limits) (bucket key from_bucket from_key etag : Li
     → AreTwoRanges limits etag ranges
     → IsDestMet limits bucket key (AreCopiedParts Told bucket key from_bucket from_key etag ranges 2)
 
--- a request for the object, and all of them are refused
+-- it has an attempt
+abbrev pub WasMade : Dispatched → Type 0
+WasMade c = 1 ≤ length c.dispatch.attempts
+
+-- a request for the object was made, and all of them are refused
 abbrev pub RefusalIsMet : Type 0
 RefusalIsMet = (limits : Limits) (bucket key : List ℕ) → IsMet limits (IsPlace bucket key)
-    (λ (run : Run). AllThatChange bucket key (AllRefused Told) run.dispatched × IsAskedOf run.dispatched bucket key)
+    (λ (run : Run). AllThatChange bucket key (AllRefused Told) run.dispatched
+    × ((c : Dispatched) × Contains run.dispatched c × MayChange c.ask bucket key × WasMade c))
 
 -- a request, and an object that none may change and nobody else writes
 pub record IsApart (bucket key : List ℕ) (run : Run) : Type 0 where
@@ -210,6 +215,7 @@ pub record IsRefusedTask (setting : Setting) (run : Run) (task : Task) : Type 0 
   pub request : Dispatched
   pub known : Contains run.dispatched request
   pub decides : request.dispatch.job ≡ job_of 0 (deciding task.kind (is_small setting task)) 0
+  pub made : WasMade request
   pub refused : IsRefusedIn Told setting run.dispatched 0 task
 
 abbrev pub RefusedTaskIsMet : Type 0
