@@ -250,7 +250,8 @@ module _ (Shows : Ask → ℕ → Talk → Class → List ℕ → Type 0) (HasSt
     only_delete : is_decided_in w ends.then_ ≡ true → task.moves ≡ true → OnlyDeleteFailed Shows HasStatus CallFailed setting dispatched coming n
     only_delete decided moves c failure = job_is c.dispatch.job (job_of n op.Delete 0) failure.1 (deletes.0) (deletes.1)
       where
-        back : IsBack Shows planned (failed_at Shows HasStatus CallFailed s setting planned events dispatched coming r one n w of_plan c failure.0 failure.1).later _ c
+        back : IsBack Shows planned (failed_at Shows HasStatus CallFailed s setting planned events dispatched coming r one n w of_plan c failure.0 failure.1).later
+            (Sent n c.dispatch.job.op c.dispatch.job.number (failed_at Shows HasStatus CallFailed s setting planned events dispatched coming r one n w of_plan c failure.0 failure.1).lane ∷ (failed_at Shows HasStatus CallFailed s setting planned events dispatched coming r one n w of_plan c failure.0 failure.1).before) c
         back = failed_back Shows HasStatus CallFailed s setting planned events dispatched coming r one n w of_plan c failure.0 failure.1
 
         is_removal : sent back.carried ≡ removal w.of_kind
