@@ -54,12 +54,12 @@ module _ (endpoint : Endpoint) (keys : Keys) (before after : List Event) (result
 pub none_shown : (endpoint : Endpoint) (keys : Keys) (at : Option Place) (recursive : Bool) (events : List Event) → IsListed at → ShowsListing endpoint keys at recursive events events (Err fault.Memory) [] []
 none_shown endpoint keys None recursive events listed = record {
   listed = Err fault.Memory;
-  lists = record { asked = []; events = sym (append-nil events); gained = (refl, refl); plans = λ place. inr (inr refl); ends = tt };
+  lists = record { asked = []; events = sym (append-nil events); gained = (refl, refl); plans = λ place. (refl, inr refl); ends = tt };
   shown = refl;
 }
 none_shown endpoint keys (Some (place.Object bucket key)) recursive events listed = record {
   listed = Err fault.Memory;
-  lists = record { asked = []; events = sym (append-nil events); gained = (refl, refl); plans = λ place. inr (inr refl); ends = tt };
+  lists = record { asked = []; events = sym (append-nil events); gained = (refl, refl); refused_page = None; plans = λ place. (refl, inr refl); ends = tt };
   shown = refl;
 }
 none_shown endpoint keys (Some (place.File path)) recursive events listed = absurd listed

@@ -1,5 +1,5 @@
 -- A run that lists keeps its promise: its requests were planned and carried, and it changes nothing.
-use Rattle.std.proofs.Common.{◌≡◌, ◌==◌, ◌≤◌, ℕ, Bool, true, false, List, [], Option, Some, None, refl, sym, ap, inl, inr, length, slice_get, arith}
+use Rattle.std.proofs.Common.{◌≡◌, ◌==◌, ◌≤◌, ℕ, Bool, true, false, List, [], Option, Some, None, refl, sym, ap, inl, inr, length, slice_get, arith, ◌∙◌}
 use Rattle.std.specs.FinMap.{get}
 use Rattle.shared_lemmas.proofs.Clashes.{false_true, none_is_some}
 use Rattle.s3_model.specs.declared.outcomes.Cause.{Cause}
@@ -7,7 +7,8 @@ use Rattle.s3_model.specs.declared.places.Endpoint.{Endpoint}
 use Rattle.s3_model.specs.declared.settings.Config.{Config}
 use Rattle.s3_model.specs.declared.settings.Keys.{Keys}
 use Rattle.s3_model.specs.declared.settings.Limits.{Limits}
-use Rattle.s3_model.specs.Files.{FileStore}
+use Rattle.s3_model.specs.Files.{FileStore, HeldFile}
+use Rattle.s3_model.specs.Maps.{MapOf}
 use Rattle.s3_model.specs.Talks.{Talk, Note}
 use Rattle.s3_model.specs.Validity.{IsValidConfig, IsValidLimits}
 use Rattle.run_promise.specs.Carried.{IsCarried}
