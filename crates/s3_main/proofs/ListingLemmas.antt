@@ -46,7 +46,8 @@ use Rattle.s3_main.specs.Own.{IsRows, Own}
 use Rattle.run_report.specs.Taskless.{MayEnd}
 use Rattle.s3_main.specs.Runs.{IsListingEnd, IsUnasked, MakesListing, StopsFor, listed_op}
 use Rattle.run_report.specs.Texts.{mode_in}
-use Rattle.s3_main.proofs.UrlLemmas.{lists, no_memory, url_texts}
+use Rattle.s3_main.proofs.UrlLemmas.{lists}
+use Rattle.run_report.proofs.TextLemmas.{no_memory, silent_text}
 
 -- ---- ends
 

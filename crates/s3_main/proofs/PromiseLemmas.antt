@@ -1,5 +1,5 @@
 -- A run keeps its promise: it planned an upload and carried it out, or it has no task.
-use Rattle.std.proofs.Common.{◌≡◌, ◌∙◌, ◌≤◌, ◌^◌, ℕ, Bool, true, false, List, [], ◌∷◌, Option, Some, None, Result, Ok, Err, if◌then◌else◌, refl, sym, ap, subst, inl, inr, arith, filter_map}
+use Rattle.std.proofs.Common.{◌≡◌, ◌∙◌, ◌≤◌, ◌^◌, ℕ, Bool, true, false, List, [], ◌∷◌, Option, Some, None, Result, Ok, Err, if◌then◌else◌, refl, sym, ap, subst, inl, inr, arith, filter_map, ◌&&◌, ◌⊎◌, not}
 use Rattle.job_terms.specs.Attempts.{in_first}
 use Rattle.s3_model.specs.declared.outcomes.Event.{Event}
 use Rattle.s3_model.specs.declared.outcomes.Outcome.{Outcome}
@@ -37,7 +37,7 @@ use Rattle.s3_words.specs.declared.options.OptionName.TheVariants.{Recursive}
 use Rattle.s3_words.specs.Options.{is_listing}
 use Rattle.run_report.specs.declared.run.Fatal.{Fatal}
 use Rattle.run_report.specs.declared.run.Fatal.TheVariants as fatal
-use Rattle.run_show.specs.Listings.{HasNoOutcome}
+use Rattle.run_show.specs.Listings.{fatal_for, HasNoOutcome}
 use Rattle.s3_main.specs.Listings.{EndsListing}
 use Rattle.s3_main.specs.Urls.{IsPresigned}
 use Rattle.s3_model.specs.Validity.{IsValidConfig, IsValidLimits, IsWithin}
@@ -60,7 +60,8 @@ use Rattle.put_promise.proofs.PromiseLemmas.{uploaded}
 use Rattle.run_report.specs.declared.run.Run.{Run}
 use Rattle.run_start.specs.Begun.{IsBegun, IsRestOf}
 use Rattle.run_start.proofs.RestLemmas.{from_is, recursive_is}
-use Rattle.s3_main.specs.Asked.{lists_in, needs_in, path_in}
+use Rattle.s3_model.specs.declared.faults.BadListing.TheVariants as bad
+use Rattle.s3_main.specs.Asked.{ends_here, lists_in, needs_in, path_in}
 use Rattle.run_task.specs.Uploaded.{HasUploaded, path_of}
 use Rattle.s3_main.specs.Plans.{HasPlan, IsFate, IsIdle, Works, warnings_of}
 use Rattle.s3_main.specs.Runs.{GoesAs, IfSeen, IsTrue, IsUnasked, IsUnplanned, PlansBy, config_for, files_over}
