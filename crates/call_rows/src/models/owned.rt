@@ -84,5 +84,6 @@ pub(crate) fn push_tries(out: &mut String) -> Result<(), AllocError> {
     let mut tries = Tries::none();
     tries.add(Mark::Uncertain);
     tries.add(Mark::Success);
-    push_value(out, tries.as_slice())
+    let marks = tries.as_slice();
+    write!(out, "{marks:?}, {} of 10", marks.len() as u8)
 }
