@@ -1,9 +1,12 @@
 //! Files that are put together.
 
+ghost use Rattle.std.specs.Prelude.{◌≡◌, ◌≢◌, ◌++◌, ◌∷◌, [], Err, IfErr};
+ghost use Rattle.temp_files.specs.Assembly.{BothSeen};
+
 use crate::lines::{count, number, push, word_and_rest};
 use crate::rows::{add, add_shown};
 use s3_model::{Bytes, OutOfMemory, Part};
-use s3_outside::{Failed, FileFault, Files};
+use s3_outside::{Failed, FileFault, FileNote, Files};
 use std::alloc::Global;
 use temp_files::Assembly;
 
@@ -11,6 +14,20 @@ use temp_files::Assembly;
 fn hold(row: &mut String, held: &mut Vec<Assembly>, assembly: Assembly) {
     add(row, assembly.temp());
     push(held, assembly);
+}
+
+/// Begins a file. Where it cannot be begun and memory did not run out, the call that failed stands last among those that
+/// files were asked for.
+fn begin<F: Files>(
+    files: &mut F,
+    alloc: Global,
+    dest: &str,
+    size: u64,
+) -> Result<Assembly, FileFault>
+    ensures { BothSeen (F.seen files.old) (F.seen files.new) (λ old new. IfErr result (λ why. why ≢ FileFault.Memory
+        → new.calls ≡ old.calls ++ FileNote.MakeTemp dest.now (Err why) ∷ [])) }
+{
+    Assembly::make(alloc, files, dest, size)
 }
 
 /// Begins a file of so many bytes, and adds the path of its temporary file.
@@ -22,7 +39,7 @@ pub(crate) fn make<F: Files>(
     text: &str,
 ) {
     let (size, dest) = word_and_rest(text);
-    match Assembly::make(alloc, files, dest, number(size)) {
+    match begin(files, alloc, dest, number(size)) {
         Ok(assembly) => hold(row, held, assembly),
         Err(fault) => add_shown(row, fault),
     }
@@ -191,7 +208,7 @@ pub(crate) fn fill<F: Files>(files: &mut F, alloc: Global, row: &mut String, tex
     let Ok(mut part) = zeros(alloc, piece) else {
         return add(row, "no memory");
     };
-    match Assembly::make(alloc, files, dest, number(size)) {
+    match begin(files, alloc, dest, number(size)) {
         Ok(assembly) => add_shown(row, fill_with(files, assembly, &mut part)),
         Err(fault) => add_shown(row, fault),
     }
