@@ -1,0 +1,26 @@
+//! What comes back of a request of the planning.
+
+ghost use Rattle.std.specs.Prelude.{◌≡◌};
+ghost use Rattle.planning_questions.specs.Answers.{answer_of};
+
+use crate::halt::Halt;
+use jobs::Ending;
+use s3_model::{Cause, Op, Reply, Why};
+
+/// What the ending of a job says, which may not be cancelled.
+pub(crate) fn answer_of(op: Op, ending: Ending) -> Result<Reply, Halt>
+    ensures { result ≡ answer_of op ending }
+{
+    match ending {
+        Ending::Gained(said) => Ok(said),
+        Ending::Refused {
+            status: _,
+            code,
+            message,
+        } => Err(Halt::Answer(Cause::Service { op, code, message })),
+        Ending::Uncertain(Why::Memory) => Err(Halt::Memory),
+        Ending::Uncertain(why) => Err(Halt::Answer(Cause::Lost { op, why })),
+        Ending::Cancelled(_) => Err(Halt::Stranger),
+        Ending::Memory => Err(Halt::Memory),
+    }
+}
