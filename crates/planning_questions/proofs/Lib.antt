@@ -1,3 +1,5 @@
 pub mod AskLemmas
 pub mod PageLemmas
+pub mod PlanLemmas
+pub mod TraceLemmas
 pub mod WalkLemmas

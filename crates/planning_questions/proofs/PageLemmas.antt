@@ -35,7 +35,7 @@ err_is h k e = cc
 
 -- ---- what a question says
 
-gained : (op : Op) (e : Ending) (said : Reply) → Ok said ≡ answer_of op e → e ≡ ending.Gained said
+pub gained : (op : Op) (e : Ending) (said : Reply) → Ok said ≡ answer_of op e → e ≡ ending.Gained said
 gained op (ending.Gained other) said is = ap (λ (r : Reply). ending.Gained r) (sym (ok_is said other is))
 gained op (ending.Refused status code message) said is = absurd (ok_not_err said _ is)
 gained op (ending.Uncertain why.Memory) said is = absurd (ok_not_err said _ is)

@@ -1,3 +1,5 @@
 pub mod Answers
 pub mod Listings
+pub mod Planned
 pub mod Questions
+pub mod Traced

@@ -91,8 +91,8 @@ fn next_page<R: Wait, W: Wire + Send + Drop>(
 }
 
 /// Asks for all pages of the listing of a prefix in a bucket, one after the other, and gathers them (Amazon S3 API,
-/// ListObjectsV2). Each page is a planning job of the first lane, numbered from `number` on, which is then the next one;
-/// the lane makes the attempts. Where `delimited` is true, keys that have a `/` behind the prefix are listed by their
+/// ListObjectsV2). Each page is a planning job of the first lane, numbered from `number` on, which then is the next
+/// number; the lane makes the attempts. Where `delimited` is true, keys that have a `/` behind the prefix are listed by their
 /// first part alone.
 ///
 /// # Errors
