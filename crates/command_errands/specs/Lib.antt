@@ -1,0 +1,4 @@
+pub mod Entries
+pub mod Errands
+pub mod Needs
+pub mod Sources
