@@ -1,4 +1,5 @@
--- What planning asks of a service for a command, a dry run as well (AWS CLI Command Reference, `s3`).
+-- What planning asks of a service for a command, a dry run as well, where nothing that local files show ends it before
+-- (AWS CLI Command Reference, `s3`).
 use Rattle.std.specs.Prelude.{◌++◌, Bool, false, not, List, [], ◌∷◌, Option, Some, None, if◌then◌else◌}
 use Rattle.s3_model.specs.declared.places.Place.{Place}
 use Rattle.s3_model.specs.declared.places.Place.TheVariants as place

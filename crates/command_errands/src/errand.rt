@@ -29,7 +29,8 @@ fn is_move(verb: Verb) -> bool
     matches!(verb, Verb::Mv)
 }
 
-fn is_many(command: &Command) -> bool
+/// Whether there may be many names below the command's places: under `--recursive`, and for `sync`.
+pub fn is_many(command: &Command) -> bool
     ensures { result ≡ is_many command.now }
 {
     command.recursive || matches!(command.verb, Verb::Sync)

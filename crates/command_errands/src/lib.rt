@@ -7,5 +7,5 @@ mod errand;
 mod sources;
 
 pub use entries::{single_file, single_object, single_removal};
-pub use errand::take_errand;
+pub use errand::{is_many, take_errand};
 pub use sources::{LocalSource, local_source};

@@ -2,7 +2,7 @@
 
 ghost use Rattle.std.specs.Prelude.{◌≡◌, IfOk};
 ghost use Rattle.command_errands.specs.Entries.{file_entry};
-ghost use Rattle.command_errands.specs.Sources.{HasCause, folder_source, local_source, single_source};
+ghost use Rattle.command_errands.specs.Sources.{HasCause, local_source};
 
 use path_names::last_name;
 use s3_model::{Entry, OutOfMemory, PlanFault, Text};
@@ -36,29 +36,6 @@ fn file_entry(alloc: Global, path: &str, size: u64, micros: u64) -> Result<Entry
     })
 }
 
-fn single_source(alloc: Global, path: &str, shape: Shape) -> Result<LocalSource, OutOfMemory>
-    ensures { IfOk result (λ source. source ≡ single_source path.now shape) }
-{
-    match shape {
-        Shape::Absent => Ok(LocalSource::Refused(PlanFault::NoSource(Text::of(alloc, path)?))),
-        Shape::Folder => Ok(LocalSource::Refused(PlanFault::IsFolder(Text::of(alloc, path)?))),
-        Shape::Other => Ok(LocalSource::NotAFile(Text::of(alloc, path)?)),
-        Shape::File { size, micros } => {
-            Ok(LocalSource::File(file_entry(alloc, path, size, micros)?))
-        }
-    }
-}
-
-fn folder_source(alloc: Global, path: &str, shape: Shape) -> Result<LocalSource, OutOfMemory>
-    ensures { IfOk result (λ source. source ≡ folder_source path.now shape) }
-{
-    match shape {
-        Shape::Absent => Ok(LocalSource::Refused(PlanFault::NoSource(Text::of(alloc, path)?))),
-        Shape::Folder => Ok(LocalSource::Folder),
-        _ => Ok(LocalSource::Refused(PlanFault::NotFolder(Text::of(alloc, path)?))),
-    }
-}
-
 /// What the local source of an upload comes to, by what stands at its path. `many` says that all files below it are
 /// wanted, as for `sync` and under `--recursive`, and else it is one file (AWS CLI Command Reference, `s3 cp`).
 ///
@@ -73,9 +50,14 @@ pub fn local_source(
     ensures source { IfOk result (λ source. source ≡ local_source many path.now shape) }
     ensures cause { IfOk result (HasCause many path.now shape) }
 {
-    if many {
-        folder_source(alloc, path, shape)
-    } else {
-        single_source(alloc, path, shape)
+    match shape {
+        Shape::Absent => Ok(LocalSource::Refused(PlanFault::NoSource(Text::of(alloc, path)?))),
+        Shape::Folder if many => Ok(LocalSource::Folder),
+        Shape::Folder => Ok(LocalSource::Refused(PlanFault::IsFolder(Text::of(alloc, path)?))),
+        _ if many => Ok(LocalSource::Refused(PlanFault::NotFolder(Text::of(alloc, path)?))),
+        Shape::Other => Ok(LocalSource::NotAFile(Text::of(alloc, path)?)),
+        Shape::File { size, micros } => {
+            Ok(LocalSource::File(file_entry(alloc, path, size, micros)?))
+        }
     }
 }
