@@ -4,7 +4,7 @@
 //! `--endpoint-url http://h`. A command is printed with its two places and its endpoint, and then with what it does not
 //! have by default. Of its filters it says which of three names they keep, where they do not keep all.
 
-mod shown;
+pub(crate) mod shown;
 
 use crate::commands::shown::push_command;
 use crate::lines::{push_line, push_value};

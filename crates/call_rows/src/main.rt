@@ -6,6 +6,7 @@
 
 mod commands;
 mod documents;
+mod errands;
 mod leaves;
 mod lines;
 mod models;
@@ -27,6 +28,7 @@ enum Part {
     Documents,
     Requests,
     Plans,
+    Errands,
     Unknown,
 }
 
@@ -40,6 +42,7 @@ fn part_named(heading: &str) -> Part {
         "== documents" => Part::Documents,
         "== requests" => Part::Requests,
         "== plans" => Part::Plans,
+        "== errands" => Part::Errands,
         _ => Part::Unknown,
     }
 }
@@ -54,6 +57,7 @@ fn push_row(alloc: Global, row: &mut String, part: Part, line: &str) -> Result<(
         Part::Documents => documents::push_row(alloc, row, line),
         Part::Requests => requests::push_row(alloc, row, line),
         Part::Plans => plans::push_row(alloc, row, line),
+        Part::Errands => errands::push_row(alloc, row, line),
         Part::Unknown => row.push_str("no heading"),
     }
 }

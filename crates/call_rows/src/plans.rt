@@ -7,8 +7,8 @@
 //! and ETag, and then its warnings. `interop/plans.py` writes the lines, and works the plans out by itself.
 
 mod errands;
-mod shown;
-mod sides;
+pub(crate) mod shown;
+pub(crate) mod sides;
 mod words;
 
 use crate::lines::push_line;

@@ -39,7 +39,7 @@ fn push_endpoint(out: &mut String, endpoint: &Endpoint) -> Result<(), AllocError
     )
 }
 
-fn push_flag(out: &mut String, name: &str, given: bool) -> Result<(), AllocError> {
+pub(crate) fn push_flag(out: &mut String, name: &str, given: bool) -> Result<(), AllocError> {
     if given {
         write!(out, " {name}")
     } else {
@@ -47,7 +47,11 @@ fn push_flag(out: &mut String, name: &str, given: bool) -> Result<(), AllocError
     }
 }
 
-fn push_text(out: &mut String, name: &str, text: &Option<Text>) -> Result<(), AllocError> {
+pub(crate) fn push_text(
+    out: &mut String,
+    name: &str,
+    text: &Option<Text>,
+) -> Result<(), AllocError> {
     match text {
         Some(text) => write!(out, " {name} {}", text.as_str()),
         None => Ok(()),
@@ -81,7 +85,7 @@ fn keeps_all(filters: &Filters) -> bool {
 }
 
 /// Adds which of the names the filters keep, where they do not keep all.
-fn push_kept(out: &mut String, filters: &Filters) -> Result<(), AllocError> {
+pub(crate) fn push_kept(out: &mut String, filters: &Filters) -> Result<(), AllocError> {
     if keeps_all(filters) {
         return Ok(());
     }

@@ -3,7 +3,7 @@
 use s3_model::{KeySkip, Kind, Place, Plan, PlanFault, Task, Text, Warning};
 use std::alloc::{AllocError, Global};
 
-fn kind_name(kind: Kind) -> &'static str {
+pub(crate) fn kind_name(kind: Kind) -> &'static str {
     match kind {
         Kind::Upload => "upload",
         Kind::Download => "download",
@@ -12,7 +12,7 @@ fn kind_name(kind: Kind) -> &'static str {
     }
 }
 
-fn push_place(out: &mut String, place: &Place) -> Result<(), AllocError> {
+pub(crate) fn push_place(out: &mut String, place: &Place) -> Result<(), AllocError> {
     match place {
         Place::Object { bucket, key } => write!(out, "{}:{}", bucket.as_str(), key.as_str()),
         Place::File { path } => out.push_str(path.as_str()),
