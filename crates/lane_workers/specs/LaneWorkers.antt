@@ -1,5 +1,7 @@
 -- Lanes as workers: what one does for a job, and the lanes over wires.
-use Rattle.std.specs.Prelude.{◌≡◌, ◌≤◌, ℕ, List, [], Option, IsSome, map}
+use Rattle.std.specs.Prelude.{◌∷◌, length, ◌≡◌, ◌≤◌, ℕ, List, [], Option, IsSome, map}
+use Rattle.bounded_executor.specs.Exchange.{Exchange}
+use Rattle.bounded_executor.specs.Runs.{EachRuns}
 use Rattle.jobs.specs.Endings.{SeenCarried}
 use Rattle.jobs.specs.Jobs.{SeenJob}
 use Rattle.lane_jobs.specs.Lanes.{IsCarriedBy, IsSameCarrier, IsSameJob, SeenCarrier, SeenLane, reason_of}
@@ -27,3 +29,22 @@ lane_over carrier wire = record { wire = wire; carrier = carrier }
 
 abbrev pub wires_of : {W : Type 0} → List (SeenLane W) → List W
 wires_of lanes = map (λ lane. lane.wire) lanes
+
+-- ---- lanes that come back
+
+-- the same carrier, over a wire of which no fewer calls failed
+abbrev pub IsLater : {W : Type 0} → (W → ℕ) → SeenLane W → SeenLane W → Type 0
+IsLater faults before after =
+    IsSameCarrier before.carrier after.carrier × (faults before.wire ≤ faults after.wire)
+
+-- as many lanes as before, each in its place
+abbrev pub AreLater : {W : Type 0} → (W → ℕ) → List (SeenLane W) → List (SeenLane W) → Type 0
+AreLater faults [] [] = Unit {0}
+AreLater faults (before ∷ befores) (after ∷ afters) = IsLater faults before after × AreLater faults befores afters
+AreLater faults befores afters = ⊥
+
+-- lanes that carried what they were given stand in their places
+abbrev pub LanesComeBack : {W : Type 0} → (W → Option WireLog) → (W → ℕ) → Type 0
+LanesComeBack {W} seen faults = (befores afters : List (SeenLane W)) (lanes : List (Exchange SeenJob SeenCarried))
+    → EachRuns (LaneCarries seen faults) befores lanes afters
+    → AreLater faults befores afters × (length afters ≡ length befores)

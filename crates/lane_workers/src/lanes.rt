@@ -3,7 +3,7 @@
 ghost use Rattle.std.specs.Prelude.{◌≡◌, ◌+◌, ◌≤◌, ◌++◌, [], OnErr, OnOk, IfOk, drop, map, reverse, take};
 ghost use Rattle.std.specs.Prelude.{vec_capacity, vec_len};
 ghost use Rattle.s3_model.specs.Validity.{IsWithin};
-ghost use Rattle.lane_workers.specs.LaneWorkers.{carrier_with, lane_over, wires_of};
+ghost use Rattle.lane_workers.specs.LaneWorkers.{LanesComeBack, carrier_with, lane_over, wires_of};
 
 use crate::lane_worker::LaneWorker;
 use s3_model::{Endpoint, Keys, OutOfMemory};
@@ -88,3 +88,9 @@ pub fn give_back<W: Wire + Drop>(lanes: Vec<LaneWorker<W>>, wires: &mut Vec<W>)
     }
     wires.rotate_left(behind);
 }
+
+/// Lanes that carried what they were given, each one job after the other, stand in their places, as many as before: the
+/// same carrier each, over a wire of which no fewer calls failed. It is a law, a function that does nothing.
+pub fn lanes_come_back<W: Wire>()
+    ensures { LanesComeBack W.seen W.faults }
+{}

@@ -5,4 +5,4 @@ mod lane_worker;
 mod lanes;
 
 pub use lane_worker::LaneWorker;
-pub use lanes::{give_back, make_lanes};
+pub use lanes::{give_back, lanes_come_back, make_lanes};
