@@ -18,8 +18,8 @@ use Rattle.shared_lemmas.proofs.Clashes.{true_is_false}
 use Rattle.run_traces.specs.Exchanges.{AreExchangesOf, MayBeOf, room_of}
 use Rattle.run_traces.specs.Traces.{Gave, RunTrace, Took}
 use Rattle.run_traces.proofs.Exchanging.{exchanges_gave, exchanges_took}
-use Rattle.planning_questions.specs.Answers.{Hears, answer_of}
-use Rattle.planning_questions.specs.Questions.{Answers, HasQuestions, IsAsked, IsIdle, progress_of, question_job, trace_of}
+use Rattle.planning_questions.specs.Answers.{SaysBack, said_by}
+use Rattle.planning_questions.specs.Questions.{Answers, HasQuestions, AsksOnce, IsReadyToAsk, progress_of, question_job, trace_of}
 use Rattle.planning_questions.specs.declared.halt.Halt.{Halt}
 
 -- ---- the test
@@ -42,9 +42,9 @@ module _ (number : ℕ) (asked : Ask) (c : SeenCarried) where
   is_back : MayBeOf (question_job number asked) c → IsBack (pending_of (question_job number asked)) c.job
   is_back may = record { id = may.same.id; cell = may.same.cell; part = keeps_none c.job.part may.same.part; had = may.same.had }
 
-  answers : (result : Result Reply Halt) → Hears (pending_of (question_job number asked) ∷ []) c result → Answers number (record { asked = asked; carried = c }) result
+  answers : (result : Result Reply Halt) → SaysBack (pending_of (question_job number asked) ∷ []) c result → Answers number (record { asked = asked; carried = c }) result
   answers result heard = elim heard [
-    | inl own ↦ inl (may_be own.0, own.1 ∙ ap (λ (id : JobId). answer_of id.op c.ending) own.0.id)
+    | inl own ↦ inl (may_be own.0, own.1 ∙ ap (λ (id : JobId). said_by id.op c.ending) own.0.id)
     | inr other ↦ inr (λ may. other.0 (is_back may), other.1)
   ]
 
@@ -63,7 +63,7 @@ module _ (job : SeenJob) (c : SeenCarried) (lanes : List (Exchange SeenJob SeenC
       exchanges_took (Gave 0 job ∷ trace) with_job 0 c (omega arith) (exchanges_gave trace lanes 0 job some are)
 
 module _ {W : Type 0} (number : ℕ) (asked : Ask) (d d1 d2 : DeskState W SeenJob SeenCarried) (p p1 : SeenPendingJobs) (j j1 j2 : List Event) (result : Result Reply Halt) (job : SeenJob)
-    (idle : IsIdle d p) (job_is : job ≡ question_job number asked) (gave : d1 ≡ gives d 0 job) (noted : j1 ≡ j ++ entry.Given job.id 0 ∷ [])
+    (idle : IsReadyToAsk d p) (job_is : job ≡ question_job number asked) (gave : d1 ≡ gives d 0 job) (noted : j1 ≡ j ++ entry.Given job.id 0 ∷ [])
     (kept : p1 ≡ with_out p 0 (out_of p 0 ++ pending_of job ∷ [])) where
   out_then : out_of p1 0 ≡ pending_of (question_job number asked) ∷ []
   out_then =
@@ -72,8 +72,8 @@ module _ {W : Type 0} (number : ℕ) (asked : Ask) (d d1 d2 : DeskState W SeenJo
       ∙ ap (λ (all : List Pending). all ++ pending_of job ∷ []) idle.none_pending
       ∙ ap (λ (one : SeenJob). pending_of one ∷ []) job_is
 
-  pub asked_one : (carried : SeenCarried) × (d2 ≡ takes d1 0 carried) × (j2 ≡ j1 ++ entry.Came carried.job.id 0 carried.tries ∷ []) × Hears (out_of p1 0) carried result
-      → HasQuestions number (number + 1) (progress_of d j) (progress_of d2 j2) (λ questions. IsAsked number asked questions result)
+  pub asked_one : (carried : SeenCarried) × (d2 ≡ takes d1 0 carried) × (j2 ≡ j1 ++ entry.Came carried.job.id 0 carried.tries ∷ []) × SaysBack (out_of p1 0) carried result
+      → HasQuestions number (number + 1) (progress_of d j) (progress_of d2 j2) (λ questions. AsksOnce number asked questions result)
   asked_one (c, taken, came, heard) = record {
     questions = record { asked = asked; carried = c } ∷ [];
     made = record {
@@ -84,7 +84,7 @@ module _ {W : Type 0} (number : ℕ) (asked : Ask) (d d1 d2 : DeskState W SeenJo
           ∙ append_assoc j (entry.Given (question_job number asked).id 0 ∷ []) (entry.Came c.job.id 0 c.tries ∷ []);
     };
     next_is = refl;
-    comes_to = (refl, refl, answers number asked c result (subst (λ (out : List Pending). Hears out c result) out_then heard));
+    comes_to = (refl, refl, answers number asked c result (subst (λ (out : List Pending). SaysBack out c result) out_then heard));
   }
     where
       lanes_are : d2.lanes ≡ with_both (question_job number asked) c d.lanes

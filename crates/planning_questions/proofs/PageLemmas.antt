@@ -16,9 +16,9 @@ use Rattle.s3_model.specs.declared.requests.Op.{Op}
 use Rattle.run_traces.specs.Exchanges.{AreExchangesOf}
 use Rattle.run_traces.specs.Traces.{Gave, RunTrace, Took, journal_of}
 use Rattle.run_traces.proofs.Steps.{journal-append}
-use Rattle.planning_questions.specs.Answers.{answer_of}
+use Rattle.planning_questions.specs.Answers.{said_by}
 use Rattle.planning_questions.specs.Listings.{BringsPage, IsNextPage, Lists, TakesPage, next_request}
-use Rattle.planning_questions.specs.Questions.{HasMade, HasQuestions, IsAsked, Progress, Question, question_job, trace_of}
+use Rattle.planning_questions.specs.Questions.{GoesOnBy, HasQuestions, AsksOnce, Progress, Question, question_job, trace_of}
 use Rattle.planning_questions.specs.declared.halt.Halt.{Halt}
 use Rattle.planning_questions.specs.declared.halt.Halt.TheVariants as halt
 
@@ -35,7 +35,7 @@ err_is h k e = cc
 
 -- ---- what a question says
 
-pub gained : (op : Op) (e : Ending) (said : Reply) → Ok said ≡ answer_of op e → e ≡ ending.Gained said
+pub gained : (op : Op) (e : Ending) (said : Reply) → Ok said ≡ said_by op e → e ≡ ending.Gained said
 gained op (ending.Gained other) said is = ap (λ (r : Reply). ending.Gained r) (sym (ok_is said other is))
 gained op (ending.Refused status code message) said is = absurd (ok_not_err said _ is)
 gained op (ending.Uncertain why.Memory) said is = absurd (ok_not_err said _ is)
@@ -45,7 +45,7 @@ gained op ending.Memory said is = absurd (ok_not_err said _ is)
 
 module _ (number : ℕ) (walk after : Walk) where
   -- a question that was answered with a page
-  pub page_came : (asked : Ask) (qs : List Question) (page : Listed) (result : Result Bool Halt) → asked ≡ next_request walk → IsAsked number asked qs (Ok (reply.Listed page)) → TakesPage walk page after result
+  pub page_came : (asked : Ask) (qs : List Question) (page : Listed) (result : Result Bool Halt) → asked ≡ next_request walk → AsksOnce number asked qs (Ok (reply.Listed page)) → TakesPage walk page after result
       → IsNextPage number walk qs after result
   page_came asked [] page result is came takes = absurd (ok_not_err (reply.Listed page) halt.Memory came)
   page_came asked (q ∷ later) page result is came takes = elim came.2 [
@@ -57,13 +57,13 @@ module _ (number : ℕ) (walk after : Walk) where
   halt_same h k e = cc
 
   -- and one that was not answered
-  pub none_came : (asked : Ask) (qs : List Question) (h : Halt) → asked ≡ next_request walk → IsAsked number asked qs (Err h) → IsNextPage number walk qs after (Err h)
+  pub none_came : (asked : Ask) (qs : List Question) (h : Halt) → asked ≡ next_request walk → AsksOnce number asked qs (Err h) → IsNextPage number walk qs after (Err h)
   none_came asked [] h is came = halt_same h halt.Memory came
   none_came asked (q ∷ later) h is came = (came.0 ∙ is, came.1, inr (h, came.2, refl))
 
 -- ---- what was done
 
-made_both : (s t : RunTrace) (a b c : Progress) → HasMade s a b → HasMade t b c → HasMade (t ++ s) a c
+made_both : (s t : RunTrace) (a b c : Progress) → GoesOnBy s a b → GoesOnBy t b c → GoesOnBy (t ++ s) a c
 made_both s t a b c first second = record {
   exchanged = λ trace are. subst (λ (all : RunTrace). AreExchangesOf all c.lanes) (sym (append_assoc t s trace)) (second.exchanged (s ++ trace) (first.exchanged trace are));
   journaled = second.journaled ∙ ap (λ (all : List Event). all ++ journal_of t) first.journaled ∙ append_assoc a.journal (journal_of s) (journal_of t)
@@ -86,7 +86,7 @@ pub come_as : (first next : ℕ) (before after : Progress) (P Q : List Question 
 come_as first next before after P Q told h = record { questions = h.questions; made = h.made; next_is = h.next_is; comes_to = told h.questions h.comes_to }
 
 -- nothing was done
-made_nothing : (at : Progress) → HasMade [] at at
+made_nothing : (at : Progress) → GoesOnBy [] at at
 made_nothing at = record { exchanged = λ trace are. are; journaled = sym (append-nil at.journal) }
 
 pub none_asked : (number : ℕ) (at : Progress) (P : List Question → Type 0) → P [] → HasQuestions number number at at P
@@ -97,7 +97,7 @@ none_asked number at P holds = record { questions = []; made = made_nothing at; 
 -- What more is asked as the listing goes on makes the listing whole.
 pub record IsUnderway (first : ℕ) (start : Walk) (number : ℕ) (walk : Walk) (before now : Progress) : Type 0 where
   pub questions : List Question
-  pub made : HasMade (trace_of first questions) before now
+  pub made : GoesOnBy (trace_of first questions) before now
   pub number_is : number ≡ first + length questions
   pub goes_on : (later : List Question) (result : Result Walk Halt) → Lists number walk later result → Lists first start (questions ++ later) result
 
@@ -110,9 +110,9 @@ at_first first start walk before is = record {
 }
 
 module _ (first : ℕ) (start : Walk) (number : ℕ) (walk : Walk) (before now : Progress) (u : IsUnderway first start number walk before now) (next : ℕ) (after : Progress) where
-  joined : (qs : List Question) → HasMade (trace_of number qs) now after → HasMade (trace_of first (u.questions ++ qs)) before after
-  joined qs made = subst (λ (steps : RunTrace). HasMade steps before after) (sym (trace_more first u.questions qs))
-      (made_both (trace_of first u.questions) (trace_of (first + length u.questions) qs) before now after u.made (subst (λ (n : ℕ). HasMade (trace_of n qs) now after) u.number_is made))
+  joined : (qs : List Question) → GoesOnBy (trace_of number qs) now after → GoesOnBy (trace_of first (u.questions ++ qs)) before after
+  joined qs made = subst (λ (steps : RunTrace). GoesOnBy steps before after) (sym (trace_more first u.questions qs))
+      (made_both (trace_of first u.questions) (trace_of (first + length u.questions) qs) before now after u.made (subst (λ (n : ℕ). GoesOnBy (trace_of n qs) now after) u.number_is made))
 
   counted : (qs : List Question) → next ≡ number + length qs → next ≡ first + length (u.questions ++ qs)
   counted qs is = let from = u.number_is in omega (arith, length-append u.questions qs)
@@ -127,7 +127,7 @@ module _ (first : ℕ) (start : Walk) (number : ℕ) (walk : Walk) (before now :
   }
 
   -- one page more
-  page_more : (after_walk : Walk) (qs : List Question) → HasMade (trace_of number qs) now after → next ≡ number + length qs → IsNextPage number walk qs after_walk (Ok true) → IsUnderway first start next after_walk before after
+  page_more : (after_walk : Walk) (qs : List Question) → GoesOnBy (trace_of number qs) now after → next ≡ number + length qs → IsNextPage number walk qs after_walk (Ok true) → IsUnderway first start next after_walk before after
   page_more after_walk [] made is page = absurd (ok_not_err true halt.Memory page)
   page_more after_walk (q ∷ later) made is page = elim page.2 [
     | inl (p, brings, takes) ↦ record {
@@ -196,14 +196,14 @@ module _ (first : ℕ) (start : Walk) (number : ℕ) (walk : Walk) (before now :
 
 module _ (number next : ℕ) (before now : Progress) (walk after : Walk) (asked : Ask) (is : asked ≡ next_request walk) where
   pub next_came : (answer : Result Reply Halt) (said : Reply) (page : Listed) (result : Result Bool Halt) → answer ≡ Ok said → said ≡ reply.Listed page → TakesPage walk page after result
-      → HasQuestions number next before now (λ qs. IsAsked number asked qs answer) → HasQuestions number next before now (λ qs. IsNextPage number walk qs after result)
+      → HasQuestions number next before now (λ qs. AsksOnce number asked qs answer) → HasQuestions number next before now (λ qs. IsNextPage number walk qs after result)
   next_came answer said page result ok listed takes h =
-      come_as number next before now (λ qs. IsAsked number asked qs answer) (λ qs. IsNextPage number walk qs after result)
+      come_as number next before now (λ qs. AsksOnce number asked qs answer) (λ qs. IsNextPage number walk qs after result)
       (λ qs came. page_came number walk after asked qs page result is
-      (subst (λ (r : Reply). IsAsked number asked qs (Ok r)) listed (subst (λ (a : Result Reply Halt). IsAsked number asked qs a) ok came)) takes) h
+      (subst (λ (r : Reply). AsksOnce number asked qs (Ok r)) listed (subst (λ (a : Result Reply Halt). AsksOnce number asked qs a) ok came)) takes) h
 
-  pub next_failed : (answer : Result Reply Halt) (h : Halt) → answer ≡ Err h → HasQuestions number next before now (λ qs. IsAsked number asked qs answer)
+  pub next_failed : (answer : Result Reply Halt) (h : Halt) → answer ≡ Err h → HasQuestions number next before now (λ qs. AsksOnce number asked qs answer)
       → HasQuestions number next before now (λ qs. IsNextPage number walk qs after (Err h))
   next_failed answer h err has =
-      come_as number next before now (λ qs. IsAsked number asked qs answer) (λ qs. IsNextPage number walk qs after (Err h))
-      (λ qs came. none_came number walk after asked qs h is (subst (λ (a : Result Reply Halt). IsAsked number asked qs a) err came)) has
+      come_as number next before now (λ qs. AsksOnce number asked qs answer) (λ qs. IsNextPage number walk qs after (Err h))
+      (λ qs came. none_came number walk after asked qs h is (subst (λ (a : Result Reply Halt). AsksOnce number asked qs a) err came)) has

@@ -22,9 +22,9 @@ use Rattle.s3_model.specs.declared.requests.Op.{Op}
 use Rattle.s3_model.specs.Talks.{Talk}
 use Rattle.shared_lemmas.proofs.Clashes.{false_true, none_is_some}
 use Rattle.shared_lemmas.proofs.Lists.{head_is, no_middle, tail_is}
-use Rattle.planning_questions.specs.Answers.{answer_of}
-use Rattle.planning_questions.specs.Listings.{EndsWith, IsFit, Lists}
-use Rattle.planning_questions.specs.Planned.{IsPlanned, ListingsArePlanned, Plans, QuestionsArePlanned, ShowQuestions, ShowsQuestion}
+use Rattle.planning_questions.specs.Answers.{said_by}
+use Rattle.planning_questions.specs.Listings.{EndsTheListing, PageFits, Lists}
+use Rattle.planning_questions.specs.Planned.{IsAskedFor, ListingsArePlanned, PlansFrom, QuestionsArePlanned, ShowQuestions, ShowsQuestion}
 use Rattle.planning_questions.specs.Questions.{Answers, Question}
 use Rattle.planning_questions.specs.declared.halt.Halt.{Halt}
 use Rattle.planning_questions.specs.declared.halt.Halt.TheVariants as halt
@@ -53,7 +53,7 @@ not_refused prefix pages page none (before, last, e, some) =
 
 -- ---- what a question does not say
 
-no_listing : (op : Op) (e : Ending) (bad : BadListing) → ◌≡◌ {A = Result Reply Halt} (Err (halt.Listing bad)) (answer_of op e) → ⊥
+no_listing : (op : Op) (e : Ending) (bad : BadListing) → ◌≡◌ {A = Result Reply Halt} (Err (halt.Listing bad)) (said_by op e) → ⊥
 no_listing op (ending.Gained said) bad is = cc
 no_listing op (ending.Refused status code message) bad is = cc
 no_listing op (ending.Uncertain why.Memory) bad is = cc
@@ -61,8 +61,8 @@ no_listing op (ending.Uncertain reason) bad is = cc
 no_listing op (ending.Cancelled reason) bad is = cc
 no_listing op ending.Memory bad is = cc
 
-not_gained : (op : Op) (e : Ending) (h : Halt) → Err h ≡ answer_of op e → (said : Reply) → e ≢ ending.Gained said
-not_gained op e h is said same = ok_not_err said h (sym (is ∙ ap (answer_of op) same))
+not_gained : (op : Op) (e : Ending) (h : Halt) → Err h ≡ said_by op e → (said : Reply) → e ≢ ending.Gained said
+not_gained op e h is said same = ok_not_err said h (sym (is ∙ ap (said_by op) same))
 
 stranger_is : (h : Halt) → ◌≡◌ {A = Result Reply Halt} (Err h) (Err halt.Stranger) → h ≡ halt.Stranger
 stranger_is h e = cc
@@ -75,11 +75,11 @@ module _ (Shows : Ask → ℕ → Talk → Class → List ℕ → Type 0) where
 
   -- a request of that need had no success
   abbrev Fails : Need → List Listed → Option (List ℕ) → Dispatched → Type 0
-  Fails need pages token c = (memory : Bool) (needs : List Need) → Plans Shows memory None (c ∷ []) (need ∷ needs) pages token
+  Fails need pages token c = (memory : Bool) (needs : List Need) → PlansFrom Shows memory None (c ∷ []) (need ∷ needs) pages token
 
   failed : (X : Type 0) (need : Need) (pages : List Listed) (token : Option (List ℕ)) (next : ℕ) (c : Dispatched) (q : Question) (number : ℕ) (h : Halt) → Answers number q (Err h)
-      → (((said : Reply) → q.carried.ending ≢ ending.Gained said) → Fails need pages token c) → IsPlanned Shows {X = X} need pages token (Err h) next (c ∷ [])
-  failed X need pages token next c q number h (inr other) fails = subst (λ (k : Halt). IsPlanned Shows {X = X} need pages token (Err k) next (c ∷ [])) (sym (stranger_is h other.1)) tt
+      → (((said : Reply) → q.carried.ending ≢ ending.Gained said) → Fails need pages token c) → IsAskedFor Shows {X = X} need pages token (Err h) next (c ∷ [])
+  failed X need pages token next c q number h (inr other) fails = subst (λ (k : Halt). IsAskedFor Shows {X = X} need pages token (Err k) next (c ∷ [])) (sym (stranger_is h other.1)) tt
   failed X need pages token next c q number (halt.Answer cause) (inl own) fails = λ needs. fails (not_gained (op_of q.asked) q.carried.ending (halt.Answer cause) own.1) false needs
   failed X need pages token next c q number (halt.Listing bad) (inl own) fails = absurd (no_listing (op_of q.asked) q.carried.ending bad own.1)
   failed X need pages token next c q number halt.Memory (inl own) fails = λ needs. (None, fails (not_gained (op_of q.asked) q.carried.ending halt.Memory own.1) true needs)
@@ -88,7 +88,7 @@ module _ (Shows : Ask → ℕ → Talk → Class → List ℕ → Type 0) where
   -- ---- one question
 
   one_planned : (number next : ℕ) (asked : Ask) (q : Question) (c : Dispatched) (result : Result Reply Halt) → q.asked ≡ asked → Answers number q result → ShowsQuestion Shows number q c
-      → IsPlanned Shows (planning.One asked) [] None result next (c ∷ [])
+      → IsAskedFor Shows (planning.One asked) [] None result next (c ∷ [])
   one_planned number next asked q c (Ok said) is (inl own) shown =
       λ memory refused needs later plans. (shown.asks ∙ is, inl (said, shown.answered said (gained (op_of q.asked) q.carried.ending said own.1), plans))
   one_planned number next asked q c (Ok said) is (inr other) shown = absurd (ok_not_err said halt.Stranger other.1)
@@ -97,11 +97,11 @@ module _ (Shows : Ask → ℕ → Talk → Class → List ℕ → Type 0) where
 
   pub questions_are_planned : QuestionsArePlanned Shows
   questions_are_planned number asked [] result [] came shown =
-      subst (λ (r : Result Reply Halt). IsPlanned Shows (planning.One asked) [] None r (number + 0) []) (sym came) (λ needs. (None, (refl, inr refl)))
+      subst (λ (r : Result Reply Halt). IsAskedFor Shows (planning.One asked) [] None r (number + 0) []) (sym came) (λ needs. (None, (refl, inr refl)))
   questions_are_planned number asked [] result (c ∷ cs) came shown = absurd shown
   questions_are_planned number asked (q ∷ later) result [] came shown = absurd shown
   questions_are_planned number asked (q ∷ later) result (c ∷ cs) came shown =
-      subst (λ (all : List Dispatched). IsPlanned Shows (planning.One asked) [] None result (number + suc (length later)) (c ∷ all)) (sym (no_more (number + 1) later cs came.1 shown.1))
+      subst (λ (all : List Dispatched). IsAskedFor Shows (planning.One asked) [] None result (number + suc (length later)) (c ∷ all)) (sym (no_more (number + 1) later cs came.1 shown.1))
       (one_planned number (number + suc (length later)) asked q c result came.0 came.2 shown.0)
 
   -- ---- a listing
@@ -128,19 +128,19 @@ module _ (Shows : Ask → ℕ → Talk → Class → List ℕ → Type 0) where
       here : (o : Option BadListing) → refusal_of walk.prefix walk.gathered page ≡ o → refusal_of prefix (gathered_from pages) page ≡ o
       here o e = subst (λ (p : List ℕ). refusal_of p (gathered_from pages) page ≡ o) has.prefix_is (subst (λ (g : Gathered). refusal_of walk.prefix g page ≡ o) has.gathered e)
 
-      fits : IsFit walk page → ¬ (IsRefusedPage prefix (pages ++ page ∷ []))
+      fits : PageFits walk page → ¬ (IsRefusedPage prefix (pages ++ page ∷ []))
       fits fit = not_refused prefix pages page (here None fit)
 
       refused : (bad : BadListing) → refusal_of walk.prefix walk.gathered page ≡ Some bad → IsRefusedPage prefix (pages ++ page ∷ [])
       refused bad e = (pages, page, refl, subst (λ (o : Option BadListing). IsSome o) (sym (here (Some bad) e)) refl)
 
       -- more pages follow
-      behind : (memory : Bool) (refused_page : Option ℕ) (needs : List Need) (cs : List Dispatched) → IsFit walk page → page.more ≡ true
-          → Plans Shows memory refused_page cs (need ∷ needs) (pages ++ page ∷ []) page.token → Plans Shows memory refused_page (c ∷ cs) (need ∷ needs) pages walk.token
+      behind : (memory : Bool) (refused_page : Option ℕ) (needs : List Need) (cs : List Dispatched) → PageFits walk page → page.more ≡ true
+          → PlansFrom Shows memory refused_page cs (need ∷ needs) (pages ++ page ∷ []) page.token → PlansFrom Shows memory refused_page (c ∷ cs) (need ∷ needs) pages walk.token
       behind memory refused_page needs cs fit more plans = (asks, inl (page, replied, inr (inl (fits fit, more, plans))))
 
-      planned_more : (result : Result Walk Halt) (next : ℕ) (cs : List Dispatched) → IsFit walk page → page.more ≡ true → IsPlanned Shows need (pages ++ page ∷ []) page.token result next cs
-          → IsPlanned Shows need pages walk.token result next (c ∷ cs)
+      planned_more : (result : Result Walk Halt) (next : ℕ) (cs : List Dispatched) → PageFits walk page → page.more ≡ true → IsAskedFor Shows need (pages ++ page ∷ []) page.token result next cs
+          → IsAskedFor Shows need pages walk.token result next (c ∷ cs)
       planned_more (Ok found) next cs fit more plan = λ memory refused_page needs later plans. behind memory refused_page needs (cs ++ later) fit more (plan memory refused_page needs later plans)
       planned_more (Err (halt.Answer cause)) next cs fit more plan = λ needs. behind false None needs cs fit more (plan needs)
       planned_more (Err (halt.Listing bad)) next cs fit more plan = (plan.0, plan.1, λ needs. behind false (Some plan.0) needs cs fit more (plan.2 needs))
@@ -149,26 +149,26 @@ module _ (Shows : Ask → ℕ → Talk → Class → List ℕ → Type 0) where
 
       -- memory ran out in taking the page: refused or not, the last or not
       memory_behind : (o : Option BadListing) (more : Bool) → refusal_of walk.prefix walk.gathered page ≡ o → page.more ≡ more → (needs : List Need)
-          → (refused_page : Option ℕ) × Plans Shows true refused_page (c ∷ []) (need ∷ needs) pages walk.token
+          → (refused_page : Option ℕ) × PlansFrom Shows true refused_page (c ∷ []) (need ∷ needs) pages walk.token
       memory_behind (Some bad) more e m needs = (Some c.dispatch.job.number, (asks, inl (page, replied, inl (refused bad e, refl, refl))))
       memory_behind None true e m needs = (None, behind true None needs [] e m (refl, inr refl))
       memory_behind None false e m needs = (None, (asks, inl (page, replied, inr (inr (fits e, m, (refl, inr refl))))))
 
-      planned_last : (number : ℕ) (result : Result Walk Halt) → c.dispatch.job.number ≡ number → EndsWith walk page result → IsPlanned Shows need pages walk.token result (number + 1) (c ∷ [])
+      planned_last : (number : ℕ) (result : Result Walk Halt) → c.dispatch.job.number ≡ number → EndsTheListing walk page result → IsAskedFor Shows need pages walk.token result (number + 1) (c ∷ [])
       planned_last number result is (inl (fit, none, ok)) =
-          subst (λ (r : Result Walk Halt). IsPlanned Shows need pages walk.token r (number + 1) (c ∷ [])) (sym ok)
+          subst (λ (r : Result Walk Halt). IsAskedFor Shows need pages walk.token r (number + 1) (c ∷ [])) (sym ok)
           (λ memory refused_page needs later plans. (asks, inl (page, replied, inr (inr (fits fit, none, plans)))))
       planned_last number result is (inr (inl (bad, e, err))) =
-          subst (λ (r : Result Walk Halt). IsPlanned Shows need pages walk.token r (number + 1) (c ∷ [])) (sym err)
+          subst (λ (r : Result Walk Halt). IsAskedFor Shows need pages walk.token r (number + 1) (c ∷ [])) (sym err)
           (number, refl, λ needs. (asks, inl (page, replied, inl (refused bad e, refl, ap (λ (n : ℕ). Some n) (sym is)))))
       planned_last number result is (inr (inr err)) =
-          subst (λ (r : Result Walk Halt). IsPlanned Shows need pages walk.token r (number + 1) (c ∷ [])) (sym err)
+          subst (λ (r : Result Walk Halt). IsAskedFor Shows need pages walk.token r (number + 1) (c ∷ [])) (sym err)
           (λ needs. memory_behind _ _ refl refl needs)
 
     planned : (number : ℕ) (walk : Walk) (pages : List Listed) (qs : List Question) (cs : List Dispatched) (result : Result Walk Halt) → Has walk pages → Lists number walk qs result → ShowQuestions Shows number qs cs
-        → IsPlanned Shows need pages walk.token result (number + length qs) cs
+        → IsAskedFor Shows need pages walk.token result (number + length qs) cs
     planned number walk pages [] [] result has lists shown =
-        subst (λ (r : Result Walk Halt). IsPlanned Shows need pages walk.token r (number + 0) []) (sym lists) (λ needs. (None, (refl, inr refl)))
+        subst (λ (r : Result Walk Halt). IsAskedFor Shows need pages walk.token r (number + 0) []) (sym lists) (λ needs. (None, (refl, inr refl)))
     planned number walk pages [] (c ∷ cs) result has lists shown = absurd shown
     planned number walk pages (q ∷ later) [] result has lists shown = absurd shown
     planned number walk pages (q ∷ later) (c ∷ cs) result has lists shown = elim lists.1 [
@@ -178,22 +178,22 @@ module _ (Shows : Ask → ℕ → Talk → Class → List ℕ → Type 0) where
             | inl more ↦
                 let count : (number + 1) + length later ≡ number + suc (length later) = omega arith in
                 planned_more walk pages has page c asks replied result (number + suc (length later)) cs more.0 more.1
-                (subst (λ (n : ℕ). IsPlanned Shows need (pages ++ page ∷ []) page.token result n cs) count
+                (subst (λ (n : ℕ). IsAskedFor Shows need (pages ++ page ∷ []) page.token result n cs) count
                 (planned (number + 1) (with_page walk page) (pages ++ page ∷ []) later cs result (has_more walk pages page has) more.2 shown.1))
             | inr end ↦ alone end.1 (planned_last walk pages has page c asks replied number result shown.0.number_is end.0)
           ]
       | inr (h, answers, none, is) ↦
-          alone none (subst (λ (r : Result Walk Halt). IsPlanned Shows need pages walk.token r (number + 1) (c ∷ [])) (sym is)
+          alone none (subst (λ (r : Result Walk Halt). IsAskedFor Shows need pages walk.token r (number + 1) (c ∷ [])) (sym is)
           (failed Walk need pages walk.token (number + 1) c q number h answers (λ unsaid memory needs. (asks, inr (shown.0.unanswered unsaid, refl, refl)))))
     ]
       where
         asks : c.ask ≡ ask.List bucket prefix delimited walk.token
         asks = shown.0.asks ∙ lists.0 ∙ has.asks walk.token
 
-        alone : later ≡ [] → IsPlanned Shows need pages walk.token result (number + 1) (c ∷ []) → IsPlanned Shows need pages walk.token result (number + suc (length later)) (c ∷ cs)
+        alone : later ≡ [] → IsAskedFor Shows need pages walk.token result (number + 1) (c ∷ []) → IsAskedFor Shows need pages walk.token result (number + suc (length later)) (c ∷ cs)
         alone none plan =
-            subst (λ (all : List Dispatched). IsPlanned Shows need pages walk.token result (number + suc (length later)) (c ∷ all)) (sym (no_more (number + 1) later cs none shown.1))
-            (subst (λ (rest : List Question). IsPlanned Shows need pages walk.token result (number + suc (length rest)) (c ∷ [])) (sym none) plan)
+            subst (λ (all : List Dispatched). IsAskedFor Shows need pages walk.token result (number + suc (length later)) (c ∷ all)) (sym (no_more (number + 1) later cs none shown.1))
+            (subst (λ (rest : List Question). IsAskedFor Shows need pages walk.token result (number + suc (length rest)) (c ∷ [])) (sym none) plan)
 
   pub listings_are_planned : ListingsArePlanned Shows
   listings_are_planned number bucket prefix delimited qs result cs lists shown =

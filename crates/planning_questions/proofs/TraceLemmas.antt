@@ -18,7 +18,7 @@ use Rattle.run_traces.specs.Traces.{Gave, IsNotPending, IsRunTrace, RunTrace, To
 use Rattle.run_traces.proofs.Steps.{gave_given, gave_here, gave_taken, given_count, given_in, taken_count, taken_in, took_given, took_taken}
 use Rattle.run_traces.proofs.Pending.{taken_behind}
 use Rattle.planning_questions.specs.Questions.{Answers, Question, question_job, trace_of}
-use Rattle.planning_questions.specs.Traced.{EndsInStranger, IsBetween, IsLeft, ListingsAreTraced, QuestionsAreTraced}
+use Rattle.planning_questions.specs.Traced.{EndsInStranger, IsBetween, GoesOnFrom, ListingsAreTraced, QuestionsAreTraced}
 use Rattle.planning_questions.specs.declared.halt.Halt.{Halt}
 use Rattle.planning_questions.specs.declared.halt.Halt.TheVariants as halt
 
@@ -133,12 +133,12 @@ between_as : (m n : ℕ) (trace : RunTrace) → m ≡ n → IsBetween m trace �
 between_as m n trace e b = subst (λ (k : ℕ). IsBetween k trace) e b
 
 -- nothing was asked
-none_more : {X : Type 0} (number : ℕ) (trace : RunTrace) (result : Result X Halt) → IsBetween number trace → IsLeft (number + 0) trace result
+none_more : {X : Type 0} (number : ℕ) (trace : RunTrace) (result : Result X Halt) → IsBetween number trace → GoesOnFrom (number + 0) trace result
 none_more number trace result b = inl (between_as number (number + 0) trace (omega arith) b)
 
 -- the last question
 one_more : {X : Type 0} (number : ℕ) (q : Question) (trace : RunTrace) (said : Result Reply Halt) (result : Result X Halt) → (said ≡ Err halt.Stranger → result ≡ Err halt.Stranger) → Answers number q said → IsBetween number trace
-    → IsLeft (number + 1) (Took 0 q.carried ∷ Gave 0 (question_job number q.asked) ∷ trace) result
+    → GoesOnFrom (number + 1) (Took 0 q.carried ∷ Gave 0 (question_job number q.asked) ∷ trace) result
 one_more number q trace said result passed answers b = elim answers [
   | inl mine ↦ inl (own number q.asked q.carried trace b mine.0)
   | inr other ↦ inr (stranger number q.asked q.carried trace b other.0, passed other.1)
@@ -147,7 +147,7 @@ one_more number q trace said result passed answers b = elim answers [
 pub questions_are_traced : QuestionsAreTraced
 questions_are_traced number asked [] result trace came b = none_more number trace result b
 questions_are_traced number asked (q ∷ later) result trace came b =
-    subst (λ (rest : List Question). IsLeft (number + length (q ∷ rest)) (trace_of number (q ∷ rest) ++ trace) result) (sym came.1)
+    subst (λ (rest : List Question). GoesOnFrom (number + length (q ∷ rest)) (trace_of number (q ∷ rest) ++ trace) result) (sym came.1)
     (one_more number q trace result result (λ e. e) came.2 b)
 
 halt_as : (h : Halt) → ◌≡◌ {A = Result Reply Halt} (Err h) (Err halt.Stranger) → ◌≡◌ {A = Result Walk Halt} (Err h) (Err halt.Stranger)
@@ -160,13 +160,13 @@ listings_are_traced number walk (q ∷ later) result trace lists b = elim lists.
       let here = own number q.asked q.carried trace b brings.0 in
       elim next [
         | inl more ↦
-            subst (λ (all : RunTrace). IsLeft (number + suc (length later)) all result) (sym (append_assoc (trace_of (number + 1) later) (Took 0 q.carried ∷ Gave 0 (question_job number q.asked) ∷ []) trace))
+            subst (λ (all : RunTrace). GoesOnFrom (number + suc (length later)) all result) (sym (append_assoc (trace_of (number + 1) later) (Took 0 q.carried ∷ Gave 0 (question_job number q.asked) ∷ []) trace))
             (let count : (number + 1) + length later ≡ number + suc (length later) = omega arith in
-            subst (λ (n : ℕ). IsLeft n (trace_of (number + 1) later ++ (Took 0 q.carried ∷ Gave 0 (question_job number q.asked) ∷ trace)) result) count
+            subst (λ (n : ℕ). GoesOnFrom n (trace_of (number + 1) later ++ (Took 0 q.carried ∷ Gave 0 (question_job number q.asked) ∷ trace)) result) count
             (listings_are_traced (number + 1) (with_page walk page) later result (Took 0 q.carried ∷ Gave 0 (question_job number q.asked) ∷ trace) more.2 here))
-        | inr end ↦ subst (λ (rest : List Question). IsLeft (number + length (q ∷ rest)) (trace_of number (q ∷ rest) ++ trace) result) (sym end.1) (inl here)
+        | inr end ↦ subst (λ (rest : List Question). GoesOnFrom (number + length (q ∷ rest)) (trace_of number (q ∷ rest) ++ trace) result) (sym end.1) (inl here)
       ]
   | inr (h, answers, none, is) ↦
-      subst (λ (rest : List Question). IsLeft (number + length (q ∷ rest)) (trace_of number (q ∷ rest) ++ trace) result) (sym none)
+      subst (λ (rest : List Question). GoesOnFrom (number + length (q ∷ rest)) (trace_of number (q ∷ rest) ++ trace) result) (sym none)
       (one_more number q trace (Err h) result (λ e. is ∙ halt_as h e) answers b)
 ]

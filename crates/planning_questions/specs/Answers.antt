@@ -13,17 +13,17 @@ use Rattle.planning_questions.specs.declared.halt.Halt.{Halt}
 use Rattle.planning_questions.specs.declared.halt.Halt.TheVariants as halt
 
 -- what a job of the planning says by its ending; it has no cell, so what comes back cancelled is not that job
-abbrev pub answer_of : Op → Ending → Result Reply Halt
-answer_of op (ending.Gained said) = Ok said
-answer_of op (ending.Refused status code message) = Err (halt.Answer (cause.Service op code message))
-answer_of op (ending.Uncertain why.Memory) = Err halt.Memory
-answer_of op (ending.Uncertain reason) = Err (halt.Answer (cause.Lost op reason))
-answer_of op (ending.Cancelled reason) = Err halt.Stranger
-answer_of op ending.Memory = Err halt.Memory
+abbrev pub said_by : Op → Ending → Result Reply Halt
+said_by op (ending.Gained said) = Ok said
+said_by op (ending.Refused status code message) = Err (halt.Answer (cause.Service op code message))
+said_by op (ending.Uncertain why.Memory) = Err halt.Memory
+said_by op (ending.Uncertain reason) = Err (halt.Answer (cause.Lost op reason))
+said_by op (ending.Cancelled reason) = Err halt.Stranger
+said_by op ending.Memory = Err halt.Memory
 
 -- what came back of a lane with these jobs out may be the oldest, and says this; or it cannot be
-abbrev pub Hears : (out : List Pending) → SeenCarried → Result Reply Halt → Type 0
-Hears out carried result =
-    (IsOldestOf out carried.job × (result ≡ answer_of carried.job.id.op carried.ending)
+abbrev pub SaysBack : (out : List Pending) → SeenCarried → Result Reply Halt → Type 0
+SaysBack out carried result =
+    (IsOldestOf out carried.job × (result ≡ said_by carried.job.id.op carried.ending)
     × IfOk result (IsReplyTo carried.job.id.op))
     ⊎ ((¬ (IsOldestOf out carried.job)) × (result ≡ Err halt.Stranger))

@@ -22,13 +22,13 @@ BringsPage number q page =
     MayBeOf (question_job number q.asked) q.carried × (q.carried.ending ≡ ending.Gained (reply.Listed page))
 
 -- the page fits behind those before it
-abbrev pub IsFit : Walk → Listed → Type 0
-IsFit walk page = refusal_of walk.prefix walk.gathered page ≡ None
+abbrev pub PageFits : Walk → Listed → Type 0
+PageFits walk page = refusal_of walk.prefix walk.gathered page ≡ None
 
 -- the listing ends with this page: it is the last, or it is refused, or memory ran out for it
-abbrev pub EndsWith : Walk → Listed → Result Walk Halt → Type 0
-EndsWith walk page result =
-    (IsFit walk page × (page.more ≡ false) × (result ≡ Ok (with_page walk page)))
+abbrev pub EndsTheListing : Walk → Listed → Result Walk Halt → Type 0
+EndsTheListing walk page result =
+    (PageFits walk page × (page.more ≡ false) × (result ≡ Ok (with_page walk page)))
     ⊎ ((bad : BadListing) × (refusal_of walk.prefix walk.gathered page ≡ Some bad)
     × (result ≡ Err (halt.Listing bad)))
     ⊎ (result ≡ Err halt.Memory)
@@ -40,15 +40,15 @@ Lists number walk [] result = result ≡ Err halt.Memory
 Lists number walk (q ∷ later) result =
     (q.asked ≡ next_request walk)
     × (((page : Listed) × BringsPage number q page
-    × ((IsFit walk page × (page.more ≡ true) × Lists (number + 1) (with_page walk page) later result)
-    ⊎ (EndsWith walk page result × (later ≡ []))))
+    × ((PageFits walk page × (page.more ≡ true) × Lists (number + 1) (with_page walk page) later result)
+    ⊎ (EndsTheListing walk page result × (later ≡ []))))
     ⊎ ((why : Halt) × Answers number q (Err why) × (later ≡ []) × (result ≡ Err why)))
 
 -- ---- one page
 
 -- the page is taken, or refused, or memory ran out for it
 abbrev pub TakesPage : Walk → Listed → Walk → Result Bool Halt → Type 0
-TakesPage walk page after (Ok more) = IsFit walk page × (after ≡ with_page walk page) × (more ≡ page.more)
+TakesPage walk page after (Ok more) = PageFits walk page × (after ≡ with_page walk page) × (more ≡ page.more)
 TakesPage walk page after (Err (halt.Listing bad)) = refusal_of walk.prefix walk.gathered page ≡ Some bad
 TakesPage walk page after (Err halt.Memory) = Unit {0}
 TakesPage walk page after (Err why) = ⊥
@@ -56,7 +56,7 @@ TakesPage walk page after (Err why) = ⊥
 -- some page was taken
 abbrev pub TookPage : Walk → Walk → Bool → Type 0
 TookPage walk after more =
-    (page : Listed) × IsFit walk page × (after ≡ with_page walk page) × (more ≡ page.more)
+    (page : Listed) × PageFits walk page × (after ≡ with_page walk page) × (more ≡ page.more)
 
 -- the next page was asked for and taken; or the question has none; or memory ran out before it
 abbrev pub IsNextPage : (number : ℕ) → Walk → List Question → Walk → Result Bool Halt → Type 0

@@ -13,7 +13,7 @@ use Rattle.s3_model.specs.declared.answers.Reply.{Reply}
 use Rattle.s3_model.specs.declared.requests.Ask.{Ask}
 use Rattle.s3_model.specs.Talks.{Talk}
 use Rattle.planning_questions.specs.Listings.{Lists}
-use Rattle.planning_questions.specs.Questions.{IsAsked, Question}
+use Rattle.planning_questions.specs.Questions.{AsksOnce, Question}
 use Rattle.planning_questions.specs.declared.halt.Halt.{Halt}
 use Rattle.planning_questions.specs.declared.halt.Halt.TheVariants as halt
 
@@ -36,35 +36,36 @@ module _ (Shows : Ask → ℕ → Talk → Class → List ℕ → Type 0) where
   ShowQuestions number questions dispatched = ⊥
 
   -- the planning goes on so behind these pages of its first need, at that token; memory may have run out in it
-  abbrev pub Plans : (memory : Bool) → (refused_page : Option ℕ) → List Dispatched → List Need → List Listed
+  abbrev pub PlansFrom : (memory : Bool) → (refused_page : Option ℕ) → List Dispatched → List Need → List Listed
       → (token : Option (List ℕ)) → Type 0
-  Plans memory refused_page = planning.AreAsked Shows IsRefusedPage (memory ≡ true) refused_page
+  PlansFrom memory refused_page = planning.AreAsked Shows IsRefusedPage (memory ≡ true) refused_page
 
   -- What was asked for a need, numbered up to below `next`: where it was met, what is asked for others may follow; else
   -- the planning ends with it, and no other need is asked for. No lane brings a stranger.
-  abbrev pub IsPlanned : {X : Type 0} → Need → List Listed → (token : Option (List ℕ)) → Result X Halt → (next : ℕ)
+  abbrev pub IsAskedFor : {X : Type 0} → Need → List Listed → (token : Option (List ℕ)) → Result X Halt → (next : ℕ)
       → List Dispatched → Type 0
-  IsPlanned need pages token (Ok found) next dispatched =
+  IsAskedFor need pages token (Ok found) next dispatched =
       (memory : Bool) (refused_page : Option ℕ) (needs : List Need) (later : List Dispatched)
-      → Plans memory refused_page later needs [] None
-      → Plans memory refused_page (dispatched ++ later) (need ∷ needs) pages token
-  IsPlanned need pages token (Err (halt.Answer cause)) next dispatched =
-      (needs : List Need) → Plans false None dispatched (need ∷ needs) pages token
-  IsPlanned need pages token (Err (halt.Listing bad)) next dispatched =
+      → PlansFrom memory refused_page later needs [] None
+      → PlansFrom memory refused_page (dispatched ++ later) (need ∷ needs) pages token
+  IsAskedFor need pages token (Err (halt.Answer cause)) next dispatched =
+      (needs : List Need) → PlansFrom false None dispatched (need ∷ needs) pages token
+  IsAskedFor need pages token (Err (halt.Listing bad)) next dispatched =
       (last : ℕ) × (next ≡ last + 1)
-      × ((needs : List Need) → Plans false (Some last) dispatched (need ∷ needs) pages token)
-  IsPlanned need pages token (Err halt.Memory) next dispatched =
-      (needs : List Need) → (refused_page : Option ℕ) × Plans true refused_page dispatched (need ∷ needs) pages token
-  IsPlanned need pages token (Err halt.Stranger) next dispatched = Unit {0}
+      × ((needs : List Need) → PlansFrom false (Some last) dispatched (need ∷ needs) pages token)
+  IsAskedFor need pages token (Err halt.Memory) next dispatched =
+      (needs : List Need) → (refused_page : Option ℕ)
+      × PlansFrom true refused_page dispatched (need ∷ needs) pages token
+  IsAskedFor need pages token (Err halt.Stranger) next dispatched = Unit {0}
 
   abbrev pub QuestionsArePlanned : Type 0
   QuestionsArePlanned = (number : ℕ) (asked : Ask) (questions : List Question) (result : Result Reply Halt)
-      (dispatched : List Dispatched) → IsAsked number asked questions result
+      (dispatched : List Dispatched) → AsksOnce number asked questions result
       → ShowQuestions number questions dispatched
-      → IsPlanned (planning.One asked) [] None result (number + length questions) dispatched
+      → IsAskedFor (planning.One asked) [] None result (number + length questions) dispatched
 
   abbrev pub ListingsArePlanned : Type 0
   ListingsArePlanned = (number : ℕ) (bucket prefix : List ℕ) (delimited : Bool) (questions : List Question)
       (result : Result Walk Halt) (dispatched : List Dispatched)
       → Lists number (new_walk bucket prefix delimited) questions result → ShowQuestions number questions dispatched
-      → IsPlanned (planning.Listing bucket prefix delimited) [] None result (number + length questions) dispatched
+      → IsAskedFor (planning.Listing bucket prefix delimited) [] None result (number + length questions) dispatched

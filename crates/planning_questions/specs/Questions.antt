@@ -12,12 +12,12 @@ use Rattle.run_traces.specs.Traces.{Gave, RunTrace, Took, journal_of}
 use Rattle.s3_model.specs.declared.answers.Reply.{Reply}
 use Rattle.s3_model.specs.declared.outcomes.Event.{Event}
 use Rattle.s3_model.specs.declared.requests.Ask.{Ask}
-use Rattle.planning_questions.specs.Answers.{answer_of}
+use Rattle.planning_questions.specs.Answers.{said_by}
 use Rattle.planning_questions.specs.declared.halt.Halt.{Halt}
 use Rattle.planning_questions.specs.declared.halt.Halt.TheVariants as halt
 
 -- no job is out, and the first lane has room for one
-pub record IsIdle {W : Type 0} (desk : DeskState W SeenJob SeenCarried) (pending : SeenPendingJobs) : Type 0 where
+pub record IsReadyToAsk {W : Type 0} (desk : DeskState W SeenJob SeenCarried) (pending : SeenPendingJobs) : Type 0 where
   pub lanes : 1 ≤ length desk.lanes
   pub depth : 1 ≤ desk.depth
   pub none_out : all_out desk ≡ 0
@@ -59,14 +59,14 @@ abbrev pub progress_of : {W : Type 0} → DeskState W SeenJob SeenCarried → Li
 progress_of desk journal = record { lanes = desk.lanes; journal = journal }
 
 -- these steps more were made: behind whatever steps there were before
-pub record HasMade (steps : RunTrace) (before after : Progress) : Type 0 where
+pub record GoesOnBy (steps : RunTrace) (before after : Progress) : Type 0 where
   pub exchanged : (trace : RunTrace) → AreExchangesOf trace before.lanes → AreExchangesOf (steps ++ trace) after.lanes
   pub journaled : after.journal ≡ before.journal ++ journal_of steps
 
 -- questions were asked, numbered from `first` up to below `next`, and nothing else was done; `ComesTo` holds of them
 pub record HasQuestions (first next : ℕ) (before after : Progress) (ComesTo : List Question → Type 0) : Type 0 where
   pub questions : List Question
-  pub made : HasMade (trace_of first questions) before after
+  pub made : GoesOnBy (trace_of first questions) before after
   pub next_is : next ≡ first + length questions
   pub comes_to : ComesTo questions
 
@@ -75,10 +75,10 @@ pub record HasQuestions (first next : ℕ) (before after : Progress) (ComesTo : 
 -- what came back may be the job of that number, and says this; or it cannot be
 abbrev pub Answers : (number : ℕ) → Question → Result Reply Halt → Type 0
 Answers number q result =
-    (MayBeOf (question_job number q.asked) q.carried × (result ≡ answer_of (op_of q.asked) q.carried.ending))
+    (MayBeOf (question_job number q.asked) q.carried × (result ≡ said_by (op_of q.asked) q.carried.ending))
     ⊎ ((¬ (MayBeOf (question_job number q.asked) q.carried)) × (result ≡ Err halt.Stranger))
 
 -- this was asked once, with that number, and answered so; or memory ran out before that
-abbrev pub IsAsked : (number : ℕ) → Ask → List Question → Result Reply Halt → Type 0
-IsAsked number asked [] result = result ≡ Err halt.Memory
-IsAsked number asked (q ∷ later) result = (q.asked ≡ asked) × (later ≡ []) × Answers number q result
+abbrev pub AsksOnce : (number : ℕ) → Ask → List Question → Result Reply Halt → Type 0
+AsksOnce number asked [] result = result ≡ Err halt.Memory
+AsksOnce number asked (q ∷ later) result = (q.asked ≡ asked) × (later ≡ []) × Answers number q result

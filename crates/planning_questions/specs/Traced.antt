@@ -7,7 +7,7 @@ use Rattle.s3_model.specs.declared.answers.Reply.{Reply}
 use Rattle.s3_model.specs.declared.outcomes.JobId.{JobId}
 use Rattle.s3_model.specs.declared.requests.Ask.{Ask}
 use Rattle.planning_questions.specs.Listings.{Lists}
-use Rattle.planning_questions.specs.Questions.{IsAsked, Question, trace_of}
+use Rattle.planning_questions.specs.Questions.{AsksOnce, Question, trace_of}
 use Rattle.planning_questions.specs.declared.halt.Halt.{Halt}
 use Rattle.planning_questions.specs.declared.halt.Halt.TheVariants as halt
 
@@ -24,16 +24,16 @@ pub record EndsInStranger (trace : RunTrace) : Type 0 where
   pub stranger : HasStranger trace
 
 -- the run may go on from that number, or a stranger has ended it
-abbrev pub IsLeft : {X : Type 0} → (next : ℕ) → RunTrace → Result X Halt → Type 0
-IsLeft next trace result = IsBetween next trace ⊎ (EndsInStranger trace × (result ≡ Err halt.Stranger))
+abbrev pub GoesOnFrom : {X : Type 0} → (next : ℕ) → RunTrace → Result X Halt → Type 0
+GoesOnFrom next trace result = IsBetween next trace ⊎ (EndsInStranger trace × (result ≡ Err halt.Stranger))
 
 -- behind a trace with nothing pending, what a question or a listing did makes a trace again
 abbrev pub QuestionsAreTraced : Type 0
 QuestionsAreTraced = (number : ℕ) (asked : Ask) (questions : List Question) (result : Result Reply Halt)
-    (trace : RunTrace) → IsAsked number asked questions result → IsBetween number trace
-    → IsLeft (number + length questions) (trace_of number questions ++ trace) result
+    (trace : RunTrace) → AsksOnce number asked questions result → IsBetween number trace
+    → GoesOnFrom (number + length questions) (trace_of number questions ++ trace) result
 
 abbrev pub ListingsAreTraced : Type 0
 ListingsAreTraced = (number : ℕ) (walk : Walk) (questions : List Question) (result : Result Walk Halt)
     (trace : RunTrace) → Lists number walk questions result → IsBetween number trace
-    → IsLeft (number + length questions) (trace_of number questions ++ trace) result
+    → GoesOnFrom (number + length questions) (trace_of number questions ++ trace) result

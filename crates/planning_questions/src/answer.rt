@@ -1,15 +1,15 @@
 //! What comes back of a request of the planning.
 
 ghost use Rattle.std.specs.Prelude.{◌≡◌};
-ghost use Rattle.planning_questions.specs.Answers.{answer_of};
+ghost use Rattle.planning_questions.specs.Answers.{said_by};
 
 use crate::halt::Halt;
 use jobs::Ending;
 use s3_model::{Cause, Op, Reply, Why};
 
 /// What the ending of a job says, which may not be cancelled.
-pub(crate) fn answer_of(op: Op, ending: Ending) -> Result<Reply, Halt>
-    ensures { result ≡ answer_of op ending }
+pub(crate) fn said_by(op: Op, ending: Ending) -> Result<Reply, Halt>
+    ensures { result ≡ said_by op ending }
 {
     match ending {
         Ending::Gained(said) => Ok(said),

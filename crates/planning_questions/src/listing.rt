@@ -5,7 +5,7 @@ ghost use Rattle.bounded_executor.specs.Desk.{SameDesk};
 ghost use Rattle.jobs.specs.Endings.{IsReplyTo};
 ghost use Rattle.list_walk.specs.Pages.{new_walk};
 ghost use Rattle.planning_questions.specs.Listings.{IsNextPage, Lists, TakesPage, TookPage, next_request};
-ghost use Rattle.planning_questions.specs.Questions.{HasQuestions, IsIdle, progress_of};
+ghost use Rattle.planning_questions.specs.Questions.{HasQuestions, IsReadyToAsk, progress_of};
 
 use crate::halt::Halt;
 use crate::single::ask;
@@ -67,14 +67,14 @@ fn next_page<R: Wait, W: Wire + Send + Drop>(
     pages: &mut Pages,
 ) -> Result<bool, Halt>
     requires open { pages.old.over ≡ false }
-    requires idle { IsIdle desk.old pending.old }
+    requires idle { IsReadyToAsk desk.old pending.old }
     requires number { number.old < 4_294_967_295 }
     ensures next { HasQuestions number.old number.new (progress_of desk.old journal.old.items)
         (progress_of desk.new journal.new.items)
         (λ questions. IsNextPage number.old pages.old questions pages.new result) }
     ensures took { IfOk result (TookPage pages.old pages.new) }
     ensures few { number.new ≤ number.old + 1 }
-    ensures idle { IsIdle desk.new pending.new }
+    ensures idle { IsReadyToAsk desk.new pending.new }
     ensures same_desk { SameDesk desk.old desk.new }
     ensures pending { pending.new ≡ pending.old }
 {
@@ -92,8 +92,8 @@ fn next_page<R: Wait, W: Wire + Send + Drop>(
 
 /// Asks for all pages of the listing of a prefix in a bucket, one after the other, and gathers them (Amazon S3 API,
 /// ListObjectsV2). Each page is a planning job of the first lane, numbered from `number` on, which then is the next
-/// number; the lane makes the attempts. Where `delimited` is true, keys that have a `/` behind the prefix are listed by their
-/// first part alone.
+/// number; the lane makes the attempts. Where `delimited` is true, keys that have a `/` behind the prefix are listed by
+/// their first part alone.
 ///
 /// # Errors
 ///
@@ -109,13 +109,13 @@ pub fn list_all<R: Wait, W: Wire + Send + Drop>(
     prefix: &str,
     delimited: bool,
 ) -> Result<Pages, Halt>
-    requires idle { IsIdle desk.old pending.old }
+    requires idle { IsReadyToAsk desk.old pending.old }
     requires number { number.old ≤ 2_000_000_000 }
     ensures listed { HasQuestions number.old number.new (progress_of desk.old journal.old.items)
         (progress_of desk.new journal.new.items)
         (λ questions. Lists number.old (new_walk bucket.now prefix.now delimited) questions result) }
     ensures few { number.new ≤ number.old + 1_000_001_000 }
-    ensures idle { IsIdle desk.new pending.new }
+    ensures idle { IsReadyToAsk desk.new pending.new }
     ensures same_desk { SameDesk desk.old desk.new }
     ensures pending { pending.new ≡ pending.old }
 {

@@ -6,10 +6,10 @@ ghost use Rattle.bounded_executor.specs.Exchange.{jobs_out};
 ghost use Rattle.job_terms.specs.Ops.{IsPlanning, op_of};
 ghost use Rattle.jobs.specs.Endings.{IsReplyTo, SeenCarried};
 ghost use Rattle.pending_jobs.specs.Pending.{out_of, pending_of, with_out};
-ghost use Rattle.planning_questions.specs.Answers.{Hears, answer_of};
-ghost use Rattle.planning_questions.specs.Questions.{HasQuestions, IsAsked, IsIdle, progress_of, question_job};
+ghost use Rattle.planning_questions.specs.Answers.{SaysBack, said_by};
+ghost use Rattle.planning_questions.specs.Questions.{HasQuestions, AsksOnce, IsReadyToAsk, progress_of, question_job};
 
-use crate::answer::answer_of;
+use crate::answer::said_by;
 use crate::halt::Halt;
 use bounded_executor::Desk;
 use jobs::{Carried, Job, What};
@@ -82,7 +82,7 @@ fn give<W: Wire + Send + Drop>(
 fn note(journal: &mut Journal, carried: Carried) -> Result<Reply, Halt>
     requires { 1 ≤ journal.old.spare }
     ensures noted { journal.new.items ≡ journal.old.items ++ Event.Came carried.job.id 0 carried.tries ∷ [] }
-    ensures answer { result ≡ answer_of carried.job.id.op carried.ending }
+    ensures answer { result ≡ said_by carried.job.id.op carried.ending }
     ensures reply { IfOk result (IsReplyTo carried.job.id.op) }
 {
     let Carried { job, tries, ending } = carried;
@@ -93,7 +93,7 @@ fn note(journal: &mut Journal, carried: Carried) -> Result<Reply, Halt>
         lane: 0,
         tries,
     });
-    answer_of(id.op, ending)
+    said_by(id.op, ending)
 }
 
 /// Takes the job of the first lane back, the only one out, and notes it: what it says, where it can be that job.
@@ -110,7 +110,7 @@ fn take<R: Wait, W: Wire + Send + Drop>(
     requires room { 1 ≤ journal.old.spare }
     ensures heard { (carried : SeenCarried) × (desk.new ≡ takes desk.old 0 carried)
         × (journal.new.items ≡ journal.old.items ++ Event.Came carried.job.id 0 carried.tries ∷ [])
-        × Hears (out_of pending.old 0) carried result }
+        × SaysBack (out_of pending.old 0) carried result }
     ensures none_out { all_out desk.new ≡ 0 }
     ensures pending { pending.new ≡ with_out pending.old 0 (drop 1 (out_of pending.old 0)) }
 {
@@ -143,13 +143,13 @@ pub fn ask<R: Wait, W: Wire + Send + Drop>(
     asked: Ask,
 ) -> Result<Reply, Halt>
     requires planning { IsPlanning asked }
-    requires idle { IsIdle desk.old pending.old }
+    requires idle { IsReadyToAsk desk.old pending.old }
     requires number { number.old < 4_294_967_295 }
     ensures asked { HasQuestions number.old number.new (progress_of desk.old journal.old.items)
-        (progress_of desk.new journal.new.items) (λ questions. IsAsked number.old asked questions result) }
+        (progress_of desk.new journal.new.items) (λ questions. AsksOnce number.old asked questions result) }
     ensures reply { IfOk result (IsReplyTo (op_of asked)) }
     ensures few { number.new ≤ number.old + 1 }
-    ensures idle { IsIdle desk.new pending.new }
+    ensures idle { IsReadyToAsk desk.new pending.new }
     ensures same_desk { SameDesk desk.old desk.new }
     ensures pending { pending.new ≡ pending.old }
 {

@@ -1,7 +1,7 @@
 use Rattle.std.proofs.Common.{◌≡◌, ◌+◌, ◌*◌, ◌≤◌, false}
 use Rattle.bounded_executor.specs.Desk.{SameDesk}
 use Rattle.list_walk.specs.Pages.{IsSound, new_walk, total_of}
-use Rattle.planning_questions.specs.Questions.{IsIdle, progress_of}
+use Rattle.planning_questions.specs.Questions.{IsReadyToAsk, progress_of}
 use Rattle.planning_questions.proofs.PageLemmas.{IsUnderway}
 use Rattle.planning_questions.proofs.listing.list_all.Given as goal
 
@@ -12,7 +12,7 @@ invariant-loop g l = record {
   sound : IsSound l.pages.prefix l.pages.gathered;
   bound : l.counter ≤ 1000 * total_of l.pages.gathered + l.pages.gathered.empty;
   few : l.number ≤ l.initial.number + l.counter;
-  idle : IsIdle l.desk l.pending;
+  idle : IsReadyToAsk l.desk l.pending;
   same_desk : SameDesk l.initial.desk l.desk;
   pending : l.pending ≡ l.initial.pending;
 }
