@@ -1,0 +1,6 @@
+//! Runs in which little is common that meet the definitions of the promise, and neighbours that do not.
+#![tactic(auto)]
+
+mod neighbours;
+
+pub use neighbours::setting;
