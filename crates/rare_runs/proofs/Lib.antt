@@ -1,1 +1,4 @@
+pub mod FileCalls
+pub mod PartBuffers
+pub mod OtherFiles
 pub mod Settings

@@ -3,4 +3,4 @@
 
 mod neighbours;
 
-pub use neighbours::setting;
+pub use neighbours::{buffers, file_calls, other_files, setting};

@@ -1,5 +1,7 @@
 //! Runs that meet a definition, and their neighbours with one thing changed, which it refuses.
 
+ghost use Rattle.rare_runs.specs.FileNeighbours.{BuffersAreMet, BuffersAreRefused, FileCallsAreMet};
+ghost use Rattle.rare_runs.specs.FileNeighbours.{FileCallsAreRefused, OtherFilesAreMet, OtherFilesAreRefused};
 ghost use Rattle.rare_runs.specs.Settings.{EachSettingIsRefused, SettingIsMet};
 
 /// A cancelled run of four uploads, one of which is done and three of which failed, each for another cause, has the
@@ -7,4 +9,25 @@ ghost use Rattle.rare_runs.specs.Settings.{EachSettingIsRefused, SettingIsMet};
 pub fn setting()
     ensures met { SettingIsMet }
     ensures refused { EachSettingIsRefused }
+{}
+
+/// Parts that are out one at a time keep to one buffer, and two at a time to two. No two jobs that hold a buffer keep
+/// to one where both are out.
+pub fn buffers()
+    ensures met { BuffersAreMet }
+    ensures refused { BuffersAreRefused }
+{}
+
+/// A run that leaves a temporary file, with its warning, changes no other file. It does where a file of no task is new,
+/// where the file of an upload is another one, and where no warning names the temporary file or it was there before.
+pub fn other_files()
+    ensures met { OtherFilesAreMet }
+    ensures refused { OtherFilesAreRefused }
+{}
+
+/// The calls of a run that removes a file, downloads one, and fails to download another keep to their clauses. They do
+/// not with one call moved, left out, repeated or changed, nor in another setting or with other warnings.
+pub fn file_calls()
+    ensures met { FileCallsAreMet }
+    ensures refused { FileCallsAreRefused }
 {}
