@@ -1,4 +1,7 @@
+pub mod Beside
 pub mod FileCalls
-pub mod PartBuffers
+pub mod HeadRun
 pub mod OtherFiles
+pub mod PartBuffers
 pub mod Settings
+pub mod Untried

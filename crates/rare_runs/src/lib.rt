@@ -2,5 +2,7 @@
 #![tactic(auto)]
 
 mod neighbours;
+mod witnesses;
 
 pub use neighbours::{buffers, file_calls, other_files, setting};
+pub use witnesses::{cancelled_run, external_write, memory_ran_out, refused_head};

@@ -1,0 +1,23 @@
+//! Runs in which little is common, each with a trace, that meet the definitions.
+
+ghost use Rattle.rare_runs.specs.ShortRuns.{CancelledIsMet, ExternalWriteIsMet, MemoryIsMet, RefusedHeadIsMet};
+
+/// A planning whose one request, a Head, was refused with AccessDenied, so that there is no plan.
+pub fn refused_head()
+    ensures { RefusedHeadIsMet }
+{}
+
+/// An upload that failed since memory ran out for it: its Put was given, and came without an attempt.
+pub fn memory_ran_out()
+    ensures { MemoryIsMet }
+{}
+
+/// An upload that failed since the run was cancelled, for any reason, while its Put was out without an attempt.
+pub fn cancelled_run()
+    ensures { CancelledIsMet }
+{}
+
+/// An upload that was stored, while somebody else wrote an object beside it, and removed it.
+pub fn external_write()
+    ensures { ExternalWriteIsMet }
+{}
