@@ -3,5 +3,6 @@ pub mod FileCalls
 pub mod HeadRun
 pub mod OtherFiles
 pub mod PartBuffers
+pub mod PartsCopy
 pub mod Settings
 pub mod Untried

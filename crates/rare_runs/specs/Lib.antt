@@ -1,3 +1,4 @@
 pub mod Settings
 pub mod FileNeighbours
 pub mod ShortRuns
+pub mod CopyInParts

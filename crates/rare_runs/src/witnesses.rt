@@ -1,5 +1,6 @@
 //! Runs in which little is common, each with a trace, that meet the definitions.
 
+ghost use Rattle.rare_runs.specs.CopyInParts.{CopyInPartsIsMet};
 ghost use Rattle.rare_runs.specs.ShortRuns.{CancelledIsMet, ExternalWriteIsMet, MemoryIsMet, RefusedHeadIsMet};
 
 /// A planning whose one request, a Head, was refused with AccessDenied, so that there is no plan.
@@ -20,4 +21,10 @@ pub fn cancelled_run()
 /// An upload that was stored, while somebody else wrote an object beside it, and removed it.
 pub fn external_write()
     ensures { ExternalWriteIsMet }
+{}
+
+/// A copy of two bytes in two parts: its upload is created, each part copied under the ETag of the source, and the
+/// upload completed with the ETags of both.
+pub fn copy_in_parts()
+    ensures { CopyInPartsIsMet }
 {}
