@@ -1,6 +1,7 @@
 pub mod Beside
 pub mod FileCalls
 pub mod HeadRun
+pub mod MovedFile
 pub mod OtherFiles
 pub mod PartBuffers
 pub mod PartsCopy

@@ -2,3 +2,4 @@ pub mod Settings
 pub mod FileNeighbours
 pub mod ShortRuns
 pub mod CopyInParts
+pub mod MovedDownload

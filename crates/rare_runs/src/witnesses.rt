@@ -1,6 +1,7 @@
 //! Runs in which little is common, each with a trace, that meet the definitions.
 
 ghost use Rattle.rare_runs.specs.CopyInParts.{CopyInPartsIsMet};
+ghost use Rattle.rare_runs.specs.MovedDownload.{LateRenameIsRefused, MovedDownloadIsMet};
 ghost use Rattle.rare_runs.specs.ShortRuns.{CancelledIsMet, ExternalWriteIsMet, MemoryIsMet, RefusedHeadIsMet};
 
 /// A planning whose one request, a Head, was refused with AccessDenied, so that there is no plan.
@@ -27,4 +28,11 @@ pub fn external_write()
 /// upload completed with the ETags of both.
 pub fn copy_in_parts()
     ensures { CopyInPartsIsMet }
+{}
+
+/// An object that is moved to a file: its Get came and was written, the file renamed and given its time, and then the
+/// object deleted. Its calls do not keep to their clauses where the file was renamed once the Delete had been given.
+pub fn moved_download()
+    ensures met { MovedDownloadIsMet }
+    ensures refused { LateRenameIsRefused }
 {}
