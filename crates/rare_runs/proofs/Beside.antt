@@ -3,14 +3,13 @@ use Rattle.std.proofs.Common.{◌≡◌, ◌∙◌, ◌==◌, ℕ, zero, suc, fa
 use Rattle.std.specs.Prelude.{flat_map}
 use Rattle.s3_model.specs.declared.answers.Listed.{Listed}
 use Rattle.s3_model.specs.declared.answers.Reply.TheVariants as reply
-use Rattle.s3_model.specs.declared.outcomes.Event.{Event}
 use Rattle.s3_model.specs.declared.outcomes.JobId.{JobId}
 use Rattle.s3_model.specs.declared.outcomes.Outcome.{Outcome}
 use Rattle.s3_model.specs.declared.outcomes.Outcome.TheVariants as outcome
 use Rattle.s3_model.specs.declared.places.Place.TheVariants as place
 use Rattle.s3_model.specs.declared.tasks.Task.{Task}
 use Rattle.s3_model.specs.declared.tries.Mark.{Mark}
-use Rattle.s3_service.specs.ServiceState.{HasBucket, Object, objects_in}
+use Rattle.s3_service.specs.ServiceState.{HasBucket, Object}
 use Rattle.s3_service.specs.Serves.{Answer, ExternalWrite, Removes, Replied, Writes}
 use Rattle.job_terms.specs.Dispatches.{Dispatched}
 use Rattle.run_promise.specs.Fits.{Fits, requests_of}
@@ -22,7 +21,7 @@ use Rattle.shared_lemmas.proofs.Clashes.{false_true as never}
 use Rattle.shared_lemmas.proofs.Lists.{head_is}
 use Rattle.world_laws.proofs.Faithful.{IsFaithful, faithful_with, faithful_without}
 use Rattle.promise_examples.specs.GivenAgain.{bytes}
-use Rattle.promise_examples.specs.Misfits.{before, bucket, key, other_key, request}
+use Rattle.promise_examples.specs.Misfits.{before, bucket, key, other_key}
 use Rattle.promise_examples.specs.Reading.{HasNoStatus, NeverFailed, Reads}
 use Rattle.promise_examples.specs.Refused.{limits, task, whole_run}
 use Rattle.promise_examples.specs.Services.{object_of}

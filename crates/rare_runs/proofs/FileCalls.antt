@@ -1,5 +1,5 @@
 -- Calls on files with one thing changed.
-use Rattle.std.proofs.Common.{◌≡◌, ◌∙◌, ◌+◌, ◌++◌, ◌≤◌, ℕ, Bool, true, false, List, [], ◌∷◌, Option, Some, None, Ok, refl, sym, ap, subst, inl, inr, Contains, arith}
+use Rattle.std.proofs.Common.{◌≡◌, ◌∙◌, ◌+◌, ◌++◌, ◌≤◌, ℕ, Bool, true, false, List, [], ◌∷◌, Some, None, Ok, refl, sym, ap, subst, inl, inr, map, arith}
 use Rattle.s3_model.specs.declared.answers.Listed.{Listed}
 use Rattle.s3_model.specs.declared.outcomes.JobId.{JobId}
 use Rattle.s3_model.specs.declared.requests.Ask.{Ask}
@@ -11,17 +11,20 @@ use Rattle.s3_model.specs.Talks.{Talk}
 use Rattle.job_terms.specs.Dispatches.{Dispatch, Dispatched, dispatches}
 use Rattle.job_terms.specs.Jobs.{job_of}
 use Rattle.local_files.specs.Calls.{Call, DropTemp, MakeTemp, Remove, Rename, Stamp, WriteAt}
+use Rattle.run_promise.specs.Dispatches.{IsCut}
 use Rattle.run_promise.specs.FileCalls.{IsCallFor, TaskCall}
 use Rattle.run_promise.specs.Schedule.{IsBefore}
 use Rattle.shared_lemmas.proofs.Clashes.{false_true as never, none_is_some, some_is}
 use Rattle.shared_lemmas.proofs.Lists.{head_is}
 use Rattle.file_laws.proofs.Keeping.{same_path}
 use Rattle.promise_examples.specs.BothKinds.{drops_second, first_load, first_path, first_talk, first_temp, get_job, makes_first, makes_second, put_job, put_talk, removes, renames_first, second_path, second_talk, second_temp, shown, source_path, stamps_first, upload, writes_first}
+use Rattle.promise_examples.specs.Reading.{Reads}
 use Rattle.promise_examples.proofs.BothKinds.{both_kinds_are_met}
-use Rattle.promise_examples.proofs.Concrete.{Each, at, each, has}
+use Rattle.promise_examples.proofs.Concrete.{at, each, has}
+use Rattle.promise_examples.proofs.Readings.{refusal_success}
 use Rattle.promise_examples.proofs.Scheduling.{other_op}
 use Rattle.promise_examples.proofs.Shown.{made, of_shown}
-use Rattle.rare_runs.specs.FileNeighbours.{AreRefused, CallsAreRefused, FileCallsAreMet, FileCallsAreRefused, Keep, begun, ending, given_up, made_elsewhere, made_late, not_stamped, of_no_task, other_time, placed, removes_source, renamed_early, stamped_unrenamed, written_early}
+use Rattle.rare_runs.specs.FileNeighbours.{AreRefused, CallsAreRefused, FileCallsAreMet, FileCallsAreRefused, Keep, begun, ending, given_up, made_elsewhere, made_late, not_stamped, of_no_task, other_time, placed, removes_source, renamed_early, stamped_unrenamed, written_early, written_refused}
 
 pub file_calls_are_met : FileCallsAreMet
 file_calls_are_met page_of =
@@ -96,6 +99,11 @@ are_given = refl
 abbrev jobs : (a b c : Ask) (p q r : List ℕ) (i j k l m n : ℕ) → List Dispatched
 jobs a b c p q r i j k l m n = made put_given a p i l ∷ made first_given b q j m ∷ made second_given c r k n ∷ []
 
+-- the refused Get is not cut: it used its one attempt, and is not given again
+not_cut : (page_of : List ℕ → Listed) (c : Ask) (r : List ℕ) (k n : ℕ) (Stopped : Type 0) → IsCut (Reads page_of) 1 (made second_given c r k n) [] Stopped → ⊥
+not_cut page_of c r k n Stopped (inl again) = has [] again.0 again.1
+not_cut page_of c r k n Stopped (inr cut) = let left = cut.3.4 in absurd (omega arith)
+
 module _ (page_of : List ℕ → Listed) where
   abbrev Keeps : List TaskCall → List Dispatched → List Dispatched → Type 0
   Keeps = Keep page_of shown.setting shown.excused
@@ -134,6 +142,20 @@ module _ (page_of : List ℕ → Listed) where
             ((λ same early. omega arith), ((λ same early. omega arith), tt)),
           ) body.get body.known body.is_get body.came
 
+  -- ---- it is written after its Get was refused
+
+  abbrev with_refused : List TaskCall
+  with_refused = begun ++ placed ++ makes_second ∷ written_refused ∷ drops_second ∷ []
+
+  refused_is_refused : (dispatched : List Dispatched) → map (λ (c : Dispatched). c.dispatch) dispatched ≡ dispatches shown.journal shown.logs → Keeps with_refused dispatched dispatched → ⊥
+  refused_is_refused dispatched told = of_shown (put_given ∷ first_given ∷ second_given ∷ []) (λ (ds : List Dispatched). Keeps with_refused ds ds → ⊥) by dispatched (told ∙ are_given)
+    where
+      by : (a : Ask) (p : List ℕ) (i l : ℕ) (b : Ask) (q : List ℕ) (j m : ℕ) (c : Ask) (r : List ℕ) (k n : ℕ) → Keeps with_refused (jobs a b c p q r i j k l m n) (jobs a b c p q r i j k l m n) → ⊥
+      by a p i l b q j m c r k n keep =
+          let second = made second_given c r k n in
+          keep.stops written_refused (at with_refused 6 written_refused refl)
+          (inr (second, (made put_given a p i l ∷ made first_given b q j m ∷ [], [], refl, (λ cut. not_cut page_of c r k n _ cut), λ done. refusal_success done.0), refl, omega arith))
+
   -- ---- each neighbour
 
   abbrev all : List TaskCall
@@ -157,6 +179,7 @@ module _ (page_of : List ℕ → Listed) where
     made_twice = λ dispatched coming told keep.
         keep.order (removes ∷ makes_first ∷ []) makes_first makes_first (writes_first ∷ placed ++ given_up, refl) (at (removes ∷ makes_first ∷ []) 1 makes_first refl) refl;
     cancelled = λ dispatched coming told keep. keep.stops writes_first (at all 2 writes_first refl) (inl (omega arith));
+    after_failure = refused_is_refused;
     never_made = λ dispatched coming told keep.
         let m = keep.made (removes ∷ []) writes_first first_temp (placed ++ given_up, refl) refl in
         each (λ (c : TaskCall). c.task ≡ 1 → ⊥) (removes ∷ []) ((λ of. omega arith), tt) m.0 m.1 m.2;
@@ -210,13 +233,13 @@ module _ (page_of : List ℕ → Listed) where
         let left : List TaskCall = begun ++ placed ++ makes_second ∷ [] in
         elim (keep.drops 2 second_temp (makes_second, at left 5 makes_second refl, refl, second_path, refl)) [
           | inl r ↦ each (λ (c : TaskCall). c.task ≡ 2 → c.step.call ≡ Rename r.3 r.4 None → ⊥) left (
-              (λ of e. omega arith),
-              ((λ of e. omega arith), ((λ of e. omega arith), ((λ of e. omega arith), ((λ of e. omega arith), ((λ of e. other_call makes_second.step.call _ (λ same. omega arith) e), tt))))),
-            ) r.0 r.1 r.2 r.5
+            (λ of e. omega arith),
+            ((λ of e. omega arith), ((λ of e. omega arith), ((λ of e. omega arith), ((λ of e. omega arith), ((λ of e. other_call makes_second.step.call _ (λ same. omega arith) e), tt))))),
+          ) r.0 r.1 r.2 r.5
           | inr d ↦ each (λ (c : TaskCall). c.task ≡ 2 → c.step.call ≡ DropTemp d.3 d.4 → ⊥) left (
-              (λ of e. omega arith),
-              ((λ of e. omega arith), ((λ of e. omega arith), ((λ of e. omega arith), ((λ of e. omega arith), ((λ of e. other_call makes_second.step.call _ (λ same. omega arith) e), tt))))),
-            ) d.0 d.1 d.2 d.5
+            (λ of e. omega arith),
+            ((λ of e. omega arith), ((λ of e. omega arith), ((λ of e. omega arith), ((λ of e. omega arith), ((λ of e. other_call makes_second.step.call _ (λ same. omega arith) e), tt))))),
+          ) d.0 d.1 d.2 d.5
         ];
     unwarned_file = λ dispatched coming told keep. elim (keep.left drops_second second_temp (at all 6 drops_second refl) refl).1 [
       | inl known ↦ has [] second_temp known

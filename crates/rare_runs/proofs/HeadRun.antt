@@ -1,5 +1,5 @@
 -- A planning whose one request is refused.
-use Rattle.std.proofs.Common.{◌≡◌, ◌==◌, ◌<◌, ◌≤◌, ℕ, zero, suc, false, List, [], ◌∷◌, Some, None, refl, sym, subst, inl, inr, filter, filter_map, take, Contains, arith}
+use Rattle.std.proofs.Common.{◌≡◌, ◌==◌, ◌<◌, ◌≤◌, ℕ, zero, suc, false, List, [], ◌∷◌, Some, None, refl, sym, subst, inr, filter, filter_map, take, Contains, arith}
 use Rattle.std.specs.Prelude.{flat_map, IsSome}
 use Rattle.std.proofs.lemmas.List.Sorted.{IsPermutation-refl}
 use Rattle.s3_model.specs.declared.answers.Class.{Class}

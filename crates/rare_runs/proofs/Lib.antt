@@ -2,6 +2,7 @@ pub mod Beside
 pub mod FileCalls
 pub mod HeadRun
 pub mod MovedFile
+pub mod MovedSource
 pub mod OtherFiles
 pub mod PartBuffers
 pub mod PartsCopy

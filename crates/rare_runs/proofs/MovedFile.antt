@@ -1,5 +1,5 @@
 -- A download whose source is moved meets every definition.
-use Rattle.std.proofs.Common.{◌≡◌, ◌∙◌, ◌⊎◌, ◌==◌, ◌<◌, ◌≤◌, ℕ, zero, suc, true, false, List, [], ◌∷◌, Option, Some, None, Ok, refl, sym, ap, subst, inl, inr, filter, filter_map, take, length, slice_get, map, Contains, arith}
+use Rattle.std.proofs.Common.{◌≡◌, ◌∙◌, ◌⊎◌, ◌==◌, ◌<◌, ◌≤◌, ℕ, zero, suc, true, false, List, [], ◌∷◌, Option, Some, None, Ok, refl, sym, ap, subst, inl, inr, filter, filter_map, take, slice_get, map, Contains, arith}
 use Rattle.std.specs.Prelude.{flat_map}
 use Rattle.std.specs.Cmp.Lexicographic.{nat_list_cmp_total, slice_cmp}
 use Rattle.std.specs.Ordering.{nat_cmp}
@@ -36,9 +36,9 @@ use Rattle.run_promise.specs.Dispatches.{FitsAsk}
 use Rattle.run_promise.specs.FileCalls.{AreFileCalls, AreFilesApart, AreWritten, HasFailedBefore, IsBody, IsMade, TaskCall, steps_of}
 use Rattle.run_promise.specs.FileOutcomes.{HasFailedAct, IsFailedAct}
 use Rattle.run_promise.specs.Fits.{Fits, IsAnswered, Names, request_at, requests_of}
-use Rattle.run_promise.specs.Outcomes.{HasOutcome, came_with}
+use Rattle.run_promise.specs.Outcomes.{HasOutcome}
 use Rattle.run_promise.specs.Schedule.{IsBefore, IsDecided, IsFailed, IsSchedule, gained_before, most_body}
-use Rattle.run_promise.specs.Traces.{IsTrace, Serve, TraceEvent, begun_in, events_of}
+use Rattle.run_promise.specs.Traces.{IsTrace, TraceEvent, begun_in, events_of}
 use Rattle.run_promise.specs.Truthful.{IsDest}
 use Rattle.shared_lemmas.proofs.Clashes.{false_true as never, none_is_some, some_is}
 use Rattle.shared_lemmas.proofs.Maps.{get-insert_same, text_exact}
@@ -61,7 +61,7 @@ use Rattle.promise_examples.proofs.Repeats.{other_job}
 use Rattle.promise_examples.proofs.Scheduling as scheduling
 use Rattle.promise_examples.proofs.Scheduling.{other_op}
 use Rattle.promise_examples.proofs.Shown.{made, of_shown}
-use Rattle.rare_runs.specs.MovedDownload.{IsMovedDownloadMet, LateRenameIsRefused, MovedDownloadIsMet, bucket, calls, calls_with, config, content, delete_asks, delete_job, delete_talk, excused, file_run, filled, get_asks, get_job, get_talk, gone, key, limits, load, makes, moved_run, path, renames_at, setting, stamps_at, start, temp, trace, with_temp, writes, written}
+use Rattle.rare_runs.specs.MovedDownload.{IsMovedDownloadMet, LateRenameIsRefused, MovedDownloadIsMet, bucket, calls, calls_with, config, content, delete_asks, delete_job, delete_talk, excused, filled, get_asks, get_job, get_talk, gone, key, limits, load, makes, moved_run, path, renames_at, setting, stamps_at, start, temp, trace, with_temp, writes, written}
 
 -- ---- the jobs
 

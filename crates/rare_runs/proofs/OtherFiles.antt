@@ -1,5 +1,5 @@
 -- Files that no task is to touch.
-use Rattle.std.proofs.Common.{◌≡◌, ◌∙◌, ◌⊎◌, ℕ, true, false, List, [], ◌∷◌, Option, Some, None, refl, sym, ap, subst, inl, inr, length, arith}
+use Rattle.std.proofs.Common.{◌≡◌, ◌∙◌, ◌⊎◌, ℕ, true, false, List, [], ◌∷◌, Some, None, refl, sym, ap, inl, inr, arith}
 use Rattle.std.specs.Cmp.Lexicographic.{nat_list_cmp_total, slice_cmp}
 use Rattle.std.specs.Ordering.{nat_cmp}
 use Rattle.std.specs.FinMap.{empty, get, get-empty, insert, remove}
@@ -48,9 +48,9 @@ from_object key p path apart (inr moved) = never moved.0
 
 untouched : (path : List ℕ) → (first_path ≡ path → ⊥) → (second_path ≡ path → ⊥) → (removed_path ≡ path → ⊥) → IsTouchedFile plan path → ⊥
 untouched path a b c touched = each (λ (t : Task). (t.dest ≡ place.File path) ⊎ (t.moves ≡ true) × (t.source ≡ Some (place.File path)) → ⊥) plan (
-    (λ h. elim h [ inl e ↦ object_is_no_file bucket stored_key path e | inr moved ↦ never moved.0 ]),
-    (from_object first_key first_path path a, (from_object second_key second_path path b, (of_file removed_path path c, tt))),
-  ) touched.0 touched.1 touched.2
+  (λ h. elim h [ inl e ↦ object_is_no_file bucket stored_key path e | inr moved ↦ never moved.0 ]),
+  (from_object first_key first_path path a, (from_object second_key second_path path b, (of_file removed_path path c, tt))),
+) touched.0 touched.1 touched.2
 
 byte_apart : (m n : ℕ) → (m ≡ n → ⊥) → m ∷ [] ≡ n ∷ [] → ⊥
 byte_apart m n apart e = apart (head_is m n [] [] e)

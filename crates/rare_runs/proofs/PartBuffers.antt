@@ -7,7 +7,6 @@ use Rattle.s3_model.specs.declared.requests.Op.TheVariants as op
 use Rattle.job_terms.specs.Buffers.{KeepsBuffers, buffers_out, holds_buffer}
 use Rattle.job_terms.specs.Jobs.{job_of}
 use Rattle.promise_examples.proofs.Concrete.{Fronts, front_of}
-use Rattle.shared_lemmas.proofs.Clashes.{false_true}
 use Rattle.rare_runs.specs.FileNeighbours.{BuffersAreMet, BuffersAreRefused, both_out, one_by_one}
 
 keeps : (buffers : ℕ) (journal : List Event) → Fronts (λ (f : List Event). buffers_out f ≤ buffers) journal → KeepsBuffers buffers journal

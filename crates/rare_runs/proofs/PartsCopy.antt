@@ -1,5 +1,5 @@
 -- A copy in two parts keeps to the schedule, and its trace is one that fits.
-use Rattle.std.proofs.Common.{◌≡◌, ◌∙◌, ◌+◌, ◌≤◌, ℕ, zero, suc, false, true, List, [], ◌∷◌, Option, Some, None, refl, sym, ap, subst, inl, inr, Contains, slice_get, arith}
+use Rattle.std.proofs.Common.{◌≡◌, ◌∙◌, ◌+◌, ◌≤◌, ℕ, zero, suc, true, List, [], ◌∷◌, Some, refl, sym, ap, subst, inl, inr, Contains, slice_get, arith}
 use Rattle.std.proofs.lemmas.List.{append-nil}
 use Rattle.std.specs.Cmp.Lexicographic.{nat_list_cmp_total, slice_cmp}
 use Rattle.std.specs.Cmp.{nat_cmp_total}
@@ -31,7 +31,7 @@ use Rattle.promise_examples.proofs.Concrete.{Each, Has, at, each, each_has}
 use Rattle.promise_examples.proofs.Honest.{has_bucket, one_bucket_is_faithful}
 use Rattle.promise_examples.proofs.Repeats.{other_job}
 use Rattle.promise_examples.proofs.Scheduling.{other_op}
-use Rattle.rare_runs.specs.CopyInParts.{CopyInPartsIsMet, after_both, after_one, both_parts, bucket, complete, completed, completing, content, copying, created, creating, etags, from_key, id, jobs, key, limits, no_part, one_part, part, rounds, run, setting, start, stored, task}
+use Rattle.rare_runs.specs.CopyInParts.{CopyInPartsIsMet, after_both, after_one, both_parts, bucket, completing, content, copying, created, creating, etags, from_key, id, jobs, key, limits, no_part, one_part, part, rounds, run, setting, start, stored, task}
 
 -- ---- what the service does
 

@@ -1,15 +1,14 @@
 -- The setting that follows from what its run came to, and its neighbours that do not.
-use Rattle.std.proofs.Common.{◌≡◌, ◌==◌, ◌||◌, ℕ, zero, suc, Bool, true, false, List, [], ◌∷◌, Option, Some, None, refl, sym, ap, subst, slice_get, arith}
+use Rattle.std.proofs.Common.{◌≡◌, ◌==◌, ℕ, zero, suc, false, List, Some, refl, sym, ap, subst, slice_get, arith}
 use Rattle.std.specs.Prelude.{IsSome, length}
-use Rattle.s3_model.specs.declared.outcomes.Cause.{Cause}
 use Rattle.s3_model.specs.declared.outcomes.Cause.TheVariants as cause
 use Rattle.s3_model.specs.declared.outcomes.Outcome.{Outcome}
 use Rattle.s3_model.specs.declared.outcomes.Outcome.TheVariants as outcome
 use Rattle.s3_model.specs.declared.outcomes.Reason.{Reason}
 use Rattle.s3_model.specs.declared.outcomes.Reason.TheVariants as reason
 use Rattle.run_promise.specs.Settled.{MayCancel, cause_of, is_dry, is_memory, tells_file_failed}
-use Rattle.shared_lemmas.proofs.Clashes.{clash, false_true, none_is_some, true_is_false, some_is}
-use Rattle.rare_runs.specs.Settings.{EachSettingIsRefused, IsSettled, SettingIsMet, cancelled, excused, failed_by_file, outcomes, setting, shown_with, wants_second}
+use Rattle.shared_lemmas.proofs.Clashes.{false_true, none_is_some, true_is_false, some_is}
+use Rattle.rare_runs.specs.Settings.{EachSettingIsRefused, SettingIsMet, cancelled, failed_by_file, outcomes, setting, wants_second}
 
 -- ---- the run
 

@@ -1,6 +1,6 @@
 -- A Put that came without an attempt, since memory ran out for it or the run was cancelled.
-use Rattle.std.proofs.Common.{◌≡◌, ◌⊎◌, ◌==◌, ◌<◌, ◌≤◌, ℕ, zero, suc, Bool, true, false, List, [], ◌∷◌, Option, Some, None, refl, ap, subst, inl, inr, filter, filter_map, slice_get, Contains, arith}
-use Rattle.std.specs.Prelude.{flat_map, IsSome}
+use Rattle.std.proofs.Common.{◌≡◌, ◌⊎◌, ◌==◌, ◌<◌, ◌≤◌, ℕ, zero, suc, Bool, false, List, [], ◌∷◌, Option, Some, None, refl, ap, subst, inl, inr, filter, filter_map, slice_get, Contains, arith}
+use Rattle.std.specs.Prelude.{flat_map}
 use Rattle.std.proofs.lemmas.List.Sorted.{IsPermutation-refl}
 use Rattle.s3_model.specs.declared.answers.Listed.{Listed}
 use Rattle.s3_model.specs.declared.outcomes.Cause.TheVariants as cause
@@ -13,7 +13,7 @@ use Rattle.s3_model.specs.declared.requests.Op.TheVariants as op
 use Rattle.s3_model.specs.declared.tasks.Task.{Task}
 use Rattle.s3_model.specs.declared.tries.Mark.{Mark}
 use Rattle.job_terms.specs.Buffers.{KeepsBuffers, buffers_out}
-use Rattle.job_terms.specs.Dispatches.{Attempt, Dispatched}
+use Rattle.job_terms.specs.Dispatches.{Dispatched}
 use Rattle.job_terms.specs.Jobs.{job_of}
 use Rattle.run_promise.specs.Carried.{IsWanting, MayStop}
 use Rattle.run_promise.specs.Dispatches.{IsCut, IsFailing}
@@ -35,7 +35,7 @@ use Rattle.promise_examples.proofs.Honest.{honest, one_bucket_is_faithful}
 use Rattle.promise_examples.proofs.Noting as noting
 use Rattle.promise_examples.proofs.Scheduling as scheduling
 use Rattle.promise_examples.proofs.SmallPut as small
-use Rattle.rare_runs.specs.ShortRuns.{CancelledIsMet, IsMetUnplanned, MemoryIsMet, cancelled, untried, untried_trace, wanting, wants_first}
+use Rattle.rare_runs.specs.ShortRuns.{CancelledIsMet, IsMetUnplanned, MemoryIsMet, cancelled, untried, untried_trace, wants_first}
 
 abbrev silent : Dispatched
 silent = small.put_with []

@@ -1,5 +1,5 @@
 -- Part buffers, files and calls on files: what a run does that keeps to them, and its neighbours with one thing changed.
-use Rattle.std.specs.Prelude.{◌≡◌, ◌++◌, ℕ, Bool, true, false, List, [], ◌∷◌, Some, None, Ok, codes, map}
+use Rattle.std.specs.Prelude.{◌≡◌, ◌++◌, ℕ, true, false, List, [], ◌∷◌, Some, None, Ok, codes, map}
 use Rattle.std.specs.FinMap.{insert, remove}
 use Rattle.s3_model.specs.declared.answers.Listed.{Listed}
 use Rattle.s3_model.specs.declared.outcomes.Event.{Event}
@@ -12,7 +12,7 @@ use Rattle.s3_model.specs.Maps.{MapOf}
 use Rattle.job_terms.specs.Buffers.{KeepsBuffers, holds_buffer}
 use Rattle.job_terms.specs.Dispatches.{Dispatched, dispatches}
 use Rattle.job_terms.specs.Jobs.{job_of}
-use Rattle.local_files.specs.Calls.{DropTemp, MakeTemp, Remove, Rename, Stamp, WriteAt}
+use Rattle.local_files.specs.Calls.{MakeTemp, Remove, Rename, Stamp, WriteAt}
 use Rattle.run_promise.specs.Endings.{Excused}
 use Rattle.run_promise.specs.FileCalls.{AreFileCalls, TaskCall}
 use Rattle.run_promise.specs.Schedule.{Setting}
@@ -123,6 +123,10 @@ stamped_unrenamed = call_of 2 4 (Stamp second_path 5 true) files
 abbrev pub not_stamped : TaskCall
 not_stamped = call_of 1 4 (Stamp first_path 5 false) files
 
+-- the download whose Get was refused is written all the same
+abbrev pub written_refused : TaskCall
+written_refused = call_of 2 6 (WriteAt second_temp 0 (9 ∷ []) true) files
+
 module _ (page_of : List ℕ → Listed) where
   -- with the jobs of that run, whatever each of them asks, and in whatever order they came
   abbrev pub Keep : Setting → Excused → List TaskCall → List Dispatched → List Dispatched → Type 0
@@ -161,6 +165,11 @@ module _ (page_of : List ℕ → Listed) where
     -- `stops`: the run was cancelled before the download was written
     pub cancelled : AreNoCalls (record shown.setting { cancelled_at = Some 3 }) shown.excused
         (begun ++ placed ++ given_up)
+    -- or the Get of its task had failed, where the jobs came in the order in which they were given
+    pub after_failure : (dispatched : List Dispatched)
+        → map (λ (c : Dispatched). c.dispatch) dispatched ≡ dispatches shown.journal shown.logs
+        → ¬ (Keep shown.setting shown.excused (begun ++ placed ++ makes_second ∷ written_refused ∷ drops_second ∷ [])
+        dispatched dispatched)
     -- `made`: what is written was not made
     pub never_made : AreRefused (removes ∷ writes_first ∷ placed ++ given_up)
     -- `made_first`: it was made once the Get of its task had been given

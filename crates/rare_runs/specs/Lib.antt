@@ -3,3 +3,4 @@ pub mod FileNeighbours
 pub mod ShortRuns
 pub mod CopyInParts
 pub mod MovedDownload
+pub mod MovedUpload

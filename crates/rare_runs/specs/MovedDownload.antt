@@ -1,5 +1,5 @@
 -- A small object that is moved to a file: its download with its calls on files, and the Delete of its source.
-use Rattle.std.specs.Prelude.{◌≡◌, ℕ, true, false, List, [], ◌∷◌, Some, None, Ok, codes, map}
+use Rattle.std.specs.Prelude.{◌≡◌, ℕ, true, false, List, [], ◌∷◌, None, Ok, codes, map}
 use Rattle.std.specs.FinMap.{empty, insert, remove}
 use Rattle.s3_model.specs.declared.answers.Listed.{Listed}
 use Rattle.s3_model.specs.declared.answers.Reply.TheVariants as reply

@@ -130,7 +130,7 @@ pub record SettingsAreRefused : Type 0 where
   -- the file call that failed is not counted, or one of the task that is done is
   pub files : IsUnsettled (with_setting (record setting { file_failed = λ n. n == 1 }))
   pub more_files : IsUnsettled (with_setting (record setting { file_failed = λ n. true }))
-  -- the run was cancelled, and there was no reason: with each of its tasks ended for another one, no output failed
+  -- the run was cancelled, though no output failed, no listing ended early, and memory did not run out
   pub no_reason : ¬ (IsSettled ⊥ (shown_with setting excused outcome.Done))
   -- a task was cancelled, and the run was not, or for a reason that there was not
   pub never_cancelled : IsUnsettled (with_setting (record setting { cancelled_at = None }))

@@ -19,7 +19,6 @@ use Rattle.s3_service.specs.Serves.{Refused, Removes, Replied, Writes}
 use Rattle.job_terms.specs.Attempts.{in_first}
 use Rattle.job_terms.specs.Dispatches.{Dispatched}
 use Rattle.run_promise.specs.Planning.{One, PlansFor}
-use Rattle.run_promise.specs.Schedule.{Setting}
 use Rattle.run_promise.specs.Traces.{Begin, Came, External, Given, SentRequest, Serve, Step}
 use Rattle.promise_examples.specs.Everything.{step}
 use Rattle.promise_examples.specs.GivenAgain.{bytes, put_job}

@@ -4,5 +4,7 @@
 mod neighbours;
 mod witnesses;
 
-pub use neighbours::{buffers, file_calls, other_files, setting};
-pub use witnesses::{cancelled_run, copy_in_parts, external_write, memory_ran_out, moved_download, refused_head};
+pub use neighbours::{buffers, file_calls, moved_upload, other_files, setting};
+pub use witnesses::{
+    cancelled_run, copy_in_parts, external_write, memory_ran_out, moved_download, refused_head,
+};

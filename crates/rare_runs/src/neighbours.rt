@@ -2,6 +2,7 @@
 
 ghost use Rattle.rare_runs.specs.FileNeighbours.{BuffersAreMet, BuffersAreRefused, FileCallsAreMet};
 ghost use Rattle.rare_runs.specs.FileNeighbours.{FileCallsAreRefused, OtherFilesAreMet, OtherFilesAreRefused};
+ghost use Rattle.rare_runs.specs.MovedUpload.{EarlyRemovalIsRefused, MovedUploadIsMet};
 ghost use Rattle.rare_runs.specs.Settings.{EachSettingIsRefused, SettingIsMet};
 
 /// A cancelled run of four uploads, one of which is done and three of which failed, each for another cause, has the
@@ -18,8 +19,9 @@ pub fn buffers()
     ensures refused { BuffersAreRefused }
 {}
 
-/// A run that leaves a temporary file, with its warning, changes no other file. It does where a file of no task is new,
-/// where the file of an upload is another one, and where no warning names the temporary file or it was there before.
+/// A run that leaves a temporary file, with its warning, changes no other file. That is not so of one after which a
+/// file of no task is new, the file of an upload differs or is gone, a temporary file stays without a warning, or a file
+/// with such a name is gone that was there before.
 pub fn other_files()
     ensures met { OtherFilesAreMet }
     ensures refused { OtherFilesAreRefused }
@@ -30,4 +32,11 @@ pub fn other_files()
 pub fn file_calls()
     ensures met { FileCallsAreMet }
     ensures refused { FileCallsAreRefused }
+{}
+
+/// The file of a moved upload may be removed once its Put has come with success, and not while this is out, nor before
+/// it is given.
+pub fn moved_upload()
+    ensures met { MovedUploadIsMet }
+    ensures refused { EarlyRemovalIsRefused }
 {}
