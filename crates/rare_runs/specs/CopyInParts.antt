@@ -19,7 +19,8 @@ use Rattle.run_promise.specs.Runs.{HasJournal, IsFitting, Run}
 use Rattle.run_promise.specs.Schedule.{IsSchedule, Setting}
 use Rattle.run_promise.specs.Truthful.{IsDest}
 use Rattle.world_laws.specs.ExampleTasks as tasks
-use Rattle.world_laws.specs.Rounds.{AreNone, NeverFailed, Round, Told, ToldStatus, dispatched_from, journal_of, steps_from}
+use Rattle.world_laws.specs.Rounds.{AreNone, NeverFailed, Round, Told, ToldStatus, dispatched_from, journal_of}
+use Rattle.world_laws.specs.Rounds.{steps_from}
 use Rattle.promise_examples.specs.Services.{object_of, one_bucket}
 
 -- ---- the task

@@ -1,4 +1,4 @@
--- Part buffers, files and calls on files: what a run does that keeps to them, and its neighbours with one thing changed.
+-- Part buffers, other files and calls on files: what keeps to the clauses, and neighbours with one thing changed.
 use Rattle.std.specs.Prelude.{◌≡◌, ◌++◌, ℕ, true, false, List, [], ◌∷◌, Some, None, Ok, codes, map}
 use Rattle.std.specs.FinMap.{insert, remove}
 use Rattle.s3_model.specs.declared.answers.Listed.{Listed}
@@ -19,7 +19,7 @@ use Rattle.run_promise.specs.Schedule.{Setting}
 use Rattle.run_promise.specs.Truthful.{OtherFilesStay, Shown}
 use Rattle.promise_examples.specs.BothKinds as both
 use Rattle.promise_examples.specs.BothKinds.{call_of, drops_second, first_path, first_temp, left_over, makes_first}
-use Rattle.promise_examples.specs.BothKinds.{makes_second, removed_path, removes, renames_first, second_path, second_temp}
+use Rattle.promise_examples.specs.BothKinds.{makes_second, removes, renames_first, second_path, second_temp}
 use Rattle.promise_examples.specs.BothKinds.{shown, source_path, stamps_first, with_bytes, writes_first}
 use Rattle.promise_examples.specs.Reading.{Reads}
 

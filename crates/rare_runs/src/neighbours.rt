@@ -20,8 +20,8 @@ pub fn buffers()
 {}
 
 /// A run that leaves a temporary file, with its warning, changes no other file. That is not so of one after which a
-/// file of no task is new, the file of an upload differs or is gone, a temporary file stays without a warning, or a file
-/// with such a name is gone that was there before.
+/// file of no task is new, the file of an upload differs or is gone, a temporary file stays without a warning, or a
+/// file with such a name is gone that was there before.
 pub fn other_files()
     ensures met { OtherFilesAreMet }
     ensures refused { OtherFilesAreRefused }
