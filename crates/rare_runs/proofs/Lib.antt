@@ -6,5 +6,6 @@ pub mod MovedSource
 pub mod OtherFiles
 pub mod PartBuffers
 pub mod PartsCopy
+pub mod SettingFields
 pub mod Settings
 pub mod Untried

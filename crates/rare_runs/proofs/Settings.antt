@@ -35,16 +35,16 @@ files_are (suc (suc (suc (suc n)))) =
     let two : (suc (suc (suc (suc n))) == 2) ≡ false = grind arith in
     rw (one, two) refl
 
-memory_cancelled : (why : Reason) → Some cause.Memory ≡ Some (cause.Cancelled why) → ⊥
+pub memory_cancelled : (why : Reason) → Some cause.Memory ≡ Some (cause.Cancelled why) → ⊥
 memory_cancelled why e = cc
 
-changed_cancelled : (why : Reason) → Some cause.Changed ≡ Some (cause.Cancelled why) → ⊥
+pub changed_cancelled : (why : Reason) → Some cause.Changed ≡ Some (cause.Cancelled why) → ⊥
 changed_cancelled why e = cc
 
 same_reason : (a b : Reason) → Some (cause.Cancelled a) ≡ Some (cause.Cancelled b) → a ≡ b
 same_reason a b e = cc
 
-cancels : (n : ℕ) (why : Reason) → cause_of (slice_get (outcomes last) n) ≡ Some (cause.Cancelled why) → IsSome {T = ℕ} (Some 2) × MayCancel 1 (Unit {0}) ⊥ why
+pub cancels : (n : ℕ) (why : Reason) → cause_of (slice_get (outcomes last) n) ≡ Some (cause.Cancelled why) → IsSome {T = ℕ} (Some 2) × MayCancel 1 (Unit {0}) ⊥ why
 cancels zero why e = absurd (none_is_some (cause.Cancelled why) e)
 cancels (suc zero) why e = absurd (memory_cancelled why e)
 cancels (suc (suc zero)) why e = absurd (changed_cancelled why e)
@@ -74,13 +74,13 @@ setting_is_met = record {
 
 -- ---- its neighbours
 
-none_given : (why : Reason) → MayCancel 1 ⊥ ⊥ why → ⊥
+pub none_given : (why : Reason) → MayCancel 1 ⊥ ⊥ why → ⊥
 none_given reason.OutputFailed may = may
 none_given reason.ListingEnded may = may
 none_given reason.OutOfMemory may = omega arith
 none_given reason.TaskFailed may = may
 
-by_length : {A : Type 0} (xs ys : List A) (m n : ℕ) → length xs ≡ m → length ys ≡ n → (m ≡ n → ⊥) → xs ≡ ys → ⊥
+pub by_length : {A : Type 0} (xs ys : List A) (m n : ℕ) → length xs ≡ m → length ys ≡ n → (m ≡ n → ⊥) → xs ≡ ys → ⊥
 by_length xs ys m n of_xs of_ys apart e = apart (let same : length xs ≡ length ys = ap length e in omega arith)
 
 pub each_setting_is_refused : EachSettingIsRefused

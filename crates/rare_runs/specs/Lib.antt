@@ -4,3 +4,4 @@ pub mod ShortRuns
 pub mod CopyInParts
 pub mod MovedDownload
 pub mod MovedUpload
+pub mod SettingFields

@@ -3,13 +3,16 @@
 ghost use Rattle.rare_runs.specs.FileNeighbours.{BuffersAreMet, BuffersAreRefused, FileCallsAreMet};
 ghost use Rattle.rare_runs.specs.FileNeighbours.{FileCallsAreRefused, OtherFilesAreMet, OtherFilesAreRefused};
 ghost use Rattle.rare_runs.specs.MovedUpload.{EarlyRemovalIsRefused, MovedUploadIsMet};
+ghost use Rattle.rare_runs.specs.SettingFields.{EachFieldBreaksAlone};
 ghost use Rattle.rare_runs.specs.Settings.{EachSettingIsRefused, SettingIsMet};
 
 /// A cancelled run of four uploads, one of which is done and three of which failed, each for another cause, has the
-/// setting that follows from what it came to. With one field of it changed it has not.
+/// setting that follows from what it came to. With one field of it changed it has not; fourteen of these neighbours
+/// break one clause of that and no other, each of its ten clauses at least once.
 pub fn setting()
     ensures met { SettingIsMet }
     ensures refused { EachSettingIsRefused }
+    ensures alone { EachFieldBreaksAlone }
 {}
 
 /// Parts that are out one at a time keep to one buffer, and two at a time to two. No two jobs that hold a buffer keep
