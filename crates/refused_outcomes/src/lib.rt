@@ -1,0 +1,6 @@
+//! Outcomes of runs: the one that the definitions of a run's promise let through, and the others, which they refuse.
+#![tactic(auto)]
+
+mod causes;
+
+pub use causes::untried_causes;
