@@ -1,1 +1,2 @@
+pub mod PutCauses
 pub mod Untried

@@ -1,2 +1,3 @@
+pub mod PutCauses
 pub mod Told
 pub mod Untried

@@ -1,5 +1,6 @@
 //! Causes of outcomes.
 
+ghost use Rattle.refused_outcomes.specs.PutCauses.{EachPutCauseIsRefused};
 ghost use Rattle.refused_outcomes.specs.Untried.{EachUntriedCauseIsRefused};
 
 /// A task of which no job was given fails for what its setting and its calls on files show: a cancel, memory that ran
@@ -8,4 +9,10 @@ ghost use Rattle.refused_outcomes.specs.Untried.{EachUntriedCauseIsRefused};
 /// is skipped where a file stood at its place, and nowhere else.
 pub fn untried_causes()
     ensures { EachUntriedCauseIsRefused }
+{}
+
+/// A small upload whose Put was refused at each of two attempts, was lost and then refused, or was lost at both, has one
+/// outcome, with the cause of its last attempt. Every other outcome is refused, however its jobs are read.
+pub fn put_causes()
+    ensures { EachPutCauseIsRefused }
 {}

@@ -3,4 +3,4 @@
 
 mod causes;
 
-pub use causes::untried_causes;
+pub use causes::{put_causes, untried_causes};
