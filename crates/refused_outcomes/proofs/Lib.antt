@@ -1,2 +1,3 @@
 pub mod PutCauses
+pub mod RefusedPages
 pub mod Untried

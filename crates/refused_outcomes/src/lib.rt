@@ -2,5 +2,7 @@
 #![tactic(auto)]
 
 mod causes;
+mod pages;
 
 pub use causes::{put_causes, untried_causes};
+pub use pages::refused_pages;

@@ -1,0 +1,10 @@
+//! Pages that are refused by their content.
+
+ghost use Rattle.refused_outcomes.specs.RefusedPages.{PagesAreRefused};
+
+/// A planning whose second page is out of order asks what it needs where that page is said to be refused, and not where
+/// none or another one is, nor where something is asked behind it. A page in order is not to be called refused. A
+/// command that ends by a local fault before it needs anything asks nothing.
+pub fn refused_pages()
+    ensures { PagesAreRefused }
+{}
