@@ -1,3 +1,4 @@
+pub mod Moves
 pub mod PutCauses
 pub mod RefusedPages
 pub mod Told

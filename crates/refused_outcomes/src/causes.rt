@@ -1,5 +1,6 @@
 //! Causes of outcomes.
 
+ghost use Rattle.refused_outcomes.specs.Moves.{EachMoveIsRefused};
 ghost use Rattle.refused_outcomes.specs.PutCauses.{EachPutCauseIsRefused};
 ghost use Rattle.refused_outcomes.specs.Untried.{EachUntriedCauseIsRefused};
 
@@ -15,4 +16,10 @@ pub fn untried_causes()
 /// outcome, with the cause of its last attempt. Every other outcome is refused, however its jobs are read.
 pub fn put_causes()
     ensures { EachPutCauseIsRefused }
+{}
+
+/// A moved copy whose Delete was lost at both attempts is not done, skipped or dry, and is copied for that loss alone,
+/// however the jobs of its run are read. (`everything` of `promise_examples` has it copied for that loss.)
+pub fn moved_copies()
+    ensures { EachMoveIsRefused }
 {}

@@ -4,5 +4,5 @@
 mod causes;
 mod pages;
 
-pub use causes::{put_causes, untried_causes};
+pub use causes::{moved_copies, put_causes, untried_causes};
 pub use pages::refused_pages;
