@@ -11,6 +11,7 @@ use Rattle.s3_model.specs.declared.outcomes.Cause.{Cause}
 use Rattle.s3_model.specs.declared.outcomes.Cause.TheVariants as cause
 use Rattle.s3_model.specs.declared.outcomes.Outcome.{Outcome}
 use Rattle.s3_model.specs.declared.outcomes.Outcome.TheVariants as outcome
+use Rattle.s3_model.specs.declared.outcomes.Reason.{Reason}
 use Rattle.s3_model.specs.declared.requests.Ask.{Ask}
 use Rattle.s3_model.specs.declared.tasks.Kind.TheVariants as kind
 use Rattle.s3_model.specs.declared.tasks.Task.{Task}
@@ -105,6 +106,10 @@ module _ (page_of : List ℕ → Listed) where
 
     quiet : HasNoFailure Shows HasNoStatus CallFailed s [] [] 0
     quiet c failure = no_middle failure.0.0 c failure.0.1 failure.0.2
+
+  -- a cancel that comes first
+  pub cancelled_untried : (s : Setting) (t : Task) (why : Reason) → IsSome s.cancelled_at → t.fresh ≡ false → HasOutcome Shows HasNoStatus NeverFailed s [] [] 0 t (outcome.Failed (cause.Cancelled why))
+  cancelled_untried s t why is replaces = (none_decides NeverFailed s t _, (λ left. none_decides NeverFailed s t _ left.0), (is, quiet NeverFailed s t), (λ fresh. absurd (never (sym replaces ∙ fresh))))
 
   -- however it is read, nothing came
   nothing : (s : Setting) (CallFailed : ℕ → Cause → Type 0) (t : Task) (dispatched coming : List Dispatched) → IsReading page_of CallFailed (untried s) t dispatched coming

@@ -1,3 +1,4 @@
+pub mod LargePieces
 pub mod Moves
 pub mod PutCauses
 pub mod RefusedPages

@@ -3,6 +3,8 @@
 
 mod causes;
 mod pages;
+mod sizes;
 
 pub use causes::{moved_copies, put_causes, untried_causes};
 pub use pages::refused_pages;
+pub use sizes::large_pieces;
