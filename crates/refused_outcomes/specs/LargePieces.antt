@@ -1,4 +1,4 @@
--- A run whose pieces are larger than a part may be told to be.
+-- A run with pieces that are larger than those of a valid configuration.
 use Rattle.std.specs.Prelude.{◌≡◌, ◌^◌, ℕ, false, List, [], ◌∷◌, Some, None}
 use Rattle.s3_model.specs.declared.answers.Listed.{Listed}
 use Rattle.s3_model.specs.declared.outcomes.Cause.TheVariants as cause

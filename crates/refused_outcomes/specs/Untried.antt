@@ -78,8 +78,8 @@ module _ (page_of : List ℕ → Listed) where
     -- where nothing stood at its place, where it is to replace, and in a dry run
     pub free_place : IsRefused page_of NeverFailed (untried with_no_file) fresh_load outcome.Skipped
     pub may_replace : IsRefused page_of NeverFailed (untried (with_task load)) load outcome.Skipped
-    pub dry_skipped : IsRefused page_of NeverFailed (untried (record (with_task fresh_load) { dryrun = true })) fresh_load
-        outcome.Skipped
+    pub dry_skipped : IsRefused page_of NeverFailed (untried (record (with_task fresh_load) { dryrun = true }))
+        fresh_load outcome.Skipped
 
 abbrev pub EachUntriedCauseIsRefused : Type 0
 EachUntriedCauseIsRefused = (page_of : List ℕ → Listed) → UntriedCausesAreRefused page_of

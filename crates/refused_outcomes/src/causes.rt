@@ -12,8 +12,8 @@ pub fn untried_causes()
     ensures { EachUntriedCauseIsRefused }
 {}
 
-/// A small upload whose Put was refused at each of two attempts, was lost and then refused, or was lost at both, has one
-/// outcome, with the cause of its last attempt. Every other outcome is refused, however its jobs are read.
+/// A small upload whose Put was refused at each of two attempts, was lost and then refused, or was lost at both,
+/// has one outcome, with the cause of its last attempt. Every other outcome is refused, however its jobs are read.
 pub fn put_causes()
     ensures { EachPutCauseIsRefused }
 {}
