@@ -1,0 +1,4 @@
+pub mod Found
+pub mod Looked
+pub mod Plans
+pub mod Shown

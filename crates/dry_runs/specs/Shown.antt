@@ -1,0 +1,34 @@
+-- A dry run: each task of its plan is shown, and none is done.
+use Rattle.std.specs.Prelude.{◌≡◌, ◌⊎◌, ◌++◌, ℕ, List, [], None, map}
+use Rattle.s3_model.specs.declared.outcomes.Outcome.{Outcome}
+use Rattle.s3_model.specs.declared.outcomes.Outcome.TheVariants as outcome
+use Rattle.s3_model.specs.declared.tasks.Mode.{Mode}
+use Rattle.s3_model.specs.declared.tasks.Task.{Task}
+use Rattle.s3_model.specs.declared.tasks.Warning.{Warning}
+use Rattle.result_lines.specs.Tasks.{line_of}
+use Rattle.run_report.specs.Texts.{out_part}
+use Rattle.run_report.specs.declared.run.Run.{Run}
+use Rattle.run_report.specs.Taskless.{EndsForMemory}
+use Rattle.s3_model.specs.declared.tasks.Plan.{Plan}
+
+-- one for each task
+abbrev pub all_dry : List Task → List Outcome
+all_dry tasks = map (λ (task : Task). outcome.Dry) tasks
+
+-- the line of a task that is only shown
+abbrev pub dry_line : Mode → Task → List ℕ
+dry_line mode task = out_part (line_of task outcome.Dry mode)
+
+-- a run that shows these tasks, with these warnings of its plan and all these warnings
+pub record IsDryRun (tasks : List Task) (skips warnings : List Warning) (run : Run) : Type 0 where
+  pub no_fatal : run.fatal ≡ None
+  pub tasks_are : run.plan.tasks.items ≡ tasks
+  pub skips_are : run.plan.warnings.items ≡ skips
+  pub warnings_are : run.warnings.items ≡ warnings
+  pub all_shown : run.outcomes.items ≡ all_dry tasks
+  pub no_job : run.journal.items ≡ []
+
+-- the plan is shown, with the warnings of looking before its own, unless memory ran out
+abbrev pub IsShownPlan : Plan → (looked : List Warning) → Run → Type 0
+IsShownPlan plan looked run = EndsForMemory run
+    ⊎ IsDryRun plan.tasks.items plan.warnings.items (looked ++ plan.warnings.items) run
