@@ -1,2 +1,5 @@
+pub mod EntryLemmas
+pub mod FoundLemmas
 pub mod LineLemmas
+pub mod RunLemmas
 pub mod ShownLemmas

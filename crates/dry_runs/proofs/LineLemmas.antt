@@ -5,6 +5,7 @@ use Rattle.result_lines.specs.Tasks.{is_left_out, line_of, task_line}
 use Rattle.result_lines.specs.Warnings.{warning_line}
 use Rattle.s3_model.specs.declared.list.OutOfMemory.{OutOfMemory}
 use Rattle.s3_model.specs.declared.outcomes.Outcome.{Outcome}
+use Rattle.s3_model.specs.declared.tasks.Plan.{Plan}
 use Rattle.s3_model.specs.declared.tasks.Warning.{Warning}
 use Rattle.run_report.specs.declared.printout.Printout.{Printout}
 use Rattle.run_report.specs.declared.run.Fatal.{Fatal}
@@ -49,23 +50,23 @@ none_flat (task ∷ tasks) = none_flat tasks
 
 -- ---- the text of a dry run
 
-pub dry_text_is : (words : List (List ℕ)) (tasks : List Task) (skips looked : List Warning) (run : Run) (text : Result Printout OutOfMemory) → IsDryRun tasks skips (looked ++ skips) run → AllByRecursion IsOfLooking looked
-    → HasTexts (out_lines (mode_in words) tasks (all_dry tasks)) (opening_text words (looked ++ skips) None) text → IsTextOf words [] run text
-dry_text_is words tasks skips looked run text d looking shows = record {
-  warned = record { looked = looked; own = none_own tasks };
-  warnings = record {
-    all = d.warnings_are ∙ ap (λ (s : List Warning). looked ++ s) (sym d.skips_are) ∙ sym (append-nil (looked ++ run.plan.warnings.items))
-        ∙ ap (λ (more : List Warning). (looked ++ run.plan.warnings.items) ++ more) (sym (none_flat tasks));
-    looked = looking;
-    own = subst (λ (all : List Task). AreOfTasks all (none_own tasks)) (sym d.tasks_are) (none_of tasks);
-  };
-  texts = subst (λ (f : Option Fatal). HasTexts (out_lines (mode_in words) run.plan.tasks.items run.outcomes.items)
-      (opening_text words (looked ++ run.plan.warnings.items) f ++ err_lines (mode_in words) run.plan.tasks.items run.outcomes.items (none_own tasks)) text) (sym d.no_fatal)
-      (subst (λ (s : List Warning). HasTexts (out_lines (mode_in words) run.plan.tasks.items run.outcomes.items)
-      (opening_text words (looked ++ s) None ++ err_lines (mode_in words) run.plan.tasks.items run.outcomes.items (none_own tasks)) text) (sym d.skips_are)
-      (subst (λ (all : List Task). HasTexts (out_lines (mode_in words) all run.outcomes.items) (opening_text words (looked ++ skips) None ++ err_lines (mode_in words) all run.outcomes.items (none_own tasks)) text) (sym d.tasks_are)
-      (subst (λ (all : List Outcome). HasTexts (out_lines (mode_in words) tasks all) (opening_text words (looked ++ skips) None ++ err_lines (mode_in words) tasks all (none_own tasks)) text) (sym d.all_shown)
-      (subst (λ (err : List ℕ). HasTexts (out_lines (mode_in words) tasks (all_dry tasks)) err text)
-      (sym (append-nil (opening_text words (looked ++ skips) None)) ∙ ap (λ (more : List ℕ). opening_text words (looked ++ skips) None ++ more) (sym (no_errors (mode_in words) tasks))) shows))));
-  no_memory = no_memory run.fatal text d.no_fatal;
-}
+pub dry_text_is : (words : List (List ℕ)) (plan : Plan) (looked : List Warning) (run : Run) (text : Result Printout OutOfMemory) → run.fatal ≡ None → IsDryRun plan looked run → AllByRecursion IsOfLooking looked
+    → HasTexts (out_lines (mode_in words) plan.tasks.items (all_dry plan.tasks.items)) (opening_text words (looked ++ plan.warnings.items) None) text → IsTextOf words [] run text
+dry_text_is words plan looked run text no_fatal d looking shows =
+    let tasks = plan.tasks.items in record {
+      warned = record { looked = looked; own = none_own tasks };
+      warnings = record {
+        all = d.warned ∙ ap (λ (p : Plan). looked ++ p.warnings.items) (sym d.plan_is) ∙ sym (append-nil (looked ++ run.plan.warnings.items))
+            ∙ ap (λ (more : List Warning). (looked ++ run.plan.warnings.items) ++ more) (sym (none_flat tasks));
+        looked = looking;
+        own = subst (λ (p : Plan). AreOfTasks p.tasks.items (none_own tasks)) (sym d.plan_is) (none_of tasks);
+      };
+      texts = subst (λ (f : Option Fatal). HasTexts (out_lines (mode_in words) run.plan.tasks.items run.outcomes.items)
+          (opening_text words (looked ++ run.plan.warnings.items) f ++ err_lines (mode_in words) run.plan.tasks.items run.outcomes.items (none_own tasks)) text) (sym no_fatal)
+          (subst (λ (p : Plan). HasTexts (out_lines (mode_in words) p.tasks.items run.outcomes.items)
+          (opening_text words (looked ++ p.warnings.items) None ++ err_lines (mode_in words) p.tasks.items run.outcomes.items (none_own tasks)) text) (sym d.plan_is)
+          (subst (λ (all : List Outcome). HasTexts (out_lines (mode_in words) tasks all) (opening_text words (looked ++ plan.warnings.items) None ++ err_lines (mode_in words) tasks all (none_own tasks)) text) (sym d.all_shown)
+          (subst (λ (err : List ℕ). HasTexts (out_lines (mode_in words) tasks (all_dry tasks)) err text)
+          (sym (append-nil (opening_text words (looked ++ plan.warnings.items) None)) ∙ ap (λ (more : List ℕ). opening_text words (looked ++ plan.warnings.items) None ++ more) (sym (no_errors (mode_in words) tasks))) shows)));
+      no_memory = no_memory run.fatal text no_fatal;
+    }

@@ -1,5 +1,5 @@
 -- A dry run: each task of its plan is shown, and none is done.
-use Rattle.std.specs.Prelude.{◌≡◌, ◌⊎◌, ◌++◌, ℕ, List, [], None, map}
+use Rattle.std.specs.Prelude.{◌≡◌, ◌⊎◌, ◌++◌, ℕ, List, [], map}
 use Rattle.s3_model.specs.declared.outcomes.Outcome.{Outcome}
 use Rattle.s3_model.specs.declared.outcomes.Outcome.TheVariants as outcome
 use Rattle.s3_model.specs.declared.tasks.Mode.{Mode}
@@ -8,7 +8,7 @@ use Rattle.s3_model.specs.declared.tasks.Warning.{Warning}
 use Rattle.result_lines.specs.Tasks.{line_of}
 use Rattle.run_report.specs.Texts.{out_part}
 use Rattle.run_report.specs.declared.run.Run.{Run}
-use Rattle.run_report.specs.Taskless.{EndsForMemory}
+use Rattle.run_report.specs.Taskless.{EndsForMemory, MayEnd}
 use Rattle.s3_model.specs.declared.tasks.Plan.{Plan}
 
 -- one for each task
@@ -19,16 +19,15 @@ all_dry tasks = map (λ (task : Task). outcome.Dry) tasks
 abbrev pub dry_line : Mode → Task → List ℕ
 dry_line mode task = out_part (line_of task outcome.Dry mode)
 
--- a run that shows these tasks, with these warnings of its plan and all these warnings
-pub record IsDryRun (tasks : List Task) (skips warnings : List Warning) (run : Run) : Type 0 where
-  pub no_fatal : run.fatal ≡ None
-  pub tasks_are : run.plan.tasks.items ≡ tasks
-  pub skips_are : run.plan.warnings.items ≡ skips
-  pub warnings_are : run.warnings.items ≡ warnings
-  pub all_shown : run.outcomes.items ≡ all_dry tasks
+-- A run that shows a plan: the warnings of looking, then those of the plan, and each task dry. Nothing but want of memory
+-- ends it.
+pub record IsDryRun (plan : Plan) (looked : List Warning) (run : Run) : Type 0 where
+  pub ends : MayEnd run.fatal
+  pub plan_is : run.plan ≡ plan
+  pub warned : run.warnings.items ≡ looked ++ plan.warnings.items
+  pub all_shown : run.outcomes.items ≡ all_dry plan.tasks.items
   pub no_job : run.journal.items ≡ []
 
--- the plan is shown, with the warnings of looking before its own, unless memory ran out
+-- the plan is shown, unless memory ran out
 abbrev pub IsShownPlan : Plan → (looked : List Warning) → Run → Type 0
-IsShownPlan plan looked run = EndsForMemory run
-    ⊎ IsDryRun plan.tasks.items plan.warnings.items (looked ++ plan.warnings.items) run
+IsShownPlan plan looked run = EndsForMemory run ⊎ IsDryRun plan looked run

@@ -2,9 +2,13 @@
 #![tactic(auto)]
 
 mod endings;
+mod errands;
 mod found;
 mod outcomes;
 mod plans;
 mod printed;
+mod run;
 mod warnings;
 
+pub use plans::{Planned, plan_here};
+pub use run::execute_dry;

@@ -4,15 +4,20 @@ ghost use Rattle.std.specs.Prelude.{◌≡◌, None};
 ghost use Rattle.upload_plans.specs.Commands.{
   CopiesUp,
   bucket_of,
+  is_move,
+  is_offline_dry_run,
+  is_removal,
   is_unbuilt,
   is_unbuilt_copy,
   key_of,
   reads_object,
+  removes_one,
   source_path,
+  uploads,
 };
 
 use s3_model::{Place, Text};
-use s3_words::Command;
+use s3_words::{Command, Verb};
 
 /// The local file of an upload, and the bucket and the key that its words name, as they are written.
 #[derive(Clone, Copy)]
@@ -28,19 +33,54 @@ fn reads_object(from: &Option<Place>) -> bool
     matches!(from, Some(Place::Object { .. }))
 }
 
+/// Whether the command is `mv`.
+pub fn is_move(verb: Verb) -> bool
+    ensures { result ≡ is_move verb }
+{
+    matches!(verb, Verb::Mv)
+}
+
+/// Whether the command is `rm`.
+pub fn is_removal(verb: Verb) -> bool
+    ensures { result ≡ is_removal verb }
+{
+    matches!(verb, Verb::Rm)
+}
+
+fn uploads(command: &Command) -> bool
+    ensures { result ≡ uploads command.now }
+{
+    (command.verb.is_copy() || is_move(command.verb)) && !reads_object(&command.from)
+}
+
+fn removes_one(command: &Command) -> bool
+    ensures { result ≡ removes_one command.now }
+{
+    is_removal(command.verb) && !command.recursive
+}
+
+/// Whether the command is a dry run that has nothing to ask a service: of `cp` or `mv` from local files, or of `rm` for
+/// one object.
+pub fn is_offline_dry_run(command: &Command) -> bool
+    ensures { result ≡ is_offline_dry_run command.now }
+{
+    command.mode.dryrun && (uploads(command) || removes_one(command))
+}
+
 fn is_unbuilt_copy(command: &Command) -> bool
     ensures { result ≡ is_unbuilt_copy command.now }
 {
     reads_object(&command.from) || command.recursive || command.mode.dryrun
 }
 
-/// Whether the program does not do the command yet: it does `ls`, `presign`, and `cp` of one local file, which is no
-/// dry run.
+/// Whether the program does not do the command yet: it does `ls`, `presign`, `cp` of one local file, and dry runs that
+/// have nothing to ask a service.
 pub fn is_unbuilt(command: &Command) -> bool
     ensures { result ≡ is_unbuilt command.now }
 {
     let shows = command.verb.is_presign() || command.verb.is_listing();
-    !shows && (!command.verb.is_copy() || is_unbuilt_copy(command))
+    let done = shows || is_offline_dry_run(command);
+    !done && (!command.verb.is_copy() || is_unbuilt_copy(command))
 }
 
 /// The places of an upload.

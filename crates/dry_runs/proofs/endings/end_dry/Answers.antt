@@ -17,7 +17,7 @@ pub returns-in-Ok-clause-text : goal.returns-in-Ok-clause-text
 returns-in-Ok-clause-text c =
     let words = map (string_bytes {Z = Global}) c.args.words.now in
     let tasks = c.args.plan.tasks.items in
-    dry_text_is words tasks c.args.plan.warnings.items c.args.looked.items _ c.dry_text-text.result
-    (record { no_fatal = refl; tasks_are = refl; skips_are = refl; warnings_are = c.in-Ok.ensures.warnings; all_shown = c.in-Ok.ensures.outcomes; no_job = c.make.ensures }) c.requires.looking
+    dry_text_is words c.args.plan c.args.looked.items _ c.dry_text-text.result refl
+    (record { ends = tt; plan_is = refl; warned = c.in-Ok.ensures.warnings; all_shown = c.in-Ok.ensures.outcomes; no_job = c.make.ensures }) c.requires.looking
     (subst (λ (mode : Mode). HasTexts (out_lines mode tasks (all_dry tasks)) (opening_text words (c.args.looked.items ++ c.args.plan.warnings.items) None) c.dry_text-text.result) c.requires.mode
     (subst (λ (all : List Warning). HasTexts (out_lines c.args.mode tasks (all_dry tasks)) (opening_text words all None) c.dry_text-text.result) c.in-Ok.ensures.warnings c.dry_text-text.ensures))
