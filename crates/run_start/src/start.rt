@@ -4,7 +4,7 @@ ghost use Rattle.std.specs.Prelude.{◌≡◌, ◌≢◌, ◌≤◌, ◌⊎◌, 
 ghost use Rattle.s3_model.specs.Places.{IsListed};
 ghost use Rattle.s3_words.specs.Options.{is_listing, is_presign};
 ghost use Rattle.s3_words.specs.Commands.{NamesObject};
-ghost use Rattle.upload_plans.specs.Commands.{CopiesUp, is_unbuilt};
+ghost use Rattle.upload_plans.specs.Commands.{CopiesUp, IsOffline, is_offline_dry_run, is_unbuilt};
 ghost use Rattle.run_start.specs.Begun.{IsBegun, IsRead, RefusedFor, StopsInSettings, StopsInWords};
 ghost use Rattle.run_start.specs.Settings.{AreSettings, AsksOnly, settings_fatal, without_settings};
 ghost use Rattle.s3_model.specs.Validity.{IsValidConfig, IsWithin};
@@ -124,7 +124,10 @@ pub fn read_start<E: Env>(alloc: Global, words: &[String], env: &mut E) -> Resul
     ensures begun { IfOk result (λ start. IsBegun (map string_bytes words.now) (E.seen env.new) start.command
         start.settings) }
     ensures copies { IfOk result (λ start. is_presign start.command.verb ≡ false
-        → is_listing start.command.verb ≡ false → CopiesUp start.command) }
+        → is_listing start.command.verb ≡ false → is_offline_dry_run start.command ≡ false → CopiesUp start.command) }
+    ensures carried { IfOk result (λ start. is_presign start.command.verb ≡ false → is_listing start.command.verb ≡ false
+        → is_offline_dry_run start.command ≡ false → start.command.mode.dryrun ≡ false) }
+    ensures offline { IfOk result (λ start. is_offline_dry_run start.command ≡ true → IsOffline start.command) }
     ensures listed { IfOk result (λ start. is_listing start.command.verb ≡ true → IsListed start.command.from) }
     ensures object { IfOk result (λ start. is_presign start.command.verb ≡ true → NamesObject start.command) }
     ensures least { IfOk result (λ start. 1 ≤ start.command.expires) }
