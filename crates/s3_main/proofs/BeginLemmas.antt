@@ -21,6 +21,7 @@ use Rattle.run_report.specs.declared.run.Fatal.{Fatal}
 use Rattle.run_report.specs.declared.run.Fatal.TheVariants as fatal
 use Rattle.run_report.specs.declared.run.Run.{Run}
 use Rattle.run_start.specs.Begun.{IsBegun, IsRestOf, RefusedFor, StopsInSettings, StopsInWords}
+use Rattle.dry_runs.specs.Found.{files_seen}
 use Rattle.s3_main.specs.Asked.{path_in}
 use Rattle.s3_main.specs.Executed.{DoesOn, GoesOn}
 use Rattle.s3_main.specs.Runs.{GoesAs, IsUnasked, StopsFor, StopsPlanning, Undertakes}
@@ -66,7 +67,7 @@ early_unasked words env before after why (inr h) = refused_unasked h.0 env befor
 
 module _ (words : List (List ℕ)) (env : Option SeenEnv) (env_before env_after : ℕ) (limits : Limits) (was now : Option SeenFiles) (before after : ℕ) (run : Run) where
   abbrev Stops : Fatal → Type 0
-  Stops = StopsFor words env env_before env_after limits was before after
+  Stops = StopsFor words env env_before env_after limits (files_seen was now before after)
 
   abbrev Goes : List Talk → List Note → Type 0
   Goes = GoesAs words env limits was now before after run
@@ -86,11 +87,11 @@ module _ (words : List (List ℕ)) (env : Option SeenEnv) (env_before env_after 
 
   -- ---- a run that began
 
-  module _ (command : Command) (settings : Settings) (begun : IsBegun words env command settings) (copies : is_presign command.verb ≡ false) (no_listing : is_listing command.verb ≡ false) where
+  module _ (command : Command) (settings : Settings) (begun : IsBegun words env command settings) (copies : is_presign command.verb ≡ false) (no_listing : is_listing command.verb ≡ false) (no_dry_run : command.mode.dryrun ≡ false) where
     goes : (talks : List Talk) (notes : List Note) → GoesOn command settings limits was now before after run talks notes → Goes talks notes
     goes talks notes (inl none) = inl none
     goes talks notes (inr (comes, fated, plan, works)) =
-        inr (inl (record { command = command; settings = settings; comes = comes; begun = begun; copies = copies; no_listing = no_listing; fated = fated; plan = plan; works = works }))
+        inr (inl (record { command = command; settings = settings; comes = comes; begun = begun; copies = copies; no_listing = no_listing; no_dry_run = no_dry_run; fated = fated; plan = plan; works = works }))
 
     pub begun_goes : (seen last : Option WireLog) → Gains seen last (GoesOn command settings limits was now before after run) → Gains seen last Goes
     begun_goes seen last gains = gains_as (GoesOn command settings limits was now before after run) Goes goes seen last gains
@@ -105,4 +106,4 @@ module _ (words : List (List ℕ)) (env : Option SeenEnv) (env_before env_after 
     pub begun_does : DoesOn command settings limits before after run → Undertakes words limits before after run
     begun_does (inl none) = inl none
     begun_does (inr (comes, fated, plan, wants)) =
-        inr (inl (record { command = command; settings = settings; comes = comes; rest = begun.rest; copies = copies; no_listing = no_listing; fated = fated; plan = plan; wants = wants }))
+        inr (inl (record { command = command; settings = settings; comes = comes; rest = begun.rest; copies = copies; no_listing = no_listing; no_dry_run = no_dry_run; fated = fated; plan = plan; wants = wants }))

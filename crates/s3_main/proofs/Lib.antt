@@ -1,4 +1,5 @@
 pub mod BeginLemmas
+pub mod DryLemmas
 pub mod ExecutionLemmas
 pub mod ListingLemmas
 pub mod PromiseLemmas

@@ -38,6 +38,7 @@ use Rattle.run_report.specs.declared.run.Fatal.{Fatal}
 use Rattle.run_report.specs.declared.run.Fatal.TheVariants as fatal
 use Rattle.run_report.specs.declared.run.Run.{Run}
 use Rattle.run_start.specs.Begun.{IsBegun}
+use Rattle.dry_runs.specs.Found.{FilesSeen}
 use Rattle.s3_main.specs.Asked.{lists_in}
 use Rattle.s3_main.specs.Executed.{HasTextOf, HasStatusOf}
 use Rattle.run_show.specs.Listings.{HasNoOutcome, IsMade, Lists, MayEndListing, fatal_for}
@@ -177,9 +178,9 @@ module _ (words : List (List ℕ)) (run : Run) (line : Result Printout OutOfMemo
         answer_ends command.endpoint settings.keys command.from command.recursive [] run.journal.items answer some.0 some.1
         (subst (λ (f : ListingFault). Asks (Err f) some.0 some.1) (answer_fault ends answer (some_is (fatal_for ends) (fatal.Answer answer) (sym made.0.fatal ∙ is))) some.2)
 
-    pub listing_stops : Lists words command settings before after run line missed → (env_before env_after : ℕ) (limits : Limits) (was : Option SeenFiles) (faults_before faults_after : ℕ) (why : Option Fatal)
-        → run.fatal ≡ why → IfSome why MayEndListing → IfSome why (StopsFor words env env_before env_after limits was faults_before faults_after)
-    listing_stops made env_before env_after limits was faults_before faults_after None same h = tt
-    listing_stops made env_before env_after limits was faults_before faults_after (Some why) same h =
+    pub listing_stops : Lists words command settings before after run line missed → (env_before env_after : ℕ) (limits : Limits) (files : FilesSeen) (why : Option Fatal)
+        → run.fatal ≡ why → IfSome why MayEndListing → IfSome why (StopsFor words env env_before env_after limits files)
+    listing_stops made env_before env_after limits files None same h = tt
+    listing_stops made env_before env_after limits files (Some why) same h =
         let ends = listing_end command.from why h (λ answer is. answer_is made.result made.some made.made answer (same ∙ ap (λ (f : Fatal). Some f) is)) in
-        inr (inr (inr (command, settings, begun, listing, ends)))
+        inr (inr (inr (inl (command, settings, begun, listing, ends))))

@@ -1,5 +1,5 @@
 -- A run keeps its promise: it planned an upload and carried it out, or it has no task.
-use Rattle.std.proofs.Common.{◌≡◌, ◌∙◌, ◌≤◌, ◌^◌, ℕ, Bool, true, false, List, [], ◌∷◌, Option, Some, None, Result, Ok, Err, if◌then◌else◌, refl, sym, ap, subst, inl, inr, arith, filter_map, ◌&&◌, ◌⊎◌, not}
+use Rattle.std.proofs.Common.{◌≡◌, ◌∙◌, ◌≤◌, ◌^◌, ℕ, Bool, true, false, List, [], ◌∷◌, Option, Some, None, Result, Ok, Err, if◌then◌else◌, refl, sym, ap, subst, inl, inr, arith, filter_map, ◌&&◌, ◌⊎◌, ◌++◌, drop, length, option_map, slice_get, not}
 use Rattle.job_terms.specs.Attempts.{in_first}
 use Rattle.s3_model.specs.declared.outcomes.Event.{Event}
 use Rattle.s3_model.specs.declared.outcomes.Outcome.{Outcome}
@@ -27,7 +27,25 @@ use Rattle.listings.specs.declared.fault.ListingFault.{ListingFault}
 use Rattle.listings.specs.declared.fault.ListingFault.TheVariants as unlisted
 use Rattle.run_promise.specs.Settled.{left_by, untimed_by}
 use Rattle.run_promise.specs.Planning.{Need, PlansFor}
-use Rattle.shared_lemmas.proofs.Clashes.{false_true}
+use Rattle.shared_lemmas.proofs.Clashes.{false_true, none_is_some, some_is}
+use Rattle.std.specs.List.{AllByRecursion}
+use Rattle.std.proofs.lemmas.List.{length-map}
+use Rattle.std.proofs.lemmas.Option.{slice_get-map}
+use Rattle.std.proofs.Math.Seq.{drop-append_seam}
+use Rattle.s3_model.specs.declared.outcomes.Outcome.TheVariants as outcome
+use Rattle.s3_model.specs.declared.tasks.Plan.{Plan}
+use Rattle.s3_outside.specs.FileCalls.{call_of}
+use Rattle.s3_outside.specs.declared.files.FileNote.{FileNote}
+use Rattle.s3_outside.specs.declared.files.FileNote.TheVariants as note
+use Rattle.tree_walk.specs.Trees.{IsLook, OnlyLooks}
+use Rattle.upload_plans.specs.Commands.{is_offline_dry_run}
+use Rattle.dry_runs.specs.Found.{FilesSeen, files_seen}
+use Rattle.dry_runs.specs.Runs.{ShowsPlan}
+use Rattle.dry_runs.specs.Shown.{all_dry}
+use Rattle.dry_promise.proofs.PlanLemmas.{no_tasks, none_left, none_untimed, unasked_tasks}
+use Rattle.dry_promise.proofs.PromiseLemmas.{dry_keeps}
+use Rattle.s3_main.specs.DryRuns.{LooksFor}
+use Rattle.s3_main.proofs.DryLemmas.{dries, dries_true, lists_dries, no_other}
 use Rattle.s3_model.specs.declared.places.Place.{Place}
 use Rattle.s3_model.specs.declared.places.Place.TheVariants as place
 use Rattle.s3_words.specs.Commands.{arguments_of, first_of}
@@ -53,18 +71,17 @@ use Rattle.upload_plans.specs.declared.plan.Fate.{Fate}
 use Rattle.upload_plans.specs.declared.plan.Fate.TheVariants as fate
 use Rattle.upload_plans.proofs.FateLemmas.{task_of}
 use Rattle.upload_promise.specs.Shown.{CallFailed, KeepsPromise, end_of, one_attempt, start_of}
-use Rattle.upload_promise.specs.Sources.{LooksAt, AreLeft}
-use Rattle.upload_promise.proofs.PromiseLemmas as promise
+use Rattle.upload_promise.specs.Sources.{AreLeft}
 use Rattle.upload_promise.proofs.PromiseLemmas.{one_valid}
 use Rattle.put_promise.proofs.PromiseLemmas.{uploaded}
 use Rattle.run_report.specs.declared.run.Run.{Run}
 use Rattle.run_start.specs.Begun.{IsBegun, IsRestOf}
 use Rattle.run_start.proofs.RestLemmas.{from_is, recursive_is}
 use Rattle.s3_model.specs.declared.faults.BadListing.TheVariants as bad
-use Rattle.s3_main.specs.Asked.{ends_here, lists_in, needs_in, path_in}
+use Rattle.s3_main.specs.Asked.{dries_in, ends_here, lists_in, needs_in, path_in}
 use Rattle.run_task.specs.Uploaded.{HasUploaded, path_of}
 use Rattle.s3_main.specs.Plans.{HasPlan, IsFate, IsIdle, Works, warnings_of}
-use Rattle.s3_main.specs.Runs.{GoesAs, IfSeen, IsTrue, IsUnasked, IsUnplanned, PlansBy, config_for, files_over}
+use Rattle.s3_main.specs.Runs.{GoesAs, IfSeen, IsTrue, IsUnasked, IsUnplanned, PlansBy, config_for, files_over, start_for}
 use Rattle.s3_main.proofs.BeginLemmas.{source_is}
 use Rattle.s3_main.proofs.UrlLemmas.{lists, presign_is_no_listing}
 use Rattle.upload_promise.proofs.SourceLemmas.{looks_left}
@@ -120,6 +137,33 @@ moment_is_no_talk moment e = cc
 
 moment_idle : (moment : ℕ) → AreIdle (Moment moment ∷ [])
 moment_idle moment = record { no_talk = λ h. moment_is_no_talk moment (only (Moment moment) Began h); no_pause = refl }
+
+-- ---- files that are only looked at
+
+looks_stay : (was now : SeenFiles) (before after : ℕ) → OnlyLooks (Some was) (Some now) before after → AreLeft was now
+looks_stay was now before after looks = (
+  looks.0,
+  ap (λ (all : List FileNote). filter_map call_of (drop (length was.calls) all)) looks.2 ∙ ap (filter_map call_of) (drop-append_seam was.calls looks.1) ∙ none looks.1 looks.3,
+)
+  where
+    none : (calls : List FileNote) → AllByRecursion IsLook calls → filter_map call_of calls ≡ []
+    none [] asks = refl
+    none (note.Kind asked answer ∷ calls) asks = none calls asks.1
+    none (note.Names folder fault ∷ calls) asks = none calls asks.1
+    none (other ∷ calls) asks = absurd asks.0
+
+stays : (words : List (List ℕ)) (was now : SeenFiles) (before after : ℕ) → LooksFor words (files_seen (Some was) (Some now) before after) → AreLeft was now
+stays words was now before after (inl looks) = looks_left (path_in words) was now looks
+stays words was now before after (inr (dry, looks)) = looks_stay was now before after looks
+
+-- ---- outcomes of a plan that is only shown
+
+dry_at : (found : Option Task) (how : Outcome) → option_map (λ (task : Task). outcome.Dry) found ≡ Some how → how ≡ outcome.Dry
+dry_at None how e = absurd (none_is_some how e)
+dry_at (Some task) how e = sym (some_is outcome.Dry how e)
+
+each_dry : (tasks : List Task) (n : ℕ) (how : Outcome) → slice_get (all_dry tasks) n ≡ Some how → how ≡ outcome.Dry
+each_dry tasks n how at_n = dry_at (slice_get tasks n) how (sym (slice_get-map (λ (task : Task). outcome.Dry) tasks n) ∙ at_n)
 
 -- ---- what planning needs
 
@@ -190,7 +234,7 @@ module _ (words : List (List ℕ)) (env : Option SeenEnv) (limits : Limits) (val
   abbrev Keeps : Option ℕ → Endpoint → Settings → List Task → List Outcome → List Event → List Warning → List Talk → List Note → Type 0
   Keeps page endpoint settings tasks outcomes journal warnings of_talks of_notes =
       KeepsPromise Shows HasStatus (text_of endpoint settings.keys) endpoint.host endpoint.port (PlansBy words run.fatal) (CallFailed path now before after tasks)
-      (start_of (config_for words settings.config) limits wires tasks was) (record (end_of run.status outcomes warnings journal of_talks of_notes was now) { refused_page = page }) None ⊥ ⊥
+      (start_for words settings.config limits wires tasks was) (record (end_of run.status outcomes warnings journal of_talks of_notes was now) { refused_page = page }) None ⊥ ⊥
 
   abbrev PlansNone : Type 0
   PlansNone = PlansBy words run.fatal None []
@@ -198,8 +242,9 @@ module _ (words : List (List ℕ)) (env : Option SeenEnv) (limits : Limits) (val
   nothing : (endpoint : Endpoint) (settings : Settings) → IsValidConfig settings.config → PlansNone → (warnings : List Warning) → filter_map left_by warnings ≡ [] → filter_map untimed_by warnings ≡ []
       → (of_notes : List Note) → AreIdle of_notes → Keeps None endpoint settings [] [] [] warnings [] of_notes
   nothing endpoint settings configured none warnings left untimed of_notes idle =
-      promise.unplanned Shows HasStatus (text_of endpoint settings.keys) endpoint.host endpoint.port (PlansBy words run.fatal) none (config_for words settings.config)
+      dry_keeps Shows HasStatus (text_of endpoint settings.keys) endpoint.host endpoint.port (PlansBy words run.fatal) none (config_for words settings.config)
       (valid_for (lists_in words) settings.config configured) limits valid wires has_wire run.status before after path was now same warnings left untimed of_notes idle
+      0 (dries_in words) [] no_tasks [] refl (λ n how at_n. absurd (none_is_some how at_n))
 
   -- the lists of the run are these
   of_run : (page : Option ℕ) (endpoint : Endpoint) (settings : Settings) (tasks : List Task) (outcomes : List Outcome) (journal : List Event) (warnings : List Warning) (of_talks : List Talk) (of_notes : List Note)
@@ -260,9 +305,9 @@ module _ (words : List (List ℕ)) (env : Option SeenEnv) (limits : Limits) (val
         (nothing endpoint settings begun.valid (none_planned none) (warnings_of comes) (no_left comes) (no_untimed comes) [] none_idle))
 
     -- a plan with its upload
-    upload_true : is_listing command.verb ≡ false → (task : Task) → IsFate command settings limits (Some was) (fate.Upload task) → run.plan.tasks.items ≡ task ∷ [] → run.warnings.items ≡ []
+    upload_true : is_listing command.verb ≡ false → command.mode.dryrun ≡ false → (task : Task) → IsFate command settings limits (Some was) (fate.Upload task) → run.plan.tasks.items ≡ task ∷ [] → run.warnings.items ≡ []
         → HasUploaded endpoint settings.keys settings.config.attempts task (Some now) before after run talks notes → Told
-    upload_true none task fated tasks warnings (how, one, uploads) =
+    upload_true none carried task fated tasks warnings (how, one, uploads) =
         let of_file = task_of command settings.config.threshold limits.max_object task fated.stands (sym fated.is) in
         let key = planned_key (source_path command) (key_of command) in
         let of_task = planned_task command (source_path command) (bucket_of command) key of_file.size of_file.micros in
@@ -272,21 +317,34 @@ module _ (words : List (List ℕ)) (env : Option SeenEnv) (limits : Limits) (val
         uploaded endpoint settings.keys (PlansBy words run.fatal) (none_planned none) settings.config begun.valid limits valid wires has_wire run.status before after (source_path command) was now same [] refl refl
         (bucket_of command) key (content_for command (source_path command)) of_file.size of_file.micros of_file.small stands run.journal.items how talks notes sent in
         let here : KeepsBoth None (of_task ∷ []) (how ∷ []) run.journal.items [] talks notes =
-        subst (λ (config : Config). KeepsPromise Shows HasStatus (text_of endpoint settings.keys) endpoint.host endpoint.port (PlansBy words run.fatal) (CallFailed path now before after (of_task ∷ []))
+        subst (λ (dry : Bool). KeepsPromise Shows HasStatus (text_of endpoint settings.keys) endpoint.host endpoint.port (PlansBy words run.fatal) (CallFailed path now before after (of_task ∷ []))
+        (record (start_of (config_for words settings.config) limits wires (of_task ∷ []) was) { dryrun = dry }) (end_of run.status (how ∷ []) [] run.journal.items talks notes was now) None ⊥ ⊥) (sym (dries words command begun.rest none ∙ carried))
+        (subst (λ (config : Config). KeepsPromise Shows HasStatus (text_of endpoint settings.keys) endpoint.host endpoint.port (PlansBy words run.fatal) (CallFailed path now before after (of_task ∷ []))
         (start_of config limits wires (of_task ∷ []) was) (end_of run.status (how ∷ []) [] run.journal.items talks notes was now) None ⊥ ⊥) (sym (config_is false none))
         (subst (λ (at : List ℕ). KeepsPromise Shows HasStatus (text_of endpoint settings.keys) endpoint.host endpoint.port (PlansBy words run.fatal) (CallFailed at now before after (of_task ∷ []))
-        (start_of settings.config limits wires (of_task ∷ []) was) (end_of run.status (how ∷ []) [] run.journal.items talks notes was now) None ⊥ ⊥) (source_is words command begun.rest) keeps) in
+        (start_of settings.config limits wires (of_task ∷ []) was) (end_of run.status (how ∷ []) [] run.journal.items talks notes was now) None ⊥ ⊥) (source_is words command begun.rest) keeps)) in
         true_by None (of_run None endpoint settings (of_task ∷ []) (how ∷ []) run.journal.items [] talks notes
         (tasks ∙ ap (λ (t : Task). t ∷ []) of_file.is) one refl warnings refl refl here)
 
-    planned_true : is_listing command.verb ≡ false → (comes : Fate) → IsFate command settings limits (Some was) comes → HasPlan comes run → Works comes endpoint settings.keys settings.config.attempts (Some now) before after run talks notes
+    planned_true : is_listing command.verb ≡ false → command.mode.dryrun ≡ false → (comes : Fate) → IsFate command settings limits (Some was) comes → HasPlan comes run → Works comes endpoint settings.keys settings.config.attempts (Some now) before after run talks notes
         → Told
-    planned_true none fate.NotYet fated plan works = absurd plan.plan
-    planned_true none (fate.Refused fault) fated plan works = absurd plan.plan
-    planned_true none (fate.NotAFile at) fated plan works = idle_true none (fate.NotAFile at) plan.tasks plan.warnings works
-    planned_true none (fate.Skipped place why) fated plan works = idle_true none (fate.Skipped place why) plan.tasks plan.warnings works
-    planned_true none fate.LeftOut fated plan works = idle_true none fate.LeftOut plan.tasks plan.warnings works
-    planned_true none (fate.Upload task) fated plan works = upload_true none task fated plan.tasks plan.warnings works
+    planned_true none carried fate.NotYet fated plan works = absurd plan.plan
+    planned_true none carried (fate.Refused fault) fated plan works = absurd plan.plan
+    planned_true none carried (fate.NotAFile at) fated plan works = idle_true none (fate.NotAFile at) plan.tasks plan.warnings works
+    planned_true none carried (fate.Skipped place why) fated plan works = idle_true none (fate.Skipped place why) plan.tasks plan.warnings works
+    planned_true none carried fate.LeftOut fated plan works = idle_true none fate.LeftOut plan.tasks plan.warnings works
+    planned_true none carried (fate.Upload task) fated plan works = upload_true none carried task fated plan.tasks plan.warnings works
+
+    -- a plan that is only shown
+    dry_true : is_offline_dry_run command ≡ true → (files : FilesSeen) → ShowsPlan command limits files run → talks ≡ [] → notes ≡ [] → Told
+    dry_true offline files h no_talk no_note =
+        let tasks = h.plan.tasks.items in
+        let warnings = h.looked ++ h.plan.warnings.items in
+        true_by None (of_run None endpoint settings tasks (all_dry tasks) [] warnings [] [] (ap (λ (p : Plan). p.tasks.items) h.shown.plan_is) h.shown.all_shown h.shown.no_job h.shown.warned no_talk no_note
+        (dry_keeps Shows HasStatus (text_of endpoint settings.keys) endpoint.host endpoint.port (PlansBy words run.fatal) (none_planned (no_other command offline).1) (config_for words settings.config)
+        (valid_for (lists_in words) settings.config begun.valid) limits valid wires has_wire run.status before after path was now same warnings (none_left command limits files h.looked h.plan h.planned)
+        (none_untimed command limits files h.looked h.plan h.planned) [] none_idle limits.max_object (dries_in words) tasks (unasked_tasks command limits files h.looked h.plan h.planned) (all_dry tasks)
+        (length-map tasks (λ (task : Task). outcome.Dry)) (λ n how at_n. (each_dry tasks n how at_n, dries_true words command begun.rest offline))))
 
     -- a listing: its requests are those that planning needs
     listed_true : is_listing command.verb ≡ true → HasNoOutcome run → (asked : List Asked) (wanting : Bool) (page : Option ℕ) → run.journal.items ≡ events_from 0 asked → AreAsked endpoint settings.keys wanting asked talks notes
@@ -297,10 +355,12 @@ module _ (words : List (List ℕ)) (env : Option SeenEnv) (limits : Limits) (val
         let more = asked_more Shows IsRefusedPage (wanting ≡ true) (run.fatal ≡ Some fatal.Memory) page wants (dispatched_from 0 0 asked) needs [] None plans in
         let planned = subst (λ (all : List Need). PlansFor Shows IsRefusedPage (run.fatal ≡ Some fatal.Memory) page all (dispatched_from 0 0 asked)) (sym needed) more in
         true_by page (of_run page endpoint settings [] [] (events_from 0 asked) [] talks notes none.no_task none.no_outcome events none.no_warning refl refl
+        (subst (λ (dry : Bool). KeepsPromise Shows HasStatus (text_of endpoint settings.keys) endpoint.host endpoint.port (PlansBy words run.fatal) (CallFailed path now before after [])
+        (record (start_of (config_for words settings.config) limits wires [] was) { dryrun = dry }) (record (end_of run.status [] [] (events_from 0 asked) talks notes was now) { refused_page = page }) None ⊥ ⊥) (sym (lists_dries words command begun.rest listing))
         (subst (λ (config : Config). KeepsPromise Shows HasStatus (text_of endpoint settings.keys) endpoint.host endpoint.port (PlansBy words run.fatal) (CallFailed path now before after [])
         (start_of config limits wires [] was) (record (end_of run.status [] [] (events_from 0 asked) talks notes was now) { refused_page = page }) None ⊥ ⊥) (sym (config_is true listing))
         (listing_keeps endpoint settings.keys (PlansBy words run.fatal) page settings.config begun.valid limits valid wires has_wire run.status before after path was now same asked questions talks notes wanting
-        (λ e. memory (wants e)) gained planned)))
+        (λ e. memory (wants e)) gained planned))))
 
     shown_true : is_listing command.verb ≡ true → HasNoOutcome run → (at : Option Place) (recursive : Bool) → needs_in words run.fatal ≡ needs_of at recursive → (result : Result Shown ListingFault)
         → ShowsListing endpoint settings.keys at recursive [] run.journal.items result talks notes → EndsListing result run.fatal → Told
@@ -312,18 +372,20 @@ module _ (words : List (List ℕ)) (env : Option SeenEnv) (limits : Limits) (val
         (λ e. memory_ends (IsShownWalk key recursive) shows.listed result run.fatal e shows.shown ends) (needs_of (Some (place.Object bucket key)) recursive) needed tt (shows.lists.plans 0)
     shown_true listing none (Some (place.File at)) recursive needed result shows ends = absurd shows
 
--- in either case, where the files are seen
+-- in each case, where the files are seen
 pub all_true : (limits : Limits) → IsValidLimits limits → (wires : ℕ) → 1 ≤ wires → (run : Run) (talks : List Talk) (notes : List Note) (words : List (List ℕ)) (env : Option SeenEnv) (was now : Option SeenFiles) (before after : ℕ)
-    → (run.fatal ≡ Some fatal.Memory → run.status ≡ 70) → LooksAt (path_in words) was now → GoesAs words env limits was now before after run talks notes
+    → (run.fatal ≡ Some fatal.Memory → run.status ≡ 70) → LooksFor words (files_seen was now before after) → GoesAs words env limits was now before after run talks notes
     → IfSeen was now (λ w n. IsTrue words env limits wires (files_over w n before after) run (in_first talks) (in_first notes))
 all_true limits valid wires some run talks notes words env was None before after memory looks goes = tt
 all_true limits valid wires some run talks notes words env None (Some now) before after memory looks goes = tt
 all_true limits valid wires some run talks notes words env (Some was) (Some now) before after memory looks (inl u) =
-    unplanned_true words env limits valid wires some before after run talks notes was now (looks_left (path_in words) was now looks) memory u
+    unplanned_true words env limits valid wires some before after run talks notes was now (stays words was now before after looks) memory u
 all_true limits valid wires some run talks notes words env (Some was) (Some now) before after memory looks (inr (inr (inl u))) =
-    url_true words env limits valid wires some before after run talks notes was now (looks_left (path_in words) was now looks) memory u
+    url_true words env limits valid wires some before after run talks notes was now (stays words was now before after looks) memory u
 all_true limits valid wires some run talks notes words env (Some was) (Some now) before after memory looks (inr (inl p)) =
-    planned_true words env limits valid wires some before after run talks notes was now (looks_left (path_in words) was now looks) memory p.command p.settings p.begun p.no_listing p.comes p.fated p.plan p.works
-all_true limits valid wires some run talks notes words env (Some was) (Some now) before after memory looks (inr (inr (inr l))) =
-    shown_true words env limits valid wires some before after run talks notes was now (looks_left (path_in words) was now looks) memory l.command l.settings l.begun l.listing l.nothing l.command.from l.command.recursive
+    planned_true words env limits valid wires some before after run talks notes was now (stays words was now before after looks) memory p.command p.settings p.begun p.no_listing p.no_dry_run p.comes p.fated p.plan p.works
+all_true limits valid wires some run talks notes words env (Some was) (Some now) before after memory looks (inr (inr (inr (inl l)))) =
+    shown_true words env limits valid wires some before after run talks notes was now (stays words was now before after looks) memory l.command l.settings l.begun l.listing l.nothing l.command.from l.command.recursive
     (has_needs words l.command run.fatal l.begun.rest l.listing (listing_goes_on l.result run.fatal l.ends)) l.result l.shows l.ends
+all_true limits valid wires some run talks notes words env (Some was) (Some now) before after memory looks (inr (inr (inr (inr d)))) =
+    dry_true words env limits valid wires some before after run talks notes was now (stays words was now before after looks) memory d.command d.settings d.begun d.offline (files_seen (Some was) (Some now) before after) d.shows d.no_talk d.no_note

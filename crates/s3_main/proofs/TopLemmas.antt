@@ -23,6 +23,9 @@ use Rattle.listings.proofs.SomeLemmas.{some_as}
 use Rattle.job_terms.proofs.GainLemmas.{gains_as}
 use Rattle.s3_model.specs.declared.outcomes.Outcome.{Outcome}
 use Rattle.s3_model.specs.declared.tasks.Warning.{Warning}
+use Rattle.s3_words.specs.declared.commands.Command.{Command}
+use Rattle.dry_runs.specs.Found.{FilesSeen, files_seen}
+use Rattle.dry_runs.specs.Runs.{ShowsPlan}
 use Rattle.s3_main.specs.Asked.{lists_in}
 use Rattle.s3_main.specs.Executed.{HasTextOf, HasStatusOf}
 use Rattle.run_show.specs.Listings.{HasNoOutcome}
@@ -166,6 +169,20 @@ module _ (work run : Run) (line : Result Printout OutOfMemory) (r : IsReported w
     ends = subst (λ (f : Option Fatal). EndsListing l.result f) (sym r.fatal) (still_listed line l.result work.fatal l.ends);
   }
 
+  shows_plan : (command : Command) (limits : Limits) (files : FilesSeen) → ShowsPlan command limits files work → ShowsPlan command limits files run
+  shows_plan command limits files h = record {
+    looked = h.looked;
+    plan = h.plan;
+    planned = h.planned;
+    shown = record {
+      ends = ends h.shown.ends;
+      plan_is = r.plan ∙ h.shown.plan_is;
+      warned = ap (λ w. w.items) r.warnings ∙ h.shown.warned;
+      all_shown = ap (λ o. o.items) r.outcomes ∙ h.shown.all_shown;
+      no_job = ap (λ j. j.items) r.journal ∙ h.shown.no_job;
+    };
+  }
+
   has_plan : (comes : Fate) → HasPlan comes work → HasPlan comes run
   has_plan comes h = record {
     ends = ends h.ends;
@@ -211,7 +228,16 @@ module _ (work run : Run) (line : Result Printout OutOfMemory) (r : IsReported w
   module _ (words : List (List ℕ)) (env : Option SeenEnv) (env_before env_after : ℕ) (limits : Limits) (was now : Option SeenFiles) (before after : ℕ) where
     pub goes : (talks : List Talk) (notes : List Note) → GoesAs words env limits was now before after work talks notes → GoesAs words env limits was now before after run talks notes
     goes talks notes (inl u) = inl (record { nothing = nothing u.nothing; no_talk = u.no_talk; no_note = u.no_note })
-    goes talks notes (inr (inr (inr l))) = inr (inr (inr (listed words env talks notes l)))
+    goes talks notes (inr (inr (inr (inl l)))) = inr (inr (inr (inl (listed words env talks notes l))))
+    goes talks notes (inr (inr (inr (inr d)))) = inr (inr (inr (inr (record {
+      command = d.command;
+      settings = d.settings;
+      begun = d.begun;
+      offline = d.offline;
+      shows = shows_plan d.command limits (files_seen was now before after) d.shows;
+      no_talk = d.no_talk;
+      no_note = d.no_note;
+    }))))
     goes talks notes (inr (inr (inl u))) = inr (inr (inl (record {
       command = u.command;
       settings = u.settings;
@@ -229,6 +255,7 @@ module _ (work run : Run) (line : Result Printout OutOfMemory) (r : IsReported w
       begun = p.begun;
       copies = p.copies;
       no_listing = p.no_listing;
+      no_dry_run = p.no_dry_run;
       fated = p.fated;
       plan = has_plan p.comes p.plan;
       works = works p.command.endpoint p.settings.keys p.settings.config.attempts now before after talks notes p.comes p.works;
@@ -236,7 +263,8 @@ module _ (work run : Run) (line : Result Printout OutOfMemory) (r : IsReported w
 
     pub does : Undertakes words limits before after work → Undertakes words limits before after run
     does (inl n) = inl (nothing n)
-    does (inr (inr (inr l))) = inr (inr (inr (some_as (IsListing words None work) (IsListing words None run) (listed words None) l)))
+    does (inr (inr (inr (inl l)))) = inr (inr (inr (inl (some_as (IsListing words None work) (IsListing words None run) (listed words None) l))))
+    does (inr (inr (inr (inr d)))) = inr (inr (inr (inr (record { command = d.command; rest = d.rest; offline = d.offline; shows = shows_plan d.command limits (files_seen None None 0 0) d.shows }))))
     does (inr (inr (inl u))) = inr (inr (inl (record { command = u.command; rest = u.rest; presign = u.presign; taskless = taskless u.taskless })))
     does (inr (inl d)) = inr (inl (record {
       command = d.command;
@@ -245,13 +273,14 @@ module _ (work run : Run) (line : Result Printout OutOfMemory) (r : IsReported w
       rest = d.rest;
       copies = d.copies;
       no_listing = d.no_listing;
+      no_dry_run = d.no_dry_run;
       fated = d.fated;
       plan = has_plan d.comes d.plan;
       wants = wants before after d.comes d.wants;
     }))
 
     abbrev Stops : Fatal → Type 0
-    Stops = StopsFor words env env_before env_after limits was before after
+    Stops = StopsFor words env env_before env_after limits (files_seen was now before after)
 
     stops_after : (of_line : Result Printout OutOfMemory) (why : Option Fatal) → IfSome why Stops → IfSome (fatal_after of_line why) Stops
     stops_after (Ok of_line) why h = h

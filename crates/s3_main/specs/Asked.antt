@@ -9,6 +9,7 @@ use Rattle.s3_words.specs.declared.options.OptionName.TheVariants.{Recursive}
 use Rattle.s3_words.specs.Given.{is_given}
 use Rattle.run_report.specs.declared.run.Fatal.{Fatal}
 use Rattle.run_report.specs.declared.run.Fatal.TheVariants as fatal
+use Rattle.run_report.specs.Texts.{mode_in}
 use Rattle.s3_model.specs.Places.{path_at}
 use Rattle.s3_words.specs.Options.{is_listing, is_presign}
 
@@ -31,6 +32,10 @@ lists_by (Some of_verb) = is_listing of_verb
 -- the words ask for a listing
 abbrev pub lists_in : (words : List (List ℕ)) → Bool
 lists_in words = lists_by (verb_of words)
+
+-- the words ask for a dry run; a listing is none
+abbrev pub dries_in : (words : List (List ℕ)) → Bool
+dries_in words = not (lists_in words) && (mode_in words).dryrun
 
 -- a fault of the words, of the settings, or of what is here ended the run
 abbrev pub ends_here : Option Fatal → Bool

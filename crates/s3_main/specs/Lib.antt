@@ -1,4 +1,5 @@
 pub mod Asked
+pub mod DryRuns
 pub mod Executed
 pub mod Listings
 pub mod Own

@@ -28,14 +28,17 @@ use Rattle.upload_plans.specs.Commands.{source_path}
 use Rattle.upload_plans.specs.Plans.{is_large}
 use Rattle.upload_plans.specs.declared.plan.Fate.{Fate}
 use Rattle.upload_plans.specs.declared.plan.Fate.TheVariants as fate
-use Rattle.run_promise.specs.Settled.{RunEnd}
+use Rattle.run_promise.specs.Settled.{RunEnd, RunStart}
 use Rattle.upload_promise.specs.Shown.{CallFailed, KeepsPromise, one_attempt, start_of}
 use Rattle.upload_promise.specs.Sources.{calls_between}
 use Rattle.run_report.specs.declared.run.Fatal.{Fatal}
 use Rattle.run_report.specs.declared.run.Fatal.TheVariants as fatal
 use Rattle.run_report.specs.declared.run.Run.{Run}
 use Rattle.run_start.specs.Begun.{IsBegun, IsRestOf, StopsInSettings, StopsInWords}
-use Rattle.s3_main.specs.Asked.{lists_in, needs_in, path_in}
+use Rattle.s3_main.specs.Asked.{dries_in, lists_in, needs_in, path_in}
+use Rattle.s3_main.specs.DryRuns.{IsShownOnly, MakesDryRun, StopsInDryRun}
+use Rattle.dry_runs.specs.Found.{FilesSeen, files_seen}
+use Rattle.s3_model.specs.declared.tasks.Task.{Task}
 use Rattle.s3_main.specs.Plans.{HasPlan, IsFate, Wants, Works}
 use Rattle.run_report.specs.Printed.{IsPrintedAs, Output}
 use Rattle.run_report.specs.Statuses.{EndsWith}
@@ -100,12 +103,13 @@ StopsInListing words env why =
     (command : Command) × (settings : Settings) × IsBegun words env command settings
     × (is_listing command.verb ≡ true) × IsListingEnd command.from why
 
--- in its words, in its settings, in its plan, or in its listing
-abbrev pub StopsFor : (words : List (List ℕ)) → Option SeenEnv → (env_before env_after : ℕ) → Limits
-    → Option SeenFiles → (faults_before faults_after : ℕ) → Fatal → Type 0
-StopsFor words env env_before env_after limits files before after why =
+-- in its words, in its settings, in its plan, in its listing, or in the plan of a dry run
+abbrev pub StopsFor : (words : List (List ℕ)) → Option SeenEnv → (env_before env_after : ℕ) → Limits → FilesSeen
+    → Fatal → Type 0
+StopsFor words env env_before env_after limits files why =
     StopsInWords words why ⊎ StopsInSettings words env env_before env_after why
-    ⊎ StopsInPlan words env limits files before after why ⊎ StopsInListing words env why
+    ⊎ StopsInPlan words env limits files.was files.faults_before files.faults_after why ⊎ StopsInListing words env why
+    ⊎ StopsInDryRun words env limits files why
 
 -- ---- how far it went
 
@@ -141,17 +145,19 @@ pub record IsPlanned (words : List (List ℕ)) (env : Option SeenEnv) (limits : 
   pub begun : IsBegun words env command settings
   pub copies : is_presign command.verb ≡ false
   pub no_listing : is_listing command.verb ≡ false
+  pub no_dry_run : command.mode.dryrun ≡ false
   pub fated : IsFate command settings limits was comes
   pub plan : HasPlan comes run
   pub works : Works comes command.endpoint settings.keys settings.config.attempts now faults_before faults_after run
       talks notes
 
--- no plan was made, or one was, or a URL, or a listing
+-- no plan was made, or one was, or a URL, or a listing, or a plan was only shown
 abbrev pub GoesAs : (words : List (List ℕ)) → Option SeenEnv → Limits → (was now : Option SeenFiles)
     → (faults_before faults_after : ℕ) → Run → List Talk → List Note → Type 0
 GoesAs words env limits was now before after run talks notes =
     IsUnplanned run talks notes ⊎ IsPlanned words env limits was now before after run talks notes
     ⊎ IsPresigned words env run talks notes ⊎ IsListing words env run talks notes
+    ⊎ IsShownOnly words env limits (files_seen was now before after) run talks notes
 
 -- ---- what needs no look at wires, files and variables
 
@@ -163,6 +169,7 @@ pub record IsSomePlanned (words : List (List ℕ)) (limits : Limits) (faults_bef
   pub rest : IsRestOf words command
   pub copies : is_presign command.verb ≡ false
   pub no_listing : is_listing command.verb ≡ false
+  pub no_dry_run : command.mode.dryrun ≡ false
   pub fated : IsFate command settings limits None comes
   pub plan : HasPlan comes run
   pub wants : Wants comes faults_before faults_after run
@@ -181,7 +188,7 @@ MakesListing words run = OfSomeTalks (IsListing words None run)
 abbrev pub Undertakes : (words : List (List ℕ)) → Limits → (faults_before faults_after : ℕ) → Run → Type 0
 Undertakes words limits before after run =
     IsNothingPlanned run ⊎ IsSomePlanned words limits before after run ⊎ MakesUrl words run
-    ⊎ MakesListing words run
+    ⊎ MakesListing words run ⊎ MakesDryRun words limits run
 
 -- ---- the promise
 
@@ -194,6 +201,11 @@ PlansBy words why refused_page =
 -- a listing tries each request once
 abbrev pub config_for : (words : List (List ℕ)) → Config → Config
 config_for words config = if lists_in words then one_attempt config else config
+
+-- what a run was given: its settings, its tasks and the files
+abbrev pub start_for : (words : List (List ℕ)) → Config → Limits → (wires : ℕ) → List Task → (was : SeenFiles) → RunStart
+start_for words config limits wires tasks was =
+    record (start_of (config_for words config) limits wires tasks was) { dryrun = dries_in words }
 
 -- the files before and after, with their counts of faults
 pub record FilesOver : Type 0 where
@@ -224,7 +236,7 @@ end_for run refused_page logs notes was now = record {
   refused_page = refused_page;
 }
 
--- Over every honest service the outcomes are true, and over a willing one the task is done. The endpoint is the
+-- Over every honest service the outcomes are true, and over a willing one the task is done, or dry where the words say so. The endpoint is the
 -- command's and the settings are those of the variables and files, where a request was sent. Somewhere in its journal
 -- the run was cancelled, or nowhere.
 pub record IsTrue (words : List (List ℕ)) (env : Option SeenEnv) (limits : Limits) (wires : ℕ) (over : FilesOver)
@@ -238,7 +250,7 @@ pub record IsTrue (words : List (List ℕ)) (env : Option SeenEnv) (limits : Lim
   pub keeps : KeepsPromise Shows HasStatus (text_of endpoint settings.keys) endpoint.host endpoint.port
       (PlansBy words run.fatal)
       (CallFailed (path_in words) over.now over.faults_before over.faults_after run.plan.tasks.items)
-      (start_of (config_for words settings.config) limits wires run.plan.tasks.items over.was)
+      (start_for words settings.config limits wires run.plan.tasks.items over.was)
       (end_for run refused_page logs notes over.was over.now) cancelled_at ⊥ ⊥
 
 -- where the files are seen before and after

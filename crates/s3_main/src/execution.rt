@@ -2,11 +2,15 @@
 
 ghost use Rattle.std.specs.Prelude.{◌≡◌, ◌≤◌, [], true, false, IfErr, IfOk, IfSome, map, string_bytes};
 ghost use Rattle.s3_model.specs.Validity.{IsValidLimits, IsWithin};
-ghost use Rattle.upload_plans.specs.Commands.{CopiesUp, source_path};
+ghost use Rattle.upload_plans.specs.Commands.{CopiesUp, IsOffline, source_path};
 ghost use Rattle.upload_plans.specs.Plans.{HasNoMemory};
 ghost use Rattle.job_terms.specs.Gains.{Gains};
 ghost use Rattle.upload_promise.specs.Sources.{LooksAt};
-ghost use Rattle.s3_main.specs.Asked.{lists_in, path_in};
+ghost use Rattle.s3_main.specs.Asked.{lists_in};
+ghost use Rattle.s3_main.specs.DryRuns.{LooksFor};
+ghost use Rattle.dry_runs.specs.Found.{files_seen};
+ghost use Rattle.dry_runs.specs.Runs.{GoesDry};
+ghost use Rattle.tree_walk.specs.Trees.{OnlyLooks};
 ghost use Rattle.s3_main.specs.Executed.{
   DoesOn,
   EndsAs,
@@ -22,6 +26,7 @@ ghost use Rattle.s3_main.specs.Runs.{GoesAs, StopsFor, StopsPlanning, Undertakes
 ghost use Rattle.run_start.specs.Settings.{AsksOnly};
 ghost use Rattle.run_report.specs.Texts.{IsTextOf, mode_in};
 
+use dry_runs::execute_dry;
 use run_report::{Executed, Fatal, Worked, end_early, end_left_out, end_not_a_file, end_skipped};
 use run_show::{execute_listing, execute_presign};
 use run_start::{Start, read_start, service_of};
@@ -31,7 +36,7 @@ use s3_outside::{Env, Files, Wire};
 use s3_words::Command;
 use std::alloc::Global;
 use std::mem;
-use upload_plans::{Fate, places_of, plan_upload};
+use upload_plans::{Fate, is_offline_dry_run, places_of, plan_upload};
 
 /// Looks at the file of a command, and says what copying it comes to, which takes over the command's texts.
 fn find_fate<F: Files>(
@@ -129,6 +134,27 @@ fn execute_command<W: Wire, F: Files>(
     }
 }
 
+/// Shows what a dry run would do.
+fn execute_dry_run<F: Files>(
+    alloc: Global,
+    words: &[String],
+    start: Start,
+    limits: Limits,
+    files: &mut F,
+) -> Executed
+    requires offline { IsOffline start.command }
+    requires mode { start.command.mode ≡ mode_in (map string_bytes words.now) }
+    ensures went { GoesDry start.command limits (files_seen (F.seen files.old) (F.seen files.new) (F.faults files.old)
+        (F.faults files.new)) result.run }
+    ensures text { IsTextOf (map string_bytes words.now) [] result.run result.text }
+    ensures kept { OnlyLooks (F.seen files.old) (F.seen files.new) (F.faults files.old) (F.faults files.new) }
+    ensures later { F.faults files.old ≤ F.faults files.new }
+{
+    let Start { command, settings } = start;
+    mem::drop(settings);
+    execute_dry(alloc, words, command, limits, files)
+}
+
 /// Plans and does what the words say; nothing is printed.
 pub(crate) fn execute<W: Wire, F: Files, E: Env>(
     alloc: Global,
@@ -144,12 +170,13 @@ pub(crate) fn execute<W: Wire, F: Files, E: Env>(
         result.executed.run result.executed.text result.missed }
     ensures lists { HasStatusOf (lists_in (map string_bytes words.now)) result.lists result.executed.run.fatal }
     ensures stops { IfSome result.executed.run.fatal (StopsFor (map string_bytes words.now) (E.seen env.new)
-        (E.faults env.old) (E.faults env.new) (E.allows env.old) (F.seen files.old) (F.faults files.old)
-        (F.faults files.new)) }
+        (E.faults env.old) (E.faults env.new) (E.allows env.old) (files_seen (F.seen files.old) (F.seen files.new)
+        (F.faults files.old) (F.faults files.new))) }
     ensures does { Undertakes (map string_bytes words.now) (E.allows env.old) (F.faults files.old) (F.faults files.new)
         result.executed.run }
     ensures valid { IsValidLimits (E.allows env.old) }
-    ensures files { LooksAt (path_in (map string_bytes words.now)) (F.seen files.old) (F.seen files.new) }
+    ensures files { LooksFor (map string_bytes words.now) (files_seen (F.seen files.old) (F.seen files.new)
+        (F.faults files.old) (F.faults files.new)) }
     ensures files_later { F.faults files.old ≤ F.faults files.new }
     ensures wire_later { W.faults wire.old ≤ W.faults wire.new }
     ensures asked { AsksOnly (E.seen env.old) (E.seen env.new) (E.faults env.old) (E.faults env.new) }
@@ -163,6 +190,11 @@ pub(crate) fn execute<W: Wire, F: Files, E: Env>(
             missed: false,
         },
         Ok(start) if start.command.verb.is_listing() => execute_listing(alloc, words, start, wire),
+        Ok(start) if is_offline_dry_run(&start.command) => Worked {
+            executed: execute_dry_run(alloc, words, start, limits, files),
+            lists: false,
+            missed: false,
+        },
         Ok(start) => Worked {
             executed: execute_command(alloc, words, start, &limits, files, wire),
             lists: false,

@@ -2,8 +2,8 @@
 
 ghost use Rattle.std.specs.Prelude.{◌≤◌, ◌⊎◌, map, string_bytes, vec_len, IfSome};
 ghost use Rattle.s3_model.specs.Counts.{Rose};
-ghost use Rattle.upload_promise.specs.Sources.{LooksAt};
-ghost use Rattle.s3_main.specs.Asked.{path_in};
+ghost use Rattle.dry_runs.specs.Found.{files_seen};
+ghost use Rattle.s3_main.specs.DryRuns.{LooksFor};
 ghost use Rattle.run_report.specs.Printed.{output_of};
 ghost use Rattle.run_start.specs.Settings.{AsksOnly};
 ghost use Rattle.s3_main.specs.Runs.{
@@ -31,9 +31,10 @@ use std::thread::Threads;
 /// the buckets or for the pages of a listing (Amazon S3 API Reference, "ListBuckets", "ListObjectsV2") and then prints
 /// a row of each prefix and of each object; and `cp` of one local file to an object, which goes up in one Put
 /// ("PutObject"), tried again as the settings say (`max_attempts`), with pauses of 1, 2, 4 .. 20 seconds. Each
-/// request of `ls` is tried once, and all go over the first wire. The other commands, a file of the settings'
-/// threshold or more, trees and dry runs are refused with 252, and so are faulty words (AWS CLI Command Reference,
-/// `s3`). The status is 253 where the settings are refused or a file of them was not read; 0 where the file is copied
+/// request of `ls` is tried once, and all go over the first wire. Of `cp` and `mv` from local files, of trees too, and of
+/// `rm` for one object it does the dry run, which shows each task in order, and sends and changes nothing. The other
+/// commands, and a file of the settings' threshold or more, are refused with 252, and so are faulty words (AWS CLI
+/// Command Reference, `s3`). The status is 253 where the settings are refused or a file of them was not read; 0 where the file is copied
 /// or left out by a filter; 1 where it failed, where nobody can know, where it is not there, is a folder or could not
 /// be looked at; 2 where it was skipped with a warning. Of `ls` it is 0, or 1 where a key was given and nothing found;
 /// 254 where the service refused a request, and 255 where nobody can know its answer or a page is refused; then no row
@@ -71,7 +72,8 @@ where
         (files_over was now (F.faults files.old) (F.faults files.new)) result logs notes)) }
 
     ensures stops { IfSome result.fatal (StopsFor (map string_bytes words.now) (E.seen env.new) (E.faults env.old)
-        (E.faults env.new) (E.allows env.old) (F.seen files.old) (F.faults files.old) (F.faults files.new)) }
+        (E.faults env.new) (E.allows env.old) (files_seen (F.seen files.old) (F.seen files.new) (F.faults files.old)
+        (F.faults files.new))) }
     ensures status { OnFirst wires.old.items wires.new.items (λ before after.
         EndsAsShown (map string_bytes words.now) (E.seen env.new) (W.seen before) (W.seen after) result
         (Rose (O.faults out.old) (O.faults out.new) ⊎ Rose (X.faults err.old) (X.faults err.new))) }
@@ -88,8 +90,9 @@ where
     // Of the environment only the settings files are asked for, each at most once.
     ensures asked { AsksOnly (E.seen env.old) (E.seen env.new) (E.faults env.old) (E.faults env.new) }
 
-    // The files stay, and only the path of the words is asked for.
-    ensures files { LooksAt (path_in (map string_bytes words.now)) (F.seen files.old) (F.seen files.new) }
+    // The files stay, and only the path of the words is asked for, and what stands below it.
+    ensures files { LooksFor (map string_bytes words.now) (files_seen (F.seen files.old) (F.seen files.new)
+        (F.faults files.old) (F.faults files.new)) }
 
     // No count of faults falls.
     ensures env_later { E.faults env.old ≤ E.faults env.new }

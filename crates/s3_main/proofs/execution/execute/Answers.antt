@@ -8,7 +8,9 @@ use Rattle.job_terms.proofs.GainLemmas.{gains_as}
 use Rattle.s3_main.specs.Listings.{IsListing}
 use Rattle.s3_main.specs.Runs.{GoesAs, StopsFor, Undertakes}
 use Rattle.s3_main.specs.Urls.{IsPresigned}
+use Rattle.dry_runs.specs.Found.{files_seen}
 use Rattle.s3_main.proofs.BeginLemmas as lemma
+use Rattle.s3_main.proofs.DryLemmas.{dries_true, dry_does, dry_goes, dry_stops, no_other}
 use Rattle.s3_main.proofs.ListingLemmas.{listing_does, listing_goes, listing_line_is, listing_stops, same_status}
 use Rattle.s3_main.proofs.UrlLemmas.{copy_line, lists, presign_is_no_listing, stopped_line, url_does, url_goes, url_line_is}
 use Rattle.run_start.proofs.RestLemmas.{mode_is}
@@ -44,7 +46,7 @@ returns-in-Ok-2-clause-went g c =
     let words = map (string_bytes {Z = Global}) c.args.words.now in
     let run = c.execute_listing.result.executed.run in
     gains_as (IsListing words (g.E.Env.seen c.read_start.new.env) run) (GoesAs words (g.E.Env.seen c.read_start.new.env) (g.E.Env.allows c.args.env.now) (g.F.Files.seen c.args.files.now)
-    (g.F.Files.seen c.args.files.now) (g.F.Files.faults c.args.files.now) (g.F.Files.faults c.args.files.now) run) (λ talks notes listed. inr (inr (inr listed))) _ _
+    (g.F.Files.seen c.args.files.now) (g.F.Files.faults c.args.files.now) (g.F.Files.faults c.args.files.now) run) (λ talks notes listed. inr (inr (inr (inl listed)))) _ _
     (listing_goes words run c.execute_listing.result.executed.text c.execute_listing.result.missed _ c.in-Ok.start.command c.in-Ok.start.settings c.in-Ok.ensures.begun
     (sym c.is_listing.ensures ∙ c.if-is_listing.true) _ _ c.execute_listing.ensures.listed)
 
@@ -63,30 +65,30 @@ pub returns-in-Ok-2-clause-stops : goal.returns-in-Ok-2-clause-stops
 returns-in-Ok-2-clause-stops g c =
     let words = map (string_bytes {Z = Global}) c.args.words.now in
     listing_stops words c.execute_listing.result.executed.run c.execute_listing.result.executed.text c.execute_listing.result.missed _ c.in-Ok.start.command c.in-Ok.start.settings c.in-Ok.ensures.begun
-    (sym c.is_listing.ensures ∙ c.if-is_listing.true) _ _ c.execute_listing.ensures.listed _ _ _ _ _ _ _ refl c.execute_listing.ensures.stops
+    (sym c.is_listing.ensures ∙ c.if-is_listing.true) _ _ c.execute_listing.ensures.listed _ _ _ _ _ refl c.execute_listing.ensures.stops
 
 pub returns-in-Ok-2-clause-does : goal.returns-in-Ok-2-clause-does
 returns-in-Ok-2-clause-does g c =
     let words = map (string_bytes {Z = Global}) c.args.words.now in
-    inr (inr (inr (listing_does words c.execute_listing.result.executed.run c.execute_listing.result.executed.text c.execute_listing.result.missed _ c.in-Ok.start.command c.in-Ok.start.settings c.in-Ok.ensures.begun
-    (sym c.is_listing.ensures ∙ c.if-is_listing.true) _ _ c.execute_listing.ensures.listed)))
+    inr (inr (inr (inl (listing_does words c.execute_listing.result.executed.run c.execute_listing.result.executed.text c.execute_listing.result.missed _ c.in-Ok.start.command c.in-Ok.start.settings c.in-Ok.ensures.begun
+    (sym c.is_listing.ensures ∙ c.if-is_listing.true) _ _ c.execute_listing.ensures.listed))))
 
-pub returns-in-Ok-3-clause-went : goal.returns-in-Ok-3-clause-went
-returns-in-Ok-3-clause-went g c =
+pub returns-in-Ok-4-clause-went : goal.returns-in-Ok-4-clause-went
+returns-in-Ok-4-clause-went g c =
     let words = map (string_bytes {Z = Global}) c.args.words.now in
     subst (λ (limits : Limits). Gains (g.W.Wire.seen c.args.wire.now) (g.W.Wire.seen c.execute_command.new.wire) (GoesAs words (g.E.Env.seen c.read_start.new.env) limits (g.F.Files.seen c.args.files.now)
     (g.F.Files.seen c.execute_command.new.files) (g.F.Files.faults c.args.files.now) (g.F.Files.faults c.execute_command.new.files) c.execute_command.result.run)) c.limits-limits.ensures.value
     (lemma.begun_goes words _ 0 0 _ _ _ _ _ c.execute_command.result.run c.in-Ok.start.command c.in-Ok.start.settings c.in-Ok.ensures.begun (sym c.is_presign.ensures ∙ c.if-is_presign.false)
-    (sym c.is_listing.ensures ∙ c.if-is_listing.false) _ _ c.execute_command.ensures.went)
+    (sym c.is_listing.ensures ∙ c.if-is_listing.false) (c.in-Ok.ensures.carried (sym c.is_presign.ensures ∙ c.if-is_presign.false) (sym c.is_listing.ensures ∙ c.if-is_listing.false) (sym c.is_offline_dry_run.ensures ∙ c.if-is_offline_dry_run.false)) _ _ c.execute_command.ensures.went)
 
-pub returns-in-Ok-3-clause-text : goal.returns-in-Ok-3-clause-text
-returns-in-Ok-3-clause-text g c =
+pub returns-in-Ok-4-clause-text : goal.returns-in-Ok-4-clause-text
+returns-in-Ok-4-clause-text g c =
     let words = map (string_bytes {Z = Global}) c.args.words.now in
     copy_line words _ _ _ c.execute_command.result.run c.execute_command.result.text c.in-Ok.start.command c.in-Ok.ensures.begun.rest (sym c.is_presign.ensures ∙ c.if-is_presign.false)
     (sym c.is_listing.ensures ∙ c.if-is_listing.false) c.execute_command.ensures.text
 
-pub returns-in-Ok-3-clause-lists : goal.returns-in-Ok-3-clause-lists
-returns-in-Ok-3-clause-lists g c =
+pub returns-in-Ok-4-clause-lists : goal.returns-in-Ok-4-clause-lists
+returns-in-Ok-4-clause-lists g c =
     let words = map (string_bytes {Z = Global}) c.args.words.now in
     same_status _ _ _ (lists words c.in-Ok.start.command c.in-Ok.ensures.begun.rest ∙ (sym c.is_listing.ensures ∙ c.if-is_listing.false))
 
@@ -94,9 +96,9 @@ pub execute_command-requires-clause-mode : goal.execute_command-requires-clause-
 execute_command-requires-clause-mode g c =
     mode_is (map (string_bytes {Z = Global}) c.args.words.now) c.in-Ok.start.command c.in-Ok.ensures.begun.rest
 
-pub returns-in-Ok-3-clause-files : goal.returns-in-Ok-3-clause-files
-returns-in-Ok-3-clause-files g c =
-    lemma.looks_words (map (string_bytes {Z = Global}) c.args.words.now) c.in-Ok.start.command c.in-Ok.ensures.begun.rest _ _ c.execute_command.ensures.files
+pub returns-in-Ok-4-clause-files : goal.returns-in-Ok-4-clause-files
+returns-in-Ok-4-clause-files g c =
+    inl (lemma.looks_words (map (string_bytes {Z = Global}) c.args.words.now) c.in-Ok.start.command c.in-Ok.ensures.begun.rest _ _ c.execute_command.ensures.files)
 
 pub returns-in-Err-clause-went : goal.returns-in-Err-clause-went
 returns-in-Err-clause-went g c =
@@ -110,7 +112,7 @@ pub returns-in-Ok-clause-valid : goal.returns-in-Ok-clause-valid
 returns-in-Ok-clause-valid g c = subst IsValidLimits c.limits-limits.ensures.value c.limits-limits.ensures.valid
 
 pub returns-in-Ok-clause-files : goal.returns-in-Ok-clause-files
-returns-in-Ok-clause-files g c = looks_none _ _
+returns-in-Ok-clause-files g c = inl (looks_none _ _)
 
 pub returns-in-Ok-clause-wire_later : goal.returns-in-Ok-clause-wire_later
 returns-in-Ok-clause-wire_later g c = c.execute_presign.ensures.later
@@ -125,7 +127,7 @@ pub returns-in-Ok-2-clause-valid : goal.returns-in-Ok-2-clause-valid
 returns-in-Ok-2-clause-valid g c = subst IsValidLimits c.limits-limits.ensures.value c.limits-limits.ensures.valid
 
 pub returns-in-Ok-2-clause-files : goal.returns-in-Ok-2-clause-files
-returns-in-Ok-2-clause-files g c = looks_none _ _
+returns-in-Ok-2-clause-files g c = inl (looks_none _ _)
 
 pub returns-in-Ok-2-clause-wire_later : goal.returns-in-Ok-2-clause-wire_later
 returns-in-Ok-2-clause-wire_later g c = c.execute_listing.ensures.later
@@ -136,23 +138,23 @@ returns-in-Ok-2-clause-asked g c = c.read_start.ensures.asked
 pub returns-in-Ok-2-clause-env_later : goal.returns-in-Ok-2-clause-env_later
 returns-in-Ok-2-clause-env_later g c = c.read_start.ensures.later
 
-pub returns-in-Ok-3-clause-valid : goal.returns-in-Ok-3-clause-valid
-returns-in-Ok-3-clause-valid g c = subst IsValidLimits c.limits-limits.ensures.value c.limits-limits.ensures.valid
+pub returns-in-Ok-4-clause-valid : goal.returns-in-Ok-4-clause-valid
+returns-in-Ok-4-clause-valid g c = subst IsValidLimits c.limits-limits.ensures.value c.limits-limits.ensures.valid
 
-pub returns-in-Ok-3-clause-wire_later : goal.returns-in-Ok-3-clause-wire_later
-returns-in-Ok-3-clause-wire_later g c = c.execute_command.ensures.wire_later
+pub returns-in-Ok-4-clause-wire_later : goal.returns-in-Ok-4-clause-wire_later
+returns-in-Ok-4-clause-wire_later g c = c.execute_command.ensures.wire_later
 
-pub returns-in-Ok-3-clause-asked : goal.returns-in-Ok-3-clause-asked
-returns-in-Ok-3-clause-asked g c = c.read_start.ensures.asked
+pub returns-in-Ok-4-clause-asked : goal.returns-in-Ok-4-clause-asked
+returns-in-Ok-4-clause-asked g c = c.read_start.ensures.asked
 
-pub returns-in-Ok-3-clause-env_later : goal.returns-in-Ok-3-clause-env_later
-returns-in-Ok-3-clause-env_later g c = c.read_start.ensures.later
+pub returns-in-Ok-4-clause-env_later : goal.returns-in-Ok-4-clause-env_later
+returns-in-Ok-4-clause-env_later g c = c.read_start.ensures.later
 
 pub returns-in-Err-clause-valid : goal.returns-in-Err-clause-valid
 returns-in-Err-clause-valid g c = subst IsValidLimits c.limits-limits.ensures.value c.limits-limits.ensures.valid
 
 pub returns-in-Err-clause-files : goal.returns-in-Err-clause-files
-returns-in-Err-clause-files g c = looks_none _ _
+returns-in-Err-clause-files g c = inl (looks_none _ _)
 
 pub returns-in-Err-clause-asked : goal.returns-in-Err-clause-asked
 returns-in-Err-clause-asked g c = c.read_start.ensures.asked
@@ -160,29 +162,84 @@ returns-in-Err-clause-asked g c = c.read_start.ensures.asked
 pub returns-in-Err-clause-env_later : goal.returns-in-Err-clause-env_later
 returns-in-Err-clause-env_later g c = c.read_start.ensures.later
 
-pub returns-in-Ok-3-clause-files_later : goal.returns-in-Ok-3-clause-files_later
-returns-in-Ok-3-clause-files_later g c = c.execute_command.ensures.files_later
+pub returns-in-Ok-4-clause-files_later : goal.returns-in-Ok-4-clause-files_later
+returns-in-Ok-4-clause-files_later g c = c.execute_command.ensures.files_later
 
-pub returns-in-Ok-3-clause-stops : goal.returns-in-Ok-3-clause-stops
-returns-in-Ok-3-clause-stops g c =
+pub returns-in-Ok-4-clause-stops : goal.returns-in-Ok-4-clause-stops
+returns-in-Ok-4-clause-stops g c =
     let words = map (string_bytes {Z = Global}) c.args.words.now in
     subst (λ (limits : Limits). IfSome c.execute_command.result.run.fatal (StopsFor words (g.E.Env.seen c.read_start.new.env) (g.E.Env.faults c.args.env.now) (g.E.Env.faults c.read_start.new.env) limits
-    (g.F.Files.seen c.args.files.now) (g.F.Files.faults c.args.files.now) (g.F.Files.faults c.execute_command.new.files))) c.limits-limits.ensures.value
-    (lemma.begun_stops words _ _ _ _ _ None _ _ c.execute_command.result.run c.in-Ok.start.command c.in-Ok.start.settings c.in-Ok.ensures.begun (sym c.is_presign.ensures ∙ c.if-is_presign.false)
-    (sym c.is_listing.ensures ∙ c.if-is_listing.false) c.execute_command.ensures.stops)
+    (files_seen (g.F.Files.seen c.args.files.now) (g.F.Files.seen c.execute_command.new.files) (g.F.Files.faults c.args.files.now) (g.F.Files.faults c.execute_command.new.files)))) c.limits-limits.ensures.value
+    (lemma.begun_stops words _ _ _ _ _ _ _ _ c.execute_command.result.run c.in-Ok.start.command c.in-Ok.start.settings c.in-Ok.ensures.begun (sym c.is_presign.ensures ∙ c.if-is_presign.false)
+    (sym c.is_listing.ensures ∙ c.if-is_listing.false) (c.in-Ok.ensures.carried (sym c.is_presign.ensures ∙ c.if-is_presign.false) (sym c.is_listing.ensures ∙ c.if-is_listing.false) (sym c.is_offline_dry_run.ensures ∙ c.if-is_offline_dry_run.false)) c.execute_command.ensures.stops)
 
-pub returns-in-Ok-3-clause-does : goal.returns-in-Ok-3-clause-does
-returns-in-Ok-3-clause-does g c =
+pub returns-in-Ok-4-clause-does : goal.returns-in-Ok-4-clause-does
+returns-in-Ok-4-clause-does g c =
     let words = map (string_bytes {Z = Global}) c.args.words.now in
     subst (λ (limits : Limits). Undertakes words limits (g.F.Files.faults c.args.files.now) (g.F.Files.faults c.execute_command.new.files) c.execute_command.result.run) c.limits-limits.ensures.value
     (lemma.begun_does words (g.E.Env.seen c.read_start.new.env) 0 0 _ None None _ _ c.execute_command.result.run c.in-Ok.start.command c.in-Ok.start.settings c.in-Ok.ensures.begun (sym c.is_presign.ensures ∙ c.if-is_presign.false)
-    (sym c.is_listing.ensures ∙ c.if-is_listing.false) c.execute_command.ensures.does)
+    (sym c.is_listing.ensures ∙ c.if-is_listing.false) (c.in-Ok.ensures.carried (sym c.is_presign.ensures ∙ c.if-is_presign.false) (sym c.is_listing.ensures ∙ c.if-is_listing.false) (sym c.is_offline_dry_run.ensures ∙ c.if-is_offline_dry_run.false)) c.execute_command.ensures.does)
 
 pub returns-in-Err-clause-stops : goal.returns-in-Err-clause-stops
 returns-in-Err-clause-stops g c =
-    lemma.early_stops (map (string_bytes {Z = Global}) c.args.words.now) _ _ _ _ _ None _ _ c.end_early.result.run c.in-Err.fatal c.end_early.ensures.run c.in-Err.ensures.stops
+    lemma.early_stops (map (string_bytes {Z = Global}) c.args.words.now) _ _ _ _ _ _ _ _ c.end_early.result.run c.in-Err.fatal c.end_early.ensures.run c.in-Err.ensures.stops
 
 pub returns-in-Err-clause-does : goal.returns-in-Err-clause-does
 returns-in-Err-clause-does g c =
     lemma.early_does (map (string_bytes {Z = Global}) c.args.words.now) (g.E.Env.seen c.read_start.new.env) (g.E.Env.faults c.args.env.now) (g.E.Env.faults c.read_start.new.env) _ None None _ _ c.end_early.result.run c.in-Err.fatal
     c.end_early.ensures.run c.in-Err.ensures.stops
+
+pub returns-in-Ok-3-clause-went : goal.returns-in-Ok-3-clause-went
+returns-in-Ok-3-clause-went g c =
+    let words = map (string_bytes {Z = Global}) c.args.words.now in
+    subst (λ (limits : Limits). Gains (g.W.Wire.seen c.args.wire.now) (g.W.Wire.seen c.args.wire.now) (GoesAs words (g.E.Env.seen c.read_start.new.env) limits (g.F.Files.seen c.args.files.now)
+    (g.F.Files.seen c.execute_dry_run.new.files) (g.F.Files.faults c.args.files.now) (g.F.Files.faults c.execute_dry_run.new.files) c.execute_dry_run.result.run)) c.limits-limits.ensures.value
+    (dry_goes words _ 0 0 _ _ _ _ _ c.in-Ok.start.command c.in-Ok.start.settings c.in-Ok.ensures.begun (sym c.is_offline_dry_run.ensures ∙ c.if-is_offline_dry_run.true) c.execute_dry_run.result.run c.execute_dry_run.ensures.went _)
+
+pub returns-in-Ok-3-clause-text : goal.returns-in-Ok-3-clause-text
+returns-in-Ok-3-clause-text g c =
+    let words = map (string_bytes {Z = Global}) c.args.words.now in
+    let other = no_other c.in-Ok.start.command (sym c.is_offline_dry_run.ensures ∙ c.if-is_offline_dry_run.true) in
+    copy_line words _ _ _ c.execute_dry_run.result.run c.execute_dry_run.result.text c.in-Ok.start.command c.in-Ok.ensures.begun.rest other.0 other.1 c.execute_dry_run.ensures.text
+
+pub returns-in-Ok-3-clause-lists : goal.returns-in-Ok-3-clause-lists
+returns-in-Ok-3-clause-lists g c =
+    let words = map (string_bytes {Z = Global}) c.args.words.now in
+    same_status _ _ _ (lists words c.in-Ok.start.command c.in-Ok.ensures.begun.rest ∙ (sym c.is_listing.ensures ∙ c.if-is_listing.false))
+
+pub execute_dry_run-requires-clause-mode : goal.execute_dry_run-requires-clause-mode
+execute_dry_run-requires-clause-mode g c =
+    mode_is (map (string_bytes {Z = Global}) c.args.words.now) c.in-Ok.start.command c.in-Ok.ensures.begun.rest
+
+pub execute_dry_run-requires-clause-offline : goal.execute_dry_run-requires-clause-offline
+execute_dry_run-requires-clause-offline g c = c.in-Ok.ensures.offline (sym c.is_offline_dry_run.ensures ∙ c.if-is_offline_dry_run.true)
+
+pub returns-in-Ok-3-clause-files : goal.returns-in-Ok-3-clause-files
+returns-in-Ok-3-clause-files g c =
+    let words = map (string_bytes {Z = Global}) c.args.words.now in
+    inr (dries_true words c.in-Ok.start.command c.in-Ok.ensures.begun.rest (sym c.is_offline_dry_run.ensures ∙ c.if-is_offline_dry_run.true), c.execute_dry_run.ensures.kept)
+
+pub returns-in-Ok-3-clause-valid : goal.returns-in-Ok-3-clause-valid
+returns-in-Ok-3-clause-valid g c = subst IsValidLimits c.limits-limits.ensures.value c.limits-limits.ensures.valid
+
+pub returns-in-Ok-3-clause-asked : goal.returns-in-Ok-3-clause-asked
+returns-in-Ok-3-clause-asked g c = c.read_start.ensures.asked
+
+pub returns-in-Ok-3-clause-env_later : goal.returns-in-Ok-3-clause-env_later
+returns-in-Ok-3-clause-env_later g c = c.read_start.ensures.later
+
+pub returns-in-Ok-3-clause-files_later : goal.returns-in-Ok-3-clause-files_later
+returns-in-Ok-3-clause-files_later g c = c.execute_dry_run.ensures.later
+
+pub returns-in-Ok-3-clause-stops : goal.returns-in-Ok-3-clause-stops
+returns-in-Ok-3-clause-stops g c =
+    let words = map (string_bytes {Z = Global}) c.args.words.now in
+    subst (λ (limits : Limits). IfSome c.execute_dry_run.result.run.fatal (StopsFor words (g.E.Env.seen c.read_start.new.env) (g.E.Env.faults c.args.env.now) (g.E.Env.faults c.read_start.new.env) limits
+    (files_seen (g.F.Files.seen c.args.files.now) (g.F.Files.seen c.execute_dry_run.new.files) (g.F.Files.faults c.args.files.now) (g.F.Files.faults c.execute_dry_run.new.files)))) c.limits-limits.ensures.value
+    (dry_stops words _ _ _ _ _ _ _ _ c.in-Ok.start.command c.in-Ok.start.settings c.in-Ok.ensures.begun (sym c.is_offline_dry_run.ensures ∙ c.if-is_offline_dry_run.true) c.execute_dry_run.result.run c.execute_dry_run.ensures.went)
+
+pub returns-in-Ok-3-clause-does : goal.returns-in-Ok-3-clause-does
+returns-in-Ok-3-clause-does g c =
+    let words = map (string_bytes {Z = Global}) c.args.words.now in
+    subst (λ (limits : Limits). Undertakes words limits (g.F.Files.faults c.args.files.now) (g.F.Files.faults c.execute_dry_run.new.files) c.execute_dry_run.result.run) c.limits-limits.ensures.value
+    (dry_does words (g.E.Env.seen c.read_start.new.env) 0 0 _ _ _ _ _ c.in-Ok.start.command c.in-Ok.start.settings c.in-Ok.ensures.begun (sym c.is_offline_dry_run.ensures ∙ c.if-is_offline_dry_run.true) c.execute_dry_run.result.run c.execute_dry_run.ensures.went)
