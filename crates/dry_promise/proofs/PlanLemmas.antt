@@ -1,5 +1,5 @@
 -- The plan of a dry run that asks nothing: its tasks, and what its warnings name.
-use Rattle.std.proofs.Common.{◌≡◌, ◌∙◌, ◌++◌, ◌≤◌, Bool, true, false, ℕ, List, [], ◌∷◌, Option, Some, None, refl, sym, ap, subst, arith, filter, filter_map, map, option_map, slice_get, if◌then◌else◌}
+use Rattle.std.proofs.Common.{◌≡◌, ◌∙◌, ◌++◌, Bool, true, false, ℕ, List, [], ◌∷◌, Option, Some, None, refl, sym, ap, subst, arith, filter_map, map, option_map, if◌then◌else◌}
 use Rattle.std.specs.List.{AllByRecursion, cons_option}
 use Rattle.std.specs.Map.{values_of}
 use Rattle.s3_model.specs.declared.faults.KeySkip.{KeySkip}
@@ -17,7 +17,7 @@ use Rattle.merged_names.proofs.Merges.{all_merged}
 use Rattle.sync_plan.specs.declared.errand.Errand.{Errand}
 use Rattle.sync_plan.specs.Errands.{dest_at, names_of, skip_of, source_at}
 use Rattle.sync_plan.specs.Fit.{IsFit}
-use Rattle.sync_plan.specs.Plans.{copies, is_kept_by, is_transferred, planned, planned_removals, removal_of, removed, skipped, transfer_of, transfer_task, warning_of, warnings_for}
+use Rattle.sync_plan.specs.Plans.{is_kept_by, is_transferred, planned, planned_removals, removal_of, removed, skipped, transfer_of, transfer_task, warning_of}
 use Rattle.sync_plan.proofs.PlanLemmas.{all_at}
 use Rattle.upload_plans.specs.Commands.{is_removal}
 use Rattle.run_promise.specs.Settled.{left_by, untimed_by}

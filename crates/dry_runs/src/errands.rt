@@ -24,11 +24,7 @@ fn prefix_of(alloc: Global, key: Text) -> Result<Text, OutOfMemory>
 fn dest_key(alloc: Global, many: bool, key: Text) -> Result<Text, OutOfMemory>
     ensures { IfOk result (λ made. made ≡ dest_key many key) }
 {
-    if many {
-        prefix_of(alloc, key)
-    } else {
-        Ok(key)
-    }
+    if many { prefix_of(alloc, key) } else { Ok(key) }
 }
 
 /// What `cp` or `mv` of local files is to transfer.

@@ -20,9 +20,7 @@ ghost use Rattle.dry_runs.specs.Found.{
 use crate::warnings::looked_in;
 use path_names::last_name;
 use run_report::{Fatal, list_of};
-use s3_model::{
-    Entries, Entry, List, OutOfMemory, PlanFault, Text, WalkFault, Warning, Warnings,
-};
+use s3_model::{Entries, Entry, List, OutOfMemory, PlanFault, Text, WalkFault, Warning, Warnings};
 use s3_outside::{Files, Shape};
 use std::alloc::Global;
 use std::mem;

@@ -54,11 +54,7 @@ fn plan_fatal(fault: PlanFault) -> Fatal
 }
 
 /// What a transfer of these entries comes to.
-fn plan_transfers(
-    alloc: Global,
-    errand: &Errand,
-    entries: &Entries,
-) -> Result<Plan, Fatal>
+fn plan_transfers(alloc: Global, errand: &Errand, entries: &Entries) -> Result<Plan, Fatal>
     requires places { TransfersBetween errand.now.kind errand.now.from errand.now.to }
     requires entries { AreEntries errand.now.from errand.now.many entries.now.items }
     ensures plan { IfOk result (TransfersAll errand.now entries.now.items) }
@@ -72,11 +68,7 @@ fn plan_transfers(
 }
 
 /// What a removal of these entries comes to.
-fn plan_removals(
-    alloc: Global,
-    errand: &Errand,
-    entries: &Entries,
-) -> Result<Plan, Fatal>
+fn plan_removals(alloc: Global, errand: &Errand, entries: &Entries) -> Result<Plan, Fatal>
     requires places { RemovesFrom errand.now.kind errand.now.from errand.now.to }
     requires entries { AreEntries errand.now.from errand.now.many entries.now.items }
     ensures plan { IfOk result (RemovesAll errand.now entries.now.items) }
@@ -113,11 +105,7 @@ fn plan_found(alloc: Global, errand: &Errand, found: Found) -> Result<Planned, F
 }
 
 /// What a transfer of local files comes to.
-fn plan_errand<F: Files>(
-    alloc: Global,
-    errand: &Errand,
-    files: &mut F,
-) -> Result<Planned, Fatal>
+fn plan_errand<F: Files>(alloc: Global, errand: &Errand, files: &mut F) -> Result<Planned, Fatal>
     requires { ReadsFile errand.now }
     ensures plan { IfOk result (λ planned. PlansUpload errand.now (files_seen (F.seen files.old) (F.seen files.new)
         (F.faults files.old) (F.faults files.new)) planned.looked.items planned.plan) }

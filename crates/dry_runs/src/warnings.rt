@@ -76,11 +76,7 @@ fn add_unnamed(warnings: &mut Warnings, unnamed: u64) -> Result<(), OutOfMemory>
 }
 
 /// The warnings of what a walk found below a root.
-pub(crate) fn looked_in(
-    alloc: Global,
-    root: &str,
-    walked: &Walked,
-) -> Result<Warnings, OutOfMemory>
+pub(crate) fn looked_in(alloc: Global, root: &str, walked: &Walked) -> Result<Warnings, OutOfMemory>
     ensures { IfOk result (λ looked. looked.items ≡
         looked_in root.now walked.now.others.items walked.now.unnamed) }
 {

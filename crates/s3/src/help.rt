@@ -24,8 +24,9 @@ commands:
            s3 presign s3://bucket/notes.txt --endpoint-url http://localhost:9000
 
 In this version `cp` copies one file to an object, where it is below the settings'
-multipart_threshold, and `ls` and `presign` are done; what is not built yet ends with
-`s3: not built yet` and status 252.
+multipart_threshold, and `ls` and `presign` are done; with --dryrun so are `cp` and `mv`
+from files and `rm` of one object. What is not built yet ends with `s3: not built yet`
+and status 252.
 
 options:
   --endpoint-url URL       http://HOST or http://HOST:PORT; always wanted

@@ -1,12 +1,7 @@
 -- From the words and the settings to what the run shows.
-use Rattle.std.proofs.Common.{Err, Result, refl, ◌≡◌, ◌⊎◌, ℕ, false, List, [], Option, Some, None, IfSome, ap, subst, inl, inr}
+use Rattle.std.proofs.Common.{◌≡◌, ◌⊎◌, ℕ, false, List, [], Option, Some, None, IfSome, ap, subst, inl, inr}
 use Rattle.s3_model.specs.declared.settings.Limits.{Limits}
 use Rattle.s3_model.specs.declared.settings.Settings.{Settings}
-use Rattle.env_settings.specs.Calls.{AnswersAs}
-use Rattle.env_settings.specs.declared.fault.SettingsFault.{SettingsFault}
-use Rattle.env_settings.specs.declared.fault.SettingsFault.TheVariants as unread
-use Rattle.s3_model.specs.Counts.{Rose}
-use Rattle.run_start.specs.Settings.{settings_fatal, settings_for}
 use Rattle.s3_model.specs.Talks.{Talk, Note, WireLog}
 use Rattle.s3_outside.specs.Env.{SeenEnv}
 use Rattle.s3_outside.specs.Files.{SeenFiles}
@@ -25,7 +20,6 @@ use Rattle.dry_runs.specs.Found.{files_seen}
 use Rattle.s3_main.specs.Asked.{path_in}
 use Rattle.s3_main.specs.Executed.{DoesOn, GoesOn}
 use Rattle.s3_main.specs.Runs.{GoesAs, IsUnasked, StopsFor, StopsPlanning, Undertakes}
-use Rattle.run_report.specs.Texts.{HasLine}
 use Rattle.run_start.proofs.RestLemmas.{from_is}
 use Rattle.s3_main.proofs.ExecutionLemmas.{nothing, stops_for, unplanned}
 use Rattle.run_report.specs.Taskless.{HasNoTask}

@@ -1,5 +1,5 @@
 -- A dry run: from its plan to what the run shows.
-use Rattle.std.proofs.Common.{◌≡◌, ◌∙◌, ◌&&◌, ◌||◌, ℕ, Bool, true, false, not, List, [], ◌∷◌, Option, Some, None, IfSome, refl, sym, ap, subst, inl, inr}
+use Rattle.std.proofs.Common.{◌≡◌, ◌∙◌, ◌&&◌, ◌||◌, ℕ, Bool, true, false, not, List, [], ◌∷◌, Option, Some, None, IfSome, refl, sym, ap, inl, inr}
 use Rattle.shared_lemmas.proofs.Clashes.{false_true}
 use Rattle.s3_model.specs.declared.places.Entry.{Entry}
 use Rattle.s3_model.specs.declared.settings.Limits.{Limits}
@@ -29,9 +29,9 @@ use Rattle.run_start.proofs.RestLemmas.{mode_is}
 use Rattle.sync_plan.specs.Plans.{copies, planned_removals}
 use Rattle.dry_runs.specs.Errands.{removal_entry, removal_errand, upload_errand}
 use Rattle.dry_runs.specs.Found.{FilesSeen, HoldsSource, HoldsTree, IsSourceFault, files_seen}
-use Rattle.dry_runs.specs.Plans.{IsDryPlan, IsPlanFatal, PlansBy, StopsBy, StopsDry}
+use Rattle.dry_runs.specs.Plans.{IsPlanFatal, PlansBy, StopsBy, StopsDry}
 use Rattle.dry_runs.specs.Runs.{GoesDry, ShowsPlan}
-use Rattle.s3_main.specs.Asked.{dries_in, lists_in}
+use Rattle.s3_main.specs.Asked.{dries_in}
 use Rattle.s3_main.specs.Runs.{GoesAs, IsUnasked, StopsFor, Undertakes}
 use Rattle.s3_main.proofs.ExecutionLemmas.{nothing, stops_for, unplanned}
 use Rattle.s3_main.proofs.UrlLemmas.{lists}

@@ -8,8 +8,6 @@ use Rattle.s3_model.specs.declared.outcomes.Event.{Event}
 use Rattle.s3_model.specs.declared.outcomes.Outcome.{Outcome}
 use Rattle.s3_model.specs.declared.outcomes.Outcome.TheVariants as outcome
 use Rattle.s3_model.specs.declared.faults.WalkFault.TheVariants as walk
-use Rattle.s3_model.specs.declared.places.Endpoint.{Endpoint}
-use Rattle.s3_model.specs.declared.settings.Keys.{Keys}
 use Rattle.s3_model.specs.declared.settings.Limits.{Limits}
 use Rattle.s3_model.specs.declared.settings.Settings.{Settings}
 use Rattle.s3_model.specs.declared.tasks.Task.{Task}
@@ -28,7 +26,7 @@ use Rattle.small_uploads.specs.Uploading.{Uploads, put_ask}
 use Rattle.run_report.specs.declared.run.Fatal.{Fatal}
 use Rattle.run_report.specs.declared.run.Fatal.TheVariants as fatal
 use Rattle.run_report.specs.declared.run.Run.{Run}
-use Rattle.run_report.specs.Taskless.{EndsForMemory, HasNoTask, MayEnd}
+use Rattle.run_report.specs.Taskless.{HasNoTask, MayEnd}
 use Rattle.run_task.specs.Uploaded.{MayUpload, MayWant}
 use Rattle.s3_main.specs.Executed.{DoesOn, EndsAs, GoesOn, HasNoUpload, IsUnseen}
 use Rattle.run_task.specs.Uploaded.{IsUpload, path_of}

@@ -29,7 +29,6 @@ use Rattle.s3_model.specs.declared.settings.Limits.{Limits}
 use Rattle.s3_model.specs.declared.settings.Settings.{Settings}
 use Rattle.s3_model.specs.Talks.{Talk, Note, WireLog}
 use Rattle.s3_outside.specs.Env.{SeenEnv}
-use Rattle.s3_outside.specs.Files.{SeenFiles}
 use Rattle.s3_words.specs.declared.commands.Command.{Command}
 use Rattle.s3_words.specs.Options.{is_listing}
 use Rattle.job_terms.specs.Gains.{Gains}
@@ -46,7 +45,6 @@ use Rattle.s3_main.specs.Listings.{EndsListing, IsListing}
 use Rattle.s3_main.specs.Own.{IsRows, Own}
 use Rattle.run_report.specs.Taskless.{MayEnd}
 use Rattle.s3_main.specs.Runs.{IsListingEnd, IsUnasked, MakesListing, StopsFor, listed_op}
-use Rattle.run_report.specs.Texts.{mode_in}
 use Rattle.s3_main.proofs.UrlLemmas.{lists}
 use Rattle.run_report.proofs.TextLemmas.{no_memory, silent_text}
 

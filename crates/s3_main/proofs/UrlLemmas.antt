@@ -1,5 +1,5 @@
 -- A run that makes a URL.
-use Rattle.std.proofs.Common.{◌≡◌, ◌≤◌, ◌∙◌, ◌&&◌, ◌++◌, flat_map, ℕ, Bool, true, false, List, [], ◌∷◌, Option, Some, None, Result, Ok, Err, refl, sym, ap, subst, inl, inr, arith, append-nil, is_some, if◌then◌else◌}
+use Rattle.std.proofs.Common.{◌≡◌, ◌∙◌, ℕ, true, false, List, [], Option, Some, None, Result, refl, sym, ap, subst, inl, inr, is_some}
 use Rattle.std.specs.Prelude.{IfSome}
 use Rattle.run_report.specs.declared.printout.Printout.{Printout}
 use Rattle.s3_model.specs.declared.list.OutOfMemory.{OutOfMemory}
@@ -11,11 +11,6 @@ use Rattle.s3_words.specs.declared.commands.Verb.{Verb}
 use Rattle.s3_words.specs.Options.{is_listing, is_presign}
 use Rattle.job_terms.specs.Gains.{Gains}
 use Rattle.job_terms.proofs.GainLemmas.{gains_as}
-use Rattle.s3_model.specs.declared.outcomes.Outcome.{Outcome}
-use Rattle.s3_model.specs.declared.tasks.Mode.{Mode}
-use Rattle.s3_model.specs.declared.tasks.Task.{Task}
-use Rattle.s3_model.specs.declared.tasks.Warning.{Warning}
-use Rattle.result_lines.specs.Warnings.{warning_line}
 use Rattle.run_report.specs.declared.run.Fatal.{Fatal}
 use Rattle.run_report.specs.declared.run.Fatal.TheVariants as fatal
 use Rattle.run_report.specs.declared.run.Run.{Run}

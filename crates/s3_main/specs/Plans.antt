@@ -1,5 +1,5 @@
 -- The plan of a run, and what became of its task.
-use Rattle.std.specs.Prelude.{◌≡◌, ℕ, List, [], ◌∷◌, Option, Some, None, IfSome}
+use Rattle.std.specs.Prelude.{◌≡◌, ℕ, List, [], ◌∷◌, Option, IfSome}
 use Rattle.s3_model.specs.declared.places.Endpoint.{Endpoint}
 use Rattle.s3_model.specs.declared.settings.Keys.{Keys}
 use Rattle.s3_model.specs.declared.settings.Limits.{Limits}

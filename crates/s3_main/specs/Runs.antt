@@ -1,5 +1,5 @@
 -- What a run comes to: its status, what it prints, and what it promises.
-use Rattle.std.specs.Prelude.{◌≡◌, ◌≢◌, ◌⊎◌, ℕ, Bool, true, false, List, [], ◌∷◌, Option, Some, None, IfSome, length}
+use Rattle.std.specs.Prelude.{◌≡◌, ◌≢◌, ◌⊎◌, ℕ, true, false, List, [], Option, Some, None, IfSome}
 use Rattle.std.specs.Prelude.{if◌then◌else◌}
 use Rattle.result_lines.specs.Faults.{IsListingFault}
 use Rattle.s3_model.specs.declared.faults.WalkFault.TheVariants as walk

@@ -4,7 +4,5 @@
 mod command;
 mod plan;
 
-pub use command::{
-    Places, is_move, is_offline_dry_run, is_removal, is_unbuilt, places_of,
-};
+pub use command::{Places, is_move, is_offline_dry_run, is_removal, is_unbuilt, places_of};
 pub use plan::{Fate, plan_upload};

@@ -4,7 +4,7 @@
 //! other; `variables`, how many of id, secret and region are set; `config` and `credentials`; `unreadable`, where the first
 //! settings file cannot be read; `room`, how many bytes each output takes; `answer` for each talk. In a line `¶` stands for
 //! the end of a line of HTTP, `§` for that of a file, and `|12×ab|` for twelve times `ab`. The files are `a.txt`, of the
-//! five bytes `hello`, `d/b.txt`, and `dev`, which is no file.
+//! five bytes `hello`, `d/b.txt`, the trees `t` and `e`, and `dev` and `e/pipe`, which are no files.
 
 mod fields;
 mod given;

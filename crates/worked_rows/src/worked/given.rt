@@ -87,10 +87,20 @@ fn put_file(
     table.put_file(alloc, path, file)
 }
 
+/// Puts a tree of three files, and one of a file beside what is no file.
+fn put_trees(alloc: Global, table: &mut FileTable) -> Result<(), OutOfMemory> {
+    put_file(alloc, table, "t/b.log", b"1")?;
+    put_file(alloc, table, "t/one.txt", b"22")?;
+    put_file(alloc, table, "t/sub/c.txt", b"333")?;
+    put_file(alloc, table, "e/f.txt", b"")?;
+    table.add_other(alloc, "e/pipe")
+}
+
 /// Puts the files of all rows.
 fn put_files(alloc: Global, table: &mut FileTable) -> Result<(), OutOfMemory> {
     put_file(alloc, table, "a.txt", b"hello")?;
     put_file(alloc, table, "d/b.txt", b"")?;
+    put_trees(alloc, table)?;
     table.add_other(alloc, "dev")
 }
 
