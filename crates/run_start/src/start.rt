@@ -125,7 +125,8 @@ pub fn read_start<E: Env>(alloc: Global, words: &[String], env: &mut E) -> Resul
         start.settings) }
     ensures copies { IfOk result (λ start. is_presign start.command.verb ≡ false
         → is_listing start.command.verb ≡ false → is_offline_dry_run start.command ≡ false → CopiesUp start.command) }
-    ensures carried { IfOk result (λ start. is_presign start.command.verb ≡ false → is_listing start.command.verb ≡ false
+    ensures carried { IfOk result (λ start. is_presign start.command.verb ≡ false
+        → is_listing start.command.verb ≡ false
         → is_offline_dry_run start.command ≡ false → start.command.mode.dryrun ≡ false) }
     ensures offline { IfOk result (λ start. is_offline_dry_run start.command ≡ true → IsOffline start.command) }
     ensures listed { IfOk result (λ start. is_listing start.command.verb ≡ true → IsListed start.command.from) }

@@ -203,7 +203,8 @@ abbrev pub config_for : (words : List (List ℕ)) → Config → Config
 config_for words config = if lists_in words then one_attempt config else config
 
 -- what a run was given: its settings, its tasks and the files
-abbrev pub start_for : (words : List (List ℕ)) → Config → Limits → (wires : ℕ) → List Task → (was : SeenFiles) → RunStart
+abbrev pub start_for : (words : List (List ℕ)) → Config → Limits → (wires : ℕ) → List Task → (was : SeenFiles)
+    → RunStart
 start_for words config limits wires tasks was =
     record (start_of (config_for words config) limits wires tasks was) { dryrun = dries_in words }
 
@@ -236,9 +237,9 @@ end_for run refused_page logs notes was now = record {
   refused_page = refused_page;
 }
 
--- Over every honest service the outcomes are true, and over a willing one the task is done, or dry where the words say so. The endpoint is the
--- command's and the settings are those of the variables and files, where a request was sent. Somewhere in its journal
--- the run was cancelled, or nowhere.
+-- Over every honest service the outcomes are true, and over a willing one the task is done, or dry where the words say
+-- so. The endpoint is the command's and the settings are those of the variables and files, where a request was sent.
+-- Somewhere in its journal the run was cancelled, or nowhere.
 pub record IsTrue (words : List (List ℕ)) (env : Option SeenEnv) (limits : Limits) (wires : ℕ) (over : FilesOver)
     (run : Run) (logs : ℕ → List Talk) (notes : ℕ → List Note) : Type 0 where
   pub endpoint : Endpoint
