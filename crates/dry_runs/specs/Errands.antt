@@ -1,6 +1,7 @@
--- From the words of a dry run that asks nothing to what it is to transfer or remove (AWS CLI Command Reference, `s3 cp`,
--- `s3 mv` and `s3 rm`).
-use Rattle.std.specs.Prelude.{◌||◌, ◌==◌, ◌++◌, ℕ, Bool, false, List, [], Some, None, length, codes, nat_eq, if◌then◌else◌}
+-- From the words of a dry run that asks nothing to what it is to transfer or remove (AWS CLI Command Reference,
+-- `s3 cp`, `s3 mv` and `s3 rm`).
+use Rattle.std.specs.Prelude.{◌||◌, ◌==◌, ◌++◌, ℕ, Bool, false, List, [], Some, None, length, codes, nat_eq}
+use Rattle.std.specs.Prelude.{if◌then◌else◌}
 use Rattle.std.specs.List.{ends_with}
 use Rattle.s3_model.specs.Places.{bucket_at, key_at}
 use Rattle.s3_model.specs.declared.places.Entry.{Entry}

@@ -1,5 +1,6 @@
 -- What stands at a local source.
-use Rattle.std.specs.Prelude.{◌≡◌, ◌≤◌, ℕ, Bool, true, false, List, [], ◌∷◌, Option, Some, None, IfSome, length, if◌then◌else◌}
+use Rattle.std.specs.Prelude.{◌≡◌, ◌≤◌, ℕ, Bool, true, false, List, [], ◌∷◌, Option, Some, None, IfSome, length}
+use Rattle.std.specs.Prelude.{if◌then◌else◌}
 use Rattle.std.specs.List.{AllByRecursion}
 use Rattle.s3_model.specs.ContentTypes.{last_name}
 use Rattle.s3_model.specs.Counts.{Rose}
@@ -42,7 +43,8 @@ Stood files path stands = IfSome files.was (λ seen. shape_at seen.store path �
 
 -- The files below a local folder, each with its size and its time, and warnings of what is no file and of names that
 -- are no text. Where the files are as a disk has them, it is the tree.
-pub record HoldsTree (files : Option SeenFiles) (root : List ℕ) (entries : List Entry) (looked : List Warning) : Type 0 where
+pub record HoldsTree (files : Option SeenFiles) (root : List ℕ) (entries : List Entry) (looked : List Warning)
+    : Type 0 where
   pub ascending : IsAscending (keys_of entries)
   pub few : length entries ≤ 1000000
   pub described : IfSome files (λ seen. AllByRecursion (Describes seen.store root) entries)

@@ -19,8 +19,8 @@ all_dry tasks = map (λ (task : Task). outcome.Dry) tasks
 abbrev pub dry_line : Mode → Task → List ℕ
 dry_line mode task = out_part (line_of task outcome.Dry mode)
 
--- A run that shows a plan: the warnings of looking, then those of the plan, and each task dry. Nothing but want of memory
--- ends it.
+-- A run that shows a plan: the warnings of looking, then those of the plan, and each task dry. Nothing but want of
+-- memory ends it.
 pub record IsDryRun (plan : Plan) (looked : List Warning) (run : Run) : Type 0 where
   pub ends : MayEnd run.fatal
   pub plan_is : run.plan ≡ plan
