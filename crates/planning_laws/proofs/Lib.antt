@@ -1,0 +1,5 @@
+pub mod Asked
+pub mod Carrying
+pub mod Keeping
+pub mod Places
+pub mod Reading

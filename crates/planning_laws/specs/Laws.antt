@@ -1,0 +1,41 @@
+-- What is known of a run that asked questions of its planning and nothing else, once its lanes are joined.
+use Rattle.std.specs.Prelude.{◌≡◌, ℕ, Bool, true, List, Option}
+use Rattle.answer_classes.specs.Showing.{Shows}
+use Rattle.job_terms.specs.Dispatches.{Dispatched}
+use Rattle.lane_jobs.specs.Lanes.{SeenCarrier, SeenLane}
+use Rattle.lane_laws.specs.Runs.{Giving, dispatched_of}
+use Rattle.list_walk.specs.Pages.{IsRefusedPage}
+use Rattle.run_promise.specs.Planning.{Need, PlansFor}
+use Rattle.run_promise.specs.Schedule.{Setting}
+use Rattle.run_schedule.specs.Runs.{KeepsPlanning}
+use Rattle.s3_model.specs.Talks.{Note, Talk, WireLog}
+use Rattle.trace_laws.specs.Joined.{IsJoined}
+use Rattle.trace_laws.specs.Journals.{HasGivings}
+use Rattle.planning_laws.specs.Asking.{AskFor}
+use Rattle.planning_laws.specs.Questions.{Question, trace_of}
+
+-- what the wires show of a run that asked these questions: by lane their talks and notes, and the givings of its jobs
+pub record Course : Type 0 where
+  pub questions : List Question
+  pub logs : ℕ → List Talk
+  pub notes : ℕ → List Note
+  pub givings : List Giving
+  pub coming : List Dispatched
+
+-- `seen wire`: all that is seen of the wire, if it is
+module _ {W : Type 0} (seen : W → Option WireLog) where
+  -- its lanes were joined, and these are its givings
+  pub record IsCourse (carrier : SeenCarrier) (s : Setting) (befores afters : List (SeenLane W)) (course : Course)
+      : Type 0 where
+    pub joined : IsJoined seen carrier (trace_of 0 course.questions) befores afters
+    pub has_givings : HasGivings carrier s (trace_of 0 course.questions) course.logs course.notes course.givings
+        course.coming
+
+  -- Questions that ask for the needs, one after the other, behind the answers, and for nothing behind the first fault,
+  -- keep to the schedule of a planning that those needs have. `wanting`: memory ran out in the planning.
+  abbrev pub QuestionsKeepPlanning : Type 0
+  QuestionsKeepPlanning = (carrier : SeenCarrier) (s : Setting) (befores afters : List (SeenLane W)) (course : Course)
+      (needs : List Need) (wanting : Bool) (refused_page : Option ℕ) → IsCourse carrier s befores afters course
+      → AskFor IsRefusedPage (wanting ≡ true) refused_page needs course.questions
+      → KeepsPlanning Shows s (PlansFor Shows IsRefusedPage (wanting ≡ true) refused_page needs)
+      (dispatched_of course.givings)
