@@ -1,5 +1,7 @@
 pub mod Asked
 pub mod Carrying
+pub mod Causes
 pub mod Keeping
 pub mod Places
 pub mod Reading
+pub mod Scheduled

@@ -1,13 +1,16 @@
 -- What is known of a run that asked questions of its planning and nothing else, once its lanes are joined.
-use Rattle.std.specs.Prelude.{◌≡◌, ℕ, Bool, true, List, Option}
+use Rattle.std.specs.Prelude.{◌≡◌, ◌<◌, ℕ, Bool, true, List, Option, None, Contains}
 use Rattle.answer_classes.specs.Showing.{Shows}
+use Rattle.attempts.specs.Attempts.{text_of}
 use Rattle.job_terms.specs.Dispatches.{Dispatched}
 use Rattle.lane_jobs.specs.Lanes.{SeenCarrier, SeenLane}
-use Rattle.lane_laws.specs.Runs.{Giving, dispatched_of}
+use Rattle.lane_laws.specs.Runs.{Giving, HaveCauses, RanOut, dispatched_of}
 use Rattle.list_walk.specs.Pages.{IsRefusedPage}
+use Rattle.run_promise.specs.Carried.{IsCarried}
 use Rattle.run_promise.specs.Planning.{Need, PlansFor}
-use Rattle.run_promise.specs.Schedule.{Setting}
+use Rattle.run_promise.specs.Schedule.{IsSchedule, Setting}
 use Rattle.run_schedule.specs.Runs.{KeepsPlanning}
+use Rattle.run_traces.specs.Traces.{journal_of}
 use Rattle.s3_model.specs.Talks.{Note, Talk, WireLog}
 use Rattle.trace_laws.specs.Joined.{IsJoined}
 use Rattle.trace_laws.specs.Journals.{HasGivings}
@@ -21,6 +24,11 @@ pub record Course : Type 0 where
   pub notes : ℕ → List Note
   pub givings : List Giving
   pub coming : List Dispatched
+
+-- Memory ran out for a question only where the setting tells so of the planning.
+abbrev pub TellsWants : Setting → List Question → Type 0
+TellsWants s questions =
+    (q : Question) → Contains questions q → RanOut q.carried.ending → s.wanted_memory None ≡ true
 
 -- `seen wire`: all that is seen of the wire, if it is
 module _ {W : Type 0} (seen : W → Option WireLog) where
@@ -39,3 +47,25 @@ module _ {W : Type 0} (seen : W → Option WireLog) where
       → AskFor IsRefusedPage (wanting ≡ true) refused_page needs course.questions
       → KeepsPlanning Shows s (PlansFor Shows IsRefusedPage (wanting ≡ true) refused_page needs)
       (dispatched_of course.givings)
+
+  -- Nothing stopped a question, and none was given again; where each job has an attempt, no other cause is owed.
+  abbrev pub QuestionsHaveCauses : Type 0
+  QuestionsHaveCauses = (carrier : SeenCarrier) (s : Setting) (befores afters : List (SeenLane W)) (course : Course)
+      → IsCourse carrier s befores afters course → 0 < s.config.attempts → TellsWants s course.questions
+      → HaveCauses carrier.endpoint carrier.keys s course.givings course.coming
+
+  -- So the jobs of such a run are carried as the promise of a run says it, and its journal is that of the questions.
+  abbrev pub QuestionsAreCarried : Type 0
+  QuestionsAreCarried = (carrier : SeenCarrier) (s : Setting) (befores afters : List (SeenLane W)) (course : Course)
+      → IsCourse carrier s befores afters course → 0 < s.config.attempts → carrier.attempts ≡ s.config.attempts
+      → TellsWants s course.questions
+      → IsCarried Shows (text_of carrier.endpoint carrier.keys) carrier.endpoint.host carrier.endpoint.port s
+      (journal_of (trace_of 0 course.questions)) course.logs course.notes (dispatched_of course.givings) course.coming
+
+  -- And they keep to the whole schedule, whatever tasks there are, since no job of a task was given.
+  abbrev pub QuestionsAreScheduled : Type 0
+  QuestionsAreScheduled = (carrier : SeenCarrier) (s : Setting) (befores afters : List (SeenLane W)) (course : Course)
+      (needs : List Need) (wanting : Bool) (refused_page : Option ℕ) → IsCourse carrier s befores afters course
+      → AskFor IsRefusedPage (wanting ≡ true) refused_page needs course.questions
+      → IsSchedule Shows s (PlansFor Shows IsRefusedPage (wanting ≡ true) refused_page needs)
+      (dispatched_of course.givings) course.coming

@@ -1,5 +1,6 @@
 //! The laws, functions that do nothing.
 
+ghost use Rattle.planning_laws.specs.Laws.{QuestionsAreCarried, QuestionsAreScheduled, QuestionsHaveCauses};
 ghost use Rattle.planning_laws.specs.Laws.{QuestionsKeepPlanning};
 
 use s3_outside::Wire;
@@ -8,4 +9,13 @@ use s3_outside::Wire;
 /// behind the first fault, their jobs keep to the schedule of a planning with those needs, by what the wires show.
 pub fn questions_keep_planning<W: Wire>()
     ensures planning { QuestionsKeepPlanning W.seen }
+{}
+
+/// The jobs of a run that only asked questions are carried as the promise of a run says it, and nothing stopped them or
+/// gave them again; memory ran out where the setting says so. They keep to the whole schedule, whatever tasks there
+/// are: no job of a task was given.
+pub fn questions_are_carried<W: Wire>()
+    ensures causes { QuestionsHaveCauses W.seen }
+    ensures carried { QuestionsAreCarried W.seen }
+    ensures scheduled { QuestionsAreScheduled W.seen }
 {}
