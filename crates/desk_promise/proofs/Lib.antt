@@ -1,0 +1,3 @@
+pub mod Buffers
+pub mod Gaining
+pub mod Promise
