@@ -5,3 +5,4 @@ pub mod Keeping
 pub mod Places
 pub mod Reading
 pub mod Scheduled
+pub mod Witness

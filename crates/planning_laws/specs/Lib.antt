@@ -1,3 +1,4 @@
 pub mod Asking
 pub mod Laws
 pub mod Questions
+pub mod Witness

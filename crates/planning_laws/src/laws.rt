@@ -2,13 +2,18 @@
 
 ghost use Rattle.planning_laws.specs.Laws.{QuestionsAreCarried, QuestionsAreScheduled, QuestionsHaveCauses};
 ghost use Rattle.planning_laws.specs.Laws.{QuestionsKeepPlanning};
+ghost use Rattle.planning_laws.specs.Witness.{ListingIsMet, NoneAsksBehindRefused};
 
 use s3_outside::Wire;
 
 /// Where the questions of a planning ask for what a command needs, one after the other, behind the answers, and nothing
 /// behind the first fault, their jobs keep to the schedule of a planning with those needs, by what the wires show.
+/// A listing of two pages over two lanes, of which the first page's first attempt is lost, meets what this takes,
+/// whatever talks bring the pages; questions that go on behind a refused page do not.
 pub fn questions_keep_planning<W: Wire>()
     ensures planning { QuestionsKeepPlanning W.seen }
+    ensures met { ListingIsMet }
+    ensures refused { NoneAsksBehindRefused }
 {}
 
 /// The jobs of a run that only asked questions are carried as the promise of a run says it, and nothing stopped them or
