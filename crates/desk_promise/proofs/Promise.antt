@@ -10,22 +10,26 @@ use Rattle.file_laws.specs.PlanEnds.{IsPlanCarriedOut}
 use Rattle.job_terms.specs.Buffers.{KeepsBuffers}
 use Rattle.job_terms.specs.Dispatches.{Dispatched}
 use Rattle.job_terms.specs.Ops.{IsPlanning}
-use Rattle.lane_laws.specs.Runs.{dispatched_of}
+use Rattle.lane_jobs.specs.Lanes.{SeenCarrier, SeenLane}
+use Rattle.lane_laws.specs.Runs.{Giving, dispatched_of}
 use Rattle.list_walk.specs.Pages.{IsRefusedPage}
 use Rattle.planning_laws.proofs.Causes.{are_carried}
 use Rattle.planning_laws.proofs.Keeping.{course_of, no_task, questions_of}
 use Rattle.planning_laws.proofs.Scheduled.{are_scheduled}
+use Rattle.planning_laws.specs.Laws.{Course, IsCourse}
+use Rattle.planning_laws.specs.Asking.{AskFor}
+use Rattle.planning_laws.specs.Questions.{Question, trace_of}
 use Rattle.run_promise.specs.Carried.{IsCarried}
 use Rattle.run_promise.specs.FileCalls.{AreFileCalls, IsRemoved, TaskCall}
 use Rattle.run_promise.specs.FileOutcomes.{HasFailedAct, IsDestChanged, IsMoveShown, IsShownByCalls}
 use Rattle.run_promise.specs.Outcomes.{HasOutcome}
-use Rattle.run_promise.specs.Planning.{PlansFor}
-use Rattle.run_promise.specs.Schedule.{IsSchedule}
+use Rattle.run_promise.specs.Planning.{Need, PlansFor}
+use Rattle.run_promise.specs.Schedule.{IsSchedule, Setting}
 use Rattle.run_promise.specs.Settled.{IsSettingOf, RunEnd, RunStart, cause_of, is_dry, setting_by, shown_by, tells_file_failed}
 use Rattle.run_promise.specs.Truthful.{AreToldByCalls, HasOutcomes, IsDoneWhereWilling, IsFinished, IsTruthful, Shown, WasTaken}
 use Rattle.s3_model.specs.Files.{HeldFile}
 use Rattle.s3_model.specs.Maps.{MapOf}
-use Rattle.s3_model.specs.Talks.{Note, Talk, WireLog}
+use Rattle.s3_model.specs.Talks.{WireLog}
 use Rattle.s3_model.specs.declared.outcomes.Cause.{Cause}
 use Rattle.s3_model.specs.declared.outcomes.Event.{Event}
 use Rattle.s3_model.specs.declared.outcomes.JobId.{JobId}
@@ -39,11 +43,13 @@ use Rattle.s3_model.specs.declared.tasks.Task.{Task}
 use Rattle.shared_lemmas.proofs.Clashes.{false_true, none_is_some}
 use Rattle.shared_lemmas.proofs.Lists.{no_middle}
 use Rattle.shared_lemmas.proofs.Members.{in_none}
+use Rattle.trace_laws.proofs.Journal.{givings_of}
+use Rattle.trace_laws.specs.Journals.{HasGivings}
 use Rattle.upload_promise.specs.Shown.{KeepsPromise}
 use Rattle.world_laws.specs.Promises.{IsCarriedOut}
 use Rattle.world_laws.specs.Tasks.{MayBeNew}
 use Rattle.desk_promise.proofs.Buffers.{keeps_buffers}
-use Rattle.desk_promise.specs.Desk.{DeskRunsKeepPromise, IsIdle}
+use Rattle.desk_promise.specs.Desk.{DeskRunsKeepPromise, IsDeskRun, IsIdle}
 
 seventy : (n : ℕ) → n ≡ 70 → (n == 70) ≡ true
 seventy n is = grind arith
@@ -210,20 +216,31 @@ module _ (Plans : Option ℕ → List Dispatched → Type 0) (Fails : ℕ → Ca
 
 -- ---- over a desk
 
+module _ {W : Type 0} (seen : W → Option WireLog) (Fails : ℕ → Cause → Type 0) (carrier : SeenCarrier) (start : RunStart) (came : RunEnd) (befores afters : List (SeenLane W)) (questions : List Question)
+    (run : IsDeskRun seen carrier start came befores afters questions) where
+  abbrev s : Setting
+  s = setting_by start came None
+
+  abbrev Found : Type 0
+  Found = (givings : List Giving) × (coming : List Dispatched) × HasGivings carrier s (trace_of 0 questions) came.logs came.notes givings coming
+
+  abbrev course : Found → Course
+  course found = record { questions = questions; logs = came.logs; notes = came.notes; givings = found.0; coming = found.1 }
+
+  keeps_with : (needs : List Need) (wanting : Bool) → AskFor IsRefusedPage (wanting ≡ true) came.refused_page needs questions → Found
+      → KeepsPromise Shows HasStatus (text_of carrier.endpoint carrier.keys) carrier.endpoint.host carrier.endpoint.port (λ page. PlansFor Shows IsRefusedPage (wanting ≡ true) page needs) Fails start came None ⊥ ⊥
+  keeps_with needs wanting asks found =
+      let is : IsCourse seen carrier s befores afters (course found) = record { joined = run.joined; has_givings = found.2 } in
+      let all = course_of seen carrier s befores afters (course found) is in
+      let some = run.idle.configured.attempts.least in
+      let carried = are_carried seen carrier s befores afters (course found) is (omega arith) run.attempts (λ q known out. seventy came.status (run.wants q known out)) in
+      keeps (λ page. PlansFor Shows IsRefusedPage (wanting ≡ true) page needs) Fails carrier.endpoint carrier.keys start came run.idle (dispatched_of found.0) found.1
+      (no_task questions found.0 all) (questions_of questions found.0 all)
+      (subst (λ (journal : List Event). KeepsBuffers start.config.buffers journal) (sym run.journal) (keeps_buffers start.config.buffers questions found.0 all))
+      (are_scheduled seen carrier s befores afters (course found) needs wanting came.refused_page is asks)
+      (subst (λ (journal : List Event). IsCarried Shows (text_of carrier.endpoint carrier.keys) carrier.endpoint.host carrier.endpoint.port s journal came.logs came.notes (dispatched_of found.0) found.1) (sym run.journal) carried)
+
 pub desk_runs_keep : {W : Type 0} (seen : W → Option WireLog) (Fails : ℕ → Cause → Type 0) → DeskRunsKeepPromise seen Fails
-desk_runs_keep seen Fails carrier start came befores afters course needs wanting run asks =
-    let s = setting_by start came None in
-    let all = course_of seen carrier s befores afters course run.of_course in
-    let some = run.idle.configured.attempts.least in
-    let carried = are_carried seen carrier s befores afters course run.of_course (omega arith) run.attempts (λ q known out. seventy came.status (run.wants q known out)) in
-    let schedule = are_scheduled seen carrier s befores afters course needs wanting came.refused_page run.of_course asks in
-    keeps (λ page. PlansFor Shows IsRefusedPage (wanting ≡ true) page needs) Fails carrier.endpoint carrier.keys start came run.idle (dispatched_of course.givings) course.coming
-    (no_task course.questions course.givings all) (questions_of course.questions course.givings all)
-    (subst (λ (journal : List Event). KeepsBuffers start.config.buffers journal) (sym run.journal) (keeps_buffers start.config.buffers course.questions course.givings all))
-    schedule
-    (subst (λ (notes : ℕ → List Note). Carries came.journal came.logs notes) (sym run.notes)
-    (subst (λ (logs : ℕ → List Talk). Carries came.journal logs course.notes) (sym run.logs)
-    (subst (λ (journal : List Event). Carries journal course.logs course.notes) (sym run.journal) carried)))
-  where
-    Carries : List Event → (ℕ → List Talk) → (ℕ → List Note) → Type 0
-    Carries journal logs notes = IsCarried Shows (text_of carrier.endpoint carrier.keys) carrier.endpoint.host carrier.endpoint.port (setting_by start came None) journal logs notes (dispatched_of course.givings) course.coming
+desk_runs_keep seen Fails carrier start came befores afters questions needs wanting run gained asks =
+    keeps_with seen Fails carrier start came befores afters questions run needs wanting asks
+    (givings_of seen carrier (trace_of 0 questions) befores afters came.logs came.notes run.joined gained (setting_by start came None) (sym run.lanes))

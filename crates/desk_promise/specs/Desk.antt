@@ -7,12 +7,11 @@ use Rattle.lane_jobs.specs.Lanes.{SeenCarrier, SeenLane}
 use Rattle.lane_laws.specs.Runs.{RanOut}
 use Rattle.list_walk.specs.Pages.{IsRefusedPage}
 use Rattle.planning_laws.specs.Asking.{AskFor}
-use Rattle.planning_laws.specs.Laws.{Course, IsCourse}
 use Rattle.planning_laws.specs.Questions.{Question, trace_of}
 use Rattle.run_promise.specs.FileCalls.{AreFilesApart}
 use Rattle.run_promise.specs.FileOutcomes.{IsByFiles}
 use Rattle.run_promise.specs.Planning.{Need, PlansFor}
-use Rattle.run_promise.specs.Settled.{RunEnd, RunStart, left_by, setting_by, untimed_by}
+use Rattle.run_promise.specs.Settled.{RunEnd, RunStart, lanes_of, left_by, untimed_by}
 use Rattle.run_traces.specs.Traces.{journal_of}
 use Rattle.s3_model.specs.Talks.{WireLog}
 use Rattle.s3_model.specs.Validity.{IsValidConfig, IsValidLimits}
@@ -20,6 +19,7 @@ use Rattle.s3_model.specs.declared.outcomes.Cause.{Cause}
 use Rattle.s3_model.specs.declared.outcomes.Outcome.{Outcome}
 use Rattle.s3_model.specs.declared.outcomes.Outcome.TheVariants as outcome
 use Rattle.s3_model.specs.declared.tasks.Task.{Task}
+use Rattle.trace_laws.specs.Joined.{HaveGained, IsJoined}
 use Rattle.upload_promise.specs.Shown.{KeepsPromise}
 use Rattle.world_laws.specs.Promises.{IsByRequests}
 use Rattle.world_laws.specs.Tasks.{AreApart}
@@ -52,22 +52,22 @@ pub record IsIdle (start : RunStart) (came : RunEnd) : Type 0 where
 module _ {W : Type 0} (seen : W → Option WireLog) where
   -- All that it gave to its lanes, which were joined, are these questions.
   pub record IsDeskRun (carrier : SeenCarrier) (start : RunStart) (came : RunEnd) (befores afters : List (SeenLane W))
-      (course : Course) : Type 0 where
+      (questions : List Question) : Type 0 where
     pub idle : IsIdle start came
-    pub of_course : IsCourse seen carrier (setting_by start came None) befores afters course
+    pub lanes : length befores ≡ lanes_of start.config start.wires
     pub attempts : carrier.attempts ≡ start.config.attempts
-    pub journal : came.journal ≡ journal_of (trace_of 0 course.questions)
-    pub logs : came.logs ≡ course.logs
-    pub notes : came.notes ≡ course.notes
+    pub joined : IsJoined seen carrier (trace_of 0 questions) befores afters
+    pub journal : came.journal ≡ journal_of (trace_of 0 questions)
     -- memory ran out for a question only where the status says so
-    pub wants : (q : Question) → Contains course.questions q → RanOut q.carried.ending → came.status ≡ 70
+    pub wants : (q : Question) → Contains questions q → RanOut q.carried.ending → came.status ≡ 70
 
-  -- Where its questions ask for the needs, it keeps its promise. `wanting`: memory ran out in the planning;
-  -- `Fails n why`: the calls on files show that one of task n failed so.
+  -- Where its questions ask for the needs, and its wires gained what it shows, it keeps its promise. `wanting`: memory
+  -- ran out in the planning; `Fails n why`: the calls on files show that one of task n failed so.
   abbrev pub DeskRunsKeepPromise : (Fails : ℕ → Cause → Type 0) → Type 0
   DeskRunsKeepPromise Fails = (carrier : SeenCarrier) (start : RunStart) (came : RunEnd)
-      (befores afters : List (SeenLane W)) (course : Course) (needs : List Need) (wanting : Bool)
-      → IsDeskRun carrier start came befores afters course
-      → AskFor IsRefusedPage (wanting ≡ true) came.refused_page needs course.questions
+      (befores afters : List (SeenLane W)) (questions : List Question) (needs : List Need) (wanting : Bool)
+      → IsDeskRun carrier start came befores afters questions
+      → HaveGained seen befores afters came.logs came.notes
+      → AskFor IsRefusedPage (wanting ≡ true) came.refused_page needs questions
       → KeepsPromise Shows HasStatus (text_of carrier.endpoint carrier.keys) carrier.endpoint.host
       carrier.endpoint.port (λ page. PlansFor Shows IsRefusedPage (wanting ≡ true) page needs) Fails start came None ⊥ ⊥
