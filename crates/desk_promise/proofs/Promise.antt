@@ -15,7 +15,8 @@ use Rattle.lane_laws.specs.Runs.{Giving, dispatched_of}
 use Rattle.list_walk.specs.Pages.{IsRefusedPage}
 use Rattle.planning_laws.proofs.Causes.{are_carried}
 use Rattle.planning_laws.proofs.Keeping.{course_of, no_task, questions_of}
-use Rattle.planning_laws.proofs.Scheduled.{are_scheduled}
+use Rattle.planning_laws.proofs.Keeping as keeping
+use Rattle.planning_laws.proofs.Scheduled.{schedule_of}
 use Rattle.planning_laws.specs.Laws.{Course, IsCourse}
 use Rattle.planning_laws.specs.Asking.{AskFor}
 use Rattle.planning_laws.specs.Questions.{Question, trace_of}
@@ -30,6 +31,7 @@ use Rattle.run_promise.specs.Truthful.{AreToldByCalls, HasOutcomes, IsDoneWhereW
 use Rattle.s3_model.specs.Files.{HeldFile}
 use Rattle.s3_model.specs.Maps.{MapOf}
 use Rattle.s3_model.specs.Talks.{WireLog}
+use Rattle.s3_model.specs.declared.answers.Listed.{Listed}
 use Rattle.s3_model.specs.declared.outcomes.Cause.{Cause}
 use Rattle.s3_model.specs.declared.outcomes.Event.{Event}
 use Rattle.s3_model.specs.declared.outcomes.JobId.{JobId}
@@ -44,6 +46,7 @@ use Rattle.shared_lemmas.proofs.Clashes.{false_true, none_is_some}
 use Rattle.shared_lemmas.proofs.Lists.{no_middle}
 use Rattle.shared_lemmas.proofs.Members.{in_none}
 use Rattle.trace_laws.proofs.Journal.{givings_of}
+use Rattle.trace_laws.specs.Joined.{HaveGained}
 use Rattle.trace_laws.specs.Journals.{HasGivings}
 use Rattle.upload_promise.specs.Shown.{KeepsPromise}
 use Rattle.world_laws.specs.Promises.{IsCarriedOut}
@@ -216,8 +219,9 @@ module _ (Plans : Option ℕ → List Dispatched → Type 0) (Fails : ℕ → Ca
 
 -- ---- over a desk
 
-module _ {W : Type 0} (seen : W → Option WireLog) (Fails : ℕ → Cause → Type 0) (carrier : SeenCarrier) (start : RunStart) (came : RunEnd) (befores afters : List (SeenLane W)) (questions : List Question)
-    (run : IsDeskRun seen carrier start came befores afters questions) where
+-- Whatever pages are refused by their content, and whatever shows that memory ran out.
+module _ (IsRefused : (prefix : List ℕ) → List Listed → Type 0) (MemoryRanOut : Type 0) {W : Type 0} (seen : W → Option WireLog) (Fails : ℕ → Cause → Type 0) (carrier : SeenCarrier) (start : RunStart) (came : RunEnd)
+    (befores afters : List (SeenLane W)) (questions : List Question) (run : IsDeskRun seen carrier start came befores afters questions) where
   abbrev s : Setting
   s = setting_by start came None
 
@@ -227,20 +231,27 @@ module _ {W : Type 0} (seen : W → Option WireLog) (Fails : ℕ → Cause → T
   abbrev course : Found → Course
   course found = record { questions = questions; logs = came.logs; notes = came.notes; givings = found.0; coming = found.1 }
 
-  keeps_with : (needs : List Need) (wanting : Bool) → AskFor IsRefusedPage (wanting ≡ true) came.refused_page needs questions → Found
-      → KeepsPromise Shows HasStatus (text_of carrier.endpoint carrier.keys) carrier.endpoint.host carrier.endpoint.port (λ page. PlansFor Shows IsRefusedPage (wanting ≡ true) page needs) Fails start came None ⊥ ⊥
-  keeps_with needs wanting asks found =
+  abbrev Plans : List Need → Option ℕ → List Dispatched → Type 0
+  Plans needs page = PlansFor Shows IsRefused MemoryRanOut page needs
+
+  keeps_with : (needs : List Need) → AskFor IsRefused MemoryRanOut came.refused_page needs questions → Found
+      → KeepsPromise Shows HasStatus (text_of carrier.endpoint carrier.keys) carrier.endpoint.host carrier.endpoint.port (Plans needs) Fails start came None ⊥ ⊥
+  keeps_with needs asks found =
       let is : IsCourse seen carrier s befores afters (course found) = record { joined = run.joined; has_givings = found.2 } in
       let all = course_of seen carrier s befores afters (course found) is in
       let some = run.idle.configured.attempts.least in
       let carried = are_carried seen carrier s befores afters (course found) is (omega arith) run.attempts (λ q known out. seventy came.status (run.wants q known out)) in
-      keeps (λ page. PlansFor Shows IsRefusedPage (wanting ≡ true) page needs) Fails carrier.endpoint carrier.keys start came run.idle (dispatched_of found.0) found.1
+      let plan = keeping.keeps IsRefused MemoryRanOut came.refused_page needs s questions found.0 all asks in
+      keeps (Plans needs) Fails carrier.endpoint carrier.keys start came run.idle (dispatched_of found.0) found.1
       (no_task questions found.0 all) (questions_of questions found.0 all)
       (subst (λ (journal : List Event). KeepsBuffers start.config.buffers journal) (sym run.journal) (keeps_buffers start.config.buffers questions found.0 all))
-      (are_scheduled seen carrier s befores afters (course found) needs wanting came.refused_page is asks)
+      (schedule_of (Plans needs came.refused_page) s questions found.0 all plan found.1 found.2.is_coming found.2.in_order)
       (subst (λ (journal : List Event). IsCarried Shows (text_of carrier.endpoint carrier.keys) carrier.endpoint.host carrier.endpoint.port s journal came.logs came.notes (dispatched_of found.0) found.1) (sym run.journal) carried)
+
+  pub desk_run_keeps : (needs : List Need) → HaveGained seen befores afters came.logs came.notes → AskFor IsRefused MemoryRanOut came.refused_page needs questions
+      → KeepsPromise Shows HasStatus (text_of carrier.endpoint carrier.keys) carrier.endpoint.host carrier.endpoint.port (Plans needs) Fails start came None ⊥ ⊥
+  desk_run_keeps needs gained asks = keeps_with needs asks (givings_of seen carrier (trace_of 0 questions) befores afters came.logs came.notes run.joined gained s (sym run.lanes))
 
 pub desk_runs_keep : {W : Type 0} (seen : W → Option WireLog) (Fails : ℕ → Cause → Type 0) → DeskRunsKeepPromise seen Fails
 desk_runs_keep seen Fails carrier start came befores afters questions needs wanting run gained asks =
-    keeps_with seen Fails carrier start came befores afters questions run needs wanting asks
-    (givings_of seen carrier (trace_of 0 questions) befores afters came.logs came.notes run.joined gained (setting_by start came None) (sym run.lanes))
+    desk_run_keeps IsRefusedPage (wanting ≡ true) seen Fails carrier start came befores afters questions run needs gained asks
