@@ -1,3 +1,4 @@
 pub mod Buffers
 pub mod Gaining
 pub mod Promise
+pub mod Witness
