@@ -5,7 +5,7 @@ use Rattle.job_terms.specs.Buffers.{KeepsBuffers, holds_buffer, takes_buffer}
 use Rattle.job_terms.specs.Ops.{IsPlanning, op_of}
 use Rattle.lane_laws.specs.Runs.{Giving}
 use Rattle.planning_laws.proofs.Asked.{AreOf}
-use Rattle.planning_laws.specs.Questions.{Question, question_job, trace_of}
+use Rattle.planning_questions.specs.Questions.{Question, question_job, trace_of}
 use Rattle.run_traces.proofs.Steps.{journal-append}
 use Rattle.run_traces.specs.Traces.{Gave, Took, journal_of}
 use Rattle.s3_model.specs.declared.outcomes.Event.{Event}

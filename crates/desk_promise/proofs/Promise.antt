@@ -19,7 +19,7 @@ use Rattle.planning_laws.proofs.Keeping as keeping
 use Rattle.planning_laws.proofs.Scheduled.{schedule_of}
 use Rattle.planning_laws.specs.Laws.{Course, IsCourse}
 use Rattle.planning_laws.specs.Asking.{AskFor}
-use Rattle.planning_laws.specs.Questions.{Question, trace_of}
+use Rattle.planning_questions.specs.Questions.{Question, trace_of}
 use Rattle.run_promise.specs.Carried.{IsCarried}
 use Rattle.run_promise.specs.FileCalls.{AreFileCalls, IsRemoved, TaskCall}
 use Rattle.run_promise.specs.FileOutcomes.{HasFailedAct, IsDestChanged, IsMoveShown, IsShownByCalls}

@@ -4,7 +4,7 @@ use Rattle.std.specs.Prelude.{Contains}
 use Rattle.jobs.specs.declared.ending.Ending.TheVariants as ending
 use Rattle.lane_laws.specs.Runs.{RanOut}
 use Rattle.planning_laws.proofs.Witness.{listing_is_met}
-use Rattle.planning_laws.specs.Questions.{Question}
+use Rattle.planning_questions.specs.Questions.{Question}
 use Rattle.planning_laws.specs.Witness.{listing}
 use Rattle.s3_model.specs.Talks.{Note, Talk}
 use Rattle.s3_model.specs.Validity.{IsValidConfig, IsValidLimits}

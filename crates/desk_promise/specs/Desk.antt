@@ -7,7 +7,7 @@ use Rattle.lane_jobs.specs.Lanes.{SeenCarrier, SeenLane}
 use Rattle.lane_laws.specs.Runs.{RanOut}
 use Rattle.list_walk.specs.Pages.{IsRefusedPage}
 use Rattle.planning_laws.specs.Asking.{AskFor}
-use Rattle.planning_laws.specs.Questions.{Question, trace_of}
+use Rattle.planning_questions.specs.Questions.{Question, trace_of}
 use Rattle.run_promise.specs.FileCalls.{AreFilesApart}
 use Rattle.run_promise.specs.FileOutcomes.{IsByFiles}
 use Rattle.run_promise.specs.Planning.{Need, PlansFor}

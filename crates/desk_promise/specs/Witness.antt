@@ -2,7 +2,7 @@
 -- says of a task that it is done, which does not.
 use Rattle.std.specs.Prelude.{ℕ, true, false, List, [], ◌∷◌, Option, None, Some}
 use Rattle.std.specs.FinMap.{empty}
-use Rattle.planning_laws.specs.Questions.{trace_of}
+use Rattle.planning_questions.specs.Questions.{trace_of}
 use Rattle.planning_laws.specs.Witness as planning
 use Rattle.planning_laws.specs.Witness.{BringsPage, first_page, last_page, listing, page_ask}
 use Rattle.run_promise.specs.Settled.{RunEnd, RunStart}

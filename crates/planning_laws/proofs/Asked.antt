@@ -21,7 +21,7 @@ use Rattle.planning_laws.proofs.Carrying.{IsOf, giving_is_of}
 use Rattle.planning_laws.proofs.Places.{EachAt}
 use Rattle.planning_laws.proofs.Reading.{ArePlaced, IsPlaced}
 use Rattle.planning_laws.specs.Asking.{AskOn}
-use Rattle.planning_laws.specs.Questions.{Question}
+use Rattle.planning_questions.specs.Questions.{Question}
 
 -- the givings are those of the questions, one by one
 abbrev pub AreOf : ℕ → List Question → List Giving → Type 0

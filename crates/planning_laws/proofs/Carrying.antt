@@ -38,7 +38,7 @@ use Rattle.trace_laws.specs.Journals.{IsGivingOf, StandsIn, TellsOf}
 use Rattle.planning_laws.proofs.Places.{QuestionAt}
 use Rattle.planning_laws.proofs.Reading.{IsPlaced}
 use Rattle.planning_laws.specs.Asking.{Gains, GainsNone}
-use Rattle.planning_laws.specs.Questions.{Question, question_job}
+use Rattle.planning_questions.specs.Questions.{Question, question_job}
 
 -- the giving of the question of that number
 pub record IsOf (n : ℕ) (q : Question) (g : Giving) : Type 0 where

@@ -16,7 +16,7 @@ use Rattle.shared_lemmas.proofs.Members.{contains_of, has_at, index_of}
 use Rattle.planning_laws.proofs.Asked.{AreOf, At, of_place}
 use Rattle.planning_laws.proofs.Keeping.{course_of, pairs}
 use Rattle.planning_laws.specs.Laws.{QuestionsAreCarried, QuestionsHaveCauses, TellsWants}
-use Rattle.planning_laws.specs.Questions.{Question, trace_of}
+use Rattle.planning_questions.specs.Questions.{Question, trace_of}
 
 module _ (qs : List Question) (gs : List Giving) (all : AreOf 0 qs gs) where
   giving_at : (g : Giving) → Contains gs g → (k : ℕ) × At 0 k qs g

@@ -24,7 +24,7 @@ use Rattle.planning_laws.proofs.Places.{HaveNames, all_at, names_of}
 use Rattle.planning_laws.proofs.Reading.{Shown, all_shown}
 use Rattle.planning_laws.specs.Asking.{AskFor}
 use Rattle.planning_laws.specs.Laws.{Course, IsCourse, QuestionsKeepPlanning}
-use Rattle.planning_laws.specs.Questions.{Question, trace_of}
+use Rattle.planning_questions.specs.Questions.{Question, trace_of}
 
 -- ---- the givings of a course are those of its questions
 

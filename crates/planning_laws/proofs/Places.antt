@@ -7,7 +7,7 @@ use Rattle.run_traces.proofs.Pending.{slice_get_drop}
 use Rattle.run_traces.proofs.Steps.{entry_count, gave_counted, gave_here, gave_taken, given_count, given_counted, given_in, taken_count, taken_counted, took_counted, took_given}
 use Rattle.run_traces.specs.Traces.{Gave, RunTrace, Took}
 use Rattle.shared_lemmas.proofs.Members.{place_middle}
-use Rattle.planning_laws.specs.Questions.{Question, question_job, trace_of}
+use Rattle.planning_questions.specs.Questions.{Question, question_job, trace_of}
 
 -- the question of that number stands behind those of lower numbers
 pub record QuestionAt (trace : RunTrace) (n : ℕ) (q : Question) : Type 0 where

@@ -14,7 +14,7 @@ use Rattle.s3_model.specs.declared.outcomes.JobId.{JobId}
 use Rattle.s3_model.specs.declared.tries.Mark.{Mark}
 use Rattle.s3_model.specs.Talks.{Talk}
 use Rattle.planning_laws.proofs.Places.{HaveNames}
-use Rattle.planning_laws.specs.Questions.{Question, question_job, trace_of}
+use Rattle.planning_questions.specs.Questions.{Question, question_job, trace_of}
 
 -- the dispatch was given and came where the question of that number does
 pub record IsPlaced (n : ℕ) (d : Dispatch) : Type 0 where

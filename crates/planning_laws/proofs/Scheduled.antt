@@ -19,7 +19,7 @@ use Rattle.planning_laws.proofs.Asked.{AreOf}
 use Rattle.planning_laws.proofs.Causes.{all_apart}
 use Rattle.planning_laws.proofs.Keeping.{at_place, course_of, each_of, keeps, no_task}
 use Rattle.planning_laws.specs.Laws.{QuestionsAreScheduled}
-use Rattle.planning_laws.specs.Questions.{Question}
+use Rattle.planning_questions.specs.Questions.{Question}
 
 no_abort : (asked : Ask) → IsPlanning asked → op_of asked ≡ op.Abort → ⊥
 no_abort (ask.Head bucket key) is e = cc

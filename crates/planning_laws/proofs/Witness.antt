@@ -35,7 +35,7 @@ use Rattle.shared_lemmas.proofs.Lists.{head_is, no_cons, no_middle, tail_is}
 use Rattle.shared_lemmas.proofs.Members.{Has, has, has_middle}
 use Rattle.trace_laws.specs.Joined.{CarriesJob, HasGained, IsJoined}
 use Rattle.trace_laws.specs.Witness.{befores, carrier, lane_with, tried_again, tried_once}
-use Rattle.planning_laws.specs.Questions.{Question, question_job, trace_of}
+use Rattle.planning_questions.specs.Questions.{Question, question_job, trace_of}
 use Rattle.planning_laws.specs.Witness.{BringsPage, ListingIsMet, NoneAsksBehindRefused, afters, bad_page, first_page, gains_page, last_page, listing, logs, notes, page_ask}
 
 -- ---- its steps

@@ -6,7 +6,7 @@ use Rattle.s3_model.specs.declared.answers.Listed.{Listed}
 use Rattle.s3_model.specs.declared.answers.Reply.{Reply}
 use Rattle.s3_model.specs.declared.answers.Reply.TheVariants as reply
 use Rattle.s3_model.specs.declared.requests.Ask.TheVariants as ask
-use Rattle.planning_laws.specs.Questions.{Question}
+use Rattle.planning_questions.specs.Questions.{Question}
 
 abbrev pub Gains : Question → Reply → Type 0
 Gains q said = q.carried.ending ≡ ending.Gained said

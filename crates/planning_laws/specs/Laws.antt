@@ -15,7 +15,7 @@ use Rattle.s3_model.specs.Talks.{Note, Talk, WireLog}
 use Rattle.trace_laws.specs.Joined.{IsJoined}
 use Rattle.trace_laws.specs.Journals.{HasGivings}
 use Rattle.planning_laws.specs.Asking.{AskFor}
-use Rattle.planning_laws.specs.Questions.{Question, trace_of}
+use Rattle.planning_questions.specs.Questions.{Question, trace_of}
 
 -- what the wires show of a run that asked these questions: by lane their talks and notes, and the givings of its jobs
 pub record Course : Type 0 where

@@ -1,4 +1,3 @@
 pub mod Asking
 pub mod Laws
-pub mod Questions
 pub mod Witness

@@ -20,7 +20,7 @@ use Rattle.s3_model.specs.declared.tries.Mark.TheVariants as mark
 use Rattle.trace_laws.specs.Joined.{HaveGained, IsJoined}
 use Rattle.trace_laws.specs.Witness.{befores, by_lane, carrier, lane_with, tried_again, tried_once}
 use Rattle.planning_laws.specs.Asking.{AskFor, Gains}
-use Rattle.planning_laws.specs.Questions.{Question, question_job, trace_of}
+use Rattle.planning_questions.specs.Questions.{Question, question_job, trace_of}
 
 -- ---- pages
 
