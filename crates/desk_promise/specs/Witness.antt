@@ -1,5 +1,5 @@
--- A dry run over two lanes that meets what the law takes: it lists two pages and would remove one object. And a run that
--- says of a task that it is done, which does not.
+-- A dry run over two lanes that meets what the law takes: it lists two pages and would remove one object. And a run
+-- that says of a task that it is done, which does not.
 use Rattle.std.specs.Prelude.{ℕ, true, false, List, [], ◌∷◌, Option, None, Some}
 use Rattle.std.specs.FinMap.{empty}
 use Rattle.planning_questions.specs.Questions.{trace_of}

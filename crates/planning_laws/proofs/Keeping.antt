@@ -23,7 +23,8 @@ use Rattle.planning_laws.proofs.Carrying.{IsOf}
 use Rattle.planning_laws.proofs.Places.{HaveNames, all_at, names_of}
 use Rattle.planning_laws.proofs.Reading.{Shown, all_shown}
 use Rattle.planning_laws.specs.Asking.{AskFor}
-use Rattle.planning_laws.specs.Laws.{Course, IsCourse, QuestionsKeepPlanning}
+use Rattle.planning_laws.specs.Laws.{Course, IsCourse, QuestionsAreShown, QuestionsKeepPlanning}
+use Rattle.planning_questions.specs.Planned.{ShowQuestions}
 use Rattle.planning_questions.specs.Questions.{Question, trace_of}
 
 -- ---- the givings of a course are those of its questions
@@ -108,3 +109,15 @@ module _ (IsRefused : (prefix : List ℕ) → List Listed → Type 0) (MemoryRan
 pub keeps_planning : {W : Type 0} (seen : W → Option WireLog) → QuestionsKeepPlanning seen
 keeps_planning seen carrier s befores afters course needs wanting refused_page is asks =
     keeps IsRefusedPage (wanting ≡ true) refused_page needs s course.questions course.givings (course_of seen carrier s befores afters course is) asks
+
+show_questions : (n : ℕ) (qs : List Question) (gs : List Giving) → AreOf n qs gs → ShowQuestions Shows n qs (dispatched_of gs)
+show_questions n [] [] all = tt
+show_questions n [] (g ∷ gs) all = absurd all
+show_questions n (q ∷ qs) [] all = absurd all
+show_questions n (q ∷ qs) (g ∷ gs) all = (
+  record { asks = all.0.ask_is; number_is = ap (λ (j : JobId). j.number) all.0.job; answered = all.0.answered; unanswered = all.0.unanswered },
+  show_questions (n + 1) qs gs all.1,
+)
+
+pub are_shown : {W : Type 0} (seen : W → Option WireLog) → QuestionsAreShown seen
+are_shown seen carrier s befores afters course is = show_questions 0 course.questions course.givings (course_of seen carrier s befores afters course is)

@@ -1,6 +1,7 @@
 pub mod Asked
 pub mod Carrying
 pub mod Causes
+pub mod First
 pub mod Keeping
 pub mod Places
 pub mod Reading

@@ -10,11 +10,13 @@ use Rattle.run_promise.specs.Carried.{IsCarried}
 use Rattle.run_promise.specs.Planning.{Need, PlansFor}
 use Rattle.run_promise.specs.Schedule.{IsSchedule, Setting}
 use Rattle.run_schedule.specs.Runs.{KeepsPlanning}
+use Rattle.run_traces.specs.Plannings.{IsPlannedFirst}
 use Rattle.run_traces.specs.Traces.{journal_of}
 use Rattle.s3_model.specs.Talks.{Note, Talk, WireLog}
 use Rattle.trace_laws.specs.Joined.{IsJoined}
 use Rattle.trace_laws.specs.Journals.{HasGivings}
 use Rattle.planning_laws.specs.Asking.{AskFor}
+use Rattle.planning_questions.specs.Planned.{ShowQuestions}
 use Rattle.planning_questions.specs.Questions.{Question, trace_of}
 
 -- what the wires show of a run that asked these questions: by lane their talks and notes, and the givings of its jobs
@@ -48,6 +50,12 @@ module _ {W : Type 0} (seen : W → Option WireLog) where
       → KeepsPlanning Shows s (PlansFor Shows IsRefusedPage (wanting ≡ true) refused_page needs)
       (dispatched_of course.givings)
 
+  -- The dispatches of the run are those of its questions, in order, and show a reply just where a question gained it.
+  abbrev pub QuestionsAreShown : Type 0
+  QuestionsAreShown = (carrier : SeenCarrier) (s : Setting) (befores afters : List (SeenLane W)) (course : Course)
+      → IsCourse carrier s befores afters course
+      → ShowQuestions Shows 0 course.questions (dispatched_of course.givings)
+
   -- Nothing stopped a question, and none was given again; where each job has an attempt, no other cause is owed.
   abbrev pub QuestionsHaveCauses : Type 0
   QuestionsHaveCauses = (carrier : SeenCarrier) (s : Setting) (befores afters : List (SeenLane W)) (course : Course)
@@ -69,3 +77,9 @@ module _ {W : Type 0} (seen : W → Option WireLog) where
       → AskFor IsRefusedPage (wanting ≡ true) refused_page needs course.questions
       → IsSchedule Shows s (PlansFor Shows IsRefusedPage (wanting ≡ true) refused_page needs)
       (dispatched_of course.givings) course.coming
+
+  -- Nothing but the planning was done, so that the laws of runs whose planning came first take the trace.
+  abbrev pub QuestionsArePlannedFirst : Type 0
+  QuestionsArePlannedFirst = (carrier : SeenCarrier) (questions : List Question) (befores afters : List (SeenLane W))
+      → IsJoined seen carrier (trace_of 0 questions) befores afters
+      → IsPlannedFirst (trace_of 0 questions) (trace_of 0 questions)
