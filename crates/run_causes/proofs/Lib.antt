@@ -1,0 +1,10 @@
+pub mod Again
+pub mod Behind
+pub mod Memory
+pub mod Sent
+pub mod Stops
+pub mod TaskGivings
+pub mod Told
+pub mod Tries
+pub mod TwoFailed
+pub mod Wants
