@@ -1,6 +1,9 @@
 pub mod Again
 pub mod Behind
+pub mod ByOutcomes
+pub mod FirstCalls
 pub mod Memory
+pub mod NotByFailing
 pub mod Sent
 pub mod Stops
 pub mod TaskGivings

@@ -3,4 +3,4 @@
 
 mod laws;
 
-pub use laws::runs_have_causes;
+pub use laws::{none_is_cancelled_by_failing, outcomes_tell_settings, runs_have_causes};
