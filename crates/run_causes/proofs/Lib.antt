@@ -11,3 +11,4 @@ pub mod Told
 pub mod Tries
 pub mod TwoFailed
 pub mod Wants
+pub mod Witness

@@ -14,11 +14,12 @@ use Rattle.s3_model.specs.declared.outcomes.Reason.{Reason}
 use Rattle.shared_lemmas.proofs.Clashes.{none_is_some}
 use Rattle.shared_lemmas.proofs.Members.{Has, contains_of, found_or_not, has_middle}
 use Rattle.task_progress.proofs.Endings.{no}
+use Rattle.trace_laws.proofs.Closed.{planned_traces}
 use Rattle.trace_laws.specs.Journals.{IsGivingOf}
 use Rattle.run_causes.proofs.Again.{given_again, given_in_trace, has_left, of_no_task}
 use Rattle.run_causes.proofs.Stops.{task_stops}
 use Rattle.run_causes.proofs.Wants.{task_wants}
-use Rattle.run_causes.specs.Causes.{IsTracedRun, RunsHaveCauses, TellsPlanning, TracedRun}
+use Rattle.run_causes.specs.Causes.{IsTracedRun, RunsAreOfLanes, RunsHaveCauses, TellsPlanning, TracedRun}
 
 no_reason : (before after : Option Holder) (reason : Reason) → before ≡ None → KeepsCell before after → reason_of after ≡ Some reason → ⊥
 no_reason None None reason none keeps e = none_is_some reason e
@@ -65,3 +66,7 @@ runs_have_causes r is tells memory planning = record {
       | inl none ↦ absurd (no_cell r is g known none gave)
       | inr some ↦ task_stops r is tells g known some.0 some.1 gave short
     ]
+
+pub runs_are_of_lanes : RunsAreOfLanes
+runs_are_of_lanes r is tells memory planning =
+    planned_traces r.carrier r.setting r.planning r.trace r.logs r.notes r.givings r.coming is.first is.givings is.attempts (runs_have_causes r is tells memory planning)

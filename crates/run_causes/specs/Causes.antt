@@ -5,6 +5,7 @@ use Rattle.job_terms.specs.Dispatches.{Dispatched}
 use Rattle.jobs.specs.Endings.{SeenCarried}
 use Rattle.jobs.specs.Jobs.{SeenJob}
 use Rattle.lane_jobs.specs.Lanes.{SeenCarrier}
+use Rattle.lane_journals.specs.Journals.{IsOfLanes}
 use Rattle.lane_laws.specs.Runs.{Giving, HaveCauses, RanOut, dispatched_of}
 use Rattle.manager_moves.specs.Runs.{Events, Shared, outcome_in}
 use Rattle.run_promise.specs.Schedule.{Setting}
@@ -74,3 +75,10 @@ pub record TellsStops (r : TracedRun) : Type 0 where
 abbrev pub RunsHaveCauses : Type 0
 RunsHaveCauses = (r : TracedRun) → IsTracedRun r → TellsStops r → TellsMemory r.shared r.setting (events_of r.trace)
     → TellsPlanning r.setting r.trace → HaveCauses r.carrier.endpoint r.carrier.keys r.setting r.givings r.coming
+
+-- So it is a run whose jobs lanes carried.
+abbrev pub RunsAreOfLanes : Type 0
+RunsAreOfLanes = (r : TracedRun) → IsTracedRun r → TellsStops r → TellsMemory r.shared r.setting (events_of r.trace)
+    → TellsPlanning r.setting r.trace
+    → IsOfLanes r.carrier.endpoint r.carrier.keys r.setting (journal_of r.planning) (events_of r.trace) r.logs r.notes
+    r.givings r.coming
