@@ -41,7 +41,7 @@ pub record Forgets (w : Work) (h : History) : Type 0 where
   pub known : Has h event
   pub memory : is_memory (failure_by w event) ≡ true
 
-memory_some : (why : Option Cause) → is_memory why ≡ true → is_some why ≡ true
+pub memory_some : (why : Option Cause) → is_memory why ≡ true → is_some why ≡ true
 memory_some None e = e
 memory_some (Some why) e = refl
 

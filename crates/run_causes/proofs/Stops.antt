@@ -10,7 +10,6 @@ use Rattle.lane_laws.specs.Runs.{Giving, IsCutShort}
 use Rattle.manager_moves.specs.Runs.{Back, Event, Events, Sent, Stopped, is_task, share}
 use Rattle.run_promise.specs.Carried.{IsStoppedBefore, MayStop}
 use Rattle.run_promise.specs.Schedule.{IsBeforePlace, IsCutIn, IsStopped}
-use Rattle.s3_model.specs.declared.outcomes.Cause.{Cause}
 use Rattle.s3_model.specs.declared.outcomes.JobId.{JobId}
 use Rattle.s3_model.specs.declared.outcomes.Outcome.{Outcome}
 use Rattle.s3_model.specs.declared.outcomes.Reason.{Reason}
@@ -24,7 +23,7 @@ use Rattle.task_acts.specs.declared.acts.Stage.{Stage}
 use Rattle.task_acts.specs.declared.acts.Stage.TheVariants as at
 use Rattle.task_acts.specs.declared.work.Work.{Work}
 use Rattle.task_acts.specs.Ends.{outcome_of}
-use Rattle.task_acts.specs.Failures.{carried_cause, is_cut_short, is_memory, is_stopped}
+use Rattle.task_acts.specs.Failures.{carried_cause, is_cut_short, is_stopped}
 use Rattle.task_acts.specs.Histories.{Came, Gave, Happening, History, Returned, sent}
 use Rattle.task_acts.specs.Kept.{IsHistory, is_file_act}
 use Rattle.task_acts.specs.Stages.{is_out, stage}
@@ -41,6 +40,7 @@ use Rattle.task_schedule.proofs.Shares.{back_is, since, since_is}
 use Rattle.task_schedule.proofs.Stopping.{abort_stopped, otherwise_stays}
 use Rattle.task_schedule.specs.Journals.{fails_otherwise, place_after}
 use Rattle.run_causes.proofs.Behind.{ds, events, planned, show_one}
+use Rattle.run_causes.proofs.Memory.{memory_some}
 use Rattle.run_causes.proofs.TaskGivings.{a, among, back, cut_by_cell, k, o, run, w, work}
 use Rattle.run_causes.proofs.TaskGivings as of_giving
 use Rattle.run_causes.proofs.TwoFailed.{HasFailed, fails}
@@ -49,10 +49,6 @@ use Rattle.run_causes.specs.Causes.{IsTracedRun, TellsStops, TracedRun}
 call_no_abort : (x : Act) → is_file_act x ≡ true → IsNoAbort x
 call_no_abort (act.Send p m) e = no e
 call_no_abort x e = tt
-
-memory_some : (why : Option Cause) → is_memory why ≡ true → is_some why ≡ true
-memory_some None e = e
-memory_some (Some why) e = refl
 
 out_not_failed : (how : Stage) → how ≡ at.Failed → is_out how ≡ true → false ≡ true
 out_not_failed how e out = subst (λ (x : Stage). is_out x ≡ true) e out

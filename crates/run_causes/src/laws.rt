@@ -8,8 +8,8 @@ ghost use Rattle.run_causes.specs.Witness.{CutRunIsMet, NoneIsGivenLate};
 /// short, and the setting tells which jobs wanted memory, and what stopped those that came back early: such a job is
 /// given again, or something had stopped its task before it came, or did so before the end. The setting tells of memory
 /// what the outcomes of its tasks and the jobs of the planning say, and of cancels and of failed calls what happened.
-/// So it is a run whose jobs lanes carried. Among such runs is one of a removal that is cut by its cell and given again;
-/// one in which it is given again behind its end is none.
+/// So it is a run whose jobs lanes carried. Among such runs is one of a removal that its cell cuts, and that is given
+/// again; one in which it is given again behind its end is none.
 pub fn runs_have_causes()
     ensures causes { RunsHaveCauses }
     ensures lanes { RunsAreOfLanes }

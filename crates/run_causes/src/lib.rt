@@ -1,4 +1,5 @@
-//! Laws on what stopped the jobs of a run: why they wanted memory, came early or were given again, as its outcomes tell.
+//! Laws on what stopped the jobs of a run, and on what its outcomes tell of that: want of memory, cancels, failures of
+//! their tasks.
 #![tactic(auto)]
 
 mod laws;
