@@ -1,0 +1,4 @@
+pub mod QuestionLemmas
+pub mod SideLemmas
+pub mod LiftLemmas
+pub mod PlanLemmas

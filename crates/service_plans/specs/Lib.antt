@@ -1,0 +1,5 @@
+pub mod Faults
+pub mod Local
+pub mod Looked
+pub mod Plans
+pub mod Sides
