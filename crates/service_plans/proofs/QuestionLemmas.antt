@@ -8,12 +8,12 @@ use Rattle.run_traces.specs.Traces.{Gave, RunTrace, Took, journal_of}
 use Rattle.run_traces.proofs.Steps.{journal-append}
 use Rattle.s3_model.specs.declared.outcomes.Event.{Event}
 use Rattle.planning_questions.specs.Listings.{Lists}
-use Rattle.planning_questions.specs.Questions.{HasMade, HasQuestions, Progress, Question, question_job, trace_of}
+use Rattle.planning_questions.specs.Questions.{GoesOnBy, HasQuestions, Progress, Question, question_job, trace_of}
 use Rattle.planning_questions.specs.declared.halt.Halt.{Halt}
 
 -- ---- what was done
 
-made_both : (s t : RunTrace) (a b c : Progress) → HasMade s a b → HasMade t b c → HasMade (t ++ s) a c
+made_both : (s t : RunTrace) (a b c : Progress) → GoesOnBy s a b → GoesOnBy t b c → GoesOnBy (t ++ s) a c
 made_both s t a b c first second = record {
   exchanged = λ trace are. subst (λ (all : RunTrace). AreExchangesOf all c.lanes) (sym (append_assoc t s trace)) (second.exchanged (s ++ trace) (first.exchanged trace are));
   journaled = second.journaled ∙ ap (λ (all : List Event). all ++ journal_of t) first.journaled ∙ append_assoc a.journal (journal_of s) (journal_of t)
@@ -37,9 +37,9 @@ module _ (first between next : ℕ) (before mid after : Progress) (P Q R : List 
       → HasQuestions first between before mid P → HasQuestions between next mid after Q → HasQuestions first next before after R
   asked_both both h k = record {
     questions = h.questions ++ k.questions;
-    made = subst (λ (steps : RunTrace). HasMade steps before after) (sym (trace_more first h.questions k.questions))
+    made = subst (λ (steps : RunTrace). GoesOnBy steps before after) (sym (trace_more first h.questions k.questions))
         (made_both (trace_of first h.questions) (trace_of (first + length h.questions) k.questions) before mid after h.made
-        (subst (λ (n : ℕ). HasMade (trace_of n k.questions) mid after) h.next_is k.made));
+        (subst (λ (n : ℕ). GoesOnBy (trace_of n k.questions) mid after) h.next_is k.made));
     next_is = let from = h.next_is in let to = k.next_is in omega (arith, length-append h.questions k.questions);
     comes_to = both h.questions k.questions h.next_is h.comes_to k.comes_to;
   }

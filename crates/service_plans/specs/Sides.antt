@@ -4,7 +4,7 @@ use Rattle.command_errands.specs.Entries.{object_entry, removal_entry}
 use Rattle.command_errands.specs.Errands.{is_many, prefix_of, removes}
 use Rattle.list_walk.specs.Pages.{Walk, new_walk}
 use Rattle.planning_questions.specs.Listings.{Lists}
-use Rattle.planning_questions.specs.Questions.{IsAsked, Question}
+use Rattle.planning_questions.specs.Questions.{AsksOnce, Question}
 use Rattle.planning_questions.specs.declared.halt.Halt.{Halt}
 use Rattle.planning_questions.specs.declared.halt.Halt.TheVariants as halt
 use Rattle.s3_model.specs.declared.answers.Reply.{Reply}
@@ -59,12 +59,12 @@ MayHaveCome (Err why) = ⊥
 -- one object, by the reply to a Head; memory may run out behind it as well
 abbrev pub HeadsObject : (number : ℕ) → (bucket key : List ℕ) → List Question → Result Found Halted → Type 0
 HeadsObject number bucket key questions (Ok found) =
-    (said : Reply) × IsAsked number (ask.Head bucket key) questions (Ok said)
+    (said : Reply) × AsksOnce number (ask.Head bucket key) questions (Ok said)
     × IsTold (place.Object bucket key) said found
 HeadsObject number bucket key questions (Err (halted.Asked halt.Memory)) =
-    (answer : Result Reply Halt) × IsAsked number (ask.Head bucket key) questions answer × MayHaveCome answer
+    (answer : Result Reply Halt) × AsksOnce number (ask.Head bucket key) questions answer × MayHaveCome answer
 HeadsObject number bucket key questions (Err (halted.Asked why)) =
-    IsAsked number (ask.Head bucket key) questions (Err why)
+    AsksOnce number (ask.Head bucket key) questions (Err why)
 HeadsObject number bucket key questions (Err why) = ⊥
 
 -- one object that is removed, of which nothing is asked

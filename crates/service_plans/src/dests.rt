@@ -3,7 +3,7 @@
 ghost use Rattle.std.specs.Prelude.{◌≡◌, ◌+◌, ◌≤◌, [], ℕ, false, true, IfErr, IfOk, IfSome, Some, option_map};
 ghost use Rattle.bounded_executor.specs.Desk.{SameDesk};
 ghost use Rattle.command_errands.specs.Errands.{TakesPlaces, source_of};
-ghost use Rattle.planning_questions.specs.Questions.{HasQuestions, IsIdle, progress_of};
+ghost use Rattle.planning_questions.specs.Questions.{HasQuestions, IsReadyToAsk, progress_of};
 ghost use Rattle.s3_model.specs.Places.{IsFile, IsObject};
 ghost use Rattle.s3_words.specs.Options.{is_sync};
 ghost use Rattle.sync_plan.specs.Errands.{AreEntries, AreEntriesAt};
@@ -72,7 +72,7 @@ fn find_names<R: Wait, W: Wire + Send + Drop, F: Files>(
     to: &Place,
     files: &mut F,
 ) -> Result<Found, Halted>
-    requires idle { IsIdle desk.old pending.old }
+    requires idle { IsReadyToAsk desk.old pending.old }
     requires number { number.old ≤ 2_000_000_000 }
     ensures asked { HasQuestions number.old number.new (progress_of desk.old journal.old.items)
         (progress_of desk.new journal.new.items) (λ questions. NamesBelow to.now
@@ -80,7 +80,7 @@ fn find_names<R: Wait, W: Wire + Send + Drop, F: Files>(
     ensures entries { IfOk result (λ found. AreEntries (source_of true to.now) true (entries_in found.side)) }
     ensures quiet { IfOk result (λ found. IsObject (Some to.now) → found.looked.items ≡ []) }
     ensures few { number.new ≤ number.old + 1_000_001_000 }
-    ensures idle { IsIdle desk.new pending.new }
+    ensures idle { IsReadyToAsk desk.new pending.new }
     ensures same_desk { SameDesk desk.old desk.new }
     ensures pending { pending.new ≡ pending.old }
     ensures kept { OnlyLooks (F.seen files.old) (F.seen files.new) (F.faults files.old) (F.faults files.new) }
@@ -131,7 +131,7 @@ pub(crate) fn find_dest<R: Wait, W: Wire + Send + Drop, F: Files>(
     files: &mut F,
 ) -> Result<Dest, Halted>
     requires places { TakesPlaces command.now.verb command.now.from command.now.to }
-    requires idle { IsIdle desk.old pending.old }
+    requires idle { IsReadyToAsk desk.old pending.old }
     requires number { number.old ≤ 2_000_000_000 }
     ensures asked { HasQuestions number.old number.new (progress_of desk.old journal.old.items)
         (progress_of desk.new journal.new.items) (λ questions. DestOf command.now
@@ -140,7 +140,7 @@ pub(crate) fn find_dest<R: Wait, W: Wire + Send + Drop, F: Files>(
         (entries_in dest.found.side)) }
     ensures quiet { IfOk result (λ dest. IsFile command.now.from → dest.found.looked.items ≡ []) }
     ensures few { number.new ≤ number.old + 1_000_001_000 }
-    ensures idle { IsIdle desk.new pending.new }
+    ensures idle { IsReadyToAsk desk.new pending.new }
     ensures same_desk { SameDesk desk.old desk.new }
     ensures pending { pending.new ≡ pending.old }
     ensures kept { OnlyLooks (F.seen files.old) (F.seen files.new) (F.faults files.old) (F.faults files.new) }

@@ -3,7 +3,7 @@
 ghost use Rattle.std.specs.Prelude.{◌≡◌, ◌⊎◌, ◌+◌, ◌≤◌, ◌++◌, [], IfOk, IfSome, OnOk, option_map, true};
 ghost use Rattle.bounded_executor.specs.Desk.{SameDesk};
 ghost use Rattle.command_errands.specs.Errands.{TakesPlaces, is_many, source_of, without_errand};
-ghost use Rattle.planning_questions.specs.Questions.{HasQuestions, IsIdle, progress_of};
+ghost use Rattle.planning_questions.specs.Questions.{HasQuestions, IsReadyToAsk, progress_of};
 ghost use Rattle.sync_plan.specs.Errands.{AreEntries, AreEntriesAt};
 ghost use Rattle.tree_walk.specs.Trees.{OnlyLooks};
 ghost use Rattle.service_plans.specs.Local.{files_seen};
@@ -89,13 +89,13 @@ pub fn plan_served<R: Wait, W: Wire + Send + Drop, F: Files>(
     files: &mut F,
 ) -> Result<Planned, Halted>
     requires places { TakesPlaces command.old.verb command.old.from command.old.to }
-    requires idle { IsIdle desk.old pending.old }
+    requires idle { IsReadyToAsk desk.old pending.old }
     requires number { number.old ≤ 999_999_000 }
     ensures planned { HasQuestions number.old number.new (progress_of desk.old journal.old.items)
         (progress_of desk.new journal.new.items) (λ questions. PlansCommand command.old limits.now
         (files_seen (F.seen files.new) (F.faults files.old) (F.faults files.new)) number.old questions result) }
     ensures few { number.new ≤ number.old + 2_000_002_000 }
-    ensures idle { IsIdle desk.new pending.new }
+    ensures idle { IsReadyToAsk desk.new pending.new }
     ensures same_desk { SameDesk desk.old desk.new }
     ensures pending { pending.new ≡ pending.old }
     ensures kept { OnlyLooks (F.seen files.old) (F.seen files.new) (F.faults files.old) (F.faults files.new) }

@@ -4,7 +4,7 @@ ghost use Rattle.std.specs.Prelude.{◌≡◌, ◌+◌, ◌<◌, ◌≤◌, IfOk
 ghost use Rattle.bounded_executor.specs.Desk.{SameDesk};
 ghost use Rattle.command_errands.specs.Errands.{prefix_of};
 ghost use Rattle.jobs.specs.Endings.{IsReplyTo};
-ghost use Rattle.planning_questions.specs.Questions.{HasQuestions, IsIdle, progress_of};
+ghost use Rattle.planning_questions.specs.Questions.{HasQuestions, IsReadyToAsk, progress_of};
 ghost use Rattle.list_walk.specs.Pages.{AllBeginWith};
 ghost use Rattle.s3_model.specs.Entries.{IsAscending, keys_of};
 ghost use Rattle.s3_model.specs.Places.{IsObject, bucket_at, key_at};
@@ -46,7 +46,7 @@ pub(crate) fn find_below<R: Wait, W: Wire + Send + Drop>(
     bucket: &str,
     key: &str,
 ) -> Result<Found, Halted>
-    requires idle { IsIdle desk.old pending.old }
+    requires idle { IsReadyToAsk desk.old pending.old }
     requires number { number.old ≤ 2_000_000_000 }
     ensures asked { HasQuestions number.old number.new (progress_of desk.old journal.old.items)
         (progress_of desk.new journal.new.items)
@@ -54,7 +54,7 @@ pub(crate) fn find_below<R: Wait, W: Wire + Send + Drop>(
     ensures entries { IfOk result (λ found.
         AreEntries (place.Object bucket.now (prefix_of key.now)) true (entries_in found.side)) }
     ensures few { number.new ≤ number.old + 1_000_001_000 }
-    ensures idle { IsIdle desk.new pending.new }
+    ensures idle { IsReadyToAsk desk.new pending.new }
     ensures same_desk { SameDesk desk.old desk.new }
     ensures pending { pending.new ≡ pending.old }
 {
@@ -124,14 +124,14 @@ pub(crate) fn find_object<R: Wait, W: Wire + Send + Drop>(
     of: &Place,
 ) -> Result<Found, Halted>
     requires object { IsObject (Some of.now) }
-    requires idle { IsIdle desk.old pending.old }
+    requires idle { IsReadyToAsk desk.old pending.old }
     requires number { number.old ≤ 2_000_000_000 }
     ensures asked { HasQuestions number.old number.new (progress_of desk.old journal.old.items)
         (progress_of desk.new journal.new.items)
         (λ questions. HeadsObject number.old (bucket_at (Some of.now)) (key_at (Some of.now)) questions result) }
     ensures entries { IfOk result (λ found. AreEntries of.now false (entries_in found.side)) }
     ensures few { number.new ≤ number.old + 1 }
-    ensures idle { IsIdle desk.new pending.new }
+    ensures idle { IsReadyToAsk desk.new pending.new }
     ensures same_desk { SameDesk desk.old desk.new }
     ensures pending { pending.new ≡ pending.old }
 {

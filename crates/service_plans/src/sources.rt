@@ -3,7 +3,7 @@
 ghost use Rattle.std.specs.Prelude.{◌≡◌, ◌+◌, ◌≤◌, [], IfOk, IfSome, Some, false};
 ghost use Rattle.bounded_executor.specs.Desk.{SameDesk};
 ghost use Rattle.command_errands.specs.Errands.{TakesPlaces, is_many, removes, source_of};
-ghost use Rattle.planning_questions.specs.Questions.{HasQuestions, IsIdle, progress_of};
+ghost use Rattle.planning_questions.specs.Questions.{HasQuestions, IsReadyToAsk, progress_of};
 ghost use Rattle.s3_model.specs.Places.{IsObject};
 ghost use Rattle.sync_plan.specs.Errands.{AreEntries};
 ghost use Rattle.tree_walk.specs.Trees.{OnlyLooks};
@@ -53,7 +53,7 @@ fn find_objects<R: Wait, W: Wire + Send + Drop>(
     from: &Place,
 ) -> Result<Found, Halted>
     requires object { IsObject (Some from.now) }
-    requires idle { IsIdle desk.old pending.old }
+    requires idle { IsReadyToAsk desk.old pending.old }
     requires number { number.old ≤ 2_000_000_000 }
     ensures asked { (files : FilesSeen) → HasQuestions number.old number.new (progress_of desk.old journal.old.items)
         (progress_of desk.new journal.new.items) (λ questions. SourceSide (removes command.now.verb)
@@ -62,7 +62,7 @@ fn find_objects<R: Wait, W: Wire + Send + Drop>(
         (is_many command.now) (entries_in found.side)) }
     ensures quiet { IfOk result (λ found. found.looked.items ≡ []) }
     ensures few { number.new ≤ number.old + 1_000_001_000 }
-    ensures idle { IsIdle desk.new pending.new }
+    ensures idle { IsReadyToAsk desk.new pending.new }
     ensures same_desk { SameDesk desk.old desk.new }
     ensures pending { pending.new ≡ pending.old }
 {
@@ -100,7 +100,7 @@ pub(crate) fn find_side<R: Wait, W: Wire + Send + Drop, F: Files>(
     files: &mut F,
 ) -> Result<Found, Halted>
     requires places { TakesPlaces command.now.verb command.now.from command.now.to }
-    requires idle { IsIdle desk.old pending.old }
+    requires idle { IsReadyToAsk desk.old pending.old }
     requires number { number.old ≤ 2_000_000_000 }
     ensures asked { HasQuestions number.old number.new (progress_of desk.old journal.old.items)
         (progress_of desk.new journal.new.items) (λ questions. SourceOf command.now
@@ -109,7 +109,7 @@ pub(crate) fn find_side<R: Wait, W: Wire + Send + Drop, F: Files>(
         (source_of (is_many command.now) from) (is_many command.now) (entries_in found.side))) }
     ensures quiet { IfOk result (λ found. IsObject command.now.from → found.looked.items ≡ []) }
     ensures few { number.new ≤ number.old + 1_000_001_000 }
-    ensures idle { IsIdle desk.new pending.new }
+    ensures idle { IsReadyToAsk desk.new pending.new }
     ensures same_desk { SameDesk desk.old desk.new }
     ensures pending { pending.new ≡ pending.old }
     ensures kept { OnlyLooks (F.seen files.old) (F.seen files.new) (F.faults files.old) (F.faults files.new) }
