@@ -1,4 +1,5 @@
 pub mod QuestionLemmas
 pub mod SideLemmas
 pub mod LiftLemmas
+pub mod NeedLemmas
 pub mod PlanLemmas

@@ -1,5 +1,6 @@
 -- The two sides of a plan: what is asked and looked at for each, and its entries.
-use Rattle.std.specs.Prelude.{◌≡◌, ◌+◌, ◌++◌, ℕ, Bool, true, false, List, [], ◌∷◌, Option, Some, None, Result, Ok, Err, length}
+use Rattle.std.specs.Prelude.{◌≡◌, ◌+◌, ◌++◌, ℕ, Bool, true, false, List, [], ◌∷◌}
+use Rattle.std.specs.Prelude.{Option, Some, None, Result, Ok, Err, length}
 use Rattle.command_errands.specs.Entries.{object_entry, removal_entry}
 use Rattle.command_errands.specs.Errands.{is_many, prefix_of, removes}
 use Rattle.list_walk.specs.Pages.{Walk, new_walk}
@@ -18,7 +19,8 @@ use Rattle.s3_outside.specs.declared.files.Shape.{Shape}
 use Rattle.s3_outside.specs.declared.files.Shape.TheVariants as shape
 use Rattle.s3_words.specs.Options.{is_sync}
 use Rattle.s3_words.specs.declared.commands.Command.{Command}
-use Rattle.service_plans.specs.Local.{FilesSeen, HasFailed, HoldsSource, HoldsTree, IsSourceFault, IsTreeFault, StandsAt}
+use Rattle.service_plans.specs.Local.{FilesSeen, HasFailed, HoldsSource, HoldsTree, IsSourceFault}
+use Rattle.service_plans.specs.Local.{IsTreeFault, StandsAt}
 use Rattle.service_plans.specs.declared.dests.Dest.{Dest}
 use Rattle.service_plans.specs.declared.found.Found.{Found}
 use Rattle.service_plans.specs.declared.found.Side.{Side}

@@ -9,7 +9,15 @@ ghost use Rattle.s3_words.specs.Options.{is_sync};
 ghost use Rattle.sync_plan.specs.Errands.{AreEntries, AreEntriesAt};
 ghost use Rattle.tree_walk.specs.Trees.{OnlyLooks};
 ghost use Rattle.service_plans.specs.Local.{files_seen};
-ghost use Rattle.service_plans.specs.Sides.{DestOf, DestSide, HasEntries, HasNoNames, LooksForFolder, NamesBelow, entries_in};
+ghost use Rattle.service_plans.specs.Sides.{
+  DestOf,
+  DestSide,
+  HasEntries,
+  HasNoNames,
+  LooksForFolder,
+  NamesBelow,
+  entries_in,
+};
 
 use crate::found::Found;
 use crate::halted::Halted;

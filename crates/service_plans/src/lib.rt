@@ -4,6 +4,7 @@
 mod dests;
 mod found;
 mod halted;
+mod laws;
 mod local;
 mod looked;
 mod planned;
@@ -12,4 +13,5 @@ mod sources;
 mod tasks;
 
 pub use halted::Halted;
+pub use laws::plans_ask_for_needs;
 pub use planned::{Planned, plan_served};

@@ -4,7 +4,15 @@ ghost use Rattle.std.specs.Prelude.{◌≡◌, ◌≢◌, ◌≤◌, IfErr, IfOk
 ghost use Rattle.s3_model.specs.Counts.{Rose};
 ghost use Rattle.s3_outside.specs.Files.{shape_at};
 ghost use Rattle.tree_walk.specs.Trees.{OnlyLooks};
-ghost use Rattle.service_plans.specs.Local.{HoldsSource, HoldsTree, IsHeldAlone, IsOneFault, IsSourceFault, IsTreeFault, files_seen};
+ghost use Rattle.service_plans.specs.Local.{
+  HoldsSource,
+  HoldsTree,
+  IsHeldAlone,
+  IsOneFault,
+  IsSourceFault,
+  IsTreeFault,
+  files_seen,
+};
 ghost use Rattle.service_plans.specs.Looked.{looked_in as looked_of};
 ghost use Rattle.service_plans.specs.Sides.{entries_in};
 
