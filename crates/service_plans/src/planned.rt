@@ -67,15 +67,16 @@ fn plan_found(
 /// files, then for those of a destination that `sync` is compared with, and plans (AWS CLI Command Reference, `s3`).
 /// Each question is a planning job of the first lane, numbered from `number` on, which is then the next one. A single
 /// object is asked for by a Head, many by a listing of all keys below the place; for the removal of a single object
-/// nothing is asked. Where one object is downloaded, it is looked whether its destination is a folder, behind the Head.
+/// nothing is asked. For the download of one object its destination is looked at behind the Head: a folder that is there
+/// gets the object's base name put into it.
 /// The command gives up its places, filters and content type to the plan; the rest of it stays.
 ///
 /// # Errors
 ///
 /// `Asked` as [`planning_questions::ask`] and [`planning_questions::list_all`], and wherever memory runs out; `Walk`
-/// where local files cannot be looked at or a tree of them is refused; `Plan` where nothing stands at a local source,
-/// a folder in place of one file, or no folder in place of one, and where the plan itself is refused, by
-/// [`sync_plan::plan_sync`]. Nothing is asked or looked at behind the first of them.
+/// where a call on local files fails or a tree of them is refused, by [`tree_walk::walk`]; `Plan` where a local source is
+/// none, by [`command_errands::local_source`], and where the plan is refused, by [`sync_plan::plan_sync`]. Nothing is
+/// asked or looked at behind the first of them.
 #[tactic(auto, using(tree_walk::proofs::WalkLemmas::keeps_then))]
 pub fn plan_served<R: Wait, W: Wire + Send + Drop, F: Files>(
     rt: &R,
