@@ -3,7 +3,7 @@ use Rattle.std.proofs.Common.{◌≡◌, ◌∙◌, ◌+◌, ◌++◌, ℕ, Bool
 use Rattle.std.specs.Prelude.{◌||◌, Result, Ok, Err}
 use Rattle.command_errands.specs.Errands.{TakesPlaces, is_many, prefix_of, removes}
 use Rattle.command_errands.specs.Needs.{verb_needs}
-use Rattle.planning_questions.specs.Questions.{IsAsked, Question}
+use Rattle.planning_questions.specs.Questions.{AsksOnce, Question}
 use Rattle.planning_questions.specs.declared.halt.Halt.{Halt}
 use Rattle.planning_questions.specs.declared.halt.Halt.TheVariants as halt
 use Rattle.run_promise.specs.Planning as planning
@@ -107,7 +107,7 @@ listing_stops number bucket key questions (halted.Asked why) h needs = inr (inl 
 listing_stops number bucket key questions (halted.Walk fault) h needs = absurd h
 listing_stops number bucket key questions (halted.Plan fault) h needs = absurd h
 
-answered_or_not : (number : ℕ) (bucket key : List ℕ) (questions : List Question) (needs : List Need) (answer : Result Reply Halt) → IsAsked number (ask.Head bucket key) questions answer → MayHaveCome answer
+answered_or_not : (number : ℕ) (bucket key : List ℕ) (questions : List Question) (needs : List Need) (answer : Result Reply Halt) → AsksOnce number (ask.Head bucket key) questions answer → MayHaveCome answer
     → AsksFor number (planning.One (ask.Head bucket key) ∷ needs) questions (Some (halted.Asked halt.Memory))
 answered_or_not number bucket key questions needs (Ok said) asked came = inl (questions, [], sym (append-nil questions), (said, asked), own (number + length questions) needs (Some (halted.Asked halt.Memory)) tt)
 answered_or_not number bucket key questions needs (Err halt.Memory) asked came = inr (inl (halt.Memory, refl, asked))

@@ -4,7 +4,7 @@ use Rattle.command_errands.specs.Errands.{TakesPlaces}
 use Rattle.command_errands.specs.Needs.{needs_of}
 use Rattle.list_walk.specs.Pages.{Walk, new_walk}
 use Rattle.planning_questions.specs.Listings.{Lists}
-use Rattle.planning_questions.specs.Questions.{IsAsked, Question}
+use Rattle.planning_questions.specs.Questions.{AsksOnce, Question}
 use Rattle.planning_questions.specs.declared.halt.Halt.{Halt}
 use Rattle.planning_questions.specs.declared.halt.Halt.TheVariants as halt
 use Rattle.run_promise.specs.Planning as planning
@@ -20,13 +20,13 @@ use Rattle.service_plans.specs.declared.planned.Planned.{Planned}
 
 -- these questions, numbered from there, met the need
 abbrev pub MeetsNeed : (number : ℕ) → Need → List Question → Type 0
-MeetsNeed number (planning.One asked) questions = (said : Reply) × IsAsked number asked questions (Ok said)
+MeetsNeed number (planning.One asked) questions = (said : Reply) × AsksOnce number asked questions (Ok said)
 MeetsNeed number (planning.Listing bucket prefix delimited) questions =
     (walk : Walk) × Lists number (new_walk bucket prefix delimited) questions (Ok walk)
 
 -- or the need is not met, for this reason
 abbrev pub FailsNeed : (number : ℕ) → Need → List Question → Halt → Type 0
-FailsNeed number (planning.One asked) questions why = IsAsked number asked questions (Err why)
+FailsNeed number (planning.One asked) questions why = AsksOnce number asked questions (Err why)
 FailsNeed number (planning.Listing bucket prefix delimited) questions why =
     Lists number (new_walk bucket prefix delimited) questions (Err why)
 
