@@ -1,2 +1,2 @@
-mod OpenLemmas
-mod JoinLemmas
+pub mod OpenLemmas
+pub mod JoinLemmas
