@@ -7,7 +7,7 @@ use Rattle.jobs.specs.Endings.{SeenCarried}
 use Rattle.jobs.specs.Jobs.{SeenJob}
 use Rattle.lane_jobs.specs.Lanes.{SeenCarrier, SeenLane}
 use Rattle.lane_workers.specs.LaneWorkers.{LaneCarries, lane_over, wires_of}
-use Rattle.planning_questions.specs.Questions.{HasMade, Progress}
+use Rattle.planning_questions.specs.Questions.{GoesOnBy, Progress}
 use Rattle.run_traces.specs.Traces.{IsRunTrace, RunTrace}
 use Rattle.s3_model.specs.Talks.{WireLog}
 use Rattle.trace_laws.specs.Joined.{IsJoined}
@@ -29,6 +29,6 @@ module _ {W : Type 0} (seen : W → Option WireLog) (faults : W → ℕ) where
   -- the steps gave to it, and what they took of it are the outcomes.
   abbrev pub DesksAreJoined : Type 0
   DesksAreJoined = (carrier : SeenCarrier) (count : ℕ) (steps : RunTrace) (came : Progress) (wires : List W)
-      (afters : List (SeenLane W)) → IsRunTrace steps → HasMade steps (fresh count) came
+      (afters : List (SeenLane W)) → IsRunTrace steps → GoesOnBy steps (fresh count) came
       → EachRuns (LaneCarries seen faults) (map (lane_over carrier) wires) came.lanes afters
       → IsJoined seen carrier steps (map (lane_over carrier) wires) afters

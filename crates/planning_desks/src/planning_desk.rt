@@ -4,7 +4,7 @@ ghost use Rattle.std.specs.Prelude.{◌≡◌, ◌≤◌, ◌+◌, [], IfOk, OnE
 ghost use Rattle.std.specs.Prelude.{vec_capacity, vec_len};
 ghost use Rattle.s3_model.specs.Validity.{IsWithin};
 ghost use Rattle.lane_workers.specs.LaneWorkers.{carrier_with, lane_over};
-ghost use Rattle.planning_questions.specs.Questions.{IsIdle, progress_of};
+ghost use Rattle.planning_questions.specs.Questions.{IsReadyToAsk, progress_of};
 ghost use Rattle.planning_desks.specs.PlanningDesks.{ComesBack, fresh};
 
 use bounded_executor::{Desk, close_desk, open_desk};
@@ -57,7 +57,7 @@ impl<W: Wire + Send + Drop + 'static> PlanningDesk<W> {
         ensures pending { IfOk result (λ planned. planned.pending
             ≡ record { depth = depth; lanes = replicate lanes [] }) }
         ensures number { IfOk result (λ planned. planned.number ≡ 0) }
-        ensures idle { IfOk result (λ planned. IsIdle planned.desk planned.pending) }
+        ensures idle { IfOk result (λ planned. IsReadyToAsk planned.desk planned.pending) }
         ensures none { IfOk result (λ planned. planned.seats.items ≡ []) }
         ensures seats { IfOk result (λ planned. length planned.desk.workers ≤ vec_capacity planned.seats) }
         ensures others { OnOk result (wires.new.items ≡ drop lanes wires.old.items) }
@@ -84,7 +84,7 @@ impl<W: Wire + Send + Drop + 'static> PlanningDesk<W> {
     /// Ends the lanes, with no job out: their wires stand in front again, in their order, as they are by having carried
     /// just what was given at the desk. Gives the journal.
     pub fn close<R: Threads>(self, rt: &R, alloc: Global, wires: &mut Vec<W>) -> Journal
-        requires idle { IsIdle self.desk self.pending }
+        requires idle { IsReadyToAsk self.desk self.pending }
         requires none { self.seats.items ≡ [] }
         requires seats { length self.desk.workers ≤ vec_capacity self.seats }
         requires room { length self.desk.workers + vec_len wires.old ≤ vec_capacity wires.old }

@@ -1,29 +1,27 @@
 -- What questions list is dated, once each completion is known to be that of its own job.
-use Rattle.std.proofs.Common.{◌≡◌, ◌∙◌, ◌+◌, ◌<◌, ◌≤◌, ◌++◌, ℕ, Bool, List, [], ◌∷◌, Option, Some, None, refl, sym, ap, subst, inl, inr, arith, append_assoc}
-use Rattle.std.specs.Prelude.{Result, Ok, Err, IfOk, false, not}
+use Rattle.std.proofs.Common.{◌≡◌, ◌∙◌, ◌+◌, ◌<◌, ◌≤◌, ◌++◌, ℕ, List, [], ◌∷◌, Option, Some, None, refl, ap, subst, inl, inr, arith, append_assoc}
+use Rattle.std.specs.Prelude.{Result, Ok, Err, false, not}
 use Rattle.std.proofs.lemmas.List.Elements.{All-append, All-nil}
 use Rattle.answer_classes.specs.Documents.{ReadsError, ReadsReply}
-use Rattle.answer_classes.specs.Showing.{HasClass, Shows}
+use Rattle.answer_classes.specs.Showing.{HasClass}
 use Rattle.answer_dates.proofs.ListedLemmas.{answers_are_dated}
 use Rattle.answer_dates.specs.Dates.{AreDated, HasDates, IsDated}
-use Rattle.attempts.specs.Attempts.{IsOfSomeTalk, SignedRequest}
+use Rattle.attempts.specs.Attempts.{SignedRequest}
 use Rattle.jobs.specs.Endings.{SeenCarried}
 use Rattle.jobs.specs.declared.ending.Ending.{Ending}
 use Rattle.jobs.specs.declared.ending.Ending.TheVariants as ending
 use Rattle.jobs.specs.Jobs.{range_of}
 use Rattle.lane_jobs.specs.Lanes.{IsGained, SeenCarrier, SeenLane, request_for}
 use Rattle.list_walk.specs.Pages.{Walk, new_walk, with_page}
-use Rattle.planning_questions.specs.Answers.{answer_of}
+use Rattle.planning_questions.specs.Answers.{said_by}
 use Rattle.planning_questions.specs.Listings.{Lists}
-use Rattle.planning_questions.specs.Questions.{IsAsked, Question, question_job, trace_of}
+use Rattle.planning_questions.specs.Questions.{AsksOnce, Question, question_job, trace_of}
 use Rattle.planning_questions.specs.declared.halt.Halt.{Halt}
-use Rattle.planning_questions.specs.declared.halt.Halt.TheVariants as halt
 use Rattle.run_traces.specs.Traces.{Gave, RunTrace, Took}
 use Rattle.s3_model.specs.Classes.{IsTwoHundred, Succeeded, succeeded}
 use Rattle.s3_model.specs.Lists.{Reserved}
 use Rattle.s3_model.specs.Talks.{WireLog}
 use Rattle.s3_model.specs.declared.answers.Answered.{Answered}
-use Rattle.s3_model.specs.declared.answers.Class.{Class}
 use Rattle.s3_model.specs.declared.answers.Class.TheVariants as class
 use Rattle.s3_model.specs.declared.answers.Listed.{Listed}
 use Rattle.s3_model.specs.declared.answers.Reply.{Reply}
@@ -32,7 +30,6 @@ use Rattle.s3_model.specs.declared.answers.Talked.TheVariants as talked
 use Rattle.s3_model.specs.declared.answers.Why.{Why}
 use Rattle.s3_model.specs.declared.answers.Why.TheVariants as why
 use Rattle.s3_model.specs.declared.places.Entry.{Entry}
-use Rattle.s3_model.specs.declared.places.Place.{Place}
 use Rattle.s3_model.specs.declared.places.Place.TheVariants as place
 use Rattle.s3_model.specs.declared.requests.Ask.{Ask}
 use Rattle.s3_model.specs.declared.requests.Ask.TheVariants as ask
@@ -41,9 +38,7 @@ use Rattle.s3_replies.specs.Buckets.{IsBucketList}
 use Rattle.s3_replies.specs.Listing.{IsListing}
 use Rattle.trace_laws.proofs.Own.{own_outcome}
 use Rattle.trace_laws.specs.Joined.{IsJoined}
-use Rattle.service_listings.specs.Listings.{IsDatedListing, ListsAt}
 use Rattle.service_listings.specs.Showings.{ListingsAreDated}
-use Rattle.service_listings.specs.declared.listing.Listing.{Listing}
 use Rattle.service_listings.specs.declared.listing.Listing.TheVariants as listing
 
 -- ---- a document
@@ -127,11 +122,11 @@ ok_err x h e = cc
 ok_is : {X : Type 0} (x y : X) → ◌≡◌ {A = Result X Halt} (Ok x) (Ok y) → y ≡ x
 ok_is x y e = cc
 
-uncertain_err : (op : Op) (why : Why) (said : Reply) → Ok said ≡ answer_of op (ending.Uncertain why) → ⊥
+uncertain_err : (op : Op) (why : Why) (said : Reply) → Ok said ≡ said_by op (ending.Uncertain why) → ⊥
 uncertain_err op why.Memory said e = ok_err said _ e
 uncertain_err op why said e = ok_err said _ e
 
-answer_gained : (op : Op) (ended : Ending) (said : Reply) → Ok said ≡ answer_of op ended → ended ≡ ending.Gained said
+answer_gained : (op : Op) (ended : Ending) (said : Reply) → Ok said ≡ said_by op ended → ended ≡ ending.Gained said
 answer_gained op (ending.Gained same) said e = ap ending.Gained (ok_is said same e)
 answer_gained op (ending.Refused status code message) said e = absurd (ok_err said _ e)
 answer_gained op (ending.Uncertain why) said e = absurd (uncertain_err op why said e)
@@ -159,7 +154,7 @@ lists_dated number walk after (q ∷ later) before dated lists = elim lists.1 [
   | inr (h, answers, none, is) ↦ absurd (ok_err after h is)
 ]
 
-buckets_dated : (number : ℕ) (buckets : Reserved Entry) (questions : List Question) → AreDatedIn (trace_of number questions) → IsAsked number ask.Buckets questions (Ok (reply.BucketList buckets)) → AreDated buckets.items
+buckets_dated : (number : ℕ) (buckets : Reserved Entry) (questions : List Question) → AreDatedIn (trace_of number questions) → AsksOnce number ask.Buckets questions (Ok (reply.BucketList buckets)) → AreDated buckets.items
 buckets_dated number buckets [] dated asked = absurd (ok_err (reply.BucketList buckets) _ asked)
 buckets_dated number buckets (q ∷ later) dated asked = elim asked.2 [
   | inl mine ↦ dated_first number q later dated (reply.BucketList buckets) (answer_gained _ q.carried.ending (reply.BucketList buckets) mine.1)

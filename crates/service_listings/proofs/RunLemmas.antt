@@ -1,8 +1,8 @@
 -- A listing over lanes that were opened and closed.
-use Rattle.std.proofs.Common.{◌≡◌, ◌∙◌, ◌++◌, ℕ, Bool, List, [], ◌∷◌, Option, Some, None, inl, inr, refl, sym, subst, append-nil, drop, length, map, replicate, take}
+use Rattle.std.proofs.Common.{◌≡◌, ◌∙◌, ◌++◌, ℕ, Bool, List, [], ◌∷◌, Option, Some, None, inl, inr, refl, sym, subst, append-nil, drop, length, replicate, take}
 use Rattle.std.specs.Prelude.{Result, Ok, Err, not}
 use Rattle.bounded_executor.specs.Desk.{DeskState, SameDesk}
-use Rattle.bounded_executor.specs.Exchange.{Exchange, unused}
+use Rattle.bounded_executor.specs.Exchange.{unused}
 use Rattle.bounded_executor.specs.Runs.{EachRuns}
 use Rattle.jobs.specs.Endings.{SeenCarried}
 use Rattle.jobs.specs.Jobs.{SeenJob}
@@ -14,8 +14,8 @@ use Rattle.planning_desks.proofs.JoinLemmas.{begins, desks_are_joined}
 use Rattle.planning_desks.proofs.OpenLemmas.{wires_again}
 use Rattle.planning_desks.specs.PlanningDesks.{ComesBack, fresh}
 use Rattle.planning_questions.proofs.TraceLemmas.{listings_are_traced, questions_are_traced}
-use Rattle.planning_questions.specs.Questions.{HasMade, HasQuestions, Progress, progress_of, trace_of, Question}
-use Rattle.planning_questions.specs.Traced.{IsLeft}
+use Rattle.planning_questions.specs.Questions.{GoesOnBy, HasQuestions, Progress, progress_of, trace_of, Question}
+use Rattle.planning_questions.specs.Traced.{GoesOnFrom}
 use Rattle.planning_questions.specs.declared.halt.Halt.{Halt}
 use Rattle.planning_questions.specs.declared.halt.Halt.TheVariants as halt
 use Rattle.run_traces.specs.Traces.{IsRunTrace, RunTrace}
@@ -33,7 +33,7 @@ use Rattle.service_listings.specs.declared.listing.Listing.TheVariants as listin
 
 -- ---- the trace
 
-left_of : {X : Type 0} (next : ℕ) (steps : RunTrace) (result : Result X Halt) → IsLeft next (steps ++ []) result → IsRunTrace steps
+left_of : {X : Type 0} (next : ℕ) (steps : RunTrace) (result : Result X Halt) → GoesOnFrom next (steps ++ []) result → IsRunTrace steps
 left_of next steps result (inl between) = subst IsRunTrace (append-nil steps) between.trace_is
 left_of next steps result (inr ends) = subst IsRunTrace (append-nil steps) ends.0.trace_is
 
@@ -62,7 +62,7 @@ none_asked (Some (place.File path)) recursive listed = absurd listed
 
 module _ {W : Type 0} (seen : W → Option WireLog) (faults : W → ℕ) (errand : Errand) (wires : List W) where
   listed_by : (count : ℕ) (questions : List Question) (came : Progress) (after : List W) (afters : List (SeenLane W)) (result : Result Listing Halt)
-      → ListsAt 0 errand.at errand.recursive questions result → HasMade (trace_of 0 questions) (fresh count) came
+      → ListsAt 0 errand.at errand.recursive questions result → GoesOnBy (trace_of 0 questions) (fresh count) came
       → EachRuns (LaneCarries seen faults) (lanes_of errand wires) came.lanes afters → after ≡ wires_of afters ++ drop errand.lanes wires
       → HasListed seen faults errand wires after came.journal result
   listed_by count questions came after afters result lists made ran back = record {
@@ -81,7 +81,7 @@ module _ {W : Type 0} (seen : W → Option WireLog) (faults : W → ℕ) (errand
       → ComesBack seen faults desk others after → HasListed seen faults errand wires after journal result
   listed_over before desk began events journal first next others after result workers begun zeroth behind noted same asked back =
       let h = subst (λ (n : ℕ). HasQuestions n next (progress_of before began) (progress_of desk events) (λ (questions : List Question). ListsAt n errand.at errand.recursive questions result)) zeroth asked in
-      let made = subst (λ (p : Progress). HasMade (trace_of 0 h.questions) p (progress_of desk events)) begun h.made in
+      let made = subst (λ (p : Progress). GoesOnBy (trace_of 0 h.questions) p (progress_of desk events)) begun h.made in
       let ran = subst (λ (ws : List (SeenLane W)). EachRuns (LaneCarries seen faults) ws desk.lanes back.afters) (same.workers ∙ workers) back.carried in
       let wires_are = subst (λ (ws : List W). after ≡ wires_of back.afters ++ ws) behind back.wires in
       subst (λ (es : List Event). HasListed seen faults errand wires after es result) (sym noted)

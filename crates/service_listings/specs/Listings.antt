@@ -5,7 +5,7 @@ use Rattle.answer_dates.specs.Dates.{AreDated}
 use Rattle.list_walk.specs.Pages.{Gathered, new_walk}
 use Rattle.listing_rows.specs.Listings.{AreRows, IsListingText}
 use Rattle.planning_questions.specs.Listings.{Lists}
-use Rattle.planning_questions.specs.Questions.{IsAsked, Question}
+use Rattle.planning_questions.specs.Questions.{AsksOnce, Question}
 use Rattle.planning_questions.specs.declared.halt.Halt.{Halt}
 use Rattle.planning_questions.specs.declared.halt.Halt.TheVariants as halt
 use Rattle.result_lines.specs.Rows.{IsBucketRow}
@@ -23,8 +23,8 @@ use Rattle.service_listings.specs.declared.listing.Shown.{Shown}
 -- or all pages of what has the key in front, where keys are listed up to the next `/` without `--recursive`.
 abbrev pub ListsAt : (number : ℕ) → Option Place → (recursive : Bool) → List Question → Result Listing Halt → Type 0
 ListsAt number None recursive questions (Ok (listing.Buckets buckets)) =
-    IsAsked number ask.Buckets questions (Ok (reply.BucketList buckets))
-ListsAt number None recursive questions (Err why) = IsAsked number ask.Buckets questions (Err why)
+    AsksOnce number ask.Buckets questions (Ok (reply.BucketList buckets))
+ListsAt number None recursive questions (Err why) = AsksOnce number ask.Buckets questions (Err why)
 ListsAt number (Some (place.Object bucket key)) recursive questions (Ok (listing.Pages walk)) =
     Lists number (new_walk bucket key (not recursive)) questions (Ok walk)
 ListsAt number (Some (place.Object bucket key)) recursive questions (Err why) =

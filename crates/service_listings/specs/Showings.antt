@@ -1,6 +1,5 @@
 -- A run of `ls` over lanes: what it asked, what it shows, and what its wires are then.
 use Rattle.std.specs.Prelude.{◌≡◌, ◌++◌, ℕ, Bool, List, Option, Result, IfOk, drop, map, take}
-use Rattle.job_terms.specs.Ops.{op_of}
 use Rattle.lane_jobs.specs.Lanes.{SeenCarrier, SeenLane}
 use Rattle.lane_workers.specs.LaneWorkers.{AreLater, lane_over, wires_of}
 use Rattle.planning_questions.specs.Questions.{Question, trace_of}

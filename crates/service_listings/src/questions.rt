@@ -2,7 +2,7 @@
 
 ghost use Rattle.std.specs.Prelude.{◌≡◌, ◌≤◌, Some, None};
 ghost use Rattle.bounded_executor.specs.Desk.{SameDesk};
-ghost use Rattle.planning_questions.specs.Questions.{HasQuestions, IsIdle, progress_of};
+ghost use Rattle.planning_questions.specs.Questions.{HasQuestions, IsReadyToAsk, progress_of};
 ghost use Rattle.s3_model.specs.Places.{IsListed};
 ghost use Rattle.service_listings.specs.Listings.{ListsAt};
 
@@ -20,13 +20,13 @@ fn list_buckets<R: Wait, W: Wire + Send + Drop>(
     planned: &mut PlanningDesk<W>,
     recursive: bool,
 ) -> Result<Listing, Halt>
-    requires idle { IsIdle planned.old.desk planned.old.pending }
+    requires idle { IsReadyToAsk planned.old.desk planned.old.pending }
     requires number { planned.old.number ≤ 2_000_000_000 }
     ensures listed { HasQuestions planned.old.number planned.new.number
         (progress_of planned.old.desk planned.old.journal.items)
         (progress_of planned.new.desk planned.new.journal.items)
         (λ questions. ListsAt planned.old.number None recursive questions result) }
-    ensures idle { IsIdle planned.new.desk planned.new.pending }
+    ensures idle { IsReadyToAsk planned.new.desk planned.new.pending }
     ensures same_desk { SameDesk planned.old.desk planned.new.desk }
     ensures pending { planned.new.pending ≡ planned.old.pending }
     ensures seats { planned.new.seats ≡ planned.old.seats }
@@ -55,13 +55,13 @@ fn list_pages<R: Wait, W: Wire + Send + Drop>(
     key: &str,
     recursive: bool,
 ) -> Result<Listing, Halt>
-    requires idle { IsIdle planned.old.desk planned.old.pending }
+    requires idle { IsReadyToAsk planned.old.desk planned.old.pending }
     requires number { planned.old.number ≤ 2_000_000_000 }
     ensures listed { HasQuestions planned.old.number planned.new.number
         (progress_of planned.old.desk planned.old.journal.items)
         (progress_of planned.new.desk planned.new.journal.items)
         (λ questions. ListsAt planned.old.number (Some (Place.Object bucket.now key.now)) recursive questions result) }
-    ensures idle { IsIdle planned.new.desk planned.new.pending }
+    ensures idle { IsReadyToAsk planned.new.desk planned.new.pending }
     ensures same_desk { SameDesk planned.old.desk planned.new.desk }
     ensures pending { planned.new.pending ≡ planned.old.pending }
     ensures seats { planned.new.seats ≡ planned.old.seats }
@@ -98,13 +98,13 @@ pub fn list<R: Wait, W: Wire + Send + Drop>(
     recursive: bool,
 ) -> Result<Listing, Halt>
     requires at { IsListed at.now }
-    requires idle { IsIdle planned.old.desk planned.old.pending }
+    requires idle { IsReadyToAsk planned.old.desk planned.old.pending }
     requires number { planned.old.number ≤ 2_000_000_000 }
     ensures listed { HasQuestions planned.old.number planned.new.number
         (progress_of planned.old.desk planned.old.journal.items)
         (progress_of planned.new.desk planned.new.journal.items)
         (λ questions. ListsAt planned.old.number at.now recursive questions result) }
-    ensures idle { IsIdle planned.new.desk planned.new.pending }
+    ensures idle { IsReadyToAsk planned.new.desk planned.new.pending }
     ensures same_desk { SameDesk planned.old.desk planned.new.desk }
     ensures pending { planned.new.pending ≡ planned.old.pending }
     ensures seats { planned.new.seats ≡ planned.old.seats }
