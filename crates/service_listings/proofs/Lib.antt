@@ -1,2 +1,4 @@
 mod DateLemmas
 mod RunLemmas
+mod StrangerLemmas
+mod NeedLemmas

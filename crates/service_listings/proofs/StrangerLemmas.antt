@@ -1,7 +1,7 @@
 -- No lane brings a stranger: what came back of a question is its own job, which is not cancelled.
-use Rattle.std.proofs.Common.{◌≡◌, ◌∙◌, ◌+◌, ◌-◌, ◌≤◌, ◌++◌, ℕ, Bool, List, [], ◌∷◌, Option, Some, None, refl, sym, ap, subst, inl, inr, arith, append_assoc, append-nil, length, slice_get}
+use Rattle.std.proofs.Common.{◌≡◌, ◌∙◌, ◌+◌, ◌-◌, ◌++◌, ℕ, Bool, List, [], ◌∷◌, Option, Some, None, refl, sym, ap, subst, inl, inr, arith, append_assoc, append-nil, length, slice_get}
 use Rattle.std.proofs.lemmas.List.{length-drop}
-use Rattle.std.specs.Prelude.{Result, Ok, Err, false, is_some, not}
+use Rattle.std.specs.Prelude.{◌≢◌, IfErr, Result, Ok, Err, false, is_some, not}
 use Rattle.jobs.specs.Holders.{Holder}
 use Rattle.jobs.specs.Jobs.{SeenJob}
 use Rattle.jobs.specs.declared.ending.Ending.{Ending}
@@ -12,19 +12,17 @@ use Rattle.planning_questions.proofs.TraceLemmas.{questions_are_traced}
 use Rattle.planning_questions.specs.Answers.{said_by}
 use Rattle.planning_questions.specs.Listings.{Lists}
 use Rattle.planning_questions.specs.Questions.{Answers, AsksOnce, Question, question_job, trace_of}
-use Rattle.planning_questions.specs.Traced.{GoesOnFrom, IsBetween}
+use Rattle.planning_questions.specs.Traced.{IsBetween}
 use Rattle.planning_questions.specs.declared.halt.Halt.{Halt}
 use Rattle.planning_questions.specs.declared.halt.Halt.TheVariants as halt
 use Rattle.run_traces.proofs.Pending.{new_pending, pending_place}
 use Rattle.run_traces.proofs.Steps.{gave_taken, given_count, taken_count, given_in}
-use Rattle.run_traces.specs.Exchanges.{HasStranger, MayBeOf}
+use Rattle.run_traces.specs.Exchanges.{MayBeOf}
 use Rattle.run_traces.specs.Traces.{Gave, RunTrace, Took, pending_in}
-use Rattle.s3_model.specs.Lists.{Reserved}
 use Rattle.s3_model.specs.Talks.{WireLog}
 use Rattle.s3_model.specs.declared.answers.Class.{Class}
 use Rattle.s3_model.specs.declared.answers.Class.TheVariants as class
 use Rattle.s3_model.specs.declared.answers.Reply.{Reply}
-use Rattle.s3_model.specs.declared.answers.Reply.TheVariants as reply
 use Rattle.s3_model.specs.declared.answers.Why.{Why}
 use Rattle.s3_model.specs.declared.answers.Why.TheVariants as why
 use Rattle.s3_model.specs.declared.faults.BadListing.{BadListing}
@@ -38,10 +36,9 @@ use Rattle.s3_model.specs.declared.requests.Op.{Op}
 use Rattle.shared_lemmas.proofs.Clashes.{none_is_some, some_is}
 use Rattle.trace_laws.proofs.Own.{looks_own, none_is_stranger, own_outcome}
 use Rattle.trace_laws.specs.Joined.{IsJoined}
-use Rattle.service_listings.specs.Listings.{ListsAt}
+use Rattle.service_listings.specs.Listings.{IsNoStranger, ListsAt}
 use Rattle.service_listings.specs.Showings.{NoneIsStrange}
 use Rattle.service_listings.specs.declared.listing.Listing.{Listing}
-use Rattle.service_listings.specs.declared.listing.Listing.TheVariants as listing
 
 -- ---- halts
 
@@ -176,3 +173,13 @@ none_is_strange seen carrier number (Some (place.Object bucket key)) recursive q
     lists_none seen carrier (trace_of number questions) befores afters joined number (new_walk bucket key (not recursive)) questions (Err h) [] (nothing_yet number) (sym (append-nil (trace_of number questions))) lists (err_is h e)
 none_is_strange seen carrier number (Some (place.File path)) recursive questions (Err h) befores afters lists joined e = lists
 none_is_strange seen carrier number at recursive questions (Ok listed) befores afters lists joined e = ok_stranger listed e
+
+known : (result : Result Listing Halt) → result ≢ Err halt.Stranger → IfErr result IsNoStranger
+known (Ok listed) other = tt
+known (Err halt.Stranger) other = absurd (other refl)
+known (Err why) other = tt
+
+pub no_stranger : {W : Type 0} (seen : W → Option WireLog) (carrier : SeenCarrier) (number : ℕ) (at : Option Place) (recursive : Bool) (questions : List Question) (result : Result Listing Halt) (befores afters : List (SeenLane W))
+    → ListsAt number at recursive questions result → IsJoined seen carrier (trace_of number questions) befores afters → IfErr result IsNoStranger
+no_stranger seen carrier number at recursive questions result befores afters lists joined =
+    known result (none_is_strange seen carrier number at recursive questions result befores afters lists joined)

@@ -61,3 +61,8 @@ IsShownBy key recursive (Ok listed) (Ok shown) = IsShownAs key recursive listed 
 IsShownBy key recursive (Ok listed) (Err halt.Memory) = Unit {0}
 IsShownBy key recursive (Err why) (Err same) = same ≡ why
 IsShownBy key recursive listed result = ⊥
+
+-- it is no job that cannot be the one that was given
+abbrev pub IsNoStranger : Halt → Type 0
+IsNoStranger halt.Stranger = ⊥
+IsNoStranger other = Unit {0}

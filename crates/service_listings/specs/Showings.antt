@@ -1,9 +1,10 @@
 -- A run of `ls` over lanes: what it asked, what it shows, and what its wires are then.
-use Rattle.std.specs.Prelude.{◌≡◌, ◌++◌, ℕ, Bool, List, Option, Result, IfOk, drop, map, take}
+use Rattle.std.specs.Prelude.{◌≡◌, ◌≢◌, ◌++◌, ℕ, Bool, List, Option, Result, Err, IfOk, drop, map, take}
 use Rattle.lane_jobs.specs.Lanes.{SeenCarrier, SeenLane}
 use Rattle.lane_workers.specs.LaneWorkers.{AreLater, lane_over, wires_of}
 use Rattle.planning_questions.specs.Questions.{Question, trace_of}
 use Rattle.planning_questions.specs.declared.halt.Halt.{Halt}
+use Rattle.planning_questions.specs.declared.halt.Halt.TheVariants as halt
 use Rattle.run_traces.specs.Traces.{journal_of}
 use Rattle.s3_model.specs.declared.outcomes.Event.{Event}
 use Rattle.s3_model.specs.declared.places.Place.{Place}
@@ -52,3 +53,10 @@ ListingsAreDated {W} seen = (carrier : SeenCarrier) (number : ℕ) (at : Option 
     (questions : List Question) (result : Result Listing Halt) (befores afters : List (SeenLane W))
     → ListsAt number at recursive questions result → IsJoined seen carrier (trace_of number questions) befores afters
     → IfOk result IsDatedListing
+
+-- And no lane brings a stranger.
+abbrev pub NoneIsStrange : {W : Type 0} → (W → Option WireLog) → Type 0
+NoneIsStrange {W} seen = (carrier : SeenCarrier) (number : ℕ) (at : Option Place) (recursive : Bool)
+    (questions : List Question) (result : Result Listing Halt) (befores afters : List (SeenLane W))
+    → ListsAt number at recursive questions result → IsJoined seen carrier (trace_of number questions) befores afters
+    → result ≢ Err halt.Stranger

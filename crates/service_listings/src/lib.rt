@@ -6,7 +6,7 @@ mod listing;
 mod questions;
 mod show;
 
-pub use laws::listings_are_dated;
+pub use laws::{listings_are_dated, paths_are_planned};
 pub use listing::{Listing, Shown};
 pub use questions::list;
 pub use show::{ListingRun, show_listing};

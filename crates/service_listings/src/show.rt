@@ -1,10 +1,10 @@
 //! The whole of `ls` over lanes.
 
-ghost use Rattle.std.specs.Prelude.{◌≡◌, ◌≤◌, IfOk, vec_len};
+ghost use Rattle.std.specs.Prelude.{◌≡◌, ◌≤◌, IfErr, IfOk, vec_len};
 ghost use Rattle.lane_workers.specs.LaneWorkers.{carrier_with};
 ghost use Rattle.s3_model.specs.Places.{IsListed};
 ghost use Rattle.s3_model.specs.Validity.{IsWithin};
-ghost use Rattle.service_listings.specs.Listings.{IsDatedListing, IsShownBy, key_of};
+ghost use Rattle.service_listings.specs.Listings.{IsDatedListing, IsNoStranger, IsShownBy, key_of};
 ghost use Rattle.service_listings.specs.Showings.{Errand, HasListed, HasShown};
 
 use crate::listing::{Listing, Shown};
@@ -47,6 +47,7 @@ fn list_over<R: Threads + Wait + Clone + Send + Drop + 'static, W: Wire + Send +
       lanes = lanes;
     } in HasListed W.seen W.faults errand wires.old.items wires.new.items result.1.items result.0 }
     ensures dated { IfOk result.0 IsDatedListing }
+    ensures no_stranger { IfErr result.0 IsNoStranger }
 {
     let opened = PlanningDesk::open(
         rt,
@@ -86,8 +87,10 @@ fn shown_of(
     key: &str,
     recursive: bool,
 ) -> Result<Shown, Halt>
-    requires { IfOk listed IsDatedListing }
-    ensures { IsShownBy key.now recursive listed result }
+    requires dated { IfOk listed IsDatedListing }
+    requires no_stranger { IfErr listed IsNoStranger }
+    ensures shown { IsShownBy key.now recursive listed result }
+    ensures no_stranger { IfErr result IsNoStranger }
 {
     match listed {
         Ok(listing) => {
@@ -137,6 +140,7 @@ pub fn show_listing<
       carrier = carrier_with endpoint.now settings.now.keys settings.now.config.attempts;
       lanes = lanes;
     } in HasShown W.seen W.faults errand wires.old.items wires.new.items result.journal.items result.shown }
+    ensures no_stranger { IfErr result.shown IsNoStranger }
 {
     let (listed, journal) = list_over(rt, alloc, wires, lanes, endpoint, settings, at, recursive);
     ListingRun {
