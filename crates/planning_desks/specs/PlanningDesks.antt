@@ -18,8 +18,8 @@ fresh lanes = record { lanes = replicate lanes unused; journal = [] }
 
 -- `seen wire`: all that is seen of the wire, if it is; `faults wire`: how often a call of it failed
 module _ {W : Type 0} (seen : W → Option WireLog) (faults : W → ℕ) where
-  -- Each lane of the desk carried the jobs that were given to it, one after the other, and the outcomes taken there are
-  -- theirs; then their wires stand in front of those that were there, in their order.
+  -- Each lane of the desk carried the jobs that were given to it, one after the other, and the outcomes taken there
+  -- are theirs; then their wires stand in front of those that were there, in their order.
   pub record ComesBack (desk : DeskState (SeenLane W) SeenJob SeenCarried) (before after : List W) : Type 0 where
     pub afters : List (SeenLane W)
     pub carried : EachRuns (LaneCarries seen faults) desk.workers desk.lanes afters

@@ -28,10 +28,10 @@ pub struct PlanningDesk<W: Wire + Send + Drop> {
 }
 
 impl<W: Wire + Send + Drop + 'static> PlanningDesk<W> {
-    /// The first `lanes` wires become the lanes of a desk, in their order, each with copies of the endpoint and the keys,
-    /// for jobs of at most `attempts` attempts each, from 1 to 10. There are 1 to 65,535 lanes, and each holds at most
-    /// `depth` jobs, 1 to 64. The other wires stay, and the list keeps the room for all. Nothing is out, the journal is
-    /// empty, and the first question is number 0.
+    /// The first `lanes` wires become the lanes of a desk, in their order, each with copies of the endpoint and the
+    /// keys, for jobs of at most `attempts` attempts each, from 1 to 10. There are 1 to 65,535 lanes, and each holds at
+    /// most `depth` jobs, 1 to 64. The other wires stay, and the list keeps the room for all. Nothing is out, the
+    /// journal is empty, and the first question is number 0.
     ///
     /// # Errors
     ///

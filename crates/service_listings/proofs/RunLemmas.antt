@@ -27,7 +27,7 @@ use Rattle.s3_model.specs.declared.places.Place.{Place}
 use Rattle.s3_model.specs.declared.places.Place.TheVariants as place
 use Rattle.s3_model.specs.declared.requests.Ask.TheVariants as ask
 use Rattle.service_listings.specs.Listings.{ListsAt}
-use Rattle.service_listings.specs.Showings.{Errand, HasListed, lanes_of}
+use Rattle.service_listings.specs.Showings.{Lookup, HasListed, lanes_of}
 use Rattle.service_listings.specs.declared.listing.Listing.{Listing}
 use Rattle.service_listings.specs.declared.listing.Listing.TheVariants as listing
 
@@ -60,35 +60,35 @@ none_asked None recursive listed = refl
 none_asked (Some (place.Object bucket key)) recursive listed = refl
 none_asked (Some (place.File path)) recursive listed = absurd listed
 
-module _ {W : Type 0} (seen : W → Option WireLog) (faults : W → ℕ) (errand : Errand) (wires : List W) where
+module _ {W : Type 0} (seen : W → Option WireLog) (faults : W → ℕ) (lookup : Lookup) (wires : List W) where
   listed_by : (count : ℕ) (questions : List Question) (came : Progress) (after : List W) (afters : List (SeenLane W)) (result : Result Listing Halt)
-      → ListsAt 0 errand.at errand.recursive questions result → GoesOnBy (trace_of 0 questions) (fresh count) came
-      → EachRuns (LaneCarries seen faults) (lanes_of errand wires) came.lanes afters → after ≡ wires_of afters ++ drop errand.lanes wires
-      → HasListed seen faults errand wires after came.journal result
+      → ListsAt 0 lookup.at lookup.recursive questions result → GoesOnBy (trace_of 0 questions) (fresh count) came
+      → EachRuns (LaneCarries seen faults) (lanes_of lookup wires) came.lanes afters → after ≡ wires_of afters ++ drop lookup.lanes wires
+      → HasListed seen faults lookup wires after came.journal result
   listed_by count questions came after afters result lists made ran back = record {
     questions = questions;
     lists = lists;
     journal = made.journaled;
     afters = afters;
-    joined = desks_are_joined seen faults errand.carrier count (trace_of 0 questions) came (take errand.lanes wires) afters (is_trace errand.at errand.recursive questions result lists) made ran;
-    later = (lanes_come_back seen faults (lanes_of errand wires) afters came.lanes ran).0;
+    joined = desks_are_joined seen faults lookup.carrier count (trace_of 0 questions) came (take lookup.lanes wires) afters (is_trace lookup.at lookup.recursive questions result lists) made ran;
+    later = (lanes_come_back seen faults (lanes_of lookup wires) afters came.lanes ran).0;
     wires = back;
   }
 
   pub listed_over : (before desk : DeskState (SeenLane W) SeenJob SeenCarried) (began events journal : List Event) (first next : ℕ) (others after : List W) (result : Result Listing Halt)
-      → before.workers ≡ lanes_of errand wires → progress_of before began ≡ fresh errand.lanes → first ≡ 0 → others ≡ drop errand.lanes wires → journal ≡ events → SameDesk before desk
-      → HasQuestions first next (progress_of before began) (progress_of desk events) (λ (questions : List Question). ListsAt first errand.at errand.recursive questions result)
-      → ComesBack seen faults desk others after → HasListed seen faults errand wires after journal result
+      → before.workers ≡ lanes_of lookup wires → progress_of before began ≡ fresh lookup.lanes → first ≡ 0 → others ≡ drop lookup.lanes wires → journal ≡ events → SameDesk before desk
+      → HasQuestions first next (progress_of before began) (progress_of desk events) (λ (questions : List Question). ListsAt first lookup.at lookup.recursive questions result)
+      → ComesBack seen faults desk others after → HasListed seen faults lookup wires after journal result
   listed_over before desk began events journal first next others after result workers begun zeroth behind noted same asked back =
-      let h = subst (λ (n : ℕ). HasQuestions n next (progress_of before began) (progress_of desk events) (λ (questions : List Question). ListsAt n errand.at errand.recursive questions result)) zeroth asked in
+      let h = subst (λ (n : ℕ). HasQuestions n next (progress_of before began) (progress_of desk events) (λ (questions : List Question). ListsAt n lookup.at lookup.recursive questions result)) zeroth asked in
       let made = subst (λ (p : Progress). GoesOnBy (trace_of 0 h.questions) p (progress_of desk events)) begun h.made in
       let ran = subst (λ (ws : List (SeenLane W)). EachRuns (LaneCarries seen faults) ws desk.lanes back.afters) (same.workers ∙ workers) back.carried in
       let wires_are = subst (λ (ws : List W). after ≡ wires_of back.afters ++ ws) behind back.wires in
-      subst (λ (es : List Event). HasListed seen faults errand wires after es result) (sym noted)
-      (listed_by errand.lanes h.questions (progress_of desk events) after back.afters result h.comes_to made ran wires_are)
+      subst (λ (es : List Event). HasListed seen faults lookup wires after es result) (sym noted)
+      (listed_by lookup.lanes h.questions (progress_of desk events) after back.afters result h.comes_to made ran wires_are)
 
-  pub not_opened : (after : List W) (journal : List Event) → IsListed errand.at → after ≡ wires → journal ≡ [] → HasListed seen faults errand wires after journal (Err halt.Memory)
+  pub not_opened : (after : List W) (journal : List Event) → IsListed lookup.at → after ≡ wires → journal ≡ [] → HasListed seen faults lookup wires after journal (Err halt.Memory)
   not_opened after journal listed same noted =
-      subst (λ (es : List Event). HasListed seen faults errand wires after es (Err halt.Memory)) (sym noted)
-      (listed_by (length (lanes_of errand wires)) [] (fresh (length (lanes_of errand wires))) after (lanes_of errand wires) (Err halt.Memory) (none_asked errand.at errand.recursive listed)
-      (record { exchanged = λ trace are. are; journaled = refl }) (none_ran (LaneCarries seen faults) (lanes_of errand wires)) (same ∙ sym (wires_again errand.carrier errand.lanes wires)))
+      subst (λ (es : List Event). HasListed seen faults lookup wires after es (Err halt.Memory)) (sym noted)
+      (listed_by (length (lanes_of lookup wires)) [] (fresh (length (lanes_of lookup wires))) after (lanes_of lookup wires) (Err halt.Memory) (none_asked lookup.at lookup.recursive listed)
+      (record { exchanged = λ trace are. are; journaled = refl }) (none_ran (LaneCarries seen faults) (lanes_of lookup wires)) (same ∙ sym (wires_again lookup.carrier lookup.lanes wires)))

@@ -1,6 +1,7 @@
 -- What `ls` asks of a service over the first lane of a desk, and what it shows of the answers (AWS CLI Command
 -- Reference, `s3 ls`).
-use Rattle.std.specs.Prelude.{◌≡◌, ◌==◌, ◌&&◌, ℕ, Bool, false, not, List, [], Option, Some, None, Result, Ok, Err, length}
+use Rattle.std.specs.Prelude.{◌≡◌, ◌==◌, ◌&&◌, ℕ, Bool, false, not, List, [], Option, Some, None, Result, Ok, Err}
+use Rattle.std.specs.Prelude.{length}
 use Rattle.answer_dates.specs.Dates.{AreDated}
 use Rattle.list_walk.specs.Pages.{Gathered, new_walk}
 use Rattle.listing_rows.specs.Listings.{AreRows, IsListingText}
@@ -19,8 +20,8 @@ use Rattle.service_listings.specs.declared.listing.Shown.{Shown}
 
 -- ---- what is asked for
 
--- The questions for a path of `ls`, or for none, numbered from there, and what they come to: the buckets of the service;
--- or all pages of what has the key in front, where keys are listed up to the next `/` without `--recursive`.
+-- The questions for a path of `ls`, or for none, numbered from there, and what they come to: the buckets of the
+-- service; or all pages of what has the key in front, where keys are listed up to the next `/` without `--recursive`.
 abbrev pub ListsAt : (number : ℕ) → Option Place → (recursive : Bool) → List Question → Result Listing Halt → Type 0
 ListsAt number None recursive questions (Ok (listing.Buckets buckets)) =
     AsksOnce number ask.Buckets questions (Ok (reply.BucketList buckets))

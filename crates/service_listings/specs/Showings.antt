@@ -15,37 +15,37 @@ use Rattle.service_listings.specs.declared.listing.Listing.{Listing}
 use Rattle.service_listings.specs.declared.listing.Shown.{Shown}
 
 -- a path of `ls`, or none, and what carries its requests: so many lanes of that carrier
-pub record Errand : Type 0 where
+pub record Lookup : Type 0 where
   pub at : Option Place
   pub recursive : Bool
   pub carrier : SeenCarrier
   pub lanes : ℕ
 
 -- the lanes over the first of these wires
-abbrev pub lanes_of : {W : Type 0} → Errand → List W → List (SeenLane W)
-lanes_of errand wires = map (lane_over errand.carrier) (take errand.lanes wires)
+abbrev pub lanes_of : {W : Type 0} → Lookup → List W → List (SeenLane W)
+lanes_of lookup wires = map (lane_over lookup.carrier) (take lookup.lanes wires)
 
 -- `seen wire`: all that is seen of the wire, if it is; `faults wire`: how often a call of it failed
 module _ {W : Type 0} (seen : W → Option WireLog) (faults : W → ℕ) where
-  -- Questions were asked for the listing, with that result, and the journal has them and nothing else. The lanes over the
-  -- first wires are joined: each completion is that of its own job. Their wires stand in their places again, of each of
-  -- which no fewer calls failed.
-  pub record HasListed (errand : Errand) (before after : List W) (events : List Event)
+  -- Questions were asked for the listing, with that result, and the journal has them and nothing else. The lanes over
+  -- the first wires are joined: each completion is that of its own job. Their wires stand in their places again, of
+  -- each of which no fewer calls failed.
+  pub record HasListed (lookup : Lookup) (before after : List W) (events : List Event)
       (result : Result Listing Halt) : Type 0 where
     pub questions : List Question
-    pub lists : ListsAt 0 errand.at errand.recursive questions result
+    pub lists : ListsAt 0 lookup.at lookup.recursive questions result
     pub journal : events ≡ journal_of (trace_of 0 questions)
     pub afters : List (SeenLane W)
-    pub joined : IsJoined seen errand.carrier (trace_of 0 questions) (lanes_of errand before) afters
-    pub later : AreLater faults (lanes_of errand before) afters
-    pub wires : after ≡ wires_of afters ++ drop errand.lanes before
+    pub joined : IsJoined seen lookup.carrier (trace_of 0 questions) (lanes_of lookup before) afters
+    pub later : AreLater faults (lanes_of lookup before) afters
+    pub wires : after ≡ wires_of afters ++ drop lookup.lanes before
 
   -- so it was listed, and this is shown of it
-  pub record HasShown (errand : Errand) (before after : List W) (events : List Event) (result : Result Shown Halt)
+  pub record HasShown (lookup : Lookup) (before after : List W) (events : List Event) (result : Result Shown Halt)
       : Type 0 where
     pub listed : Result Listing Halt
-    pub lists : HasListed errand before after events listed
-    pub shows : IsShownBy (key_of errand.at) errand.recursive listed result
+    pub lists : HasListed lookup before after events listed
+    pub shows : IsShownBy (key_of lookup.at) lookup.recursive listed result
 
 -- Where the lanes of the questions are joined, what they list is dated.
 abbrev pub ListingsAreDated : {W : Type 0} → (W → Option WireLog) → Type 0

@@ -34,8 +34,8 @@ fn finds_nothing(key: &str, pages: &Pages) -> bool
 }
 
 impl Listing {
-    /// What `ls` shows of the listing of a key, or of all buckets (AWS CLI Command Reference, `s3 ls`): under `recursive`
-    /// each has its whole name. The times lie before the year 10000.
+    /// What `ls` shows of the listing of a key, or of all buckets (AWS CLI Command Reference, `s3 ls`): under
+    /// `recursive` each has its whole name. The times lie before the year 10000.
     pub fn rows(&self, alloc: Global, key: &str, recursive: bool) -> Result<Shown, OutOfMemory>
         requires dated { IsDatedListing self.now }
         ensures rows { IfOk result (IsShownAs key.now recursive self.now) }

@@ -83,9 +83,9 @@ fn list_pages<R: Wait, W: Wire + Send + Drop>(
     }
 }
 
-/// Asks for what `ls` lists (AWS CLI Command Reference, `s3 ls`): the buckets of the service where `at` is None, else all
-/// that has the key of `at` in front, in its bucket; without `recursive` what stands below a `/` behind that key is listed
-/// as one prefix. Each request is a planning job of the first lane, and the lane makes the attempts.
+/// Asks for what `ls` lists (AWS CLI Command Reference, `s3 ls`): the buckets of the service where `at` is None, else
+/// all that has the key of `at` in front, in its bucket; without `recursive` what stands below a `/` behind that key is
+/// listed as one prefix. Each request is a planning job of the first lane, and the lane makes the attempts.
 ///
 /// # Errors
 ///

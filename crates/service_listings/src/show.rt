@@ -5,7 +5,7 @@ ghost use Rattle.lane_workers.specs.LaneWorkers.{carrier_with};
 ghost use Rattle.s3_model.specs.Places.{IsListed};
 ghost use Rattle.s3_model.specs.Validity.{IsWithin};
 ghost use Rattle.service_listings.specs.Listings.{IsDatedListing, IsNoStranger, IsShownBy, key_of};
-ghost use Rattle.service_listings.specs.Showings.{Errand, HasListed, HasShown};
+ghost use Rattle.service_listings.specs.Showings.{Lookup, HasListed, HasShown};
 
 use crate::listing::{Listing, Shown};
 use crate::questions::list;
@@ -40,12 +40,12 @@ fn list_over<R: Threads + Wait + Clone + Send + Drop + 'static, W: Wire + Send +
     requires lanes { (1 ≤ lanes) × (lanes ≤ 65535) }
     requires count { lanes ≤ vec_len wires.old }
     requires attempts { IsWithin 1 settings.now.config.attempts 10 }
-    ensures listed { let errand : Errand = record {
+    ensures listed { let lookup : Lookup = record {
       at = at.now;
       recursive = recursive;
       carrier = carrier_with endpoint.now settings.now.keys settings.now.config.attempts;
       lanes = lanes;
-    } in HasListed W.seen W.faults errand wires.old.items wires.new.items result.1.items result.0 }
+    } in HasListed W.seen W.faults lookup wires.old.items wires.new.items result.1.items result.0 }
     ensures dated { IfOk result.0 IsDatedListing }
     ensures no_stranger { IfErr result.0 IsNoStranger }
 {
@@ -109,14 +109,14 @@ fn shown_of(
 /// the key of `at` in front, in its bucket. Without `recursive` what stands below a `/` behind that key is shown as one
 /// prefix. Nothing is shown before all was listed.
 ///
-/// The first `lanes` wires, 1 to 65,535, become lanes, each in a thread of its own, and stand in their places again. The
-/// requests are planning jobs of the first lane, numbered from 0, each with at most `settings.config.attempts` attempts,
-/// from 1 to 10, signed with the keys of `settings`; the journal has the events of each as it is given and as it comes.
+/// The first `lanes` wires, 1 to 65,535, become lanes, each in a thread of its own, and stand in their places again.
+/// The requests are planning jobs of the first lane, numbered from 0, each with at most as many attempts as `settings`
+/// say, from 1 to 10, signed with their keys; the journal has the events of each as it is given and as it comes.
 ///
 /// # Errors
 ///
-/// `Listing` where a page is refused, by [`list_walk::Pages::feed`]; `Answer` where a request had no success by its last
-/// attempt; `Memory` where memory ran out. Nothing is asked after it.
+/// `Listing` where a page is refused, by [`list_walk::Pages::feed`]; `Answer` where a request had no success by its
+/// last attempt; `Memory` where memory ran out; never `Stranger`. Nothing is asked after it.
 pub fn show_listing<
     R: Threads + Wait + Clone + Send + Drop + 'static,
     W: Wire + Send + Drop + 'static,
@@ -134,12 +134,12 @@ pub fn show_listing<
     requires lanes { (1 ≤ lanes) × (lanes ≤ 65535) }
     requires count { lanes ≤ vec_len wires.old }
     requires attempts { IsWithin 1 settings.now.config.attempts 10 }
-    ensures shown { let errand : Errand = record {
+    ensures shown { let lookup : Lookup = record {
       at = at.now;
       recursive = recursive;
       carrier = carrier_with endpoint.now settings.now.keys settings.now.config.attempts;
       lanes = lanes;
-    } in HasShown W.seen W.faults errand wires.old.items wires.new.items result.journal.items result.shown }
+    } in HasShown W.seen W.faults lookup wires.old.items wires.new.items result.journal.items result.shown }
     ensures no_stranger { IfErr result.shown IsNoStranger }
 {
     let (listed, journal) = list_over(rt, alloc, wires, lanes, endpoint, settings, at, recursive);
