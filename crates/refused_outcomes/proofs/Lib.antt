@@ -1,5 +1,9 @@
+pub mod CallEnds
 pub mod LargePieces
 pub mod Moves
+pub mod Placed
 pub mod PutCauses
 pub mod RefusedPages
+pub mod ToldFiles
 pub mod Untried
+pub mod Unwarned

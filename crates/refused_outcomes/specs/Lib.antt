@@ -3,4 +3,5 @@ pub mod Moves
 pub mod PutCauses
 pub mod RefusedPages
 pub mod Told
+pub mod ToldFiles
 pub mod Untried

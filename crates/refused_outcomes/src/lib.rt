@@ -2,9 +2,11 @@
 #![tactic(auto)]
 
 mod causes;
+mod files;
 mod pages;
 mod sizes;
 
 pub use causes::{moved_copies, put_causes, untried_causes};
+pub use files::{traceless_files, unwarned_files};
 pub use pages::refused_pages;
 pub use sizes::large_pieces;
