@@ -1,6 +1,7 @@
 pub mod CallEnds
 pub mod LargePieces
 pub mod Moves
+pub mod OneRequest
 pub mod Placed
 pub mod PutCauses
 pub mod RefusedPages

@@ -1,5 +1,6 @@
 pub mod LargePieces
 pub mod Moves
+pub mod OneRequest
 pub mod PutCauses
 pub mod RefusedPages
 pub mod Told

@@ -1,6 +1,7 @@
 //! Causes of outcomes.
 
 ghost use Rattle.refused_outcomes.specs.Moves.{EachMoveIsRefused};
+ghost use Rattle.refused_outcomes.specs.OneRequest.{EachRequestCauseIsMet, EachRequestCauseIsRefused};
 ghost use Rattle.refused_outcomes.specs.PutCauses.{EachPutCauseIsRefused};
 ghost use Rattle.refused_outcomes.specs.Untried.{EachUntriedCauseIsRefused};
 
@@ -22,4 +23,13 @@ pub fn put_causes()
 /// however the jobs of its run are read. (`everything` of `promise_examples` has it copied for that loss.)
 pub fn moved_copies()
     ensures { EachMoveIsRefused }
+{}
+
+/// A Get that brought more than the whole fails for a bad reply, and is not done; one that brought the whole does not
+/// fail for that. A copy that was denied with status 412 fails since its source changed, and with another status for
+/// what the service said, and neither for the other cause. A download that is not to replace, whose Get was given
+/// where a file stood, has no outcome; it is done where its place was free, or where it is to replace.
+pub fn request_causes()
+    ensures met { EachRequestCauseIsMet }
+    ensures refused { EachRequestCauseIsRefused }
 {}
