@@ -1,5 +1,6 @@
 pub mod CallEnds
 pub mod LargePieces
+pub mod LaterFailure
 pub mod Moves
 pub mod OneRequest
 pub mod Placed

@@ -1,4 +1,5 @@
 pub mod LargePieces
+pub mod LaterFailure
 pub mod Moves
 pub mod OneRequest
 pub mod PutCauses

@@ -1,5 +1,7 @@
 //! Causes of outcomes.
 
+ghost use Rattle.refused_outcomes.specs.LaterFailure.{DeletedSourcesAreMet, EachCopiedCauseIsRefused};
+ghost use Rattle.refused_outcomes.specs.LaterFailure.{FirstFailuresAreMet, LaterFailuresAreRefused};
 ghost use Rattle.refused_outcomes.specs.Moves.{EachMoveIsRefused};
 ghost use Rattle.refused_outcomes.specs.OneRequest.{EachRequestCauseIsMet, EachRequestCauseIsRefused};
 ghost use Rattle.refused_outcomes.specs.PutCauses.{EachPutCauseIsRefused};
@@ -32,4 +34,18 @@ pub fn moved_copies()
 pub fn request_causes()
     ensures met { EachRequestCauseIsMet }
     ensures refused { EachRequestCauseIsRefused }
+{}
+
+/// An upload whose first part was denied, and whose second part was lost after that, fails for the denial, and not for
+/// the loss.
+pub fn later_failures()
+    ensures met { FirstFailuresAreMet }
+    ensures refused { LaterFailuresAreRefused }
+{}
+
+/// A moved download whose Delete came with success is done, and not copied for any cause. No task is copied for a bad
+/// reply to another request than a Delete, as to its Get.
+pub fn copied_causes()
+    ensures met { DeletedSourcesAreMet }
+    ensures refused { EachCopiedCauseIsRefused }
 {}
