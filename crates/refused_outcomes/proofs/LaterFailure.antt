@@ -1,5 +1,5 @@
 -- A later failure is not the first one, and no task is copied whose source was deleted.
-use Rattle.std.proofs.Common.{◌≡◌, ◌∙◌, ◌≢◌, ◌++◌, ◌<◌, ℕ, suc, false, List, [], ◌∷◌, Option, Some, None, refl, sym, ap, subst, inl, inr, map, slice_get, AllPairs, Contains, arith}
+use Rattle.std.proofs.Common.{◌≡◌, ◌∙◌, ◌++◌, ◌<◌, ℕ, suc, false, List, [], ◌∷◌, Option, Some, None, refl, sym, ap, subst, inl, inr, map, AllPairs, Contains, arith}
 use Rattle.std.proofs.lemmas.List.Sorted.{IsPermutation-sym, Contains-permutation}
 use Rattle.s3_model.specs.declared.answers.Class.{Class}
 use Rattle.s3_model.specs.declared.answers.Class.TheVariants as class
@@ -17,11 +17,10 @@ use Rattle.s3_model.specs.declared.requests.Op.TheVariants as op
 use Rattle.s3_model.specs.declared.tries.Mark.{Mark}
 use Rattle.s3_model.specs.declared.tries.Mark.TheVariants as mark
 use Rattle.s3_model.specs.Talks.{Talk}
-use Rattle.job_terms.specs.Dispatches.{Attempt, Dispatch, Dispatched, dispatches, last_of}
-use Rattle.job_terms.specs.Jobs.{job_of}
+use Rattle.job_terms.specs.Dispatches.{Attempt, Dispatch, Dispatched, last_of}
 use Rattle.run_promise.specs.Dispatches.{IsCut}
 use Rattle.run_promise.specs.Outcomes.{FailsFirstBy, IsCauseOf, IsLastCause, IsSourceDeleted}
-use Rattle.run_promise.specs.Schedule.{HasReply, IsBeforeAny, IsBeforePlace, IsSchedule}
+use Rattle.run_promise.specs.Schedule.{IsBeforeAny, IsBeforePlace, IsSchedule}
 use Rattle.shared_lemmas.proofs.Clashes.{false_true as never}
 use Rattle.shared_lemmas.proofs.Members.{contains_of, has-map, has_middle, index_of, mapped, pair_of, split_of}
 use Rattle.promise_examples.specs.Everything.{create_answered, create_job, part_job, upload}

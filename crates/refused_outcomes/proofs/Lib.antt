@@ -1,4 +1,5 @@
 pub mod CallEnds
+pub mod FittingPages
 pub mod LargePieces
 pub mod LaterFailure
 pub mod Moves

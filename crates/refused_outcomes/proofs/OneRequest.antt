@@ -1,5 +1,5 @@
 -- The causes of one request: a bad reply, a changed source, and a job at a place that was taken.
-use Rattle.std.proofs.Common.{◌≡◌, ◌∙◌, ◌⊎◌, ◌<◌, ℕ, zero, suc, true, false, List, [], ◌∷◌, Option, Some, None, refl, sym, ap, subst, inl, inr, Contains, slice_get, arith}
+use Rattle.std.proofs.Common.{◌≡◌, ◌∙◌, ◌⊎◌, ◌<◌, ℕ, zero, suc, true, false, List, [], ◌∷◌, Option, Some, None, refl, sym, ap, subst, inl, inr, slice_get, arith}
 use Rattle.std.specs.Prelude.{IsSome, codes}
 use Rattle.std.specs.Cmp.Lexicographic.{nat_list_cmp_total, slice_cmp}
 use Rattle.std.specs.Ordering.{nat_cmp}
@@ -32,8 +32,8 @@ use Rattle.job_terms.specs.Dispatches.{Attempt, Dispatch, Dispatched, dispatches
 use Rattle.job_terms.specs.Jobs.{Origin, Target, job_of}
 use Rattle.job_terms.specs.Ops.{is_op}
 use Rattle.run_promise.specs.Dispatches.{FitsAsk, IsCompletedWell, IsCut, IsFailing}
-use Rattle.run_promise.specs.Outcomes.{FailsFirstBy, FailsFor, HasDeciding, HasOutcome, IsFirstFailure, IsLastCause, SaysChanged, StoodAt}
-use Rattle.run_promise.specs.Schedule.{Gained, IsBefore, IsFailed, IsSchedule, IsStopped, IsTaskAsk, Known, Setting, gained_before, is_small, limit_of, most_body, source_bytes}
+use Rattle.run_promise.specs.Outcomes.{FailsFirstBy, FailsFor, HasDeciding, HasOutcome, IsFirstFailure, IsLastCause}
+use Rattle.run_promise.specs.Schedule.{IsBefore, IsFailed, IsSchedule, IsStopped, IsTaskAsk, Setting, gained_before, is_small, limit_of, most_body, source_bytes}
 use Rattle.shared_lemmas.proofs.Clashes.{false_true as never, some_is}
 use Rattle.shared_lemmas.proofs.Members.{split_of}
 use Rattle.shared_lemmas.proofs.Maps.{get-insert_same, text_exact}
@@ -201,8 +201,8 @@ module _ (page_of : List ℕ → Listed) where
       let c = made (given load held op.Get mark.Success Finished got) asked body limit size in
       let row = schedule.asks c 0 (at (c ∷ []) 0 c refl) refl in
       subst (λ (x : Task). (limit ≡ limit_of x.size row.1 0 asked) → IsTaskAsk (gained_before Shows (c ∷ []) 0) x (record { number = 0; bytes = source_bytes held x.source; piece = row.1; count = row.2 }) x.kind (is_small (with_files load held) x) op.Get 0 asked body
-          → (b : List ℕ) × (k : List ℕ) × (asked ≡ ask.Get b k [] None) × (limit ≡ 2)) (some_is load row.0 row.3)
-          (λ is_limit asks. (asks.0.bucket, asks.0.key, asks.2, is_limit ∙ ap (limit_of 2 row.1 0) asks.2)) row.6 row.7
+      → (b : List ℕ) × (k : List ℕ) × (asked ≡ ask.Get b k [] None) × (limit ≡ 2)) (some_is load row.0 row.3)
+      (λ is_limit asks. (asks.0.bucket, asks.0.key, asks.2, is_limit ∙ ap (limit_of 2 row.1 0) asks.2)) row.6 row.7
 
   good_get : IsRefusedWith page_of HasNoStatus (gets load setting.held two_bytes) load (outcome.Failed (cause.BadReply op.Get))
   good_get = however load setting.held op.Get mark.Success Finished two_bytes refl HasNoStatus (outcome.Failed (cause.BadReply op.Get)) (λ asked body limit size coming schedule how.
@@ -299,8 +299,16 @@ module _ (page_of : List ℕ → Listed) where
       let is_whole = asks_whole asked body limit size coming setting.held three_bytes schedule in
       let came = split_of coming c (has coming c (Contains-permutation (c ∷ []) coming c schedule.is_coming (at (c ∷ []) 0 c refl))) in
       let last = (alone c coming schedule.is_coming came.front c came.back came.is).0 in
-      how.0 c ((came.front, came.back, came.is, subst (λ (later : List Dispatched). IsCut Shows 2 c later (IsStopped (with_files load setting.held) (Some 0) ⊎ IsFailing Shows 2 (Some 0) (IsStopped (with_files load setting.held) (Some 0)) later) → ⊥) (sym last) (uncut c),
-      (λ well. not_well is_whole.0 is_whole.1 c is_whole.3 (subst (λ (x : Ask). (of_class : Class) (said : List ℕ) → Shows x limit (talk_with Finished three_bytes) of_class said → FitsAsk c x of_class) is_whole.2 well.1))), refl))
+      how.0 c (
+        (
+          came.front,
+          came.back,
+          came.is,
+          subst (λ (later : List Dispatched). IsCut Shows 2 c later (IsStopped (with_files load setting.held) (Some 0) ⊎ IsFailing Shows 2 (Some 0) (IsStopped (with_files load setting.held) (Some 0)) later) → ⊥) (sym last) (uncut c),
+          (λ well. not_well is_whole.0 is_whole.1 c is_whole.3 (subst (λ (x : Ask). (of_class : Class) (said : List ℕ) → Shows x limit (talk_with Finished three_bytes) of_class said → FitsAsk c x of_class) is_whole.2 well.1)),
+        ),
+        refl,
+      ))
     where
       uncut : (c : Dispatched) → IsCut Shows 2 c [] (IsStopped (with_files load setting.held) (Some 0) ⊎ IsFailing Shows 2 (Some 0) (IsStopped (with_files load setting.held) (Some 0)) []) → ⊥
       uncut c (inl again) = has [] again.0 again.1

@@ -1,6 +1,6 @@
 -- A planning whose second page is out of order.
 use Rattle.std.proofs.Common.{◌≡◌, ◌∙◌, ◌⊎◌, ◌++◌, ℕ, List, [], ◌∷◌, Option, Some, None, refl, sym, subst, inl, inr, map}
-use Rattle.std.specs.declared.cmp.Ordering.TheVariants.{Less, Greater}
+use Rattle.std.specs.declared.cmp.Ordering.TheVariants.{Less, Equal, Greater}
 use Rattle.s3_model.specs.declared.answers.Listed.{Listed}
 use Rattle.s3_model.specs.declared.answers.Reply.TheVariants as reply
 use Rattle.s3_model.specs.declared.places.Entry.{Entry}
@@ -16,6 +16,9 @@ use Rattle.refused_outcomes.specs.RefusedPages.{AreAscending, AreNeeded, IsOutOf
 
 greater_less : Greater ≡ Less → ⊥
 greater_less e = cc
+
+equal_less : Equal ≡ Less → ⊥
+equal_less e = cc
 
 some_none : (n : ℕ) → ◌≡◌ {A = Option ℕ} (Some n) None → ⊥
 some_none n e = cc
@@ -98,6 +101,21 @@ pages = record {
   needless = λ refused_page c later needed. needed;
   needless_page = λ number needed. some_none number needed.0;
 }
+
+-- a key that stands on both pages
+pub repeated : AreNeeded first_key first_key (Some 1) (both_and [])
+repeated = (
+  refl,
+  inl (
+    paged first_key first_key token,
+    first_said first_key first_key (Some 1),
+    inr (inl (
+      (λ refused. refused tt),
+      refl,
+      (refl, inl (paged first_key first_key [], last_said first_key first_key (Some 1), inl ((λ up. equal_less up.0), refl, refl))),
+    )),
+  ),
+)
 
 pub pages_are_refused : PagesAreRefused
 pages_are_refused = pages

@@ -1,5 +1,5 @@
 -- Causes that stand for others: a later failure for the first one, and a cause of a copy whose source is gone.
-use Rattle.std.specs.Prelude.{◌≡◌, ◌≢◌, ℕ, List, []}
+use Rattle.std.specs.Prelude.{◌≢◌, ℕ, List, []}
 use Rattle.s3_model.specs.declared.answers.Listed.{Listed}
 use Rattle.s3_model.specs.declared.answers.Why.TheVariants as why
 use Rattle.s3_model.specs.declared.outcomes.Cause.{Cause}

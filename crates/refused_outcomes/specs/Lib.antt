@@ -1,3 +1,4 @@
+pub mod FittingPages
 pub mod LargePieces
 pub mod LaterFailure
 pub mod Moves
