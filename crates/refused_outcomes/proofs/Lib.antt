@@ -2,8 +2,10 @@ pub mod CallEnds
 pub mod FittingPages
 pub mod LargePieces
 pub mod LaterFailure
+pub mod MovedFiles
 pub mod Moves
 pub mod OneRequest
+pub mod OneTask
 pub mod Placed
 pub mod PutCauses
 pub mod RefusedPages

@@ -1,6 +1,6 @@
 -- The calls of the moved download tell its files, whatever a service answered to its Delete, and whether its time was
 -- set.
-use Rattle.std.proofs.Common.{◌≡◌, ◌∙◌, ◌⊎◌, ℕ, zero, suc, Bool, true, false, List, [], ◌∷◌, Option, Some, None, refl, sym, ap, subst, inl, inr, filter_map, slice_get, Contains, arith}
+use Rattle.std.proofs.Common.{◌≡◌, ◌∙◌, ◌⊎◌, ℕ, suc, Bool, true, false, List, [], ◌∷◌, Option, Some, None, refl, sym, ap, subst, inl, inr, filter_map, slice_get, Contains, arith}
 use Rattle.std.proofs.lemmas.List.{append-nil}
 use Rattle.s3_model.specs.declared.answers.Class.{Class}
 use Rattle.s3_model.specs.declared.answers.Class.TheVariants as class
@@ -33,7 +33,7 @@ use Rattle.run_promise.specs.Runs.{Run}
 use Rattle.run_promise.specs.Schedule.{IsBefore, IsFailed, most_body}
 use Rattle.run_promise.specs.Traces.{Serve, Steps, TraceEvent, event_of, events_of, state_after}
 use Rattle.run_promise.specs.Truthful.{AreToldByCalls, FitsShown}
-use Rattle.shared_lemmas.proofs.Clashes.{none_is_some, some_is}
+use Rattle.shared_lemmas.proofs.Clashes.{some_is}
 use Rattle.world_laws.proofs.Fitting as served_by
 use Rattle.world_laws.proofs.Traces.{begun_through, step_of}
 use Rattle.world_laws.specs.Premises.{HasCome, HasSucceeded}
@@ -46,6 +46,7 @@ use Rattle.promise_examples.proofs.Scheduling as scheduling
 use Rattle.promise_examples.proofs.Scheduling.{other_op}
 use Rattle.rare_runs.specs.MovedDownload.{bucket, config, content, delete_asks, delete_job, delete_talk, get_asks, get_job, get_talk, key, limits, load, makes, path, renamed, renames_at, setting, stamped, temp, writes}
 use Rattle.rare_runs.proofs.MovedFile.{moved_download_is_met}
+use Rattle.refused_outcomes.proofs.OneTask.{only}
 use Rattle.refused_outcomes.specs.ToldFiles.{AreTold, AreToldWithoutTrace, FilesAreTold, Strange, calls_to, ends_with as shown_as, excusing, timed}
 
 -- ---- the jobs
@@ -67,10 +68,6 @@ jobs = get_sent ∷ delete_sent ∷ []
 
 pieces : HasPieces config limits kind.Download 2 2 1
 pieces = inl (omega arith, refl, refl)
-
-only : (P : ℕ → Task → Type 0) → P 0 load → (n : ℕ) (task : Task) → slice_get setting.tasks n ≡ Some task → P n task
-only P here zero task is = subst (P 0) (some_is load task is) here
-only P here (suc n) task is = absurd (none_is_some task is)
 
 object_no_file : (p : List ℕ) → ◌≡◌ {A = Option Place} (Some (place.Object bucket key)) (Some (place.File p)) → ⊥
 object_no_file p e = cc
@@ -160,10 +157,10 @@ module _ (Shows : Ask → ℕ → Talk → Class → List ℕ → Type 0) (shows
         told = refl;
         keep = record { keep = many.all_keep Shows setting (excusing wanted) jobs jobs calls kept; runs = (moved.runs.0, (moved.runs.1.0, (moved.runs.1.1.0, (leads, tt)))); apart = moved.apart };
         held_after = refl;
-        decided = λ n task how is at_how. only (λ k t. slice_get (outcome.Done ∷ []) k ≡ Some how → IsByFiles t → IsShownByCalls how (IsDestChanged t.kind calls k) (HasFailedAct calls k))
+        decided = λ n task how is at_how. only load (λ k t. slice_get (outcome.Done ∷ []) k ≡ Some how → IsByFiles t → IsShownByCalls how (IsDestChanged t.kind calls k) (HasFailedAct calls k))
             (λ e by. subst (λ (o : Outcome). IsShownByCalls o (IsDestChanged kind.Download calls 0) (HasFailedAct calls 0)) (some_is outcome.Done how e) ((renames_at 2, at calls 2 (renames_at 2) refl, refl, temp, path, refl), tt))
             n task is at_how;
-        moved = λ n task how p move at_how. absurd (only (λ k t. t.source ≡ Some (place.File p) → ⊥) (object_no_file p) n task move.0 move.2);
+        moved = λ n task how p move at_how. absurd (only load (λ k t. t.source ≡ Some (place.File p) → ⊥) (object_no_file p) n task move.0 move.2);
       }
 
 -- ---- a Delete that no service answers so

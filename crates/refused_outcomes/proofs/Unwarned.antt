@@ -33,6 +33,7 @@ use Rattle.promise_examples.proofs.BothKinds.{both_kinds_are_met}
 use Rattle.promise_examples.proofs.Concrete.{at, has}
 use Rattle.promise_examples.proofs.ManyCalls as many
 use Rattle.rare_runs.specs.MovedDownload.{filled, load, path, renamed, setting, stamped, temp, with_temp}
+use Rattle.refused_outcomes.proofs.OneTask.{only}
 use Rattle.refused_outcomes.specs.ToldFiles.{AreTold, EachUnwarnedFileIsMet, ExceptionsLetThrough, UnwarnedFilesAreMet, both_unwarned, excusing, held, removal, removing, temp_again}
 use Rattle.refused_outcomes.proofs.Placed.{not_timed}
 
@@ -44,13 +45,8 @@ removed_task = file_removal temp
 abbrev removes : TaskCall
 removes = call_of 0 0 (Remove temp true) (remove held temp)
 
-only : (P : ℕ → Task → Type 0) → P 0 removed_task → (n : ℕ) (task : Task) → slice_get (removed_task ∷ []) n ≡ Some task → P n task
-only P here n task is =
-    let one = one_task removed_task n task is in
-    subst (λ (t : Task). P n t) (sym one.1) (subst (λ (k : ℕ). P k removed_task) (sym one.0) here)
-
 still : (n : ℕ) (task : Task) → slice_get (removed_task ∷ []) n ≡ Some task → task.moves ≡ true → ⊥
-still = only (λ n t. t.moves ≡ true → ⊥) never
+still = only removed_task (λ n t. t.moves ≡ true → ⊥) never
 
 is_there : get held temp ≡ Some (with_bytes [])
 is_there = get-insert_same nat_list_cmp_total text_exact empty temp (with_bytes [])
@@ -63,7 +59,7 @@ apart = record {
   uploads = λ n task p move. absurd (still n task move.0 move.1);
   one_way = λ m n a b p move is_b loads. still m a move.0 move.1;
   names = λ m n a b p to_a is_b loads loads_too named. (one_task removed_task m a to_a.0).0 ∙ sym (one_task removed_task n b is_b).0;
-  there = λ n task p to_x removes. only (λ k t. t.dest ≡ place.File p → IsSome (get held p))
+  there = λ n task p to_x removes. only removed_task (λ k t. t.dest ≡ place.File p → IsSome (get held p))
       (λ e. subst (λ (q : List ℕ). IsSome (get held q)) (same_path temp p e) (subst (λ (o : Option HeldFile). IsSome o) (sym is_there) refl)) n task to_x.0 to_x.1;
 }
 
@@ -105,7 +101,7 @@ module _ (page_of : List ℕ → Listed) where
       told = refl;
       keep = record { keep = many.all_keep Shows (removal removing held).setting (excusing true) [] [] (removes ∷ []) kept; runs = (refl, tt); apart = apart };
       held_after = refl;
-      decided = λ n task how is at_how. only (λ k t. slice_get (outcome.Done ∷ []) k ≡ Some how → IsByFiles t → IsShownByCalls how (IsDestChanged t.kind (removes ∷ []) k) (HasFailedAct (removes ∷ []) k))
+      decided = λ n task how is at_how. only removed_task (λ k t. slice_get (outcome.Done ∷ []) k ≡ Some how → IsByFiles t → IsShownByCalls how (IsDestChanged t.kind (removes ∷ []) k) (HasFailedAct (removes ∷ []) k))
           (λ e by. subst (λ (o : Outcome). IsShownByCalls o (IsDestChanged kind.RemoveFile (removes ∷ []) 0) (HasFailedAct (removes ∷ []) 0)) (some_is outcome.Done how e) ((removes, at (removes ∷ []) 0 removes refl, refl, temp, refl), tt))
           n task is at_how;
       moved = λ n task how p move at_how. absurd (still n task move.0 move.1);

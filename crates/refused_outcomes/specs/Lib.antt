@@ -1,6 +1,7 @@
 pub mod FittingPages
 pub mod LargePieces
 pub mod LaterFailure
+pub mod MovedFiles
 pub mod Moves
 pub mod OneRequest
 pub mod PutCauses

@@ -1,5 +1,6 @@
 //! What local files hold.
 
+ghost use Rattle.refused_outcomes.specs.MovedFiles.{EachMovedFileIsRefused, MovedFileIsTold};
 ghost use Rattle.refused_outcomes.specs.ToldFiles.{EachUntoldFileIsRefused, EachUnwarnedFileIsMet};
 ghost use Rattle.refused_outcomes.specs.ToldFiles.{EachUnwarnedFileIsRefused, ExceptionsLetThrough, FilesAreTold};
 
@@ -19,4 +20,11 @@ pub fn unwarned_files()
     ensures met { EachUnwarnedFileIsMet }
     ensures excused { ExceptionsLetThrough }
     ensures refused { EachUnwarnedFileIsRefused }
+{}
+
+/// A moved upload that is done has its file removed. Where its file was not removed, or stands all the same, and where
+/// it was removed and the task was copied alone or failed, for whatever cause, that is refused.
+pub fn moved_files()
+    ensures met { MovedFileIsTold }
+    ensures refused { EachMovedFileIsRefused }
 {}

@@ -9,6 +9,6 @@ mod sizes;
 pub use causes::{
     copied_causes, later_failures, moved_copies, put_causes, request_causes, untried_causes,
 };
-pub use files::{traceless_files, unwarned_files};
+pub use files::{moved_files, traceless_files, unwarned_files};
 pub use pages::{fitting_pages, refused_pages};
 pub use sizes::large_pieces;
