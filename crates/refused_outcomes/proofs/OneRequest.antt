@@ -1,5 +1,5 @@
 -- The causes of one request: a bad reply, a changed source, and a job at a place that was taken.
-use Rattle.std.proofs.Common.{◌≡◌, ◌∙◌, ◌⊎◌, ◌<◌, ℕ, zero, suc, true, false, List, [], ◌∷◌, Option, Some, None, refl, sym, ap, subst, inl, inr, slice_get, arith}
+use Rattle.std.proofs.Common.{◌≡◌, ◌∙◌, ◌⊎◌, ◌<◌, ℕ, zero, suc, true, false, List, [], ◌∷◌, Some, None, refl, sym, ap, subst, inl, inr, slice_get, arith}
 use Rattle.std.specs.Prelude.{IsSome, codes}
 use Rattle.std.specs.Cmp.Lexicographic.{nat_list_cmp_total, slice_cmp}
 use Rattle.std.specs.Ordering.{nat_cmp}
@@ -48,6 +48,7 @@ use Rattle.promise_examples.proofs.Noting as noting
 use Rattle.promise_examples.proofs.Readings.{refusal_success, shown_by}
 use Rattle.promise_examples.proofs.Scheduling as scheduling
 use Rattle.promise_examples.proofs.Scheduling.{other_op}
+use Rattle.promise_examples.proofs.SmallPut as small
 use Rattle.promise_examples.proofs.Shown.{alone, made, of_shown}
 use Rattle.refused_outcomes.specs.OneRequest.{EachRequestCauseIsMet, EachRequestCauseIsRefused, IsRefusedWith, IsStatus, IsToldWith, RequestCausesAreMet, RequestCausesAreRefused, copied, denied, denied_copy, gets, one_request, talk_with, three_bytes, two_bytes, with_files}
 use Rattle.refused_outcomes.specs.Told.{IsReading}
@@ -135,15 +136,11 @@ module _ (page_of : List ℕ → Listed) where
           carried_out = refl;
           twice = (tt, tt);
           seconds = (omega arith, tt);
-          stops = λ failed c is_failed of_task other_job known same late. absurd (each (λ (d : Dispatched). IsBefore failed.dispatch.came_at d.dispatch.given_at → ⊥) jobs (never_before failed.dispatch.came_at, tt) c known late);
+          stops = λ failed c is_failed of_task other_job known same late. absurd (each (λ (d : Dispatched). IsBefore failed.dispatch.came_at d.dispatch.given_at → ⊥) jobs (small.never_before failed.dispatch.came_at, tt) c known late);
           no_abort = (no_abort, tt);
           completes = λ n id end ended created. absurd (each (λ (d : Dispatched). d.dispatch.job ≡ job_of n op.Create 0 → ⊥) jobs ((λ same. no_create (ap (λ (job : JobId). job.op) same)), tt) created.0 created.1 created.2);
           moves_last = ((λ n t of_task at_n moves deletes. absurd (no_delete deletes)), tt);
         })
-          where
-            never_before : (place : Option ℕ) → IsBefore place 0 → ⊥
-            never_before None before = before
-            never_before (Some at_place) before = omega arith
 
         lane_is : (lane : ℕ) → lane < 1 → carrying.IsLane page_of s jobs e.logs e.notes jobs lane
         lane_is zero used = record { in_turn = (tt, tt); gained = refl; noted = noting.first page_of (noting.nth 1 sent attempt) 5 [] [] refl (refl, refl, refl) (noting.done page_of) }

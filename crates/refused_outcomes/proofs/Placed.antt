@@ -24,7 +24,7 @@ use Rattle.s3_model.specs.Parts.{HasPieces}
 use Rattle.s3_model.specs.Talks.{Talk}
 use Rattle.s3_service.specs.Serves.{Replied, Succeeds}
 use Rattle.job_terms.specs.Dispatches.{Attempt, Dispatch, Dispatched}
-use Rattle.local_files.specs.Calls.{Leads, Stamp, WriteAt}
+use Rattle.local_files.specs.Calls.{Call, Leads, Stamp, WriteAt}
 use Rattle.run_promise.specs.Dispatches.{FitsAsk}
 use Rattle.run_promise.specs.FileCalls.{AreWritten, HasFailedBefore, IsBody, IsMade, TaskCall}
 use Rattle.run_promise.specs.FileOutcomes.{HasFailedAct, IsByFiles, IsDestChanged, IsFailedAct, IsShownByCalls}
@@ -47,7 +47,7 @@ use Rattle.promise_examples.proofs.Scheduling.{other_op}
 use Rattle.rare_runs.specs.MovedDownload.{bucket, config, content, delete_asks, delete_job, delete_talk, get_asks, get_job, get_talk, key, limits, load, makes, path, renamed, renames_at, setting, stamped, temp, writes}
 use Rattle.rare_runs.proofs.MovedFile.{moved_download_is_met}
 use Rattle.refused_outcomes.proofs.OneTask.{only}
-use Rattle.refused_outcomes.specs.ToldFiles.{AreTold, AreToldWithoutTrace, FilesAreTold, Strange, calls_to, ends_with as shown_as, excusing, timed}
+use Rattle.refused_outcomes.specs.ToldFiles.{AreTold, FilesAreTold, IsTraceless, Strange, calls_to, ends_with as shown_as, excusing, timed}
 
 -- ---- the jobs
 
@@ -176,8 +176,8 @@ module _ (page_of : List ℕ → Listed) where
   abbrev stored : HasSucceeded Shows delete_sent
   stored = record { place = 0; attempt = well delete_talk; reply = reply.Stored; bytes = []; is_attempt = refl; shows = (refl, refl) }
 
-  no_trace : (run : Run) → run.dispatched ≡ jobs → FitsShown Shows (shown_as false (timed true) stamped) run → ⊥
-  no_trace run same fits_run =
+  no_trace : (calls_told : List Call) (after : MapOf HeldFile) (run : Run) → run.dispatched ≡ jobs → FitsShown Shows (shown_as false calls_told after) run → ⊥
+  no_trace calls_told after run same fits_run =
       let p = fits_run.fitting in
       let come : HasCome (filter_map event_of (events_of run.trace)) delete_sent = (3, mark.Success ∷ [], refl, ap (λ (j : List Event). slice_get j 3) (p.fits.moves ∙ fits_run.of_journal)) in
       let known = subst (λ (ds : List Dispatched). Contains ds delete_sent) (sym same) (at jobs 1 delete_sent refl) in
@@ -187,19 +187,22 @@ module _ (page_of : List ℕ → Listed) where
       (served_by.steps_at Shows setting.limits run.start run.trace run.dispatched run.journal p.runs p.fits there.front there.step there.back there.is) in
       subst (λ (said : Reply). Succeeds setting.limits (state_after run.start there.front) delete_asks [] said [] there.step.state) (sym served.1) steps.1
 
-  told_strangely : AreToldWithoutTrace Shows (shown_as false (timed true) stamped) (calls_to true stamped)
+  abbrev told_strangely : AreTold Shows (shown_as false (timed true) stamped) (calls_to true stamped)
   told_strangely = record {
-    told = record {
-      dispatched = jobs;
-      coming = jobs;
-      are_jobs = refl;
-      files = told Shows (refl, refl) fits_get false true tt stamped (moved_download_is_met page_of).are_calls.runs.1.1.1.0 page_of;
-    };
-    no_trace = no_trace;
+    dispatched = jobs;
+    coming = jobs;
+    are_jobs = refl;
+    files = told Shows (refl, refl) fits_get false true tt stamped (moved_download_is_met page_of).are_calls.runs.1.1.1.0 page_of;
+  }
+
+  traceless : IsTraceless page_of
+  traceless = record {
+    met = record { told = told_strangely; no_trace = no_trace (timed true) stamped };
+    passes = λ calls_told after run part same fits_run ended. absurd (no_trace calls_told after run same fits_run);
   }
 
   pub not_timed : AreTold (Reads page_of) (shown_as true (timed false) renamed) (calls_to false renamed)
   not_timed = record { dispatched = jobs; coming = jobs; are_jobs = refl; files = told (Reads page_of) (refl, refl) fits_get true false (inr refl) renamed refl page_of }
 
 pub files_are_told : FilesAreTold
-files_are_told page_of = told_strangely page_of
+files_are_told page_of = traceless page_of

@@ -88,7 +88,8 @@ module _ (page_of : List ℕ → Listed) where
 
   pub record RequestCausesAreMet : Type 0 where
     -- a Get brought more than the whole
-    pub bad_get : IsToldWith HasNoStatus (gets load setting.held three_bytes) load (outcome.Failed (cause.BadReply op.Get))
+    pub bad_get : IsToldWith HasNoStatus (gets load setting.held three_bytes) load
+        (outcome.Failed (cause.BadReply op.Get))
     -- the whole: it replaced the file that stood there, or, where it is not to replace, nothing stood there
     pub replaces : IsToldWith HasNoStatus (gets load setting.held two_bytes) load outcome.Done
     pub free_place : IsToldWith HasNoStatus (gets fresh_load empty two_bytes) fresh_load outcome.Done

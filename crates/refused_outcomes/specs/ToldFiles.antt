@@ -19,7 +19,7 @@ use Rattle.file_laws.specs.FileWitnesses.{file_removal}
 use Rattle.run_promise.specs.Endings.{Excused, Holds, IsAbsent}
 use Rattle.run_promise.specs.FileCalls.{TaskCall}
 use Rattle.run_promise.specs.Runs.{Run}
-use Rattle.run_promise.specs.Truthful.{AreToldByCalls, FitsShown, OtherFilesStay, Shown, shown_after}
+use Rattle.run_promise.specs.Truthful.{AreToldByCalls, FitsShown, HoldsOver, OtherFilesStay, Shown, shown_after}
 use Rattle.promise_examples.specs.BothKinds as both
 use Rattle.promise_examples.specs.BothKinds.{call_of, with_bytes}
 use Rattle.promise_examples.specs.Reading.{Reads}
@@ -144,9 +144,14 @@ module _ (Shows : Ask → ℕ → Talk → Class → List ℕ → Type 0) where
     pub stands : IsUntold (removal removing held)
     pub never_removed : IsUntold (removal [] held)
 
+pub record IsTraceless (page_of : List ℕ → Listed) : Type 0 where
+  pub met : AreToldWithoutTrace (Strange page_of) (ends_with false (timed true) stamped) (calls_to true stamped)
+  -- what holds over honest traces holds whatever the files tell and hold, so it refuses no neighbour of it
+  pub passes : (told : List Call) (held : MapOf HeldFile)
+      → HoldsOver (Strange page_of) (ends_with false told held) met.told.dispatched
+
 abbrev pub FilesAreTold : Type 0
-FilesAreTold = (page_of : List ℕ → Listed)
-    → AreToldWithoutTrace (Strange page_of) (ends_with false (timed true) stamped) (calls_to true stamped)
+FilesAreTold = (page_of : List ℕ → Listed) → IsTraceless page_of
 
 abbrev pub EachUntoldFileIsRefused : Type 0
 EachUntoldFileIsRefused = (page_of : List ℕ → Listed) → FilesAreRefused (Strange page_of)
