@@ -4,6 +4,7 @@ use Rattle.s3_model.specs.declared.answers.Listed.{Listed}
 use Rattle.s3_model.specs.declared.answers.Why.TheVariants as why
 use Rattle.s3_model.specs.declared.outcomes.Cause.{Cause}
 use Rattle.s3_model.specs.declared.outcomes.Cause.TheVariants as cause
+use Rattle.s3_model.specs.declared.outcomes.Outcome.{Outcome}
 use Rattle.s3_model.specs.declared.outcomes.Outcome.TheVariants as outcome
 use Rattle.s3_model.specs.declared.requests.Op.{Op}
 use Rattle.s3_model.specs.declared.requests.Op.TheVariants as op
@@ -22,6 +23,9 @@ module _ (page_of : List ℕ → Listed) where
 
   pub record LaterFailureIsRefused : Type 0 where
     pub later : IsRefused page_of NeverFailed failed_run upload (outcome.Failed (cause.Lost op.Part why.WireFailed))
+    -- nor any outcome but the one for the denial
+    pub others : (other : Outcome) → other ≢ outcome.Failed (cause.Service op.Part denied [])
+        → IsRefused page_of NeverFailed failed_run upload other
 
   -- the source of a moved download was deleted
   pub record DeletedSourceIsMet : Type 0 where

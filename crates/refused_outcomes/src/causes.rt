@@ -36,8 +36,8 @@ pub fn request_causes()
     ensures refused { EachRequestCauseIsRefused }
 {}
 
-/// An upload whose first part was denied, and whose second part was lost after that, fails for the denial, and not for
-/// the loss.
+/// An upload whose first part was denied, and whose second part was lost after that, fails for the denial. It has no
+/// other outcome, and does not fail for the loss.
 pub fn later_failures()
     ensures met { FirstFailuresAreMet }
     ensures refused { LaterFailuresAreRefused }
