@@ -92,7 +92,7 @@ module _ (words : List (List ℕ)) (env : Option SeenEnv) (env_before env_after 
 
     stops : (why : Option Fatal) → IfSome why (StopsPlanning command settings limits was before after) → IfSome why Stops
     stops None h = tt
-    stops (Some why) h = inr (inr (inl (command, settings, begun, copies, no_listing, h)))
+    stops (Some why) h = inr (inr (inl (command, settings, begun, copies, no_listing, no_dry_run, h)))
 
     pub begun_stops : IfSome run.fatal (StopsPlanning command settings limits was before after) → IfSome run.fatal Stops
     begun_stops h = stops run.fatal h

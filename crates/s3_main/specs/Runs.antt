@@ -82,7 +82,7 @@ abbrev pub StopsInPlan : (words : List (List ℕ)) → Option SeenEnv → Limits
     → (faults_before faults_after : ℕ) → Fatal → Type 0
 StopsInPlan words env limits files before after why =
     (command : Command) × (settings : Settings) × IsBegun words env command settings
-    × (is_presign command.verb ≡ false) × (is_listing command.verb ≡ false)
+    × (is_presign command.verb ≡ false) × (is_listing command.verb ≡ false) × (command.mode.dryrun ≡ false)
     × StopsPlanning command settings limits files before after why
 
 -- what a listing of this path asks, or one without a path
