@@ -24,12 +24,12 @@ use Rattle.run_promise.specs.Settled.{left_by, untimed_by}
 use Rattle.run_report.specs.Texts.{IsOfLooking}
 use Rattle.dry_runs.specs.Errands.{removal_errand, upload_errand}
 use Rattle.dry_runs.specs.Found.{FilesSeen}
-use Rattle.dry_runs.specs.Plans.{IsDryPlan, PlansBy}
+use Rattle.dry_runs.specs.Plans.{IsDryPlan, IsDryPlanBy}
 use Rattle.dry_runs.proofs.RunLemmas.{are_looking}
-use Rattle.dry_promise.specs.Tasks.{AreUnasked, IsUnasked}
+use Rattle.dry_promise.specs.Tasks.{AreUploadsOrRemovals, IsUploadOrRemoval}
 
 -- no task
-pub no_tasks : AreUnasked 0 []
+pub no_tasks : AreUploadsOrRemovals 0 []
 no_tasks = record {
   fit = record {
     destinations = λ m n a b at_m at_n same. absurd (none_is_some a at_m);
@@ -46,7 +46,7 @@ no_tasks = record {
 -- ---- tasks
 
 abbrev IsOne : Task → Type 0
-IsOne task = IsUnasked task.kind × (task.fresh ≡ false)
+IsOne task = IsUploadOrRemoval task.kind × (task.fresh ≡ false)
 
 abbrev IsOneOf : List ℕ × Task → Type 0
 IsOneOf item = IsOne item.1
@@ -88,14 +88,14 @@ module _ (command : Command) (limits : Limits) where
   unfolding planned_removals
   all_removals entries = removals_are _
 
-are_by : (most : ℕ) (tasks : List Task) → IsFit most tasks → AllByRecursion IsOne tasks → AreUnasked most tasks
+are_by : (most : ℕ) (tasks : List Task) → IsFit most tasks → AllByRecursion IsOne tasks → AreUploadsOrRemovals most tasks
 are_by most tasks fit each = record {
   fit = fit;
   kinds = λ n task at_n. (all_at IsOne tasks n task each at_n).0;
   replace = λ n task at_n. (all_at IsOne tasks n task each at_n).1;
 }
 
-tasks_by : (removes : Bool) (command : Command) (limits : Limits) (files : FilesSeen) (looked : List Warning) (plan : Plan) → PlansBy removes command limits files looked plan → AreUnasked limits.max_object plan.tasks.items
+tasks_by : (removes : Bool) (command : Command) (limits : Limits) (files : FilesSeen) (looked : List Warning) (plan : Plan) → IsDryPlanBy removes command limits files looked plan → AreUploadsOrRemovals limits.max_object plan.tasks.items
 tasks_by true command limits files looked plan h =
     are_by limits.max_object plan.tasks.items h.1.fit (subst (λ (all : List Task). AllByRecursion IsOne all) (sym h.1.tasks) (all_removals command limits _))
 tasks_by false command limits files looked plan h =
@@ -134,7 +134,7 @@ skips_plain : (errand : Errand) (to : Place) (many : Bool) (source : List Entry)
 unfolding skipped
 skips_plain errand to many source = names_plain errand to many _
 
-plan_plain : (removes : Bool) (command : Command) (limits : Limits) (files : FilesSeen) (looked : List Warning) (plan : Plan) → PlansBy removes command limits files looked plan → AllByRecursion IsPlain plan.warnings.items
+plan_plain : (removes : Bool) (command : Command) (limits : Limits) (files : FilesSeen) (looked : List Warning) (plan : Plan) → IsDryPlanBy removes command limits files looked plan → AllByRecursion IsPlain plan.warnings.items
 plan_plain true command limits files looked plan h = subst (λ (all : List Warning). AllByRecursion IsPlain all) (sym h.1.no_skip) tt
 plan_plain false command limits files looked plan h =
     subst (λ (all : List Warning). AllByRecursion IsPlain all) (sym h.transfers.skips) (skips_plain (upload_errand command limits) _ command.recursive h.entries)
@@ -150,7 +150,7 @@ untimed_of (w ∷ ws) h = ap (λ (found : Option (List ℕ)). cons_option found 
 -- ---- the plan of a dry run
 
 module _ (command : Command) (limits : Limits) (files : FilesSeen) (looked : List Warning) (plan : Plan) (planned : IsDryPlan command limits files looked plan) where
-  pub unasked_tasks : AreUnasked limits.max_object plan.tasks.items
+  pub unasked_tasks : AreUploadsOrRemovals limits.max_object plan.tasks.items
   unasked_tasks = tasks_by (is_removal command.verb) command limits files looked plan planned
 
   plain : AllByRecursion IsPlain (looked ++ plan.warnings.items)

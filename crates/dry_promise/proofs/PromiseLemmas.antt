@@ -38,11 +38,11 @@ use Rattle.upload_promise.specs.Sources.{AreLeft}
 use Rattle.upload_promise.proofs.JobLemmas.{in_none, no_buffers, no_schedule}
 use Rattle.upload_promise.proofs.PromiseLemmas.{has_lanes, status_is}
 use Rattle.upload_promise.proofs.WireLemmas.{none_carried}
-use Rattle.dry_promise.specs.Tasks.{AreUnasked, IsUnasked}
+use Rattle.dry_promise.specs.Tasks.{AreUploadsOrRemovals, IsUploadOrRemoval}
 
 -- ---- such tasks
 
-to_object : (of_kind : Kind) (source : Option Place) (dest : Place) (moves : Bool) → IsUnasked of_kind → IsOfKind of_kind source dest moves → (bucket : List ℕ) × (key : List ℕ) × (dest ≡ place.Object bucket key)
+to_object : (of_kind : Kind) (source : Option Place) (dest : Place) (moves : Bool) → IsUploadOrRemoval of_kind → IsOfKind of_kind source dest moves → (bucket : List ℕ) × (key : List ℕ) × (dest ≡ place.Object bucket key)
 to_object kind.Upload (Some (place.File path)) (place.Object bucket key) moves unasked is = (bucket, key, refl)
 to_object kind.RemoveObject None (place.Object bucket key) false unasked is = (bucket, key, refl)
 to_object kind.Download source dest moves unasked is = absurd unasked
@@ -50,7 +50,7 @@ to_object kind.Copy source dest moves unasked is = absurd unasked
 to_object kind.RemoveFile source dest moves unasked is = absurd unasked
 to_object of_kind source dest moves unasked is = absurd is
 
-by_request : (of_kind : Kind) → IsUnasked of_kind → IsDecidedByRequest of_kind
+by_request : (of_kind : Kind) → IsUploadOrRemoval of_kind → IsDecidedByRequest of_kind
 by_request kind.Upload h = tt
 by_request kind.RemoveObject h = tt
 by_request kind.Download h = absurd h
@@ -60,7 +60,7 @@ by_request kind.RemoveFile h = absurd h
 upload_is_no_removal : kind.Upload ≡ kind.RemoveObject → ⊥
 upload_is_no_removal e = cc
 
-removal_stays : (of_kind : Kind) (source : Option Place) (dest : Place) (moves : Bool) → IsUnasked of_kind → IsOfKind of_kind source dest moves → of_kind ≡ kind.RemoveObject → moves ≡ false
+removal_stays : (of_kind : Kind) (source : Option Place) (dest : Place) (moves : Bool) → IsUploadOrRemoval of_kind → IsOfKind of_kind source dest moves → of_kind ≡ kind.RemoveObject → moves ≡ false
 removal_stays kind.RemoveObject None (place.Object bucket key) false unasked is removes = refl
 removal_stays kind.Upload source dest moves unasked is removes = absurd (upload_is_no_removal removes)
 removal_stays kind.Download source dest moves unasked is removes = absurd unasked
@@ -68,7 +68,7 @@ removal_stays kind.Copy source dest moves unasked is removes = absurd unasked
 removal_stays kind.RemoveFile source dest moves unasked is removes = absurd unasked
 removal_stays of_kind source dest moves unasked is removes = absurd is
 
-move_uploads : (of_kind : Kind) (source : Option Place) (dest : Place) (moves : Bool) → IsUnasked of_kind → IsOfKind of_kind source dest moves → moves ≡ true → of_kind ≡ kind.Upload
+move_uploads : (of_kind : Kind) (source : Option Place) (dest : Place) (moves : Bool) → IsUploadOrRemoval of_kind → IsOfKind of_kind source dest moves → moves ≡ true → of_kind ≡ kind.Upload
 move_uploads kind.Upload source dest moves unasked is move = refl
 move_uploads kind.RemoveObject None (place.Object bucket key) false unasked is move = absurd (false_true move)
 move_uploads kind.Download source dest moves unasked is move = absurd unasked
@@ -82,7 +82,7 @@ object_or_file at bucket key path object file = apart (sym object ∙ file)
     apart : place.Object bucket key ≡ place.File path → ⊥
     apart e = cc
 
-module _ (most : ℕ) (tasks : List Task) (are : AreUnasked most tasks) where
+module _ (most : ℕ) (tasks : List Task) (are : AreUploadsOrRemovals most tasks) where
   dest_is : (n : ℕ) (task : Task) → slice_get tasks n ≡ Some task → (bucket : List ℕ) × (key : List ℕ) × (task.dest ≡ place.Object bucket key)
   dest_is n task is_task = to_object task.kind task.source task.dest task.moves (are.kinds n task is_task) (are.fit.kinds n task is_task)
 
@@ -111,7 +111,7 @@ module _ (most : ℕ) (tasks : List Task) (are : AreUnasked most tasks) where
     sources = λ m n a b path move to. no_file n b path to.0 to.1;
     moved_once = λ m n a b path move other. are.fit.sources m n a b (place.File path) move.0 other.0 move.2 other.2;
     uploads = λ n task path move. move_uploads task.kind task.source task.dest task.moves (are.kinds n task move.0) (are.fit.kinds n task move.0) move.1;
-    one_way = λ m n a b path move is_b loads. subst IsUnasked loads (are.kinds n b is_b);
+    one_way = λ m n a b path move is_b loads. subst IsUploadOrRemoval loads (are.kinds n b is_b);
     names = λ m n a b path to is_b load loads named. absurd (no_file m a path to.0 to.1);
     there = λ n task path to removal. absurd (no_file n task path to.0 to.1);
   }
@@ -129,7 +129,7 @@ module _ (Shows : Ask → ℕ → Talk → Class → List ℕ → Type 0) (HasSt
     (Plans : Option ℕ → List Dispatched → Type 0) (plans_none : Plans None []) (config : Config) (configured : IsValidConfig config) (limits : Limits) (valid : IsValidLimits limits) (wires : ℕ) (has_wire : 1 ≤ wires)
     (status before after : ℕ) (path : List ℕ) (was now : SeenFiles) (same : AreLeft was now) (warnings : List Warning)
     (no_left : filter_map left_by warnings ≡ []) (no_untimed : filter_map untimed_by warnings ≡ []) (notes : List Note) (idle : AreIdle notes)
-    (most : ℕ) (dryrun : Bool) (tasks : List Task) (are : AreUnasked most tasks) (outcomes : List Outcome) (as_many : length outcomes ≡ length tasks)
+    (most : ℕ) (dryrun : Bool) (tasks : List Task) (are : AreUploadsOrRemovals most tasks) (outcomes : List Outcome) (as_many : length outcomes ≡ length tasks)
     (shown_only : (n : ℕ) (how : Outcome) → slice_get outcomes n ≡ Some how → (how ≡ outcome.Dry) × (dryrun ≡ true)) where
   abbrev start : RunStart
   start = record (start_of config limits wires tasks was) { dryrun = dryrun }

@@ -1,5 +1,4 @@
 pub mod EntryLemmas
-pub mod FoundLemmas
 pub mod LineLemmas
 pub mod RunLemmas
 pub mod ShownLemmas

@@ -16,8 +16,8 @@ use Rattle.s3_words.specs.declared.commands.Command.{Command}
 use Rattle.upload_plans.specs.Commands.{is_removal}
 use Rattle.dry_runs.specs.Errands.{upload_errand}
 use Rattle.dry_runs.specs.Found.{FilesSeen, HoldsOne, HoldsSource}
-use Rattle.dry_runs.specs.Looked.{looked_in, not_a_file, unnamed_in}
-use Rattle.dry_runs.specs.Plans.{IsDryPlan, PlansBy}
+use Rattle.dry_runs.specs.Looked.{looked_in, not_a_file, unnamed_warnings}
+use Rattle.dry_runs.specs.Plans.{IsDryPlan, IsDryPlanBy}
 use Rattle.dry_runs.proofs.ShownLemmas.{have_sources, skips_shown}
 
 -- ---- warnings of looking
@@ -30,7 +30,7 @@ others_looking : (root : List ℕ) (others : List (List ℕ)) → AllByRecursion
 others_looking root [] = tt
 others_looking root (path ∷ others) = (tt, others_looking root others)
 
-unnamed_looking : (unnamed : ℕ) → AllByRecursion IsOfLooking (unnamed_in unnamed)
+unnamed_looking : (unnamed : ℕ) → AllByRecursion IsOfLooking (unnamed_warnings unnamed)
 unnamed_looking unnamed = by (unnamed == 0)
   where
     by : (none : Bool) → AllByRecursion IsOfLooking (if none then [] else warning.Unnamed unnamed ∷ [])
@@ -38,7 +38,7 @@ unnamed_looking unnamed = by (unnamed == 0)
     by false = (tt, tt)
 
 tree_looking : (root : List ℕ) (others : List (List ℕ)) (unnamed : ℕ) → AllByRecursion IsOfLooking (looked_in root others unnamed)
-tree_looking root others unnamed = both IsOfLooking (unnamed_in unnamed) (map (not_a_file root) others) (unnamed_looking unnamed) (others_looking root others)
+tree_looking root others unnamed = both IsOfLooking (unnamed_warnings unnamed) (map (not_a_file root) others) (unnamed_looking unnamed) (others_looking root others)
 
 one_looking : (path : List ℕ) (stands : Shape) (entries : List Entry) (looked : List Warning) → HoldsOne path stands entries looked → AllByRecursion IsOfLooking looked
 one_looking path (shape.File size micros) entries looked h = subst (λ (all : List Warning). AllByRecursion IsOfLooking all) (sym h.1) tt
@@ -53,17 +53,17 @@ source_looking files false path entries looked h = one_looking path h.stands ent
 
 -- ---- plans
 
-looking_by : (removes : Bool) (command : Command) (limits : Limits) (files : FilesSeen) (looked : List Warning) (plan : Plan) → PlansBy removes command limits files looked plan → AllByRecursion IsOfLooking looked
+looking_by : (removes : Bool) (command : Command) (limits : Limits) (files : FilesSeen) (looked : List Warning) (plan : Plan) → IsDryPlanBy removes command limits files looked plan → AllByRecursion IsOfLooking looked
 looking_by true command limits files looked plan h = subst (λ (all : List Warning). AllByRecursion IsOfLooking all) (sym h.0) tt
 looking_by false command limits files looked plan h = source_looking files command.recursive _ h.entries looked h.found
 
-shown_by : (removes : Bool) (command : Command) (limits : Limits) (files : FilesSeen) (looked : List Warning) (plan : Plan) → PlansBy removes command limits files looked plan → All IsShown plan.warnings.items
+shown_by : (removes : Bool) (command : Command) (limits : Limits) (files : FilesSeen) (looked : List Warning) (plan : Plan) → IsDryPlanBy removes command limits files looked plan → All IsShown plan.warnings.items
 shown_by true command limits files looked plan h = subst (λ (all : List Warning). All IsShown all) (sym h.1.no_skip) (All-nil IsShown)
 shown_by false command limits files looked plan h =
     let errand = upload_errand command limits in
     subst (λ (all : List Warning). All IsShown all) (sym h.transfers.skips) (skips_shown errand errand.to errand.many h.entries)
 
-places_by : (removes : Bool) (command : Command) (limits : Limits) (files : FilesSeen) (looked : List Warning) (plan : Plan) → PlansBy removes command limits files looked plan → All HasSource plan.tasks.items
+places_by : (removes : Bool) (command : Command) (limits : Limits) (files : FilesSeen) (looked : List Warning) (plan : Plan) → IsDryPlanBy removes command limits files looked plan → All HasSource plan.tasks.items
 places_by true command limits files looked plan h = have_sources limits.max_object plan.tasks.items h.1.fit
 places_by false command limits files looked plan h = have_sources limits.max_object plan.tasks.items h.transfers.fit
 

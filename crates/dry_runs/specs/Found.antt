@@ -62,6 +62,7 @@ walk_fatal other = fatal.Walk other
 abbrev pub IsTreeFault : FilesSeen → (root : List ℕ) → Fatal → Type 0
 IsTreeFault files root fatal.Memory = Unit {0}
 IsTreeFault files root (fatal.Walk walk.Files) = Rose files.faults_before files.faults_after
+IsTreeFault files root (fatal.Walk walk.Memory) = ⊥
 IsTreeFault files root (fatal.Walk fault) = IfSome files.now (λ seen. IsRefused seen.store root fault)
 IsTreeFault files root why = ⊥
 
@@ -91,8 +92,13 @@ pub record HoldsSource (files : FilesSeen) (many : Bool) (path : List ℕ) (entr
   pub one : many ≡ false → HoldsOne path stands entries looked
   pub tree : many ≡ true → HoldsTree files.now path entries looked
 
--- what stood there is none that is wanted, or no tree was found
+-- What stood there is none that is wanted, or a call on the files failed; or many names were wanted, a folder stood
+-- there, and its tree is refused.
 abbrev pub IsSourceFault : FilesSeen → (many : Bool) → (path : List ℕ) → Fatal → Type 0
+IsSourceFault files many path fatal.Memory = Unit {0}
+IsSourceFault files many path (fatal.Walk walk.Files) = Rose files.faults_before files.faults_after
 IsSourceFault files many path (fatal.Plan fault) =
     (stands : Shape) × Stood files path stands × (source_fault many path stands ≡ Some fault)
-IsSourceFault files many path why = IsTreeFault files path why
+IsSourceFault files many path (fatal.Walk fault) =
+    (many ≡ true) × Stood files path shape.Folder × IsTreeFault files path (fatal.Walk fault)
+IsSourceFault files many path why = ⊥

@@ -78,13 +78,13 @@ StopsRemoval command limits why = IsPlanFatal (removal_errand command limits)
 
 -- ---- a dry run
 
-abbrev pub PlansBy : (removes : Bool) → Command → Limits → FilesSeen → (looked : List Warning) → Plan → Type 0
-PlansBy true command limits files looked plan = PlansRemoval command limits looked plan
-PlansBy false command limits files looked plan = PlansUpload (upload_errand command limits) files looked plan
+abbrev pub IsDryPlanBy : (removes : Bool) → Command → Limits → FilesSeen → (looked : List Warning) → Plan → Type 0
+IsDryPlanBy true command limits files looked plan = PlansRemoval command limits looked plan
+IsDryPlanBy false command limits files looked plan = PlansUpload (upload_errand command limits) files looked plan
 
 -- its plan, and what looking at its source warns of
 abbrev pub IsDryPlan : Command → Limits → FilesSeen → (looked : List Warning) → Plan → Type 0
-IsDryPlan command limits files looked plan = PlansBy (is_removal command.verb) command limits files looked plan
+IsDryPlan command limits files looked plan = IsDryPlanBy (is_removal command.verb) command limits files looked plan
 
 abbrev pub StopsBy : (removes : Bool) → Command → Limits → FilesSeen → Fatal → Type 0
 StopsBy true command limits files why = StopsRemoval command limits why

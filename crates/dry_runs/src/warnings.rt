@@ -1,7 +1,7 @@
 //! The warnings of planning.
 
 ghost use Rattle.std.specs.Prelude.{◌≡◌, ◌++◌, ◌∷◌, [], IfOk, OnOk, map};
-ghost use Rattle.dry_runs.specs.Looked.{looked_in, not_a_file, unnamed_in};
+ghost use Rattle.dry_runs.specs.Looked.{looked_in, not_a_file, unnamed_warnings};
 
 use s3_model::{OutOfMemory, Text, Warning, Warnings};
 use s3_paths::joined;
@@ -67,7 +67,7 @@ fn add_others(
 }
 
 fn add_unnamed(warnings: &mut Warnings, unnamed: u64) -> Result<(), OutOfMemory>
-    ensures { OnOk result (warnings.new.items ≡ warnings.old.items ++ unnamed_in unnamed) }
+    ensures { OnOk result (warnings.new.items ≡ warnings.old.items ++ unnamed_warnings unnamed) }
 {
     if unnamed == 0 {
         return Ok(());
