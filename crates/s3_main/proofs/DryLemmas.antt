@@ -29,7 +29,7 @@ use Rattle.run_start.proofs.RestLemmas.{mode_is}
 use Rattle.sync_plan.specs.Plans.{copies, planned_removals}
 use Rattle.dry_runs.specs.Errands.{removal_entry, removal_errand, upload_errand}
 use Rattle.dry_runs.specs.Found.{FilesSeen, HoldsSource, HoldsTree, IsSourceFault, files_seen}
-use Rattle.dry_runs.specs.Plans.{IsPlanFatal, PlansBy, StopsBy, StopsDry}
+use Rattle.dry_runs.specs.Plans.{IsPlanFatal, IsDryPlanBy, StopsBy, StopsDry}
 use Rattle.dry_runs.specs.Runs.{GoesDry, ShowsPlan}
 use Rattle.s3_main.specs.Asked.{dries_in}
 use Rattle.s3_main.specs.Runs.{GoesAs, IsUnasked, StopsFor, Undertakes}
@@ -77,8 +77,8 @@ unseen_source : (files : FilesSeen) (many : Bool) (path : List ℕ) (entries : L
 unseen_source files many path entries looked h =
     record { stands = h.stands; stood = tt; fits = h.fits; one = h.one; tree = λ e. unseen_tree files.now path entries looked (h.tree e) }
 
-unseen_by : (removes : Bool) (command : Command) (limits : Limits) (files : FilesSeen) (looked : List Warning) (plan : Plan) → PlansBy removes command limits files looked plan
-    → PlansBy removes command limits (files_seen None None 0 0) looked plan
+unseen_by : (removes : Bool) (command : Command) (limits : Limits) (files : FilesSeen) (looked : List Warning) (plan : Plan) → IsDryPlanBy removes command limits files looked plan
+    → IsDryPlanBy removes command limits (files_seen None None 0 0) looked plan
 unseen_by true command limits files looked plan h = h
 unseen_by false command limits files looked plan h = record { entries = h.entries; found = unseen_source files _ _ h.entries looked h.found; transfers = h.transfers }
 
