@@ -40,7 +40,7 @@ StopsInDryRun words env limits files why =
     (command : Command) × (settings : Settings) × IsBegun words env command settings
     × (is_offline_dry_run command ≡ true) × StopsDry command limits files why
 
--- the files stay, and only the path of the words is asked for; a dry run looks at what stands below it, too
+-- the files stay, and only the path of the words is asked for; or in a dry run only calls that look are made
 abbrev pub LooksFor : (words : List (List ℕ)) → FilesSeen → Type 0
 LooksFor words files = LooksAt (path_in words) files.was files.now
     ⊎ ((dries_in words ≡ true) × OnlyLooks files.was files.now files.faults_before files.faults_after)

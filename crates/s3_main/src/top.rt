@@ -91,7 +91,7 @@ where
     // Of the environment only the settings files are asked for, each at most once.
     ensures asked { AsksOnly (E.seen env.old) (E.seen env.new) (E.faults env.old) (E.faults env.new) }
 
-    // The files stay, and only the path of the words is asked for, and what stands below it.
+    // The files stay, and only the path of the words is asked for, or a dry run makes only calls that look.
     ensures files { LooksFor (map string_bytes words.now) (files_seen (F.seen files.old) (F.seen files.new)
         (F.faults files.old) (F.faults files.new)) }
 
