@@ -1,5 +1,5 @@
 -- What local files show a planning: what stands at a path, and the tree below a folder.
-use Rattle.std.specs.Prelude.{◌≡◌, ◌≤◌, ℕ, Bool, List, [], ◌∷◌, Option, IfSome, length}
+use Rattle.std.specs.Prelude.{◌≡◌, ◌≤◌, ℕ, Bool, true, List, [], ◌∷◌, Option, IfSome, length}
 use Rattle.std.specs.List.{AllByRecursion}
 use Rattle.command_errands.specs.Sources.{local_source}
 use Rattle.command_errands.specs.declared.sources.LocalSource.{LocalSource}
@@ -13,6 +13,7 @@ use Rattle.s3_model.specs.declared.tasks.Warning.{Warning}
 use Rattle.s3_model.specs.declared.tasks.Warning.TheVariants as warning
 use Rattle.s3_outside.specs.Files.{SeenFiles, shape_at}
 use Rattle.s3_outside.specs.declared.files.Shape.{Shape}
+use Rattle.s3_outside.specs.declared.files.Shape.TheVariants as shape
 use Rattle.tree_walk.specs.Trees.{Describes, IsOrderly, IsRefused, IsWalked}
 use Rattle.service_plans.specs.Looked.{looked_in}
 use Rattle.service_plans.specs.declared.halted.Halted.{Halted}
@@ -84,8 +85,13 @@ pub record HoldsSource (files : FilesSeen) (many : Bool) (path : List ℕ) (entr
   pub stood : StandsAt files path stands
   pub held : IsHeldAs (local_source many path stands) files path entries looked
 
--- what stands there is no source, or no tree was found
+-- What stands there is no source, or a call on the files failed; or there are to be many names, a folder stands there,
+-- and its tree is refused.
 abbrev pub IsSourceFault : FilesSeen → (many : Bool) → (path : List ℕ) → Halted → Type 0
+IsSourceFault files many path (halted.Asked halt.Memory) = Unit {0}
+IsSourceFault files many path (halted.Walk walk.Files) = HasFailed files
 IsSourceFault files many path (halted.Plan fault) =
     (stands : Shape) × StandsAt files path stands × (local_source many path stands ≡ source.Refused fault)
-IsSourceFault files many path why = IsTreeFault files path why
+IsSourceFault files many path (halted.Walk fault) =
+    (many ≡ true) × StandsAt files path shape.Folder × IsTreeFault files path (halted.Walk fault)
+IsSourceFault files many path why = ⊥
