@@ -1,35 +1,42 @@
 //! What a service lists.
 
-ghost use Rattle.std.specs.Prelude.{◌≡◌, ◌≤◌, [], true, None, Some, IfErr, IfSome, map, string_bytes};
-ghost use Rattle.listing_commands.specs.Commands.{ShowsListing};
-ghost use Rattle.listings.specs.Asked.{OfSomeTalks};
-ghost use Rattle.listings.specs.Faults.{IsNoCancel};
+ghost use Rattle.std.specs.Prelude.{◌≡◌, ◌≤◌, [], true, None, Some, IfErr, IfSome, map, string_bytes, vec_len};
 ghost use Rattle.s3_model.specs.Places.{IsListed};
-ghost use Rattle.job_terms.specs.Gains.{Gains};
+ghost use Rattle.s3_model.specs.Validity.{IsWithin};
 ghost use Rattle.run_report.specs.Texts.{HasLine, IsTextOf};
-ghost use Rattle.run_show.specs.Listings.{HasListed, IsMade, Lists, MayEndListing, fatal_for};
+ghost use Rattle.run_show.specs.Listings.{
+  HasListed,
+  IsListingEnd,
+  IsMade,
+  Lists,
+  MayEndListing,
+  OnFirstAlone,
+  fatal_for,
+};
 
-use attempts::Client;
-use listing_commands::{Shown, show_listing};
-use listings::ListingFault;
+use planning_questions::Halt;
 use run_report::{Executed, Fatal, Printout, Run, Worked, ending_text};
-use run_start::{Service, Start, service_of};
-use s3_model::{BadListing, Endpoint, Journal, Keys, Outcomes, Place, Plan, Tasks, Warnings};
+use run_start::Start;
+use s3_model::{BadListing, Journal, Outcomes, Plan, Tasks, Warnings};
 use s3_outside::Wire;
+use service_listings::{ListingRun, Shown, show_listing};
 use std::alloc::Global;
 use std::mem;
+use std::sync::Wait;
+use std::thread::Threads;
 
 /// How a listing that has no end ends a run.
-fn fatal_for(fault: ListingFault) -> Fatal
-    requires { IsNoCancel fault }
-    ensures is { result ≡ fatal_for fault }
-    ensures end { MayEndListing result }
+fn fatal_for(why: Halt) -> Fatal
+    requires { MayEndListing why }
+    ensures is { result ≡ fatal_for why }
+    ensures line { HasLine result }
 {
-    match fault {
-        ListingFault::Listing(BadListing::Memory) => Fatal::Memory,
-        ListingFault::Listing(refused) => Fatal::Listing(refused),
-        ListingFault::Answer(cause) => Fatal::Answer(cause),
-        ListingFault::Memory => Fatal::Memory,
+    match why {
+        Halt::Listing(BadListing::Memory) => Fatal::Memory,
+        Halt::Listing(refused) => Fatal::Listing(refused),
+        Halt::Answer(cause) => Fatal::Answer(cause),
+        Halt::Memory => Fatal::Memory,
+        Halt::Stranger => unreachable!(),
     }
 }
 
@@ -69,12 +76,11 @@ fn end_unlisted(alloc: Global, words: &[String], fatal: Fatal, journal: Journal)
 fn end_listing(
     alloc: Global,
     words: &[String],
-    listed: Result<Shown, ListingFault>,
+    listed: Result<Shown, Halt>,
     journal: Journal,
 ) -> Worked
-    requires { IfErr listed IsNoCancel }
+    requires { IfErr listed MayEndListing }
     ensures made { IsMade (map string_bytes words.now) listed result.executed.run result.executed.text result.missed }
-    ensures stops { IfSome result.executed.run.fatal MayEndListing }
     ensures lists { result.lists ≡ true }
     ensures journal { result.executed.run.journal ≡ journal }
 {
@@ -87,57 +93,42 @@ fn end_listing(
             lists: true,
             missed,
         },
-        Err(fault) => Worked {
-            executed: end_unlisted(alloc, words, fatal_for(fault), journal),
+        Err(why) => Worked {
+            executed: end_unlisted(alloc, words, fatal_for(why), journal),
             lists: true,
             missed: false,
         },
     }
 }
 
-/// Asks a service for what is listed.
-fn ask<W: Wire>(
-    alloc: Global,
-    endpoint: Endpoint,
-    keys: Keys,
-    at: &Option<Place>,
-    recursive: bool,
-    journal: &mut Journal,
-    wire: &mut W,
-) -> Result<Shown, ListingFault>
-    requires { IsListed at.now }
-    ensures shown { Gains (W.seen wire.old) (W.seen wire.new) (ShowsListing endpoint keys at.now
-        recursive journal.old.items journal.new.items result) }
-    ensures some { OfSomeTalks (ShowsListing endpoint keys at.now recursive journal.old.items
-        journal.new.items result) }
-    ensures no_cancel { IfErr result IsNoCancel }
-    ensures later { W.faults wire.old ≤ W.faults wire.new }
-{
-    let mut client = Client::make(alloc, endpoint, keys)?;
-    let shown = show_listing(alloc, wire, &mut client, at, recursive, journal);
-    mem::drop(client);
-    shown
-}
-
-/// Lists what a command asks for.
-pub fn execute_listing<W: Wire>(
-    alloc: Global,
-    words: &[String],
-    mut start: Start,
-    wire: &mut W,
-) -> Worked
-    requires { IsListed start.command.from }
-    ensures listed { Lists (map string_bytes words.now) start.command start.settings (W.seen wire.old) (W.seen wire.new)
-        result.executed.run result.executed.text result.missed }
-    ensures stops { IfSome result.executed.run.fatal MayEndListing }
+/// Lists what a command asks for, over a lane of the first wire: one request after the other, each with at most the
+/// attempts of the settings. Then the wire stands in its place again.
+pub fn execute_listing<
+    R: Threads + Wait + Clone + Send + Drop + 'static,
+    W: Wire + Send + Drop + 'static,
+>(rt: &R, alloc: Global, words: &[String], start: Start, wires: &mut Vec<W>) -> Worked
+    requires listed { IsListed start.command.from }
+    requires attempts { IsWithin 1 start.settings.config.attempts 10 }
+    requires wire { 1 ≤ vec_len wires.old }
+    ensures listed { Lists W.seen (map string_bytes words.now) start.command start.settings wires.old.items
+        wires.new.items result.executed.run result.executed.text result.missed }
+    ensures stops { IfSome result.executed.run.fatal (IsListingEnd start.command.from) }
     ensures lists { result.lists ≡ true }
-    ensures later { W.faults wire.old ≤ W.faults wire.new }
+    ensures later { OnFirstAlone wires.old.items wires.new.items (λ before after. W.faults before ≤ W.faults after) }
 {
-    let from = start.command.from.take();
-    let recursive = start.command.recursive;
-    let Service { endpoint, keys, .. } = service_of(start);
-    let mut journal = Journal::make(alloc);
-    let listed = ask(alloc, endpoint, keys, &from, recursive, &mut journal, wire);
-    mem::drop(from);
-    end_listing(alloc, words, listed, journal)
+    let Start { command, settings } = start;
+    let run = show_listing(
+        rt,
+        alloc,
+        wires,
+        1,
+        &command.endpoint,
+        &settings,
+        &command.from,
+        command.recursive,
+    );
+    mem::drop(command);
+    mem::drop(settings);
+    let ListingRun { shown, journal } = run;
+    end_listing(alloc, words, shown, journal)
 }

@@ -1,6 +1,8 @@
+pub mod AskedLemmas
 pub mod BeginLemmas
 pub mod DryLemmas
 pub mod ExecutionLemmas
+pub mod FirstLemmas
 pub mod ListingLemmas
 pub mod PromiseLemmas
 pub mod TopLemmas

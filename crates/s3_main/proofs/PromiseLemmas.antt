@@ -10,23 +10,26 @@ use Rattle.s3_model.specs.declared.settings.Limits.{Limits}
 use Rattle.s3_model.specs.declared.settings.Settings.{Settings}
 use Rattle.s3_model.specs.declared.tasks.Task.{Task}
 use Rattle.s3_model.specs.declared.tasks.Warning.{Warning}
-use Rattle.s3_model.specs.Talks.{Talk, Note, Moment, Began}
+use Rattle.s3_model.specs.Talks.{Talk, Note, Moment, Began, WireLog}
 use Rattle.upload_promise.specs.Puts.{AreIdle}
 use Rattle.upload_promise.proofs.JobLemmas.{only}
 use Rattle.upload_promise.proofs.WireLemmas.{none_idle}
 use Rattle.answer_classes.specs.Showing.{HasStatus, Shows}
 use Rattle.list_walk.specs.Pages.{IsRefusedPage}
-use Rattle.listing_commands.specs.Commands.{IsShownBuckets, IsShownBy, IsShownWalk, ShowsListing, needs_of}
-use Rattle.listing_commands.specs.declared.show.Shown.{Shown}
-use Rattle.listing_promise.specs.Listings.{AskQuestions}
-use Rattle.listing_promise.proofs.PlanLemmas.{all_questions, asked_more}
-use Rattle.listing_promise.proofs.PromiseLemmas.{listing_keeps}
-use Rattle.listings.specs.Asked.{AreAsked, Asked, dispatched_from, events_from}
-use Rattle.listings.specs.Pages.{Plans, is_memory}
-use Rattle.listings.specs.declared.fault.ListingFault.{ListingFault}
-use Rattle.listings.specs.declared.fault.ListingFault.TheVariants as unlisted
+use Rattle.lane_jobs.specs.Lanes.{SeenCarrier}
+use Rattle.lane_workers.specs.LaneWorkers.{carrier_with}
+use Rattle.planning_laws.specs.Asking.{AskFor}
+use Rattle.planning_questions.specs.declared.halt.Halt.{Halt}
+use Rattle.planning_questions.specs.declared.halt.Halt.TheVariants as halt
+use Rattle.question_runs.proofs.Asking.{laws_of}
+use Rattle.question_runs.proofs.Own.{AreOwn, all_own}
+use Rattle.question_runs.proofs.Promise.{questions_keep}
+use Rattle.question_runs.specs.Asked.{log_of}
+use Rattle.service_listings.specs.Listings.{key_of as listed_key}
+use Rattle.service_listings.specs.Needs.{needs_of}
+use Rattle.service_listings.specs.declared.listing.Shown.{Shown}
 use Rattle.run_promise.specs.Settled.{left_by, untimed_by}
-use Rattle.run_promise.specs.Planning.{Need, PlansFor}
+use Rattle.run_promise.specs.Planning.{Need}
 use Rattle.shared_lemmas.proofs.Clashes.{false_true, none_is_some, some_is}
 use Rattle.std.specs.List.{AllByRecursion}
 use Rattle.std.proofs.lemmas.List.{length-map}
@@ -47,7 +50,6 @@ use Rattle.dry_promise.proofs.PromiseLemmas.{dry_keeps}
 use Rattle.s3_main.specs.DryRuns.{LooksFor}
 use Rattle.s3_main.proofs.DryLemmas.{dries, dries_true, lists_dries, no_other}
 use Rattle.s3_model.specs.declared.places.Place.{Place}
-use Rattle.s3_model.specs.declared.places.Place.TheVariants as place
 use Rattle.s3_words.specs.Commands.{arguments_of, first_of}
 use Rattle.s3_words.specs.Given.{is_given}
 use Rattle.s3_words.specs.Places.{places_in}
@@ -55,7 +57,7 @@ use Rattle.s3_words.specs.declared.options.OptionName.TheVariants.{Recursive}
 use Rattle.s3_words.specs.Options.{is_listing}
 use Rattle.run_report.specs.declared.run.Fatal.{Fatal}
 use Rattle.run_report.specs.declared.run.Fatal.TheVariants as fatal
-use Rattle.run_show.specs.Listings.{fatal_for, HasNoOutcome}
+use Rattle.run_show.specs.Listings.{HasNoOutcome, ShowsListing, fatal_for}
 use Rattle.s3_main.specs.Listings.{EndsListing}
 use Rattle.s3_main.specs.Urls.{IsPresigned}
 use Rattle.s3_model.specs.Validity.{IsValidConfig, IsValidLimits, IsWithin}
@@ -70,9 +72,8 @@ use Rattle.upload_plans.specs.Plans.{content_for, planned_key, planned_task}
 use Rattle.upload_plans.specs.declared.plan.Fate.{Fate}
 use Rattle.upload_plans.specs.declared.plan.Fate.TheVariants as fate
 use Rattle.upload_plans.proofs.FateLemmas.{task_of}
-use Rattle.upload_promise.specs.Shown.{CallFailed, KeepsPromise, end_of, one_attempt, start_of}
+use Rattle.upload_promise.specs.Shown.{CallFailed, KeepsPromise, end_of, start_of}
 use Rattle.upload_promise.specs.Sources.{AreLeft}
-use Rattle.upload_promise.proofs.PromiseLemmas.{one_valid}
 use Rattle.put_promise.proofs.PromiseLemmas.{uploaded}
 use Rattle.run_report.specs.declared.run.Run.{Run}
 use Rattle.run_start.specs.Begun.{IsBegun, IsRestOf}
@@ -81,7 +82,8 @@ use Rattle.s3_model.specs.declared.faults.BadListing.TheVariants as bad
 use Rattle.s3_main.specs.Asked.{dries_in, ends_here, lists_in, needs_in, path_in}
 use Rattle.run_task.specs.Uploaded.{HasUploaded, path_of}
 use Rattle.s3_main.specs.Plans.{HasPlan, IsFate, IsIdle, Works, warnings_of}
-use Rattle.s3_main.specs.Runs.{GoesAs, IfSeen, IsTrue, IsUnasked, IsUnplanned, PlansBy, config_for, files_over, start_for}
+use Rattle.s3_main.specs.Runs.{GoesAs, IfSeen, IsTrue, IsUnasked, IsUnplanned, PlansBy, files_over, has_no_memory, start_for}
+use Rattle.s3_main.proofs.AskedLemmas.{memory_ends, path_asked, path_ran}
 use Rattle.s3_main.proofs.BeginLemmas.{source_is}
 use Rattle.s3_main.proofs.UrlLemmas.{lists, presign_is_no_listing}
 use Rattle.upload_promise.proofs.SourceLemmas.{looks_left}
@@ -127,10 +129,6 @@ some_settings = record { keys = no_keys; config = some_config }
 
 abbrev nowhere : Endpoint
 nowhere = record { host = []; port = 0; written = [] }
-
-valid_for : (lists_it : Bool) (config : Config) → IsValidConfig config → IsValidConfig (if lists_it then one_attempt config else config)
-valid_for true config v = one_valid config v
-valid_for false config v = v
 
 moment_is_no_talk : (moment : ℕ) → Moment moment ≡ Began → ⊥
 moment_is_no_talk moment e = cc
@@ -186,7 +184,7 @@ asks_none words why unasked = elim (ends_so why unasked) [
   | inr ends ↦ (refl, inl (nothing (lists_in words) (ends_here why) ends))
 ]
   where
-    ends_so : (end : Option Fatal) → IsUnasked end → (end ≡ Some fatal.Memory) ⊎ (ends_here end ≡ true)
+    ends_so : (end : Option Fatal) → IsUnasked end → (has_no_memory end ≡ true) ⊎ (ends_here end ≡ true)
     ends_so None h = absurd h
     ends_so (Some (fatal.Listing fault)) h = absurd h
     ends_so (Some (fatal.Answer reason)) h = absurd h
@@ -199,27 +197,18 @@ asks_none words why unasked = elim (ends_so why unasked) [
     nothing true false e = absurd (false_true e)
 
 -- a listing does not end by what no request shows
-listing_goes_on : (result : Result Shown ListingFault) (why : Option Fatal) → EndsListing result why → ends_here why ≡ false
+listing_goes_on : (result : Result Shown Halt) (why : Option Fatal) → EndsListing result why → ends_here why ≡ false
 listing_goes_on (Ok told) None ends = refl
 listing_goes_on (Ok told) (Some fatal.Memory) ends = refl
 listing_goes_on (Ok told) (Some end) ends = absurd ends
 listing_goes_on (Err fault) why ends = elim ends [ inl is ↦ ap ends_here is ∙ by fault | inr is ↦ ap ends_here is ]
   where
-    by : (f : ListingFault) → ends_here (Some (fatal_for f)) ≡ false
-    by (unlisted.Listing bad.Memory) = refl
-    by (unlisted.Listing refused) = refl
-    by (unlisted.Answer reason) = refl
-    by unlisted.Memory = refl
-
--- memory that ran out for a listing ends the run
-memory_ends : {T : Type 0} (Shows : T → Shown → Type 0) (listed : Result T ListingFault) (result : Result Shown ListingFault) (why : Option Fatal) → is_memory listed ≡ true → IsShownBy Shows listed result
-    → EndsListing result why → why ≡ Some fatal.Memory
-memory_ends Shows (Ok told) result why e shown ends = absurd (false_true e)
-memory_ends Shows (Err (unlisted.Listing refused)) result why e shown ends = absurd (false_true e)
-memory_ends Shows (Err (unlisted.Answer reason)) result why e shown ends = absurd (false_true e)
-memory_ends Shows (Err unlisted.Memory) (Ok told) why e shown ends = absurd shown
-memory_ends Shows (Err unlisted.Memory) (Err same) why e shown ends =
-    elim (subst (λ (f : ListingFault). EndsListing (Err f) why) shown ends) [ inl is ↦ is | inr is ↦ is ]
+    by : (h : Halt) → ends_here (Some (fatal_for h)) ≡ false
+    by (halt.Listing bad.Memory) = refl
+    by (halt.Listing refused) = refl
+    by (halt.Answer reason) = refl
+    by halt.Memory = refl
+    by halt.Stranger = refl
 
 module _ (words : List (List ℕ)) (env : Option SeenEnv) (limits : Limits) (valid : IsValidLimits limits) (wires : ℕ) (has_wire : 1 ≤ wires) (before after : ℕ) (run : Run) (talks : List Talk) (notes : List Note)
     (was now : SeenFiles) (same : AreLeft was now) (memory : run.fatal ≡ Some fatal.Memory → run.status ≡ 70) where
@@ -242,8 +231,7 @@ module _ (words : List (List ℕ)) (env : Option SeenEnv) (limits : Limits) (val
   nothing : (endpoint : Endpoint) (settings : Settings) → IsValidConfig settings.config → PlansNone → (warnings : List Warning) → filter_map left_by warnings ≡ [] → filter_map untimed_by warnings ≡ []
       → (of_notes : List Note) → AreIdle of_notes → Keeps None endpoint settings [] [] [] warnings [] of_notes
   nothing endpoint settings configured none warnings left untimed of_notes idle =
-      dry_keeps Shows HasStatus (text_of endpoint settings.keys) endpoint.host endpoint.port (PlansBy words run.fatal) none (config_for words settings.config)
-      (valid_for (lists_in words) settings.config configured) limits valid wires has_wire run.status before after path was now same warnings left untimed of_notes idle
+      dry_keeps Shows HasStatus (text_of endpoint settings.keys) endpoint.host endpoint.port (PlansBy words run.fatal) none settings.config configured limits valid wires has_wire run.status before after path was now same warnings left untimed of_notes idle
       0 (dries_in words) [] no_tasks [] refl (λ n how at_n. absurd (none_is_some how at_n))
 
   -- the lists of the run are these
@@ -288,10 +276,6 @@ module _ (words : List (List ℕ)) (env : Option SeenEnv) (limits : Limits) (val
     abbrev KeepsBoth : Option ℕ → List Task → List Outcome → List Event → List Warning → List Talk → List Note → Type 0
     KeepsBoth page = Keeps page endpoint settings
 
-    -- a listing tries each request once, and nothing else does
-    config_is : (lists_it : Bool) → is_listing command.verb ≡ lists_it → config_for words settings.config ≡ (if lists_it then one_attempt settings.config else settings.config)
-    config_is lists_it is = ap (λ (b : Bool). if b then one_attempt settings.config else settings.config) (lists words command begun.rest ∙ is)
-
     true_by : (page : Option ℕ) → KeepsBoth page run.plan.tasks.items run.outcomes.items run.journal.items run.warnings.items talks notes → Told
     true_by page keeps = record { endpoint = endpoint; settings = settings; cancelled_at = None; refused_page = page; begun = λ some. (command, begun, refl); keeps = keeps }
 
@@ -318,11 +302,9 @@ module _ (words : List (List ℕ)) (env : Option SeenEnv) (limits : Limits) (val
         (bucket_of command) key (content_for command (source_path command)) of_file.size of_file.micros of_file.small stands run.journal.items how talks notes sent in
         let here : KeepsBoth None (of_task ∷ []) (how ∷ []) run.journal.items [] talks notes =
         subst (λ (dry : Bool). KeepsPromise Shows HasStatus (text_of endpoint settings.keys) endpoint.host endpoint.port (PlansBy words run.fatal) (CallFailed path now before after (of_task ∷ []))
-        (record (start_of (config_for words settings.config) limits wires (of_task ∷ []) was) { dryrun = dry }) (end_of run.status (how ∷ []) [] run.journal.items talks notes was now) None ⊥ ⊥) (sym (dries words command begun.rest none ∙ carried))
-        (subst (λ (config : Config). KeepsPromise Shows HasStatus (text_of endpoint settings.keys) endpoint.host endpoint.port (PlansBy words run.fatal) (CallFailed path now before after (of_task ∷ []))
-        (start_of config limits wires (of_task ∷ []) was) (end_of run.status (how ∷ []) [] run.journal.items talks notes was now) None ⊥ ⊥) (sym (config_is false none))
+        (record (start_of settings.config limits wires (of_task ∷ []) was) { dryrun = dry }) (end_of run.status (how ∷ []) [] run.journal.items talks notes was now) None ⊥ ⊥) (sym (dries words command begun.rest none ∙ carried))
         (subst (λ (at : List ℕ). KeepsPromise Shows HasStatus (text_of endpoint settings.keys) endpoint.host endpoint.port (PlansBy words run.fatal) (CallFailed at now before after (of_task ∷ []))
-        (start_of settings.config limits wires (of_task ∷ []) was) (end_of run.status (how ∷ []) [] run.journal.items talks notes was now) None ⊥ ⊥) (source_is words command begun.rest) keeps)) in
+        (start_of settings.config limits wires (of_task ∷ []) was) (end_of run.status (how ∷ []) [] run.journal.items talks notes was now) None ⊥ ⊥) (source_is words command begun.rest) keeps) in
         true_by None (of_run None endpoint settings (of_task ∷ []) (how ∷ []) run.journal.items [] talks notes
         (tasks ∙ ap (λ (t : Task). t ∷ []) of_file.is) one refl warnings refl refl here)
 
@@ -341,36 +323,26 @@ module _ (words : List (List ℕ)) (env : Option SeenEnv) (limits : Limits) (val
         let tasks = h.plan.tasks.items in
         let warnings = h.looked ++ h.plan.warnings.items in
         true_by None (of_run None endpoint settings tasks (all_dry tasks) [] warnings [] [] (ap (λ (p : Plan). p.tasks.items) h.shown.plan_is) h.shown.all_shown h.shown.no_job h.shown.warned no_talk no_note
-        (dry_keeps Shows HasStatus (text_of endpoint settings.keys) endpoint.host endpoint.port (PlansBy words run.fatal) (none_planned (no_other command offline).1) (config_for words settings.config)
-        (valid_for (lists_in words) settings.config begun.valid) limits valid wires has_wire run.status before after path was now same warnings (none_left command limits files h.looked h.plan h.planned)
+        (dry_keeps Shows HasStatus (text_of endpoint settings.keys) endpoint.host endpoint.port (PlansBy words run.fatal) (none_planned (no_other command offline).1) settings.config
+        begun.valid limits valid wires has_wire run.status before after path was now same warnings (none_left command limits files h.looked h.plan h.planned)
         (none_untimed command limits files h.looked h.plan h.planned) [] none_idle limits.max_object (dries_in words) tasks (unasked_tasks command limits files h.looked h.plan h.planned) (all_dry tasks)
         (length-map tasks (λ (task : Task). outcome.Dry)) (λ n how at_n. (each_dry tasks n how at_n, dries_true words command begun.rest offline))))
 
     -- a listing: its requests are those that planning needs
-    listed_true : is_listing command.verb ≡ true → HasNoOutcome run → (asked : List Asked) (wanting : Bool) (page : Option ℕ) → run.journal.items ≡ events_from 0 asked → AreAsked endpoint settings.keys wanting asked talks notes
-        → (wanting ≡ true → run.fatal ≡ Some fatal.Memory) → (needs : List Need) → needs_in words run.fatal ≡ needs → AskQuestions needs → Plans wanting page (dispatched_from 0 0 asked) needs [] None
-        → Told
-    listed_true listing none asked wanting page events gained wants needs needed ask plans =
-        let questions = all_questions Shows IsRefusedPage (wanting ≡ true) page asked 0 0 needs [] None ask plans in
-        let more = asked_more Shows IsRefusedPage (wanting ≡ true) (run.fatal ≡ Some fatal.Memory) page wants (dispatched_from 0 0 asked) needs [] None plans in
-        let planned = subst (λ (all : List Need). PlansFor Shows IsRefusedPage (run.fatal ≡ Some fatal.Memory) page all (dispatched_from 0 0 asked)) (sym needed) more in
-        true_by page (of_run page endpoint settings [] [] (events_from 0 asked) [] talks notes none.no_task none.no_outcome events none.no_warning refl refl
+    shown_true : is_listing command.verb ≡ true → HasNoOutcome run → (result : Result Shown Halt) → ShowsListing command settings run.journal.items result (Some (log_of talks notes)) → EndsListing result run.fatal → Told
+    shown_true listing none result shows ends =
+        let carrier : SeenCarrier = carrier_with endpoint settings.keys settings.config.attempts in
+        let own : AreOwn carrier 0 shows.questions = all_own (λ (wire : Option WireLog). wire) carrier shows.questions _ _ shows.asked in
+        let ran = memory_ends (listed_key command.from) command.recursive shows.listed result run.fatal in
+        let asks = path_asked carrier shows.questions own (has_no_memory run.fatal ≡ true) command.from command.recursive shows.listed shows.lists (λ e. ap has_no_memory (ran e shows.shown ends)) in
+        let needed = has_needs words command run.fatal begun.rest listing (listing_goes_on result run.fatal ends) in
+        let all = subst (λ (needs : List Need). AskFor IsRefusedPage (has_no_memory run.fatal ≡ true) asks.0 needs (laws_of shows.questions)) (sym needed) asks.1 in
+        true_by asks.0 (of_run asks.0 endpoint settings [] [] run.journal.items [] talks notes none.no_task none.no_outcome refl none.no_warning refl refl
         (subst (λ (dry : Bool). KeepsPromise Shows HasStatus (text_of endpoint settings.keys) endpoint.host endpoint.port (PlansBy words run.fatal) (CallFailed path now before after [])
-        (record (start_of (config_for words settings.config) limits wires [] was) { dryrun = dry }) (record (end_of run.status [] [] (events_from 0 asked) talks notes was now) { refused_page = page }) None ⊥ ⊥) (sym (lists_dries words command begun.rest listing))
-        (subst (λ (config : Config). KeepsPromise Shows HasStatus (text_of endpoint settings.keys) endpoint.host endpoint.port (PlansBy words run.fatal) (CallFailed path now before after [])
-        (start_of config limits wires [] was) (record (end_of run.status [] [] (events_from 0 asked) talks notes was now) { refused_page = page }) None ⊥ ⊥) (sym (config_is true listing))
-        (listing_keeps endpoint settings.keys (PlansBy words run.fatal) page settings.config begun.valid limits valid wires has_wire run.status before after path was now same asked questions talks notes wanting
-        (λ e. memory (wants e)) gained planned))))
-
-    shown_true : is_listing command.verb ≡ true → HasNoOutcome run → (at : Option Place) (recursive : Bool) → needs_in words run.fatal ≡ needs_of at recursive → (result : Result Shown ListingFault)
-        → ShowsListing endpoint settings.keys at recursive [] run.journal.items result talks notes → EndsListing result run.fatal → Told
-    shown_true listing none None recursive needed result shows ends =
-        listed_true listing none shows.lists.asked (is_memory shows.listed) None shows.lists.events shows.lists.gained
-        (λ e. memory_ends IsShownBuckets shows.listed result run.fatal e shows.shown ends) (needs_of None recursive) needed (tt, tt) (shows.lists.plans 0)
-    shown_true listing none (Some (place.Object bucket key)) recursive needed result shows ends =
-        listed_true listing none shows.lists.asked (is_memory shows.listed) shows.lists.refused_page shows.lists.events shows.lists.gained
-        (λ e. memory_ends (IsShownWalk key recursive) shows.listed result run.fatal e shows.shown ends) (needs_of (Some (place.Object bucket key)) recursive) needed tt (shows.lists.plans 0)
-    shown_true listing none (Some (place.File at)) recursive needed result shows ends = absurd shows
+        (record (start_of settings.config limits wires [] was) { dryrun = dry }) (record (end_of run.status [] [] run.journal.items talks notes was now) { refused_page = asks.0 }) None ⊥ ⊥) (sym (lists_dries words command begun.rest listing))
+        (questions_keep settings.config begun.valid limits valid wires has_wire run.status before after path was now same asks.0 run.journal.items talks notes endpoint settings.keys shows.questions shows.asked shows.jobs
+        (λ q known out. memory (ran (path_ran carrier shows.questions own command.from command.recursive shows.listed shows.lists q known out) shows.shown ends))
+        (needs_in words run.fatal) (has_no_memory run.fatal) all)))
 
 -- in each case, where the files are seen
 pub all_true : (limits : Limits) → IsValidLimits limits → (wires : ℕ) → 1 ≤ wires → (run : Run) (talks : List Talk) (notes : List Note) (words : List (List ℕ)) (env : Option SeenEnv) (was now : Option SeenFiles) (before after : ℕ)
@@ -385,7 +357,6 @@ all_true limits valid wires some run talks notes words env (Some was) (Some now)
 all_true limits valid wires some run talks notes words env (Some was) (Some now) before after memory looks (inr (inl p)) =
     planned_true words env limits valid wires some before after run talks notes was now (stays words was now before after looks) memory p.command p.settings p.begun p.no_listing p.no_dry_run p.comes p.fated p.plan p.works
 all_true limits valid wires some run talks notes words env (Some was) (Some now) before after memory looks (inr (inr (inr (inl l)))) =
-    shown_true words env limits valid wires some before after run talks notes was now (stays words was now before after looks) memory l.command l.settings l.begun l.listing l.nothing l.command.from l.command.recursive
-    (has_needs words l.command run.fatal l.begun.rest l.listing (listing_goes_on l.result run.fatal l.ends)) l.result l.shows l.ends
+    shown_true words env limits valid wires some before after run talks notes was now (stays words was now before after looks) memory l.command l.settings l.begun l.listing l.nothing l.result l.lists l.ends
 all_true limits valid wires some run talks notes words env (Some was) (Some now) before after memory looks (inr (inr (inr (inr d)))) =
     dry_true words env limits valid wires some before after run talks notes was now (stays words was now before after looks) memory d.command d.settings d.begun d.offline (files_seen (Some was) (Some now) before after) d.shows d.no_talk d.no_note

@@ -1,5 +1,5 @@
--- The first wire of a run, and a run that was reported.
-use Rattle.std.proofs.Common.{Bool, false, ◌≡◌, ◌≤◌, ◌∙◌, ◌++◌, flat_map, ℕ, List, [], ◌∷◌, Option, Some, None, Result, Ok, Err, IfSome, OnErr, refl, sym, ap, subst, inl, inr, arith, length, get_or, slice_set, is_some}
+-- A run that was reported.
+use Rattle.std.proofs.Common.{Bool, false, ◌≡◌, ◌∙◌, ◌++◌, flat_map, ℕ, List, [], Option, Some, None, Result, Ok, Err, IfSome, OnErr, refl, sym, ap, subst, inl, inr, is_some}
 use Rattle.run_report.specs.declared.printout.Printout.{Printout}
 use Rattle.s3_model.specs.declared.list.OutOfMemory.{OutOfMemory}
 use Rattle.s3_model.specs.declared.outcomes.Event.{Event}
@@ -16,10 +16,6 @@ use Rattle.small_uploads.specs.Uploading.{Uploads, put_ask}
 use Rattle.run_report.specs.declared.run.Fatal.{Fatal}
 use Rattle.run_report.specs.declared.run.Fatal.TheVariants as fatal
 use Rattle.run_report.specs.declared.run.Run.{Run}
-use Rattle.listing_commands.specs.Commands.{ShowsListing}
-use Rattle.listing_commands.specs.declared.show.Shown.{Shown}
-use Rattle.listings.specs.declared.fault.ListingFault.{ListingFault}
-use Rattle.listings.proofs.SomeLemmas.{some_as}
 use Rattle.job_terms.proofs.GainLemmas.{gains_as}
 use Rattle.s3_model.specs.declared.outcomes.Outcome.{Outcome}
 use Rattle.s3_model.specs.declared.tasks.Warning.{Warning}
@@ -28,7 +24,10 @@ use Rattle.dry_runs.specs.Found.{FilesSeen, files_seen}
 use Rattle.dry_runs.specs.Runs.{ShowsPlan}
 use Rattle.s3_main.specs.Asked.{lists_in}
 use Rattle.s3_main.specs.Executed.{HasTextOf, HasStatusOf}
-use Rattle.run_show.specs.Listings.{HasNoOutcome}
+use Rattle.planning_questions.specs.declared.halt.Halt.{Halt}
+use Rattle.question_runs.specs.Asked.{log_of}
+use Rattle.service_listings.specs.declared.listing.Shown.{Shown}
+use Rattle.run_show.specs.Listings.{HasNoOutcome, ShowsListing}
 use Rattle.s3_main.specs.Listings.{EndsListing, IsListing}
 use Rattle.s3_main.specs.Own.{IsOwn, IsRows, Own, nothing_own}
 use Rattle.s3_main.specs.Urls.{IsTaskless}
@@ -36,49 +35,10 @@ use Rattle.run_report.specs.Taskless.{MayEnd}
 use Rattle.run_task.specs.Uploaded.{path_of}
 use Rattle.s3_main.specs.Plans.{HasPlan, IsIdle, Wants, Works}
 use Rattle.s3_main.specs.Runs.{EndsAsShown, GoesAs, IsNothingPlanned, IsPrinted, IsUnasked, StopsFor, Undertakes}
-use Rattle.s3_main.specs.Wires.{AllGain, OnEach, OnFirst, OnWires}
-use Rattle.job_terms.specs.Attempts.{in_first}
-use Rattle.job_terms.specs.Gains.{Gains}
-use Rattle.upload_promise.proofs.WireLemmas.{beyond_first}
 use Rattle.run_report.specs.Texts.{AreOfTasks, HasWarned, Warned, err_lines, err_of, err_text, fatal_after, mode_in, opening_text, out_lines, out_of, out_text}
 use Rattle.run_report.proofs.PrintLemmas.{only_memory}
 use Rattle.run_report.specs.Statuses.{EndsWith, run_status, status_by}
 use Rattle.run_report.specs.Printed.{IsPrintedAs, Output}
-
--- what holds of the first of a list before and after it was written
-pub on_first : {W : Type 0} (xs : List W) (before after : W) (P : W → W → Type 0) → 1 ≤ length xs → before ≡ get_or xs 0 before → P before after → OnFirst xs (slice_set xs 0 after) P
-on_first [] before after P some is holds = absurd (omega (arith, some))
-on_first (x ∷ xs) before after P some is holds = subst (λ w. P w after) is holds
-
--- and of each, where it holds of all that stay
-each_same : {W : Type 0} (P : W → W → Type 0) → ((w : W) → P w w) → (xs : List W) → OnEach xs xs P
-each_same P same [] = tt
-each_same P same (x ∷ xs) = (same x, each_same P same xs)
-
-pub on_each : {W : Type 0} (xs : List W) (before after : W) (P : W → W → Type 0) → ((w : W) → P w w) → 1 ≤ length xs → before ≡ get_or xs 0 before → P before after → OnEach xs (slice_set xs 0 after) P
-on_each [] before after P same some is holds = absurd (omega (arith, some))
-on_each (x ∷ xs) before after P same some is holds = (subst (λ w. P w after) is holds, each_same P same xs)
-
--- what the one wire gained that was used
-all_gain : (was now : Option WireLog) (Q : (ℕ → List Talk) → (ℕ → List Note) → Type 0) → Gains was now (λ talks notes. Q (in_first talks) (in_first notes)) → AllGain (was ∷ []) (now ∷ []) Q
-all_gain was None Q gained = tt
-all_gain None (Some now) Q gained = absurd gained
-all_gain (Some was) (Some now) Q (talks, notes, of_talks, of_notes, holds) = (
-  in_first talks,
-  in_first notes,
-  ((talks, notes, of_talks, of_notes, (refl, refl)), λ lane beyond. (beyond_first talks lane beyond, beyond_first notes lane beyond)),
-  holds,
-)
-
-pub on_used : {W : Type 0} (words : List (List ℕ)) (env : Option SeenEnv) (seen : W → Option WireLog) (xs : List W) (before after : W) (P : List Talk → List Note → Type 0)
-    (Q : (ℕ → List Talk) → (ℕ → List Note) → Type 0) → ((talks : List Talk) (notes : List Note) → P talks notes → Q (in_first talks) (in_first notes)) → 1 ≤ length xs → before ≡ get_or xs 0 before
-    → Gains (seen before) (seen after) P → OnWires words env seen xs (slice_set xs 0 after) Q
-on_used words env seen [] before after P Q so some is gained = absurd (omega (arith, some))
-on_used words env seen (x ∷ xs) before after P Q so some is gained = (
-  1,
-  inl (omega arith),
-  (all_gain (seen x) (seen after) Q (gains_as P (λ talks notes. Q (in_first talks) (in_first notes)) so (seen x) (seen after) (subst (λ w. Gains (seen w) (seen after) P) is gained)), refl),
-)
 
 -- ---- statuses
 
@@ -112,7 +72,7 @@ still_ends : (line : Result Printout OutOfMemory) (why : Option Fatal) → MayEn
 still_ends (Ok line) why h = h
 still_ends (Err memory) why h = tt
 
-still_listed : (line : Result Printout OutOfMemory) (result : Result Shown ListingFault) (why : Option Fatal) → EndsListing result why → EndsListing result (fatal_after line why)
+still_listed : (line : Result Printout OutOfMemory) (result : Result Shown Halt) (why : Option Fatal) → EndsListing result why → EndsListing result (fatal_after line why)
 still_listed (Ok line) result why h = h
 still_listed (Err memory) (Ok shown) why h = tt
 still_listed (Err memory) (Err ends) why h = inr refl
@@ -157,15 +117,15 @@ module _ (work run : Run) (line : Result Printout OutOfMemory) (r : IsReported w
     no_outcome = ap (λ o. o.items) r.outcomes ∙ n.no_outcome;
   }
 
-  listed : (words : List (List ℕ)) (env : Option SeenEnv) (talks : List Talk) (notes : List Note) → IsListing words env work talks notes → IsListing words env run talks notes
-  listed words env talks notes l = record {
+  listed : (words : List (List ℕ)) (env : Option SeenEnv) (log : Option WireLog) → IsListing words env work log → IsListing words env run log
+  listed words env log l = record {
     command = l.command;
     settings = l.settings;
     begun = l.begun;
     listing = l.listing;
     nothing = no_outcome l.nothing;
     result = l.result;
-    shows = subst (λ (events : List Event). ShowsListing l.command.endpoint l.settings.keys l.command.from l.command.recursive [] events l.result talks notes) (sym (ap (λ j. j.items) r.journal)) l.shows;
+    lists = subst (λ (events : List Event). ShowsListing l.command l.settings events l.result log) (sym (ap (λ j. j.items) r.journal)) l.lists;
     ends = subst (λ (f : Option Fatal). EndsListing l.result f) (sym r.fatal) (still_listed line l.result work.fatal l.ends);
   }
 
@@ -228,7 +188,7 @@ module _ (work run : Run) (line : Result Printout OutOfMemory) (r : IsReported w
   module _ (words : List (List ℕ)) (env : Option SeenEnv) (env_before env_after : ℕ) (limits : Limits) (was now : Option SeenFiles) (before after : ℕ) where
     pub goes : (talks : List Talk) (notes : List Note) → GoesAs words env limits was now before after work talks notes → GoesAs words env limits was now before after run talks notes
     goes talks notes (inl u) = inl (record { nothing = nothing u.nothing; no_talk = u.no_talk; no_note = u.no_note })
-    goes talks notes (inr (inr (inr (inl l)))) = inr (inr (inr (inl (listed words env talks notes l))))
+    goes talks notes (inr (inr (inr (inl l)))) = inr (inr (inr (inl (listed words env (Some (log_of talks notes)) l))))
     goes talks notes (inr (inr (inr (inr d)))) = inr (inr (inr (inr (record {
       command = d.command;
       settings = d.settings;
@@ -263,7 +223,7 @@ module _ (work run : Run) (line : Result Printout OutOfMemory) (r : IsReported w
 
     pub does : Undertakes words limits before after work → Undertakes words limits before after run
     does (inl n) = inl (nothing n)
-    does (inr (inr (inr (inl l)))) = inr (inr (inr (inl (some_as (IsListing words None work) (IsListing words None run) (listed words None) l))))
+    does (inr (inr (inr (inl l)))) = inr (inr (inr (inl (listed words None None l))))
     does (inr (inr (inr (inr d)))) = inr (inr (inr (inr (record { command = d.command; rest = d.rest; offline = d.offline; shows = shows_plan d.command limits (files_seen None None 0 0) d.shows }))))
     does (inr (inr (inl u))) = inr (inr (inl (record { command = u.command; rest = u.rest; presign = u.presign; taskless = taskless u.taskless })))
     does (inr (inl d)) = inr (inl (record {
@@ -312,14 +272,14 @@ module _ (work run : Run) (line : Result Printout OutOfMemory) (r : IsReported w
     abbrev Shows : List ℕ → List ℕ → Type 0
     Shows out err = IsPrintedAs run.status out err to_out to_err
 
-    rows_on : (seen : Option SeenEnv) (own : Own) (talks : List Talk) (notes : List Note) → IsRows words seen work own talks notes → IsRows words seen run own talks notes
-    rows_on seen own talks notes h = record {
+    rows_on : (seen : Option SeenEnv) (own : Own) (log : Option WireLog) → IsRows words seen work own log → IsRows words seen run own log
+    rows_on seen own log h = record {
       command = h.command;
       settings = h.settings;
       begun = h.begun;
       listing = h.listing;
       shown = h.shown;
-      shows = subst (λ (events : List Event). ShowsListing h.command.endpoint h.settings.keys h.command.from h.command.recursive [] events (Ok h.shown) talks notes) (sym (ap (λ j. j.items) r.journal)) h.shows;
+      lists = subst (λ (events : List Event). ShowsListing h.command h.settings events (Ok h.shown) log) (sym (ap (λ j. j.items) r.journal)) h.lists;
       text = h.text;
       missed = h.missed;
     }
@@ -330,8 +290,9 @@ module _ (work run : Run) (line : Result Printout OutOfMemory) (r : IsReported w
     owns own same (inr (inr (inl rows))) = inr (inr (inl (
       rows.0,
       ends rows.1,
-      gains_as (IsRows words env work own) (IsRows words env run own) (rows_on env own) before after rows.2,
-      some_as (IsRows words None work own) (IsRows words None run own) (rows_on None own) rows.3,
+      gains_as (λ talks notes. IsRows words env work own (Some (log_of talks notes))) (λ talks notes. IsRows words env run own (Some (log_of talks notes)))
+          (λ talks notes h. rows_on env own (Some (log_of talks notes)) h) before after rows.2,
+      rows_on None own None rows.3,
     )))
     owns own same (inr (inr (inr stopped))) = inr (inr (inr (ap is_some same ∙ stopped.0, stopped.1)))
 

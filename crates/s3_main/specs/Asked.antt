@@ -3,7 +3,7 @@ use Rattle.std.specs.Prelude.{◌&&◌, ℕ, Bool, true, false, not, List, [], O
 use Rattle.s3_words.specs.declared.commands.Verb.{Verb}
 use Rattle.s3_words.specs.Commands.{arguments_of, first_of, verb_of}
 use Rattle.s3_words.specs.Places.{places_in}
-use Rattle.listing_commands.specs.Commands.{needs_of}
+use Rattle.service_listings.specs.Needs.{needs_of}
 use Rattle.run_promise.specs.Planning.{Need}
 use Rattle.s3_words.specs.declared.options.OptionName.TheVariants.{Recursive}
 use Rattle.s3_words.specs.Given.{is_given}

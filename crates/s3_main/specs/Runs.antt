@@ -1,12 +1,7 @@
 -- What a run comes to: its status, what it prints, and what it promises.
-use Rattle.std.specs.Prelude.{◌≡◌, ◌≢◌, ◌⊎◌, ℕ, true, false, List, [], Option, Some, None, IfSome}
-use Rattle.std.specs.Prelude.{if◌then◌else◌}
-use Rattle.result_lines.specs.Faults.{IsListingFault}
+use Rattle.std.specs.Prelude.{◌≡◌, ◌≢◌, ◌⊎◌, ℕ, Bool, true, false, List, [], Option, Some, None, IfSome}
 use Rattle.s3_model.specs.declared.faults.WalkFault.TheVariants as walk
 use Rattle.s3_model.specs.declared.places.Endpoint.{Endpoint}
-use Rattle.s3_model.specs.declared.places.Place.{Place}
-use Rattle.s3_model.specs.declared.requests.Op.{Op}
-use Rattle.s3_model.specs.declared.requests.Op.TheVariants as op
 use Rattle.s3_model.specs.declared.settings.Config.{Config}
 use Rattle.s3_model.specs.declared.settings.Limits.{Limits}
 use Rattle.s3_model.specs.declared.settings.Settings.{Settings}
@@ -19,9 +14,8 @@ use Rattle.s3_words.specs.declared.commands.Command.{Command}
 use Rattle.answer_classes.specs.Showing.{HasStatus, Shows}
 use Rattle.attempts.specs.Attempts.{text_of}
 use Rattle.list_walk.specs.Pages.{IsRefusedPage}
-use Rattle.listings.specs.Asked.{OfSomeTalks}
-use Rattle.listings.specs.Faults.{IsCauseOf}
 use Rattle.job_terms.specs.Dispatches.{Dispatched}
+use Rattle.question_runs.specs.Asked.{log_of}
 use Rattle.run_promise.specs.Planning.{PlansFor}
 use Rattle.s3_words.specs.Options.{is_listing, is_presign}
 use Rattle.upload_plans.specs.Commands.{source_path}
@@ -29,7 +23,7 @@ use Rattle.upload_plans.specs.Plans.{is_large}
 use Rattle.upload_plans.specs.declared.plan.Fate.{Fate}
 use Rattle.upload_plans.specs.declared.plan.Fate.TheVariants as fate
 use Rattle.run_promise.specs.Settled.{RunEnd, RunStart}
-use Rattle.upload_promise.specs.Shown.{CallFailed, KeepsPromise, one_attempt, start_of}
+use Rattle.upload_promise.specs.Shown.{CallFailed, KeepsPromise, start_of}
 use Rattle.upload_promise.specs.Sources.{calls_between}
 use Rattle.run_report.specs.declared.run.Fatal.{Fatal}
 use Rattle.run_report.specs.declared.run.Fatal.TheVariants as fatal
@@ -43,6 +37,7 @@ use Rattle.s3_main.specs.Plans.{HasPlan, IsFate, Wants, Works}
 use Rattle.run_report.specs.Printed.{IsPrintedAs, Output}
 use Rattle.run_report.specs.Statuses.{EndsWith}
 use Rattle.run_report.specs.Texts.{HasWarned, Warned, err_text, out_text}
+use Rattle.run_show.specs.Listings.{IsListingEnd}
 use Rattle.s3_main.specs.Listings.{IsListing}
 use Rattle.s3_main.specs.Own.{IsOwn, Own}
 use Rattle.s3_main.specs.Urls.{IsPresigned, IsTaskless}
@@ -85,19 +80,7 @@ StopsInPlan words env limits files before after why =
     × (is_presign command.verb ≡ false) × (is_listing command.verb ≡ false) × (command.mode.dryrun ≡ false)
     × StopsPlanning command settings limits files before after why
 
--- what a listing of this path asks, or one without a path
-abbrev pub listed_op : Option Place → Op
-listed_op None = op.Buckets
-listed_op (Some at) = op.List
-
--- A page was refused; or a request of the operation was, or nobody can know what it came to. What the talks show of it
--- is a part of how far the run went.
-abbrev pub IsListingEnd : Option Place → Fatal → Type 0
-IsListingEnd at (fatal.Listing fault) = IsListingFault fault
-IsListingEnd at (fatal.Answer why) = IsCauseOf (listed_op at) why
-IsListingEnd at fatal.Memory = Unit {0}
-IsListingEnd at why = ⊥
-
+-- What the talks show of it is a part of how far the run went.
 abbrev pub StopsInListing : (words : List (List ℕ)) → Option SeenEnv → Fatal → Type 0
 StopsInListing words env why =
     (command : Command) × (settings : Settings) × IsBegun words env command settings
@@ -156,7 +139,7 @@ abbrev pub GoesAs : (words : List (List ℕ)) → Option SeenEnv → Limits → 
     → (faults_before faults_after : ℕ) → Run → List Talk → List Note → Type 0
 GoesAs words env limits was now before after run talks notes =
     IsUnplanned run talks notes ⊎ IsPlanned words env limits was now before after run talks notes
-    ⊎ IsPresigned words env run talks notes ⊎ IsListing words env run talks notes
+    ⊎ IsPresigned words env run talks notes ⊎ IsListing words env run (Some (log_of talks notes))
     ⊎ IsShownOnly words env limits (files_seen was now before after) run talks notes
 
 -- ---- what needs no look at wires, files and variables
@@ -181,9 +164,9 @@ pub record MakesUrl (words : List (List ℕ)) (run : Run) : Type 0 where
   pub presign : is_presign command.verb ≡ true
   pub taskless : IsTaskless run
 
--- a listing that some talks show, also where the wire shows none, and there is no task
+-- a listing, also where the wire shows nothing, and there is no task
 abbrev pub MakesListing : (words : List (List ℕ)) → Run → Type 0
-MakesListing words run = OfSomeTalks (IsListing words None run)
+MakesListing words run = IsListing words None run None
 
 abbrev pub Undertakes : (words : List (List ℕ)) → Limits → (faults_before faults_after : ℕ) → Run → Type 0
 Undertakes words limits before after run =
@@ -192,21 +175,21 @@ Undertakes words limits before after run =
 
 -- ---- the promise
 
+abbrev pub has_no_memory : Option Fatal → Bool
+has_no_memory (Some fatal.Memory) = true
+has_no_memory why = false
+
 -- The planning of the run asks what its words need, unless memory ran out; and nothing where the run ended by what no
 -- request shows. The page of the job of that number was refused by its content, if there is one.
 abbrev pub PlansBy : (words : List (List ℕ)) → Option Fatal → (refused_page : Option ℕ) → List Dispatched → Type 0
 PlansBy words why refused_page =
-    PlansFor Shows IsRefusedPage (why ≡ Some fatal.Memory) refused_page (needs_in words why)
-
--- a listing tries each request once
-abbrev pub config_for : (words : List (List ℕ)) → Config → Config
-config_for words config = if lists_in words then one_attempt config else config
+    PlansFor Shows IsRefusedPage (has_no_memory why ≡ true) refused_page (needs_in words why)
 
 -- what a run was given: its settings, its tasks and the files
 abbrev pub start_for : (words : List (List ℕ)) → Config → Limits → (wires : ℕ) → List Task → (was : SeenFiles)
     → RunStart
 start_for words config limits wires tasks was =
-    record (start_of (config_for words config) limits wires tasks was) { dryrun = dries_in words }
+    record (start_of config limits wires tasks was) { dryrun = dries_in words }
 
 -- the files before and after, with their counts of faults
 pub record FilesOver : Type 0 where

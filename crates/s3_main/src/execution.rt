@@ -1,6 +1,7 @@
 //! What the words say is planned and done; nothing is printed here.
 
-ghost use Rattle.std.specs.Prelude.{◌≡◌, ◌≤◌, [], true, false, IfErr, IfOk, IfSome, map, string_bytes};
+ghost use Rattle.std.specs.Prelude.{◌≡◌, ◌≤◌, [], true, false, IfErr, IfOk, IfSome, drop, map, string_bytes};
+ghost use Rattle.std.specs.Prelude.{vec_len};
 ghost use Rattle.s3_model.specs.Validity.{IsValidLimits, IsWithin};
 ghost use Rattle.upload_plans.specs.Commands.{CopiesUp, IsOffline, source_path};
 ghost use Rattle.upload_plans.specs.Plans.{HasNoMemory};
@@ -23,6 +24,7 @@ ghost use Rattle.s3_main.specs.Executed.{
 };
 ghost use Rattle.s3_main.specs.Plans.{IsFate};
 ghost use Rattle.s3_main.specs.Runs.{GoesAs, StopsFor, StopsPlanning, Undertakes};
+ghost use Rattle.s3_main.specs.Wires.{OnEach, OnFirst};
 ghost use Rattle.run_start.specs.Settings.{AsksOnly};
 ghost use Rattle.run_report.specs.Texts.{IsTextOf, mode_in};
 
@@ -36,6 +38,8 @@ use s3_outside::{Env, Files, Wire};
 use s3_words::Command;
 use std::alloc::Global;
 use std::mem;
+use std::sync::Wait;
+use std::thread::Threads;
 use upload_plans::{Fate, is_offline_dry_run, places_of, plan_upload};
 
 /// Looks at the file of a command, and says what copying it comes to, which takes over the command's texts.
@@ -155,19 +159,27 @@ fn execute_dry_run<F: Files>(
     execute_dry(alloc, words, command, limits, files)
 }
 
-/// Plans and does what the words say; nothing is printed.
-pub(crate) fn execute<W: Wire, F: Files, E: Env>(
+/// Plans and does what the words say; nothing is printed. No wire behind the first is used.
+pub(crate) fn execute<R, W, F, E>(
+    rt: &R,
     alloc: Global,
     words: &[String],
     env: &mut E,
     files: &mut F,
-    wire: &mut W,
+    wires: &mut Vec<W>,
 ) -> Worked
-    ensures went { Gains (W.seen wire.old) (W.seen wire.new) (GoesAs (map string_bytes words.now) (E.seen env.new)
-        (E.allows env.old) (F.seen files.old) (F.seen files.new) (F.faults files.old) (F.faults files.new)
-        result.executed.run) }
-    ensures text { HasTextOf (map string_bytes words.now) (E.seen env.new) (W.seen wire.old) (W.seen wire.new)
-        result.executed.run result.executed.text result.missed }
+where
+    R: Threads + Wait + Clone + Send + Drop + 'static,
+    W: Wire + Send + Drop + 'static,
+    F: Files,
+    E: Env,
+    requires wire { 1 ≤ vec_len wires.old }
+    ensures went { OnFirst wires.old.items wires.new.items (λ before after. Gains (W.seen before) (W.seen after)
+        (GoesAs (map string_bytes words.now) (E.seen env.new) (E.allows env.old) (F.seen files.old) (F.seen files.new)
+        (F.faults files.old) (F.faults files.new) result.executed.run)) }
+    ensures text { OnFirst wires.old.items wires.new.items (λ before after. HasTextOf (map string_bytes words.now)
+        (E.seen env.new) (W.seen before) (W.seen after) result.executed.run result.executed.text result.missed) }
+    ensures others { drop 1 wires.new.items ≡ drop 1 wires.old.items }
     ensures lists { HasStatusOf (lists_in (map string_bytes words.now)) result.lists result.executed.run.fatal }
     ensures stops { IfSome result.executed.run.fatal (StopsFor (map string_bytes words.now) (E.seen env.new)
         (E.faults env.old) (E.faults env.new) (E.allows env.old) (files_seen (F.seen files.old) (F.seen files.new)
@@ -178,25 +190,27 @@ pub(crate) fn execute<W: Wire, F: Files, E: Env>(
     ensures files { LooksFor (map string_bytes words.now) (files_seen (F.seen files.old) (F.seen files.new)
         (F.faults files.old) (F.faults files.new)) }
     ensures files_later { F.faults files.old ≤ F.faults files.new }
-    ensures wire_later { W.faults wire.old ≤ W.faults wire.new }
+    ensures wires_later { OnEach wires.old.items wires.new.items (λ before after. W.faults before ≤ W.faults after) }
     ensures asked { AsksOnly (E.seen env.old) (E.seen env.new) (E.faults env.old) (E.faults env.new) }
     ensures env_later { E.faults env.old ≤ E.faults env.new }
 {
     let limits = env.limits();
     match read_start(alloc, words, env) {
         Ok(start) if start.command.verb.is_presign() => Worked {
-            executed: execute_presign(alloc, words, start, wire),
+            executed: execute_presign(alloc, words, start, &mut wires[0]),
             lists: false,
             missed: false,
         },
-        Ok(start) if start.command.verb.is_listing() => execute_listing(alloc, words, start, wire),
+        Ok(start) if start.command.verb.is_listing() => {
+            execute_listing(rt, alloc, words, start, wires)
+        }
         Ok(start) if is_offline_dry_run(&start.command) => Worked {
             executed: execute_dry_run(alloc, words, start, limits, files),
             lists: false,
             missed: false,
         },
         Ok(start) => Worked {
-            executed: execute_command(alloc, words, start, &limits, files, wire),
+            executed: execute_command(alloc, words, start, &limits, files, &mut wires[0]),
             lists: false,
             missed: false,
         },

@@ -30,16 +30,16 @@ use std::thread::Threads;
 /// By now it does `presign`, which prints a URL from the first wire's moment on and makes no talk; `ls`, which asks for
 /// the buckets or for the pages of a listing (Amazon S3 API Reference, "ListBuckets", "ListObjectsV2") and then prints
 /// a row of each prefix and of each object; and `cp` of one local file to an object, which goes up in one Put
-/// ("PutObject"), tried again as the settings say (`max_attempts`), with pauses of 1, 2, 4 .. 20 seconds. Each
-/// request of `ls` is tried once, and all go over the first wire. Of `cp` and `mv` from local files, trees among them,
-/// and of `rm` for one object it does the dry run, which shows each task in order, and sends and changes nothing. The
-/// other commands, and a file of the settings' threshold or more that is to be sent, are refused with 252, and so are
-/// faulty words (AWS CLI Command Reference, `s3`). The status is 253 where the settings are refused or a file of them
-/// was not read; 0 where the file is copied, or left out by a filter, or the plan of a dry run is shown; 1 where it
-/// failed, where nobody can know, where it is not there, is a folder or could not be looked at; 2 where a name was
-/// skipped with a warning. Of `ls` it is 0, or 1 where a key was given and nothing found; 254 where the service refused
-/// a request, and 255 where nobody can know its answer or a page is refused; then no row is printed. Where memory ran
-/// out the status is 70, and after a fault of an output 74.
+/// ("PutObject"). Each request, of `ls` too, is tried again as the settings say (`max_attempts`), with pauses of 1, 2,
+/// 4 .. 20 seconds, and all go over the first wire. Of `cp` and `mv` from local files, trees among them, and of `rm`
+/// for one object it does the dry run, which shows each task in order, and sends and changes nothing. The other
+/// commands, and a file of the settings' threshold or more that is to be sent, are refused with 252, and so are faulty
+/// words (AWS CLI Command Reference, `s3`). The status is 253 where the settings are refused or a file of them was not
+/// read; 0 where the file is copied, or left out by a filter, or the plan of a dry run is shown; 1 where it failed,
+/// where nobody can know, where it is not there, is a folder or could not be looked at; 2 where a name was skipped
+/// with a warning. Of `ls` it is 0, or 1 where a key was given and nothing found; 254 where the service refused a
+/// request, and 255 where nobody can know its answer by its last attempt or a page is refused; then no row is printed.
+/// Where memory ran out the status is 70, and after a fault of an output 74.
 pub fn run_s3<R, W, F, O, X, E>(
     rt: &R,
     alloc: Global,
@@ -102,7 +102,6 @@ where
     ensures out_later { O.faults out.old ≤ O.faults out.new }
     ensures err_later { X.faults err.old ≤ X.faults err.new }
 {
-    let _ = rt;
-    let worked = execute(alloc, words, env, files, &mut wires[0]);
+    let worked = execute(rt, alloc, words, env, files, wires);
     report(worked, out, err)
 }

@@ -1,36 +1,44 @@
-use Rattle.std.proofs.Common.{◌≡◌, List, [], Option, ap, rules, subst, sym}
-use Rattle.s3_model.specs.declared.places.Endpoint.{Endpoint}
-use Rattle.s3_model.specs.declared.places.Place.{Place}
-use Rattle.s3_model.specs.declared.settings.Keys.{Keys}
-use Rattle.listing_commands.specs.Commands.{ShowsListing}
-use Rattle.listings.specs.Asked.{OfSomeTalks}
+use Rattle.std.proofs.Common.{◌≤◌, List, ap, arith, length, subst, sym}
 use Rattle.job_terms.specs.Gains.{Gains}
+use Rattle.question_runs.specs.Asked.{log_of}
 use Rattle.s3_model.specs.declared.outcomes.Event.{Event}
+use Rattle.run_show.specs.Listings.{OnFirstAlone, ShowsListing}
+use Rattle.std.proofs.Common.{Some, None}
+use Rattle.run_show.proofs.ListingLemmas.{halts_may_end, listing_stops, wire_gained, wire_halts, wire_later, wire_unseen}
 use Rattle.run_show.proofs.listing.execute_listing.Goals as goal
 
--- what holds of an endpoint, keys, a place and two journals holds of those that equal them
-told : (P : Endpoint → Keys → Option Place → List Event → List Event → Type 0) (endpoint other : Endpoint) (keys others : Keys) (at from : Option Place) (before start after end : List Event)
-    → endpoint ≡ other → keys ≡ others → at ≡ from → before ≡ start → after ≡ end → P endpoint keys at before after → P other others from start end
-told P endpoint other keys others at from before start after end of_endpoint of_keys of_place of_start of_end held =
-    subst (λ (e : List Event). P other others from start e) of_end
-    (subst (λ (s : List Event). P other others from s after) of_start
-    (subst (λ (f : Option Place). P other others f before after) of_place
-    (subst (λ (k : Keys). P other k at before after) of_keys (subst (λ (e : Endpoint). P e keys at before after) of_endpoint held))))
+pub end_listing-requires : goal.end_listing-requires
+end_listing-requires g c =
+    halts_may_end _ c.show_listing-run.result.shown
+    (wire_halts g.W.Wire.seen g.W.Wire.faults c.args.start.command c.args.start.settings c.show_listing-run.result.journal.items c.show_listing-run.result.shown c.args.wires.now.items c.show_listing-run.new.wires.items
+    (omega (arith, c.requires.wire, c.args.wires.now.ok.0)) c.show_listing-run.ensures.shown)
 
 pub returns-clause-listed : goal.returns-clause-listed
 returns-clause-listed g c =
     let command = c.args.start.command in
-    let keys = c.args.start.settings.keys in
-    let service = c.service_of-endpoint in
-    let result = c.ask-listed.result in
-    let Seen : Endpoint → Keys → Option Place → List Event → List Event → Type 0 = λ endpoint keys at before after. Gains (g.W.Wire.seen c.args.wire.now) (g.W.Wire.seen c.ask-listed.new.wire)
-    (ShowsListing endpoint keys at command.recursive before after result) in
-    let Some : Endpoint → Keys → Option Place → List Event → List Event → Type 0 = λ endpoint keys at before after. OfSomeTalks (ShowsListing endpoint keys at command.recursive before after result) in
-    let none : c.make-journal.result.items ≡ [] = search rules in
+    let settings = c.args.start.settings in
+    let shown = c.show_listing-run.result.shown in
+    let events = c.show_listing-run.result.journal.items in
+    let before = c.args.wires.now.items in
+    let after = c.show_listing-run.new.wires.items in
+    let some : 1 ≤ length before = omega (arith, c.requires.wire, c.args.wires.now.ok.0) in
     let same = sym (ap (λ j. j.items) c.end_listing.ensures.journal) in
     record {
-      result = result;
-      gained = told Seen _ _ _ _ _ _ _ _ _ _ service.ensures.endpoint service.ensures.keys c.take-from.ensures.value none same c.ask-listed.ensures.shown;
-      some = told Some _ _ _ _ _ _ _ _ _ _ service.ensures.endpoint service.ensures.keys c.take-from.ensures.value none same c.ask-listed.ensures.some;
+      result = shown;
+      gained = subst (λ (all : List Event). OnFirstAlone before after (λ was now. Gains (g.W.Wire.seen was) (g.W.Wire.seen now) (λ talks notes. ShowsListing command settings all shown (Some (log_of talks notes))))) same
+          (wire_gained g.W.Wire.seen g.W.Wire.faults command settings events shown before after some c.show_listing-run.ensures.shown);
+      unseen = subst (λ (all : List Event). ShowsListing command settings all shown None) same
+          (wire_unseen g.W.Wire.seen g.W.Wire.faults command settings events shown before after some c.show_listing-run.ensures.shown);
       made = c.end_listing.ensures.made;
     }
+
+pub returns-clause-stops : goal.returns-clause-stops
+returns-clause-stops g c =
+    listing_stops _ c.args.start.command.from c.show_listing-run.result.shown c.end_listing.result.executed.run c.end_listing.result.executed.text c.end_listing.result.missed c.end_listing.ensures.made
+    (wire_halts g.W.Wire.seen g.W.Wire.faults c.args.start.command c.args.start.settings c.show_listing-run.result.journal.items c.show_listing-run.result.shown c.args.wires.now.items c.show_listing-run.new.wires.items
+    (omega (arith, c.requires.wire, c.args.wires.now.ok.0)) c.show_listing-run.ensures.shown)
+
+pub returns-clause-later : goal.returns-clause-later
+returns-clause-later g c =
+    wire_later g.W.Wire.seen g.W.Wire.faults c.args.start.command c.args.start.settings c.show_listing-run.result.journal.items c.show_listing-run.result.shown c.args.wires.now.items c.show_listing-run.new.wires.items
+    (omega (arith, c.requires.wire, c.args.wires.now.ok.0)) c.show_listing-run.ensures.shown

@@ -1,16 +1,16 @@
 use Rattle.upload_promise.proofs.SourceLemmas.{looks_none}
 use Rattle.std.specs.Prelude.{IfSome}
 use Rattle.s3_model.specs.Validity.{IsValidLimits}
-use Rattle.std.proofs.Common.{◌∙◌, Global, map, string_bytes, refl, ap, is_some, subst, sym, inl, inr, None}
+use Rattle.std.proofs.Common.{◌∙◌, Global, map, string_bytes, ap, arith, is_some, subst, sym, inl, inr, None}
 use Rattle.s3_model.specs.declared.settings.Limits.{Limits}
 use Rattle.job_terms.specs.Gains.{Gains}
 use Rattle.job_terms.proofs.GainLemmas.{gains_as}
-use Rattle.s3_main.specs.Listings.{IsListing}
 use Rattle.s3_main.specs.Runs.{GoesAs, StopsFor, Undertakes}
 use Rattle.s3_main.specs.Urls.{IsPresigned}
 use Rattle.dry_runs.specs.Found.{files_seen}
 use Rattle.s3_main.proofs.BeginLemmas as lemma
 use Rattle.s3_main.proofs.DryLemmas.{dries_true, dry_does, dry_goes, dry_stops, no_other}
+use Rattle.s3_main.proofs.FirstLemmas.{alone_each, alone_others, each_same, first_same, on_each, on_first, others_stay}
 use Rattle.s3_main.proofs.ListingLemmas.{listing_does, listing_goes, listing_line_is, listing_stops, same_status}
 use Rattle.s3_main.proofs.UrlLemmas.{copy_line, lists, presign_is_no_listing, stopped_line, url_does, url_goes, url_line_is}
 use Rattle.run_start.proofs.RestLemmas.{mode_is}
@@ -20,9 +20,10 @@ pub returns-in-Ok-clause-went : goal.returns-in-Ok-clause-went
 returns-in-Ok-clause-went g c =
     let words = map (string_bytes {Z = Global}) c.args.words.now in
     let run = c.execute_presign.result.run in
-    gains_as (IsPresigned words (g.E.Env.seen c.read_start.new.env) run) (GoesAs words (g.E.Env.seen c.read_start.new.env) (g.E.Env.allows c.args.env.now) (g.F.Files.seen c.args.files.now)
+    on_first c.args.wires.now.items c.index_mut.result.now c.execute_presign.new.wire _ (omega (arith, c.requires.wire, c.args.wires.now.ok.0)) c.index_mut.ensures.value
+    (gains_as (IsPresigned words (g.E.Env.seen c.read_start.new.env) run) (GoesAs words (g.E.Env.seen c.read_start.new.env) (g.E.Env.allows c.args.env.now) (g.F.Files.seen c.args.files.now)
     (g.F.Files.seen c.args.files.now) (g.F.Files.faults c.args.files.now) (g.F.Files.faults c.args.files.now) run) (λ talks notes url. inr (inr (inl url))) _ _
-    (url_goes words _ c.in-Ok.start.command c.in-Ok.start.settings c.in-Ok.ensures.begun (sym c.is_presign.ensures ∙ c.if-is_presign.true) _ _ run c.execute_presign.result.text c.execute_presign.ensures.made)
+    (url_goes words _ c.in-Ok.start.command c.in-Ok.start.settings c.in-Ok.ensures.begun (sym c.is_presign.ensures ∙ c.if-is_presign.true) _ _ run c.execute_presign.result.text c.execute_presign.ensures.made))
 
 pub returns-in-Ok-clause-does : goal.returns-in-Ok-clause-does
 returns-in-Ok-clause-does g c =
@@ -33,8 +34,9 @@ returns-in-Ok-clause-does g c =
 pub returns-in-Ok-clause-text : goal.returns-in-Ok-clause-text
 returns-in-Ok-clause-text g c =
     let words = map (string_bytes {Z = Global}) c.args.words.now in
-    url_line_is words _ c.in-Ok.start.command c.in-Ok.start.settings c.in-Ok.ensures.begun (sym c.is_presign.ensures ∙ c.if-is_presign.true) _ _ c.execute_presign.result.run c.execute_presign.result.text
-    c.execute_presign.ensures.made
+    on_first c.args.wires.now.items c.index_mut.result.now c.execute_presign.new.wire _ (omega (arith, c.requires.wire, c.args.wires.now.ok.0)) c.index_mut.ensures.value
+    (url_line_is words _ c.in-Ok.start.command c.in-Ok.start.settings c.in-Ok.ensures.begun (sym c.is_presign.ensures ∙ c.if-is_presign.true) _ _ c.execute_presign.result.run c.execute_presign.result.text
+    c.execute_presign.ensures.made)
 
 pub returns-in-Ok-clause-lists : goal.returns-in-Ok-clause-lists
 returns-in-Ok-clause-lists g c =
@@ -45,16 +47,14 @@ pub returns-in-Ok-2-clause-went : goal.returns-in-Ok-2-clause-went
 returns-in-Ok-2-clause-went g c =
     let words = map (string_bytes {Z = Global}) c.args.words.now in
     let run = c.execute_listing.result.executed.run in
-    gains_as (IsListing words (g.E.Env.seen c.read_start.new.env) run) (GoesAs words (g.E.Env.seen c.read_start.new.env) (g.E.Env.allows c.args.env.now) (g.F.Files.seen c.args.files.now)
-    (g.F.Files.seen c.args.files.now) (g.F.Files.faults c.args.files.now) (g.F.Files.faults c.args.files.now) run) (λ talks notes listed. inr (inr (inr (inl listed)))) _ _
-    (listing_goes words run c.execute_listing.result.executed.text c.execute_listing.result.missed _ c.in-Ok.start.command c.in-Ok.start.settings c.in-Ok.ensures.begun
-    (sym c.is_listing.ensures ∙ c.if-is_listing.true) _ _ c.execute_listing.ensures.listed)
+    listing_goes words c.execute_listing.result.executed.run c.execute_listing.result.executed.text c.execute_listing.result.missed (g.E.Env.seen c.read_start.new.env) c.in-Ok.start.command c.in-Ok.start.settings c.in-Ok.ensures.begun (sym c.is_listing.ensures ∙ c.if-is_listing.true) g.W.Wire.seen c.args.wires.now.items c.execute_listing.new.wires.items c.execute_listing.ensures.listed
+    (GoesAs words (g.E.Env.seen c.read_start.new.env) (g.E.Env.allows c.args.env.now) (g.F.Files.seen c.args.files.now) (g.F.Files.seen c.args.files.now) (g.F.Files.faults c.args.files.now) (g.F.Files.faults c.args.files.now) run)
+    (λ talks notes listed. inr (inr (inr (inl listed))))
 
 pub returns-in-Ok-2-clause-text : goal.returns-in-Ok-2-clause-text
 returns-in-Ok-2-clause-text g c =
     let words = map (string_bytes {Z = Global}) c.args.words.now in
-    listing_line_is words c.execute_listing.result.executed.run c.execute_listing.result.executed.text c.execute_listing.result.missed _ c.in-Ok.start.command c.in-Ok.start.settings c.in-Ok.ensures.begun
-    (sym c.is_listing.ensures ∙ c.if-is_listing.true) _ _ c.execute_listing.ensures.listed
+    listing_line_is words c.execute_listing.result.executed.run c.execute_listing.result.executed.text c.execute_listing.result.missed (g.E.Env.seen c.read_start.new.env) c.in-Ok.start.command c.in-Ok.start.settings c.in-Ok.ensures.begun (sym c.is_listing.ensures ∙ c.if-is_listing.true) g.W.Wire.seen c.args.wires.now.items c.execute_listing.new.wires.items c.execute_listing.ensures.listed
 
 pub returns-in-Ok-2-clause-lists : goal.returns-in-Ok-2-clause-lists
 returns-in-Ok-2-clause-lists g c =
@@ -64,28 +64,28 @@ returns-in-Ok-2-clause-lists g c =
 pub returns-in-Ok-2-clause-stops : goal.returns-in-Ok-2-clause-stops
 returns-in-Ok-2-clause-stops g c =
     let words = map (string_bytes {Z = Global}) c.args.words.now in
-    listing_stops words c.execute_listing.result.executed.run c.execute_listing.result.executed.text c.execute_listing.result.missed _ c.in-Ok.start.command c.in-Ok.start.settings c.in-Ok.ensures.begun
-    (sym c.is_listing.ensures ∙ c.if-is_listing.true) _ _ c.execute_listing.ensures.listed _ _ _ _ _ refl c.execute_listing.ensures.stops
+    listing_stops words c.execute_listing.result.executed.run c.execute_listing.result.executed.text c.execute_listing.result.missed (g.E.Env.seen c.read_start.new.env) c.in-Ok.start.command c.in-Ok.start.settings c.in-Ok.ensures.begun (sym c.is_listing.ensures ∙ c.if-is_listing.true) _ _ _ _ c.execute_listing.result.executed.run.fatal c.execute_listing.ensures.stops
 
 pub returns-in-Ok-2-clause-does : goal.returns-in-Ok-2-clause-does
 returns-in-Ok-2-clause-does g c =
     let words = map (string_bytes {Z = Global}) c.args.words.now in
-    inr (inr (inr (inl (listing_does words c.execute_listing.result.executed.run c.execute_listing.result.executed.text c.execute_listing.result.missed _ c.in-Ok.start.command c.in-Ok.start.settings c.in-Ok.ensures.begun
-    (sym c.is_listing.ensures ∙ c.if-is_listing.true) _ _ c.execute_listing.ensures.listed))))
+    inr (inr (inr (inl (listing_does words c.execute_listing.result.executed.run c.execute_listing.result.executed.text c.execute_listing.result.missed (g.E.Env.seen c.read_start.new.env) c.in-Ok.start.command c.in-Ok.start.settings c.in-Ok.ensures.begun (sym c.is_listing.ensures ∙ c.if-is_listing.true) g.W.Wire.seen c.args.wires.now.items c.execute_listing.new.wires.items c.execute_listing.ensures.listed))))
 
 pub returns-in-Ok-4-clause-went : goal.returns-in-Ok-4-clause-went
 returns-in-Ok-4-clause-went g c =
     let words = map (string_bytes {Z = Global}) c.args.words.now in
-    subst (λ (limits : Limits). Gains (g.W.Wire.seen c.args.wire.now) (g.W.Wire.seen c.execute_command.new.wire) (GoesAs words (g.E.Env.seen c.read_start.new.env) limits (g.F.Files.seen c.args.files.now)
+    on_first c.args.wires.now.items c.index_mut-in-Ok-4.result.now c.execute_command.new.wire _ (omega (arith, c.requires.wire, c.args.wires.now.ok.0)) c.index_mut-in-Ok-4.ensures.value
+    (subst (λ (limits : Limits). Gains (g.W.Wire.seen c.index_mut-in-Ok-4.result.now) (g.W.Wire.seen c.execute_command.new.wire) (GoesAs words (g.E.Env.seen c.read_start.new.env) limits (g.F.Files.seen c.args.files.now)
     (g.F.Files.seen c.execute_command.new.files) (g.F.Files.faults c.args.files.now) (g.F.Files.faults c.execute_command.new.files) c.execute_command.result.run)) c.limits-limits.ensures.value
     (lemma.begun_goes words _ 0 0 _ _ _ _ _ c.execute_command.result.run c.in-Ok.start.command c.in-Ok.start.settings c.in-Ok.ensures.begun (sym c.is_presign.ensures ∙ c.if-is_presign.false)
-    (sym c.is_listing.ensures ∙ c.if-is_listing.false) (c.in-Ok.ensures.carried (sym c.is_presign.ensures ∙ c.if-is_presign.false) (sym c.is_listing.ensures ∙ c.if-is_listing.false) (sym c.is_offline_dry_run.ensures ∙ c.if-is_offline_dry_run.false)) _ _ c.execute_command.ensures.went)
+    (sym c.is_listing.ensures ∙ c.if-is_listing.false) (c.in-Ok.ensures.carried (sym c.is_presign.ensures ∙ c.if-is_presign.false) (sym c.is_listing.ensures ∙ c.if-is_listing.false) (sym c.is_offline_dry_run.ensures ∙ c.if-is_offline_dry_run.false)) _ _ c.execute_command.ensures.went))
 
 pub returns-in-Ok-4-clause-text : goal.returns-in-Ok-4-clause-text
 returns-in-Ok-4-clause-text g c =
     let words = map (string_bytes {Z = Global}) c.args.words.now in
-    copy_line words _ _ _ c.execute_command.result.run c.execute_command.result.text c.in-Ok.start.command c.in-Ok.ensures.begun.rest (sym c.is_presign.ensures ∙ c.if-is_presign.false)
-    (sym c.is_listing.ensures ∙ c.if-is_listing.false) c.execute_command.ensures.text
+    on_first c.args.wires.now.items c.index_mut-in-Ok-4.result.now c.execute_command.new.wire _ (omega (arith, c.requires.wire, c.args.wires.now.ok.0)) c.index_mut-in-Ok-4.ensures.value
+    (copy_line words _ _ _ c.execute_command.result.run c.execute_command.result.text c.in-Ok.start.command c.in-Ok.ensures.begun.rest (sym c.is_presign.ensures ∙ c.if-is_presign.false)
+    (sym c.is_listing.ensures ∙ c.if-is_listing.false) c.execute_command.ensures.text)
 
 pub returns-in-Ok-4-clause-lists : goal.returns-in-Ok-4-clause-lists
 returns-in-Ok-4-clause-lists g c =
@@ -102,20 +102,19 @@ returns-in-Ok-4-clause-files g c =
 
 pub returns-in-Err-clause-went : goal.returns-in-Err-clause-went
 returns-in-Err-clause-went g c =
-    lemma.early_goes (map (string_bytes {Z = Global}) c.args.words.now) _ _ _ _ _ _ _ _ c.end_early.result.run _ c.in-Err.fatal c.end_early.ensures.run c.in-Err.ensures.stops
+    first_same c.args.wires.now.items _ (omega (arith, c.requires.wire, c.args.wires.now.ok.0))
+    (λ wire. lemma.early_goes (map (string_bytes {Z = Global}) c.args.words.now) _ _ _ _ _ _ _ _ c.end_early.result.run _ c.in-Err.fatal c.end_early.ensures.run c.in-Err.ensures.stops)
 
 pub returns-in-Err-clause-text : goal.returns-in-Err-clause-text
 returns-in-Err-clause-text g c =
-    stopped_line (map (string_bytes {Z = Global}) c.args.words.now) _ _ _ c.end_early.result.run c.end_early.result.text (ap is_some c.end_early.ensures.run.fatal) c.end_early.ensures.text
+    first_same c.args.wires.now.items _ (omega (arith, c.requires.wire, c.args.wires.now.ok.0))
+    (λ wire. stopped_line (map (string_bytes {Z = Global}) c.args.words.now) _ _ _ c.end_early.result.run c.end_early.result.text (ap is_some c.end_early.ensures.run.fatal) c.end_early.ensures.text)
 
 pub returns-in-Ok-clause-valid : goal.returns-in-Ok-clause-valid
 returns-in-Ok-clause-valid g c = subst IsValidLimits c.limits-limits.ensures.value c.limits-limits.ensures.valid
 
 pub returns-in-Ok-clause-files : goal.returns-in-Ok-clause-files
 returns-in-Ok-clause-files g c = inl (looks_none _ _)
-
-pub returns-in-Ok-clause-wire_later : goal.returns-in-Ok-clause-wire_later
-returns-in-Ok-clause-wire_later g c = c.execute_presign.ensures.later
 
 pub returns-in-Ok-clause-asked : goal.returns-in-Ok-clause-asked
 returns-in-Ok-clause-asked g c = c.read_start.ensures.asked
@@ -129,9 +128,6 @@ returns-in-Ok-2-clause-valid g c = subst IsValidLimits c.limits-limits.ensures.v
 pub returns-in-Ok-2-clause-files : goal.returns-in-Ok-2-clause-files
 returns-in-Ok-2-clause-files g c = inl (looks_none _ _)
 
-pub returns-in-Ok-2-clause-wire_later : goal.returns-in-Ok-2-clause-wire_later
-returns-in-Ok-2-clause-wire_later g c = c.execute_listing.ensures.later
-
 pub returns-in-Ok-2-clause-asked : goal.returns-in-Ok-2-clause-asked
 returns-in-Ok-2-clause-asked g c = c.read_start.ensures.asked
 
@@ -140,9 +136,6 @@ returns-in-Ok-2-clause-env_later g c = c.read_start.ensures.later
 
 pub returns-in-Ok-4-clause-valid : goal.returns-in-Ok-4-clause-valid
 returns-in-Ok-4-clause-valid g c = subst IsValidLimits c.limits-limits.ensures.value c.limits-limits.ensures.valid
-
-pub returns-in-Ok-4-clause-wire_later : goal.returns-in-Ok-4-clause-wire_later
-returns-in-Ok-4-clause-wire_later g c = c.execute_command.ensures.wire_later
 
 pub returns-in-Ok-4-clause-asked : goal.returns-in-Ok-4-clause-asked
 returns-in-Ok-4-clause-asked g c = c.read_start.ensures.asked
@@ -192,15 +185,17 @@ returns-in-Err-clause-does g c =
 pub returns-in-Ok-3-clause-went : goal.returns-in-Ok-3-clause-went
 returns-in-Ok-3-clause-went g c =
     let words = map (string_bytes {Z = Global}) c.args.words.now in
-    subst (λ (limits : Limits). Gains (g.W.Wire.seen c.args.wire.now) (g.W.Wire.seen c.args.wire.now) (GoesAs words (g.E.Env.seen c.read_start.new.env) limits (g.F.Files.seen c.args.files.now)
+    first_same c.args.wires.now.items _ (omega (arith, c.requires.wire, c.args.wires.now.ok.0))
+    (λ wire. subst (λ (limits : Limits). Gains (g.W.Wire.seen wire) (g.W.Wire.seen wire) (GoesAs words (g.E.Env.seen c.read_start.new.env) limits (g.F.Files.seen c.args.files.now)
     (g.F.Files.seen c.execute_dry_run.new.files) (g.F.Files.faults c.args.files.now) (g.F.Files.faults c.execute_dry_run.new.files) c.execute_dry_run.result.run)) c.limits-limits.ensures.value
-    (dry_goes words _ 0 0 _ _ _ _ _ c.in-Ok.start.command c.in-Ok.start.settings c.in-Ok.ensures.begun (sym c.is_offline_dry_run.ensures ∙ c.if-is_offline_dry_run.true) c.execute_dry_run.result.run c.execute_dry_run.ensures.went _)
+    (dry_goes words _ 0 0 _ _ _ _ _ c.in-Ok.start.command c.in-Ok.start.settings c.in-Ok.ensures.begun (sym c.is_offline_dry_run.ensures ∙ c.if-is_offline_dry_run.true) c.execute_dry_run.result.run c.execute_dry_run.ensures.went _))
 
 pub returns-in-Ok-3-clause-text : goal.returns-in-Ok-3-clause-text
 returns-in-Ok-3-clause-text g c =
     let words = map (string_bytes {Z = Global}) c.args.words.now in
     let other = no_other c.in-Ok.start.command (sym c.is_offline_dry_run.ensures ∙ c.if-is_offline_dry_run.true) in
-    copy_line words _ _ _ c.execute_dry_run.result.run c.execute_dry_run.result.text c.in-Ok.start.command c.in-Ok.ensures.begun.rest other.0 other.1 c.execute_dry_run.ensures.text
+    first_same c.args.wires.now.items _ (omega (arith, c.requires.wire, c.args.wires.now.ok.0))
+    (λ wire. copy_line words _ _ _ c.execute_dry_run.result.run c.execute_dry_run.result.text c.in-Ok.start.command c.in-Ok.ensures.begun.rest other.0 other.1 c.execute_dry_run.ensures.text)
 
 pub returns-in-Ok-3-clause-lists : goal.returns-in-Ok-3-clause-lists
 returns-in-Ok-3-clause-lists g c =
@@ -243,3 +238,37 @@ returns-in-Ok-3-clause-does g c =
     let words = map (string_bytes {Z = Global}) c.args.words.now in
     subst (λ (limits : Limits). Undertakes words limits (g.F.Files.faults c.args.files.now) (g.F.Files.faults c.execute_dry_run.new.files) c.execute_dry_run.result.run) c.limits-limits.ensures.value
     (dry_does words (g.E.Env.seen c.read_start.new.env) 0 0 _ _ _ _ _ c.in-Ok.start.command c.in-Ok.start.settings c.in-Ok.ensures.begun (sym c.is_offline_dry_run.ensures ∙ c.if-is_offline_dry_run.true) c.execute_dry_run.result.run c.execute_dry_run.ensures.went)
+
+pub returns-in-Ok-clause-wires_later : goal.returns-in-Ok-clause-wires_later
+returns-in-Ok-clause-wires_later g c =
+    on_each c.args.wires.now.items c.index_mut.result.now c.execute_presign.new.wire _ (λ wire. omega arith) (omega (arith, c.requires.wire, c.args.wires.now.ok.0)) c.index_mut.ensures.value
+    c.execute_presign.ensures.later
+
+pub returns-in-Ok-clause-others : goal.returns-in-Ok-clause-others
+returns-in-Ok-clause-others g c =
+    others_stay c.args.wires.now.items _ (omega (arith, c.requires.wire, c.args.wires.now.ok.0))
+
+pub returns-in-Ok-4-clause-wires_later : goal.returns-in-Ok-4-clause-wires_later
+returns-in-Ok-4-clause-wires_later g c =
+    on_each c.args.wires.now.items c.index_mut-in-Ok-4.result.now c.execute_command.new.wire _ (λ wire. omega arith) (omega (arith, c.requires.wire, c.args.wires.now.ok.0)) c.index_mut-in-Ok-4.ensures.value
+    c.execute_command.ensures.wire_later
+
+pub returns-in-Ok-4-clause-others : goal.returns-in-Ok-4-clause-others
+returns-in-Ok-4-clause-others g c =
+    others_stay c.args.wires.now.items _ (omega (arith, c.requires.wire, c.args.wires.now.ok.0))
+
+pub returns-in-Ok-3-clause-wires_later : goal.returns-in-Ok-3-clause-wires_later
+returns-in-Ok-3-clause-wires_later g c =
+    each_same _ (λ wire. omega arith) c.args.wires.now.items
+
+pub returns-in-Err-clause-wires_later : goal.returns-in-Err-clause-wires_later
+returns-in-Err-clause-wires_later g c =
+    each_same _ (λ wire. omega arith) c.args.wires.now.items
+
+pub returns-in-Ok-2-clause-others : goal.returns-in-Ok-2-clause-others
+returns-in-Ok-2-clause-others g c =
+    alone_others c.args.wires.now.items c.execute_listing.new.wires.items _ c.execute_listing.ensures.later
+
+pub returns-in-Ok-2-clause-wires_later : goal.returns-in-Ok-2-clause-wires_later
+returns-in-Ok-2-clause-wires_later g c =
+    alone_each c.args.wires.now.items c.execute_listing.new.wires.items _ (λ wire. omega arith) c.execute_listing.ensures.later

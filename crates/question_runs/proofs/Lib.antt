@@ -1,0 +1,4 @@
+pub mod Asking
+pub mod Own
+pub mod Promise
+pub mod Shown
