@@ -8,7 +8,7 @@ use Rattle.jobs.specs.declared.ending.Ending.TheVariants as ending
 use Rattle.lane_laws.specs.Runs.{RanOut}
 use Rattle.list_walk.specs.Pages.{Gathered, IsRefusedPage, Walk, gathered_from, gathered_with, new_walk, nothing, refusal_of, with_page}
 use Rattle.planning_laws.specs.Asking.{AskOn}
-use Rattle.planning_laws.specs.Questions as laws
+use Rattle.planning_questions.specs.Questions as laws
 use Rattle.planning_questions.specs.Answers.{said_by}
 use Rattle.planning_questions.specs.Listings.{EndsTheListing, Lists, PageFits}
 use Rattle.planning_questions.specs.Questions.{Answers, AsksOnce, Question, trace_of}

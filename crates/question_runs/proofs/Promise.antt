@@ -15,7 +15,7 @@ use Rattle.lane_laws.specs.Runs.{RanOut}
 use Rattle.lane_workers.specs.LaneWorkers.{carrier_with, lane_over}
 use Rattle.list_walk.specs.Pages.{IsRefusedPage}
 use Rattle.planning_laws.specs.Asking.{AskFor}
-use Rattle.planning_laws.specs.Questions as laws
+use Rattle.planning_questions.specs.Questions as laws
 use Rattle.planning_questions.specs.Questions.{Question, trace_of}
 use Rattle.run_promise.specs.Planning.{Need, PlansFor}
 use Rattle.run_promise.specs.Settled.{RunEnd, RunStart, lanes_of}
