@@ -1,0 +1,5 @@
+pub mod BeginLemmas
+pub mod LaneLemmas
+pub mod RunLemmas
+pub mod StepLemmas
+pub mod TakeLemmas
