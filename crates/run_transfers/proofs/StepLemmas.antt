@@ -3,6 +3,10 @@ use Rattle.std.proofs.Common.{◌≡◌, ◌∙◌, ◌++◌, ◌<◌, [], ◌�
 use Rattle.std.proofs.lemmas.List.Sums.{sum_by-cons}
 use Rattle.bounded_executor.specs.Desk.{DeskState, all_out, takes}
 use Rattle.bounded_executor.specs.Exchange.{Exchange, jobs_out, unused}
+use Rattle.local_files.specs.Calls.{CallStep}
+use Rattle.task_acts.specs.declared.acts.Act.{Act}
+use Rattle.s3_outside.specs.declared.files.FileNote.{FileNote}
+use Rattle.task_acts.specs.declared.acts.FileCame.{FileCame}
 use Rattle.jobs.specs.Endings.{SeenCarried}
 use Rattle.jobs.specs.Jobs.{SeenJob}
 use Rattle.lane_givings.proofs.Holding.{others_leave}
@@ -17,7 +21,7 @@ use Rattle.queue_laws.specs.Holding.{is_of_lanes}
 use Rattle.run_needs.specs.Needs.{most_bytes}
 use Rattle.run_traces.proofs.Exchanging.{exchanges_took}
 use Rattle.run_traces.specs.Exchanges.{AreExchangesOf, HasStranger}
-use Rattle.run_traces.specs.Traces.{Lined, Made, RunTrace, Stopped, Took, events_of, journal_of}
+use Rattle.run_traces.specs.Traces.{Called, Lined, Made, RunTrace, Stopped, Took, events_of, journal_of}
 use Rattle.s3_model.specs.declared.outcomes.Event.{Event as Entry}
 use Rattle.s3_model.specs.declared.outcomes.JobId.{JobId}
 use Rattle.s3_model.specs.declared.outcomes.Reason.{Reason}
@@ -97,6 +101,16 @@ module _ {W : Type 0} {run : Conducted} {c : SeenConductor} {d : DeskState W See
     journal = same_journal running refl;
     exchanged = k.exchanged;
     lanes = has_lanes (runs.Stopped reason) refl running;
+  }
+
+  pub called_kept : (task : ℕ) (of_act : Act) (came : FileCame) (steps : List CallStep) (notes : List FileNote)
+      → IsRunning run.start run.shared (runs.Called task of_act came ∷ events_of run.trace) new
+      → IsConducting (further (Called task of_act came steps notes ∷ []) run) (conductor new c.pending) d
+  called_kept task of_act came steps notes running = record {
+    running = running;
+    journal = same_journal running refl;
+    exchanged = k.exchanged;
+    lanes = has_lanes (runs.Called task of_act came) refl running;
   }
 
 -- ---- one after the other

@@ -5,7 +5,11 @@ use Rattle.bounded_executor.specs.Exchange.{Exchange, unused}
 use Rattle.jobs.specs.Endings.{SeenCarried}
 use Rattle.jobs.specs.Jobs.{SeenJob}
 use Rattle.lane_givings.specs.Givings.{HoldJobs}
+use Rattle.manager_core.specs.Due.{call_due}
 use Rattle.manager_core.specs.Kept.{SeenManager}
+use Rattle.task_acts.specs.declared.acts.Act.{Act}
+use Rattle.task_acts.specs.Kept.{MayCome}
+use Rattle.task_acts.specs.declared.acts.FileCame.{FileCame}
 use Rattle.manager_core.specs.Running.{IsRunning, Start}
 use Rattle.manager_core.specs.declared.due.Due.TheVariants as due
 use Rattle.manager_moves.specs.Moves.{next_move}
@@ -81,6 +85,16 @@ pub record IsAt {W : Type 0} (moved : Move) (c : SeenConductor) (desk : DeskStat
   pub kept : IsConducting run c desk
   pub is : c.manager.due ≡ due.Next moved
 
+-- a call on files is to be answered, and can come back so
+pub record IsCallAt {W : Type 0} (came : FileCame) (c : SeenConductor) (desk : DeskState W SeenJob SeenCarried)
+    : Type 0 where
+  pub run : Conducted
+  pub kept : IsConducting run c desk
+  pub task : ℕ
+  pub of_act : Act
+  pub is : call_due c.manager.due ≡ Some (record { task = task; act = of_act })
+  pub may : MayCome of_act came
+
 -- ---- steps
 
 -- an outcome passed the tests against the oldest pending job of its lane
@@ -111,6 +125,10 @@ pub record GoesOn {W : Type 0} (run : Conducted) (new : SeenConductor) (desk : D
 abbrev pub Conducts : {W : Type 0} → SeenConductor → DeskState W SeenJob SeenCarried → SeenConductor
     → DeskState W SeenJob SeenCarried → Type 0
 Conducts old desk new desk_new = (run : Conducted) → IsConducting run old desk → GoesOn run new desk_new
+
+-- the same was done
+abbrev pub StaysConducted : {W : Type 0} → (old new : SeenConductor) → DeskState W SeenJob SeenCarried → Type 0
+StaysConducted old new desk = (run : Conducted) → IsConducting run old desk → IsConducting run new desk
 
 -- ---- a stranger
 

@@ -1,13 +1,21 @@
 //! A run of tasks over the lanes of a desk.
 
-ghost use Rattle.std.specs.Prelude.{◌≡◌, ◌≢◌, ◌≤◌, ◌∷◌, [], IfErr, IfNone, IfOk, IfSome, length};
+ghost use Rattle.std.specs.Prelude.{◌≡◌, ◌≢◌, ◌≤◌, ◌∷◌, [], ℕ, IfErr, IfNone, IfOk, IfSome, List, Some, length};
 ghost use Rattle.bounded_executor.specs.Desk.{SameDesk, all_out};
 ghost use Rattle.manager_core.specs.Ended.{AreOutcomes};
 ghost use Rattle.manager_core.specs.Running.{CanRun, IsSharedOf, lane_depth};
 ghost use Rattle.manager_moves.specs.Runs.{Shared};
-ghost use Rattle.run_traces.specs.Traces.{Stopped, events_of, journal_of};
+ghost use Rattle.run_traces.specs.Traces.{Called, Stopped, events_of, journal_of};
 ghost use Rattle.manager_core.specs.declared.due.Due.TheVariants as due;
-ghost use Rattle.run_transfers.specs.Conducting.{BeginsConducting, Conducted, Conducts, IsAt, IsConducting, IsFree, Stops, conductor, further};
+ghost use Rattle.run_transfers.specs.Conducting.{BeginsConducting, Conducted, Conducts, IsAt, IsCallAt, IsConducting};
+ghost use Rattle.run_transfers.specs.Conducting.{IsFree, StaysConducted, Stops, conductor, further};
+ghost use Rattle.held_parts.specs.Held.{with_more};
+ghost use Rattle.local_files.specs.Calls.{CallStep};
+ghost use Rattle.manager_core.specs.Answers.{FitsInPart, read_part};
+ghost use Rattle.manager_core.specs.Due.{call_due};
+ghost use Rattle.task_acts.specs.declared.acts.Act.{Act as OneAct};
+ghost use Rattle.s3_outside.specs.declared.files.FileNote.{FileNote};
+ghost use Rattle.std.specs.Option.{option_map};
 ghost use Rattle.s3_model.specs.Validity.{IsValidConfig, IsValidLimits};
 
 use crate::cells::cancel_failing;
@@ -24,6 +32,7 @@ use std::alloc::Global;
 use std::marker::Model;
 use std::mem;
 use std::sync::Wait;
+use task_acts::FileCame;
 
 /// A run of the tasks of a plan over the lanes of a desk, between two moves: the manager that names its moves, and the
 /// jobs that are pending in each lane. The desk is lent to each call.
@@ -42,7 +51,7 @@ impl Model for Conductor {
 }
 
 /// The oldest job of some lane comes back. Where its task fails, the other jobs of the task hear of it, as far as memory
-/// suffices. False where what came is a stranger.
+/// suffices. Where what came is a stranger, the run stops there.
 fn wait<R: Wait, W: Wire + Send + Drop>(
     rt: &R,
     manager: &mut Manager,
@@ -182,6 +191,28 @@ impl Conductor {
             }
         }
         unreachable!()
+    }
+
+    /// Adds bytes to the part of the piece whose read is to be answered.
+    pub fn fill<W: Wire + Send + Drop>(&mut self, desk: &Desk<LaneWorker<W>>, piece: &[u8])
+        requires at { (task number : ℕ) × IsAt (Move.Read task number) self.old desk.now }
+        requires fits { FitsInPart piece.now (read_part self.old.manager) }
+        ensures due { self.new.manager.due ≡ self.old.manager.due }
+        ensures stays { StaysConducted self.old self.new desk.now }
+        ensures grown { read_part self.new.manager ≡ option_map (with_more piece.now) (read_part self.old.manager) }
+    {
+        self.manager.fill(piece);
+    }
+
+    /// The call on files was made that is to be answered, and came back so.
+    pub fn called<W: Wire + Send + Drop>(&mut self, desk: &Desk<LaneWorker<W>>, came: FileCame)
+        requires { IsCallAt came self.old desk.now }
+        ensures free { IsFree self.new desk.now }
+        ensures called { (run : Conducted) (task : ℕ) (of_act : OneAct) (steps : List CallStep) (notes : List FileNote)
+            → IsConducting run self.old desk.now → call_due self.old.manager.due ≡ Some (record { task = task; act = of_act })
+            → IsConducting (further (Called task of_act came steps notes ∷ []) run) self.new desk.now }
+    {
+        self.manager.file_came(came);
     }
 
     /// The run is cancelled. Tasks that are made and have not ended hear of it, unless an earlier cancel came.
