@@ -1,0 +1,5 @@
+mod PlanLemmas
+mod RunLemmas
+mod ShownLemmas
+mod SideLemmas
+mod TraceLemmas
