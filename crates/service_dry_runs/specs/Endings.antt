@@ -54,8 +54,8 @@ pub record EndsEarly (why : Fatal) (run : Run) : Type 0 where
   pub no_outcome : run.outcomes.items ≡ []
   pub no_warning : run.warnings.items ≡ []
 
--- It shows this plan: the warnings of looking, then those of the plan, and each task dry. Nothing but want of memory ends
--- it.
+-- It shows this plan: the warnings of looking, then those of the plan, and each task dry. Nothing but want of memory
+-- ends it.
 pub record ShowsDry (plan : Plan) (looked : List Warning) (run : Run) : Type 0 where
   pub ends : MayEnd run.fatal
   pub plan_is : run.plan ≡ plan

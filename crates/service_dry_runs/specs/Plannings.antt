@@ -23,8 +23,8 @@ pub record Assignment : Type 0 where
 abbrev pub assignment : Command → Limits → SeenCarrier → Assignment
 assignment command limits carrier = record { command = command; limits = limits; carrier = carrier }
 
--- The questions of the planning were asked over an unused wire, which then shows this, if it shows anything. The jobs are
--- theirs, and the result is what the command comes to by them and by the files.
+-- The questions of the planning were asked over an unused wire, which then shows this, if it shows anything. The jobs
+-- are theirs, and the result is what the command comes to by them and by the files.
 pub record AsksForPlan (of_plan : Assignment) (files : FilesSeen) (events : List Event) (result : Result Planned Halted)
     (shows : Option WireLog) : Type 0 where
   pub questions : List Question
@@ -37,8 +37,8 @@ abbrev pub OnFirstAlone : {W : Type 0} → (before after : List W) → (W → W 
 OnFirstAlone (before ∷ others) (after ∷ rest) P = P before after × (rest ≡ others)
 OnFirstAlone before after P = ⊥
 
--- What the first wire gained is what its lane carried for the questions, and no other wire changed. `seen wire`: all that
--- is seen of the wire, if it is; `faults wire`: how often a call of it failed.
+-- What the first wire gained is what its lane carried for the questions, and no other wire changed. `seen wire`: all
+-- that is seen of the wire, if it is; `faults wire`: how often a call of it failed.
 module _ {W : Type 0} (seen : W → Option WireLog) (faults : W → ℕ) where
   pub record PlansOverFirst (of_plan : Assignment) (files : FilesSeen) (before after : List W) (events : List Event)
       (result : Result Planned Halted) : Type 0 where

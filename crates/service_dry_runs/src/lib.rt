@@ -1,4 +1,5 @@
-//! Dry runs that ask something of a service: what a command would do is planned over a lane and shown, and nothing is done.
+//! Dry runs that ask something of a service: what a command would do is planned over a lane and shown, and nothing is
+//! done.
 #![tactic(auto)]
 
 mod endings;

@@ -44,7 +44,8 @@ fn plan_at<R: Wait, W: Wire + Send + Drop, F: Files>(
     ensures planned { HasQuestions planning.old.number planning.new.number
         (progress_of planning.old.desk planning.old.journal.items)
         (progress_of planning.new.desk planning.new.journal.items) (λ questions. PlansCommand command.old limits.now
-        (files_seen (F.seen files.new) (F.faults files.old) (F.faults files.new)) planning.old.number questions result) }
+        (files_seen (F.seen files.new) (F.faults files.old) (F.faults files.new)) planning.old.number questions
+        result) }
     ensures idle { IsReadyToAsk planning.new.desk planning.new.pending }
     ensures same_desk { SameDesk planning.old.desk planning.new.desk }
     ensures pending { planning.new.pending ≡ planning.old.pending }

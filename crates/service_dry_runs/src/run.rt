@@ -21,17 +21,18 @@ use std::mem;
 use std::sync::Wait;
 use std::thread::Threads;
 
-/// Plans what `cp`, `mv`, `sync` or `rm` would do (AWS CLI Command Reference, `s3`, `--dryrun`), and shows it: a line of
-/// each task in order, behind the warnings of planning. No object and no file changes.
+/// Plans what `cp`, `mv`, `sync` or `rm` would do (AWS CLI Command Reference, `s3`, `--dryrun`), and shows it: a line
+/// of each task in order, behind the warnings of planning. No object and no file changes.
 ///
-/// What the plan needs to know is asked of the service over a lane of the first wire, one question after the other, each
-/// with at most the attempts of the settings, from 1 to 10, and signed with their keys; then the wire stands in its place
-/// again. The other wires stay as they are, and local files are only looked at. The journal has the jobs of the questions.
+/// What the plan needs to know is asked of the service over a lane of the first wire, one question after the other,
+/// each with at most the attempts of the settings, from 1 to 10, and signed with their keys; then the wire stands in
+/// its place again. The other wires stay as they are, and local files are only looked at. The journal has the jobs of
+/// the questions.
 ///
-/// The run ends early, without a plan, where [`service_plans::plan_served`] has none: a question that had no success by
-/// its last attempt (`Answer`), a page of a listing that is refused (`Listing`), local files that cannot be looked at or a
-/// tree of them that is refused (`Walk`), no such source, or a plan that is refused (`Plan`); and wherever memory runs out
-/// (`Memory`).
+/// The run ends early, without a plan, where [`service_plans::plan_served`] has none: a question that had no success
+/// by its last attempt (`Answer`), a page of a listing that is refused (`Listing`), local files that cannot be looked
+/// at or a tree of them that is refused (`Walk`), no such source, or a plan that is refused (`Plan`); and wherever
+/// memory runs out (`Memory`).
 pub fn execute_served_dry<
     R: Threads + Wait + Clone + Send + Drop + 'static,
     W: Wire + Send + Drop + 'static,
