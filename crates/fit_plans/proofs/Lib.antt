@@ -1,2 +1,3 @@
 pub mod Apart
 pub mod OfErrand
+pub mod Removals
