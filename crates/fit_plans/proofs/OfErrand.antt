@@ -24,7 +24,7 @@ IsRemoval other = ⊥
 abbrev pub IsOf : Errand → Task → Type 0
 IsOf errand task = (task.kind ≡ errand.kind) ⊎ IsRemoval task.kind
 
-chosen_is : {X : Type 0} (b : Bool) (x y : X) → (if b then Some x else None) ≡ Some y → x ≡ y
+pub chosen_is : {X : Type 0} (b : Bool) (x y : X) → (if b then Some x else None) ≡ Some y → x ≡ y
 chosen_is true x y e = some_is x y e
 chosen_is false x y e = absurd (none_is_some y e)
 

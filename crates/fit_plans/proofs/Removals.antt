@@ -17,13 +17,14 @@ use Rattle.s3_model.specs.declared.tasks.Kind.{Kind}
 use Rattle.s3_model.specs.declared.tasks.Kind.TheVariants as kind
 use Rattle.s3_model.specs.declared.tasks.Task.{Task}
 use Rattle.s3_paths.specs.Names.{local_path}
-use Rattle.shared_lemmas.proofs.Clashes.{none_is_some, some_is}
+use Rattle.shared_lemmas.proofs.Clashes.{none_is_some}
 use Rattle.sync_plan.proofs.PlanLemmas.{all_at}
 use Rattle.sync_plan.specs.declared.errand.Errand.{Errand}
 use Rattle.sync_plan.specs.Errands.{TransfersBetween, dest_at, is_marker, named, names_of, source_at}
 use Rattle.sync_plan.specs.Plans.{is_kept_by, is_transferred, planned, removal_of, removal_task, transfer_of, transfer_task}
 use Rattle.tree_walk.proofs.PathLemmas.{at_none, at_slash}
 use Rattle.tree_walk.specs.Trees.{Describes, path_at}
+use Rattle.fit_plans.proofs.OfErrand.{chosen_is}
 
 -- a path below a folder, in both words
 same_path : (root below : List ℕ) → local_path root below ≡ path_at root below
@@ -39,10 +40,6 @@ same_path root below = by (ends_in_slash root) refl
 
 file_is : (a b : List ℕ) → place.File a ≡ place.File b → a ≡ b
 file_is a b e = cc
-
-chosen_is : {X : Type 0} (b : Bool) (x y : X) → (if b then Some x else None) ≡ Some y → x ≡ y
-chosen_is true x y e = some_is x y e
-chosen_is false x y e = absurd (none_is_some y e)
 
 -- the file that it removes, if it removes one, is there
 abbrev pub RemovesHeld : MapOf HeldFile → Task → Type 0
