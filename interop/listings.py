@@ -198,7 +198,7 @@ SERVERS = [
      fatal(LOST + "(head too long)"), 3),
     ("a refusal", hostile.says(hostile.DENIED, take=hostile.take_head),
      fatal("An error occurred (AccessDenied) when calling the ListObjectsV2 operation: Access Denied.", 254), 1),
-    ("no document", hostile.says(hostile.EMPTY, take=hostile.take_head), fatal(LOST + "(unreadable answer)"), 3),
+    ("no document", answered(b"", b"", b""), fatal(LOST + "(unreadable answer)"), 1),
 ]
 
 
